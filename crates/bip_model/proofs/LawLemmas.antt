@@ -1,0 +1,115 @@
+-- The laws of the joint step.
+use Rattle.std.proofs.Common.{◌≡◌, ℕ, ◌<◌, Bool, true, false, cond, ◌||◌, eqb, List, [], ◌∷◌, get_or, Option, None, Some, refl, sym, ap, ◌∙◌, inl, inr, arith, eq-eqb, eqb-true, subst, ◌&&◌}
+use Rattle.std.specs.Prelude.{Contains, find, slice_get}
+use Rattle.std.specs.List.{list_any}
+use Rattle.std.specs.Option.{option_map, option_map_or}
+use Rattle.std.specs.List.Sorted.{IsStrictlyIncreasing}
+use Rattle.std.proofs.Math.Path.{fun_ext}
+use Rattle.std.proofs.lemmas.List.Folds.{list_any_at}
+use Rattle.std.proofs.lemmas.Option.{slice_get_cases}
+use Rattle.std.proofs.lemmas.Bool.{cases_Bool, false_from_ne_true, false≢true}
+use Rattle.bip_model.specs.declared.parts.Component.{Component}
+use Rattle.bip_model.specs.declared.parts.System.{System}
+use Rattle.bip_model.specs.declared.parts.Transition.{Transition}
+use Rattle.bip_model.specs.declared.states.Place.{Place}
+use Rattle.bip_model.specs.Laws.{OthersStay, ParticipantsGo, Commute, MoveApart}
+use Rattle.bip_model.specs.declared.numbering.LocId.{LocId}
+use Rattle.bip_model.specs.declared.numbering.PortId.{PortId}
+use Rattle.bip_model.specs.Moves.{transition_for, offers_at}
+use Rattle.bip_model.proofs.ListLemmas.{All-slice_get, below_later, find_first, neq_eqb}
+use Rattle.bip_model.specs.Steps.{State, IsEnabled, after, led, moves, offered, participants_of, port_of}
+use Rattle.bip_model.specs.System.{IsComponent, IsSystem, IsInteraction, Participant, components_in, same_start}
+
+-- a search by the component finds a participant where one is of that component
+pub port_of-none : (qs : List Participant) (c : ℕ) → list_any (λ (q : Participant). eqb q.0.0 c) qs ≡ false → port_of qs c ≡ None
+port_of-none [] c none = refl
+port_of-none (q ∷ qs) c none = elim (eqb q.0.0 c) as (λ b. ((b || list_any (λ (r : Participant). eqb r.0.0 c) qs) ≡ false) → option_map (λ (r : Participant). r.1) (cond b (Some q) (find (λ (r : Participant). eqb r.0.0 c) qs)) ≡ None) [
+  | true ↦ λ h. absurd (false≢true (sym h))
+  | false ↦ λ h. port_of-none qs c h
+] none
+
+pub others_stay : (m : System) → OthersStay m
+others_stay m s a c none = rw (port_of-none (participants_of m a) c none) refl
+
+-- the participants of an interaction of a model stand by component
+pub rising_of : (m : System) (a : ℕ) → IsSystem m → IsStrictlyIncreasing (components_in (participants_of m a))
+rising_of m a valid = elim (slice_get_cases m.interactions a).1 [
+  | inl here ↦
+      rw here.2 (All-slice_get (IsInteraction m.components) m.interactions a here.0 valid.interactions here.2).rising
+  | inr past ↦ rw past.1 (λ k below. absurd (omega arith))
+]
+
+-- a participant takes part by its port
+pub port_of-member : (qs : List Participant) (q : Participant) → IsStrictlyIncreasing (components_in qs) → Contains qs q → port_of qs q.0.0 ≡ Some q.1
+port_of-member qs q rising member =
+    let k = member.0 in
+    let found : find (λ (r : Participant). eqb r.0.0 q.0.0) qs ≡ Some q =
+    find_first (λ (r : Participant). eqb r.0.0 q.0.0) qs k q q member.1 (sym member.2) (eq-eqb q.0.0 q.0.0 refl)
+    (λ i early.
+    let less : (get_or qs i q).0.0 < (get_or qs k q).0.0 = below_later (λ (r : Participant). r.0.0) qs rising i k q early member.1 in
+    let at : (get_or qs k q).0.0 ≡ q.0.0 = ap (λ (r : Participant). r.0.0) member.2 in
+    neq_eqb (get_or qs i q).0.0 q.0.0 (λ same. let e : (get_or qs i q).0.0 ≡ q.0.0 = same in omega arith)) in
+    rw found refl
+
+-- two tests pass both
+and_both : (a b : Bool) → (a && b) ≡ true → (a ≡ true) × (b ≡ true)
+and_both true b both = (refl, both)
+and_both false b both = absurd (false≢true both)
+
+-- the one transition with a port from a location is the one that is found
+pub transition_for-member : (component : Component) (location : LocId) (port : PortId) (t : Transition) → IsComponent component → Contains component.transitions t → t.source.0 ≡ location.0 → t.port.0 ≡ port.0 → transition_for component location port ≡ Some t
+transition_for-member component location port t valid member source with =
+    let ts = component.transitions in
+    let k = member.0 in
+    let test : Transition → Bool = λ u. eqb u.source.0 location.0 && eqb u.port.0 port.0 in
+    find_first test ts k t t member.1 (sym member.2) (rw (eq-eqb t.source.0 location.0 source, eq-eqb t.port.0 port.0 with) refl)
+    (λ i early. false_from_ne_true (test (get_or ts i t)) (λ passes.
+    let both = and_both (eqb (get_or ts i t).source.0 location.0) (eqb (get_or ts i t).port.0 port.0) passes in
+    let apart : same_start (get_or ts i t) (get_or ts k t) ≡ false = valid.so_far.one_each i k t early member.1 in
+    let apart_t : same_start (get_or ts i t) t ≡ false = subst (λ (u : Transition). same_start (get_or ts i t) u ≡ false) member.2 apart in
+    let e : eqb (get_or ts i t).source.0 t.source.0 ≡ true = eq-eqb (get_or ts i t).source.0 t.source.0 (eqb-true (get_or ts i t).source.0 location.0 both.0 ∙ sym source) in
+    let f : eqb (get_or ts i t).port.0 t.port.0 ≡ true = eq-eqb (get_or ts i t).port.0 t.port.0 (eqb-true (get_or ts i t).port.0 port.0 both.1 ∙ sym with) in
+    let same : same_start (get_or ts i t) t ≡ true = rw (e, f) refl in
+    false≢true (sym apart_t ∙ same)))
+
+pub participants_go : (m : System) → IsSystem m → ParticipantsGo m
+participants_go m valid s a q place t member its =
+    let at : port_of (participants_of m a) q.0.0 ≡ Some q.1 = port_of-member (participants_of m a) q (rising_of m a valid) member in
+    let sound : IsComponent its.component = All-slice_get IsComponent m.components q.0.0 its.component valid.components its.declared in
+    let found : transition_for its.component place.location q.1 ≡ Some t = transition_for-member its.component place.location q.1 t sound its.declares its.source its.port in
+    rw (at, its.at, its.declared, found) refl
+
+-- what an interaction does to a component depends on where that one is
+pub after-same : (m : System) (s t : State) (a c : ℕ) → s c ≡ t c → after m s a c ≡ after m t a c
+after-same m s t a c same = ap (λ (p : Option Place). option_map_or (λ port. option_map (led m c port) p) (port_of (participants_of m a) c) p) same
+
+-- an interaction stays enabled while others move that move none of its participants
+pub enabled-after : (m : System) (s : State) (a b : ℕ) → IsEnabled m s b → MoveApart m b a → IsEnabled m (after m s a) b
+enabled-after m s a b enabled apart = record {
+  declared = enabled.declared;
+  offered_all = λ k d within.
+      let q = get_or (participants_of m b) k d in
+      let takes : moves m b q.0.0 ≡ true = list_any_at (λ (r : Participant). eqb r.0.0 q.0.0) (participants_of m b) k d within (eq-eqb q.0.0 q.0.0 refl) in
+      let stays : after m s a q.0.0 ≡ s q.0.0 = others_stay m s a q.0.0 (apart q.0.0 takes) in
+      let same : offered m (after m s a) q ≡ offered m s q = ap (λ (p : Option Place). option_map_or (λ component. option_map_or (λ place. offers_at component place q.1) p false) (slice_get m.components q.0.0) false) stays in
+      rw same (enabled.offered_all k d within);
+}
+
+-- apart is apart in either order
+pub apart_too : (m : System) (a b : ℕ) → MoveApart m a b → MoveApart m b a
+apart_too m a b apart c takes = false_from_ne_true (moves m a c) (λ also. false≢true (sym (apart c also) ∙ takes))
+
+pub commute : (m : System) → Commute m
+commute m s a b first second apart =
+    let other = apart_too m a b apart in
+    ((first, (enabled-after m s a b second other, tt)), (second, (enabled-after m s b a first apart, tt)), fun_ext same)
+  where
+    same : (c : ℕ) → after m (after m s a) b c ≡ after m (after m s b) a c
+    same c = elim (cases_Bool (moves m a c)) [
+      | inl takes ↦
+          let b_stays : (t : State) → after m t b c ≡ t c = λ t. others_stay m t b c (apart c takes) in
+          b_stays (after m s a) ∙ after-same m s (after m s b) a c (sym (b_stays s))
+      | inr rests ↦
+          let a_stays : (t : State) → after m t a c ≡ t c = λ t. others_stay m t a c rests in
+          after-same m (after m s a) s b c (a_stays s) ∙ sym (a_stays (after m s b))
+    ]

@@ -1,0 +1,6 @@
+pub mod HistoryLemmas
+pub mod LawLemmas
+pub mod ListLemmas
+pub mod PaddingLemmas
+pub mod PortLemmas
+pub mod StepLemmas

@@ -1,0 +1,9 @@
+pub mod Faults
+pub mod Histories
+pub mod Laws
+pub mod Moves
+pub mod Naming
+pub mod Padding
+pub mod Steps
+pub mod System
+pub mod Wants

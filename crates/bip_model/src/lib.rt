@@ -1,0 +1,23 @@
+//! Flat models of components that move together: their declared parts, their states and the joint step.
+#![tactic(auto)]
+
+mod faults;
+mod grants;
+mod histories;
+mod models;
+mod naming;
+mod numbering;
+mod parts;
+mod sequence;
+mod states;
+mod steps;
+
+pub use faults::NotNow;
+pub use grants::{Grant, Role, Want, Wants};
+pub use histories::history_laws;
+pub use models::Model;
+pub use naming::{Name, Names};
+pub use numbering::{ClassId, CompId, InterId, LocId, Number, PortId};
+pub use parts::{Component, Interaction, System, Transition};
+pub use sequence::Seq;
+pub use states::{Place, State, Values};
