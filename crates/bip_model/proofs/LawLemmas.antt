@@ -35,7 +35,7 @@ others_stay m s a c none = rw (port_of-none (participants_of m a) c none) refl
 pub rising_of : (m : System) (a : ℕ) → IsSystem m → IsStrictlyIncreasing (components_in (participants_of m a))
 rising_of m a valid = elim (slice_get_cases m.interactions a).1 [
   | inl here ↦
-      rw here.2 (All-slice_get (IsInteraction m.components) m.interactions a here.0 valid.interactions here.2).rising
+      rw here.2 (All-slice_get (IsInteraction m.components) m.interactions a here.0 valid.so_far.interactions here.2).rising
   | inr past ↦ rw past.1 (λ k below. absurd (omega arith))
 ]
 
@@ -75,7 +75,7 @@ transition_for-member component location port t valid member source with =
 pub participants_go : (m : System) → IsSystem m → ParticipantsGo m
 participants_go m valid s a q place t member its =
     let at : port_of (participants_of m a) q.0.0 ≡ Some q.1 = port_of-member (participants_of m a) q (rising_of m a valid) member in
-    let sound : IsComponent its.component = All-slice_get IsComponent m.components q.0.0 its.component valid.components its.declared in
+    let sound : IsComponent its.component = All-slice_get IsComponent m.components q.0.0 its.component valid.so_far.components its.declared in
     let found : transition_for its.component place.location q.1 ≡ Some t = transition_for-member its.component place.location q.1 t sound its.declares its.source its.port in
     rw (at, its.at, its.declared, found) refl
 

@@ -1,3 +1,4 @@
+pub mod Drafts
 pub mod Faults
 pub mod Histories
 pub mod Laws

@@ -54,14 +54,18 @@ pub record IsInteraction (components : List Component) (interaction : Interactio
   pub rising : IsStrictlyIncreasing (components_in interaction.participants)
   pub ports : All (IsPortIn components) interaction.participants
 
--- what a model may declare
-pub record IsSystem (m : System) : Type 0 where
-  pub some : 0 < length m.components
-  pub few_components : length m.components ≤ MOST_COMPONENTS
-  pub components_named : length m.component_names ≡ length m.components
+-- what a model may declare, and have declared so far
+pub record IsSystemSoFar (m : System) : Type 0 where
+  pub few_components : length m.component_names ≤ MOST_COMPONENTS
   pub components_apart : AreApart m.component_names
   pub components : All IsComponent m.components
   pub few_interactions : length m.interactions ≤ MOST_INTERACTIONS
   pub interactions_named : length m.interaction_names ≡ length m.interactions
   pub interactions_apart : AreApart m.interaction_names
   pub interactions : All (IsInteraction m.components) m.interactions
+
+-- what a model may declare: it has a component, and each of its names for components has one
+pub record IsSystem (m : System) : Type 0 where
+  pub so_far : IsSystemSoFar m
+  pub some : 0 < length m.components
+  pub components_named : length m.component_names ≡ length m.components

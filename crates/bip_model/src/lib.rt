@@ -1,6 +1,7 @@
 //! Flat models of components that move together: their declared parts, their states and the joint step.
 #![tactic(auto)]
 
+mod building;
 mod faults;
 mod grants;
 mod histories;
@@ -12,7 +13,8 @@ mod sequence;
 mod states;
 mod steps;
 
-pub use faults::NotNow;
+pub use building::Draft;
+pub use faults::{BuildFault, ClassFault, NotNow};
 pub use grants::{Grant, Role, Want, Wants};
 pub use histories::history_laws;
 pub use models::Model;

@@ -1,0 +1,135 @@
+-- What each line of a model's text says: from a draft to the draft with it, or to the first fault.
+use Rattle.std.specs.Prelude.{◌≡◌, ℕ, ◌+◌, ◌≤◌, ◌<◌, Bool, ◌==◌, ◌||◌, nat_lt, nat_le, List, [], ◌∷◌, ◌++◌, length, Option, None, Some, Result, Ok, Err, IfSome, is_some, slice_get, position, unwrap_or, if◌then◌else◌}
+use Rattle.std.specs.List.{list_any}
+use Rattle.std.specs.Option.{ok_or}
+use Rattle.bip_model.specs.Naming.{same_text}
+use Rattle.bip_model.specs.System.{IsComponentSoFar, IsSystemSoFar, Participant, same_start}
+use Rattle.bip_model.specs.declared.building.Draft.{Draft}
+use Rattle.bip_model.specs.declared.faults.BuildFault.{BuildFault}
+use Rattle.bip_model.specs.declared.faults.BuildFault.TheVariants.{Unknown, Twice, TooMany, Missing, TwoTransitions, Memory}
+use Rattle.bip_model.specs.declared.parts.Component.{Component}
+use Rattle.bip_model.specs.declared.parts.System.{System}
+use Rattle.bip_model.specs.declared.parts.Transition.{Transition}
+use Rattle.bip_model.specs.declared.parts.TheConstants.{MOST_COMPONENTS, MOST_LOCATIONS, MOST_PORTS, MOST_TRANSITIONS, MOST_INTERACTIONS, MOST_PARTICIPANTS}
+
+infixl 10 ◌>>=◌
+abbrev pub ◌>>=◌ : {A B : Type 0} → Result A BuildFault → (A → Result B BuildFault) → Result B BuildFault
+(Ok x) >>= f = f x
+(Err e) >>= f = Err e
+
+-- whether a name is in a list
+abbrev pub is_known : List ℕ → List (List ℕ) → Bool
+is_known name names = list_any (same_text name) names
+
+-- the number of a name in a list
+abbrev pub number_in : List (List ℕ) → List ℕ → Result ℕ BuildFault
+number_in names name = ok_or (position (same_text name) names) Unknown
+
+abbrev pub no_component : Component
+no_component = record { locations = []; ports = []; transitions = [] }
+
+abbrev pub no_system : System
+no_system = record { component_names = []; components = []; interaction_names = []; interactions = [] }
+
+-- nothing has been said yet
+abbrev pub empty_draft : Draft
+empty_draft = record { system = no_system; begun = None }
+
+-- the component that is begun
+abbrev pub begun_in : Draft → Component
+begun_in d = unwrap_or d.begun no_component
+
+-- `component NAME` begins a component
+abbrev pub component_line : Draft → List ℕ → Result Draft BuildFault
+component_line d name =
+    if is_known name d.system.component_names then Err Twice
+    else if nat_le MOST_COMPONENTS (length d.system.component_names) then Err TooMany
+    else Ok (record { system = record d.system { component_names = d.system.component_names ++ name ∷ [] }; begun = Some no_component })
+
+-- what a line inside a component says of that one, said of the draft
+abbrev pub inside : (Component → Result Component BuildFault) → Draft → Result Draft BuildFault
+inside f d = f (begun_in d) >>= λ c. Ok (record d { begun = Some c })
+
+-- whether a name is taken in a component, whose locations and ports share one space of names
+abbrev pub is_taken : List ℕ → Component → Bool
+is_taken name c = is_known name c.locations || is_known name c.ports
+
+-- `loc NAME`
+abbrev pub loc_line : List ℕ → Component → Result Component BuildFault
+loc_line name c =
+    if is_taken name c then Err Twice
+    else if nat_le MOST_LOCATIONS (length c.locations) then Err TooMany
+    else Ok (record c { locations = c.locations ++ name ∷ [] })
+
+-- `port NAME`
+abbrev pub port_line : List ℕ → Component → Result Component BuildFault
+port_line name c =
+    if is_taken name c then Err Twice
+    else if nat_le MOST_PORTS (length c.ports) then Err TooMany
+    else Ok (record c { ports = c.ports ++ name ∷ [] })
+
+-- a transition joins those of a component
+abbrev pub with_transition : Transition → Component → Result Component BuildFault
+with_transition t c =
+    if nat_le MOST_TRANSITIONS (length c.transitions) then Err TooMany
+    else if list_any (same_start t) c.transitions then Err TwoTransitions
+    else Ok (record c { transitions = c.transitions ++ t ∷ [] })
+
+-- `trans PORT FROM TO`
+abbrev pub trans_line : List ℕ → List ℕ → List ℕ → Component → Result Component BuildFault
+trans_line port source target c =
+    number_in c.ports port >>= λ p. number_in c.locations source >>= λ s. number_in c.locations target
+    >>= λ t. with_transition (record { port = record { 0 = p }; source = record { 0 = s }; target = record { 0 = t } }) c
+
+-- `end` ends the component that is begun
+abbrev pub end_line : Draft → Result Draft BuildFault
+end_line d =
+    if length (begun_in d).locations == 0 then Err Missing
+    else Ok (record { system = record d.system { components = d.system.components ++ begun_in d ∷ [] }; begun = None })
+
+-- a participant as a text names it: a component and one of its ports
+abbrev pub participant_named : System → List ℕ × List ℕ → Result Participant BuildFault
+participant_named m word =
+    number_in m.component_names word.0 >>= λ c. ok_or (slice_get m.components c) Unknown >>= λ component. number_in component.ports word.1
+    >>= λ p. Ok (record { 0 = c }, record { 0 = p })
+
+-- a participant among others by component
+abbrev pub put_by_component : Participant → List Participant → List Participant
+put_by_component q [] = q ∷ []
+put_by_component q (r ∷ rs) = if nat_lt q.0.0 r.0.0 then q ∷ r ∷ rs else r ∷ put_by_component q rs
+
+-- the participants that a text names, by component, put among those of the words before; a component that takes part already is named twice
+abbrev pub participants_named : System → List Participant → List (List ℕ × List ℕ) → Result (List Participant) BuildFault
+participants_named m before [] = Ok before
+participants_named m before (word ∷ words) =
+    participant_named m word
+    >>= λ q. (if list_any (λ (r : Participant). r.0.0 == q.0.0) before then Err Twice else participants_named m (put_by_component q before) words)
+
+-- an interaction joins those of a system
+abbrev pub with_interaction : List ℕ → List Participant → System → Result System BuildFault
+with_interaction name participants m =
+    if nat_le MOST_INTERACTIONS (length m.interactions) || nat_lt MOST_PARTICIPANTS (length participants) then Err TooMany
+    else Ok (record m { interaction_names = m.interaction_names ++ name ∷ []; interactions = m.interactions ++ record { participants = participants } ∷ [] })
+
+-- `interaction NAME C.p C.p ..`
+abbrev pub interaction_line : Draft → List ℕ → List (List ℕ × List ℕ) → Result Draft BuildFault
+interaction_line d name words =
+    if is_known name d.system.interaction_names then Err Twice
+    else participants_named d.system [] words >>= λ participants. with_interaction name participants d.system >>= λ m. Ok (record d { system = m })
+
+-- the text ends: all that it declares, where no component is begun and there is one
+abbrev pub finished : Draft → Result System BuildFault
+finished d = if is_some d.begun || length d.system.components == 0 then Err Missing else Ok d.system
+
+-- a call did what the line says, or refused it with its fault, or had no memory for a line without fault; after a refusal the draft is as before
+abbrev pub Follows : Result Draft BuildFault → Draft → Result (Unit {0}) BuildFault → Draft → Type 0
+Follows (Ok said) old (Ok u) new = new ≡ said
+Follows (Ok said) old (Err e) new = (e ≡ Memory) × (new ≡ old)
+Follows (Err fault) old (Ok u) new = ⊥
+Follows (Err fault) old (Err e) new = (e ≡ fault) × (new ≡ old)
+
+-- drafts that lines lead to
+pub record IsDraft (d : Draft) : Type 0 where
+  pub so_far : IsSystemSoFar d.system
+  pub begun_so_far : IfSome d.begun IsComponentSoFar
+  pub named : length d.system.component_names ≡ length d.system.components + (if is_some d.begun then 1 else 0)
