@@ -7,4 +7,5 @@ pub mod Naming
 pub mod Padding
 pub mod Steps
 pub mod System
+pub mod Texts
 pub mod Wants

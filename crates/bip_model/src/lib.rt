@@ -12,6 +12,7 @@ mod parts;
 mod sequence;
 mod states;
 mod steps;
+mod texts;
 
 pub use building::Draft;
 pub use faults::{BuildFault, ClassFault, NotNow};
@@ -23,3 +24,4 @@ pub use numbering::{ClassId, CompId, InterId, LocId, Number, PortId};
 pub use parts::{Component, Interaction, System, Transition};
 pub use sequence::Seq;
 pub use states::{Place, State, Values};
+pub use texts::{is_plain, parse_number, split_line, split_pair, split_word};

@@ -1,0 +1,89 @@
+-- Lines and words, taken off the front of a text.
+use Rattle.std.proofs.Common.{◌≡◌, ℕ, zero, suc, ◌<◌, Bool, true, false, not, List, [], ◌∷◌, ◌++◌, length, get_or, take, drop, drop-cons, None, refl, sym, ap, ◌∙◌, inl, inr, arith}
+use Rattle.std.specs.Prelude.{filter, position}
+use Rattle.std.specs.List.{slice_split}
+use Rattle.std.specs.List.{position_or_len}
+use Rattle.std.proofs.lemmas.Bool.{cases_lt, lt-ltb}
+use Rattle.std.proofs.lemmas.List.Sums.{fails_before_first}
+use Rattle.std.proofs.lemmas.Option.{none-some}
+use Rattle.std.proofs.lemmas.List.{get_or-take, length-take-le, take-append-drop}
+use Rattle.std.proofs.lemmas.List.Elements.{All-from_get_or}
+use Rattle.std.proofs.lemmas.List.Splits.{slice_split_at, slice_split_none}
+use Rattle.bip_model.specs.Texts.{is_blank, is_line_feed, lines, is_longer, onto_first_line, words}
+
+-- what is not blank
+abbrev pub is_inked : ℕ → Bool
+is_inked b = not (is_blank b)
+
+-- a test fails at each place below a number
+abbrev pub FailsBelow : (ℕ → Bool) → List ℕ → ℕ → Type 0
+FailsBelow p xs n = (k : ℕ) → k < n → p (get_or xs k 0) ≡ false
+
+-- what fails below a place further on, fails below one place less in the rest
+pub fails_behind : (p : ℕ → Bool) (x : ℕ) (xs : List ℕ) (n : ℕ) → FailsBelow p (x ∷ xs) (suc n) → FailsBelow p xs n
+fails_behind p x xs n fails k below = fails (suc k) (omega arith)
+
+pub lines_at : (xs : List ℕ) (i : ℕ) → i < length xs → is_line_feed (get_or xs i 0) ≡ true → FailsBelow is_line_feed xs i → lines xs ≡ take i xs ∷ lines (drop (suc i) xs)
+lines_at [] i within ends none = absurd (omega arith)
+lines_at (b ∷ bs) zero within ends none = rw ends refl
+lines_at (b ∷ bs) (suc i) within ends none =
+    let first : is_line_feed b ≡ false = none 0 (omega arith) in
+    rw first (ap (onto_first_line b) (lines_at bs i (omega arith) ends (fails_behind is_line_feed b bs i none)))
+
+pub lines_whole : (b : ℕ) (bs : List ℕ) → FailsBelow is_line_feed (b ∷ bs) (suc (length bs)) → lines (b ∷ bs) ≡ (b ∷ bs) ∷ []
+lines_whole b [] none = rw (none 0 (omega arith)) refl
+lines_whole b (c ∷ cs) none =
+    let first : is_line_feed b ≡ false = none 0 (omega arith) in
+    rw first (ap (onto_first_line b) (lines_whole c cs (fails_behind is_line_feed b (c ∷ cs) (suc (length cs)) none)))
+
+-- where no place is found, the test fails everywhere
+pub position_none : (p : ℕ → Bool) (xs : List ℕ) → position p xs ≡ None → FailsBelow p xs (length xs)
+position_none p xs none k below =
+    elim (cases_lt (position_or_len p xs) (length xs)) [
+      | inl found ↦ absurd (none-some (position_or_len p xs) (sym none ∙ rw (lt-ltb (position_or_len p xs) (length xs) found) refl))
+      | inr past ↦ fails_before_first p xs k 0 (omega arith)
+    ]
+
+-- a blank at the front says nothing
+pub words_blank : (b : ℕ) (bs : List ℕ) → is_blank b ≡ true → words (b ∷ bs) ≡ words bs
+words_blank b bs blank = rw blank refl
+
+not_not : (t : Bool) → not t ≡ false → t ≡ true
+not_not true h = refl
+not_not false h = sym h
+
+pub words_behind : (xs : List ℕ) (i : ℕ) → i < length xs → FailsBelow is_inked xs i → words xs ≡ words (drop i xs)
+words_behind [] i within blanks = absurd (omega arith)
+words_behind (b ∷ bs) zero within blanks = refl
+words_behind (b ∷ bs) (suc i) within blanks =
+    words_blank b bs (not_not (is_blank b) (blanks 0 (omega arith))) ∙ words_behind bs i (omega arith) (fails_behind is_inked b bs i blanks)
+
+pub words_none : (xs : List ℕ) → FailsBelow is_inked xs (length xs) → words xs ≡ []
+words_none [] blanks = refl
+words_none (b ∷ bs) blanks =
+    words_blank b bs (not_not (is_blank b) (blanks 0 (omega arith))) ∙ words_none bs (fails_behind is_inked b bs (length bs) blanks)
+
+-- a line that is one word
+pub words_whole : (b : ℕ) (bs : List ℕ) → FailsBelow is_blank (b ∷ bs) (suc (length bs)) → words (b ∷ bs) ≡ (b ∷ bs) ∷ []
+words_whole b bs inked =
+    let line : List ℕ = b ∷ bs in
+    ap (filter is_longer)
+    (slice_split_none is_blank line (All-from_get_or (λ c. is_blank c ≡ false) line 0 (λ k below. inked k below)))
+
+-- a line that begins with a word
+pub words_at : (b : ℕ) (bs : List ℕ) (i : ℕ) → i < length bs → is_blank (get_or bs i 0) ≡ true → FailsBelow is_blank (b ∷ bs) (suc i) → words (b ∷ bs) ≡ take (suc i) (b ∷ bs) ∷ words (drop i bs)
+words_at b bs i within blank inked =
+    let line : List ℕ = b ∷ bs in
+    let rest : drop i bs ≡ get_or bs i 0 ∷ drop (suc i) bs = drop-cons bs i 0 within in
+    let split : slice_split is_blank (take (suc i) line ++ get_or bs i 0 ∷ drop (suc i) bs) ≡ take (suc i) line ∷ slice_split is_blank (drop (suc i) bs) =
+    slice_split_at is_blank (take (suc i) line) (get_or bs i 0) (drop (suc i) bs)
+    (All-from_get_or (λ c. is_blank c ≡ false) (take (suc i) line) 0 (λ k below. early k below)) blank in
+    let whole : line ≡ take (suc i) line ++ get_or bs i 0 ∷ drop (suc i) bs = ap (λ (ys : List ℕ). b ∷ ys) (sym (take-append-drop i bs) ∙ ap (λ (ys : List ℕ). take i bs ++ ys) rest) in
+    ap words whole
+    ∙ (ap (filter is_longer) split
+    ∙ ap (λ (ws : List (List ℕ)). take (suc i) line ∷ ws) (sym (words_blank (get_or bs i 0) (drop (suc i) bs) blank) ∙ ap words (sym rest)))
+  where
+    early : (k : ℕ) → k < length (take (suc i) (b ∷ bs)) → is_blank (get_or (take (suc i) (b ∷ bs)) k 0) ≡ false
+    early k below =
+        let shorter : length (take (suc i) (b ∷ bs)) ≡ suc i = length-take-le (suc i) (b ∷ bs) (omega arith) in
+        rw (get_or-take (suc i) (b ∷ bs) k 0 (omega arith)) (inked k (omega arith))

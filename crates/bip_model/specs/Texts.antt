@@ -1,0 +1,62 @@
+-- What all texts have in common: lines, words and numbers.
+use Rattle.std.specs.Prelude.{ℕ, ◌+◌, ◌^◌, Bool, false, true, ◌==◌, ◌&&◌, ◌||◌, nat_lt, nat_le, List, [], ◌∷◌, length, max, Option, None, Some, filter, position, take, drop, slice_index, if◌then◌else◌}
+use Rattle.std.specs.Char.{is_ascii_digit, is_ascii_graphic}
+use Rattle.std.specs.List.{list_all, slice_split}
+use Rattle.std.specs.Option.{option_map}
+use Rattle.std.specs.Str.Parse.{digits_value}
+
+-- a byte more at the front of the first line
+abbrev pub onto_first_line : ℕ → List (List ℕ) → List (List ℕ)
+onto_first_line b [] = (b ∷ []) ∷ []
+onto_first_line b (line ∷ rest) = (b ∷ line) ∷ rest
+
+abbrev pub is_line_feed : ℕ → Bool
+is_line_feed b = b == 10
+
+-- the lines of a text: each ends at a line feed, which the last one may lack
+abbrev pub lines : List ℕ → List (List ℕ)
+lines [] = []
+lines (b ∷ bs) = if is_line_feed b then [] ∷ lines bs else onto_first_line b (lines bs)
+
+-- the number of the last line; an empty text has one line
+abbrev pub last_line : List ℕ → ℕ
+last_line text = max 1 (length (lines text))
+
+-- a space or a tab
+abbrev pub is_blank : ℕ → Bool
+is_blank b = b == 32 || b == 9
+
+-- bytes that can stand in a line: those of words, and blanks
+abbrev pub is_plain : List ℕ → Bool
+is_plain line = list_all (λ b. is_ascii_graphic b || is_blank b) line
+
+-- whether a run of bytes has any
+abbrev pub is_longer : List ℕ → Bool
+is_longer [] = false
+is_longer (b ∷ bs) = true
+
+-- the words of a line: its runs between blanks
+abbrev pub words : List ℕ → List (List ℕ)
+words line = filter is_longer (slice_split is_blank line)
+
+-- the first word begins with a number sign
+abbrev pub is_comment : List (List ℕ) → Bool
+is_comment [] = false
+is_comment (word ∷ rest) = slice_index word 0 == 35
+
+-- the words that a line says, none of a comment; none at all where a byte can stand in no line
+abbrev pub words_said : List ℕ → Option (List (List ℕ))
+words_said line = if is_plain line then Some (if is_comment (words line) then [] else words line) else None
+
+-- a word of 1 to most digits
+abbrev pub is_numeral : ℕ → List ℕ → Bool
+is_numeral most word = nat_lt 0 (length word) && nat_le (length word) most && list_all is_ascii_digit word
+
+-- the participation number that a word spells: at most 20 digits, from 1 to the greatest number of 64 bits
+abbrev pub number_of : List ℕ → Option ℕ
+number_of word =
+    if is_numeral 20 word && nat_lt 0 (digits_value 10 word) && nat_lt (digits_value 10 word) (2 ^ 64) then Some (digits_value 10 word) else None
+
+-- what stands before and after the first such byte of a word
+abbrev pub pair_of : ℕ → List ℕ → Option (List ℕ × List ℕ)
+pair_of mark word = option_map (λ i. (take i word, drop (i + 1) word)) (position (λ b. b == mark) word)

@@ -1,0 +1,130 @@
+//! What all texts have in common: lines, words and numbers (docs/DEFINITIONS.md, "Texts").
+ghost use Rattle.std.specs.Prelude.{◌≡◌, ◌<◌, ◌≤◌, ◌∷◌, [], ◌==◌, not, position, true, false, length, slice_index, IfNone, IfSome};
+ghost use Rattle.std.specs.Char.{is_ascii_digit};
+ghost use Rattle.std.specs.List.{list_all};
+ghost use Rattle.std.specs.Option.{option_map};
+ghost use Rattle.std.specs.Str.Parse.{digits_value};
+ghost use Rattle.bip_model.specs.Texts.{is_blank, is_line_feed, is_numeral, is_plain, lines, number_of, pair_of, words};
+
+/// The most digits that a participation number is written with.
+const NUMBER_DIGITS: usize = 20;
+
+/// The first line of a text without its line feed, and what follows it.
+pub fn split_line(text: &[u8]) -> (&[u8], &[u8])
+    requires { 0 < length text.now }
+    ensures lines { lines text.now ≡ result.0.now ∷ lines result.1.now }
+    ensures shorter { length result.1.now < length text.now }
+{
+    match line_end(text) {
+        None => (text, &[]),
+        Some(end) => (&text[..end], &text[end + 1..]),
+    }
+}
+
+/// Whether each byte of a line can stand in a text: words are of the bytes 21 to 7E, and spaces and tabs part them.
+pub fn is_plain(line: &[u8]) -> bool
+    ensures { result ≡ is_plain line.now }
+{
+    line.iter()
+        .all(|byte| byte.is_ascii_graphic() || is_blank(*byte))
+}
+
+/// The first word of a line, and what follows it; none where the line has no word.
+pub fn split_word(line: &[u8]) -> Option<(&[u8], &[u8])>
+    ensures none { IfNone result (words line.now ≡ []) }
+    ensures word { IfSome result (λ parts. words line.now ≡ parts.0.now ∷ words parts.1.now) }
+    ensures longer { IfSome result (λ parts. 0 < length parts.0.now) }
+    ensures shorter { IfSome result (λ parts. length parts.1.now < length line.now) }
+{
+    let start = word_start(line)?;
+    Some(split_first_word(&line[start..]))
+}
+
+// The word at the front of a line that begins with one.
+fn split_first_word(line: &[u8]) -> (&[u8], &[u8])
+    requires longer { 0 < length line.now }
+    requires begins { is_blank (slice_index line.now 0) ≡ false }
+    ensures word { words line.now ≡ result.0.now ∷ words result.1.now }
+    ensures longer { 0 < length result.0.now }
+    ensures shorter { length result.1.now < length line.now }
+{
+    match word_end(line) {
+        None => (line, &[]),
+        Some(end) => (&line[..end], &line[end..]),
+    }
+}
+
+/// The participation number that a word spells: 1 to 20 digits, from 1 to 18446744073709551615.
+pub fn parse_number(word: &[u8]) -> Option<u64>
+    ensures { result ≡ number_of word.now }
+{
+    if !is_numeral(word) {
+        return None;
+    }
+    match u64::try_from(value_of(word)) {
+        Ok(value) if value > 0 => Some(value),
+        _ => None,
+    }
+}
+
+/// What stands before and after the first such byte of a word; none where it has no such byte.
+pub fn split_pair(word: &[u8], mark: u8) -> Option<(&[u8], &[u8])>
+    ensures { option_map (λ parts. (parts.0.now, parts.1.now)) result ≡ pair_of mark word.now }
+{
+    let at = mark_at(word, mark)?;
+    Some((&word[..at], &word[at + 1..]))
+}
+
+fn line_end(text: &[u8]) -> Option<usize>
+    ensures { result ≡ position is_line_feed text.now }
+{
+    text.iter().position(|byte| *byte == b'\n')
+}
+
+fn word_start(line: &[u8]) -> Option<usize>
+    ensures { result ≡ position (λ b. not (is_blank b)) line.now }
+{
+    line.iter().position(|byte| !is_blank(*byte))
+}
+
+fn word_end(line: &[u8]) -> Option<usize>
+    ensures { result ≡ position is_blank line.now }
+{
+    line.iter().position(|byte| is_blank(*byte))
+}
+
+fn mark_at(word: &[u8], mark: u8) -> Option<usize>
+    ensures { result ≡ position (λ b. b == mark) word.now }
+{
+    word.iter().position(|byte| *byte == mark)
+}
+
+fn is_blank(byte: u8) -> bool
+    ensures { result ≡ is_blank byte }
+{
+    byte == b' ' || byte == b'\t'
+}
+
+fn is_numeral(word: &[u8]) -> bool
+    ensures { result ≡ is_numeral NUMBER_DIGITS word.now }
+{
+    !word.is_empty() && word.len() <= NUMBER_DIGITS && are_digits(word)
+}
+
+fn are_digits(word: &[u8]) -> bool
+    ensures { result ≡ list_all is_ascii_digit word.now }
+{
+    word.iter().all(|byte| byte.is_ascii_digit())
+}
+
+fn value_of(digits: &[u8]) -> u128
+    requires short { length digits.now ≤ NUMBER_DIGITS }
+    requires digits { list_all is_ascii_digit digits.now ≡ true }
+    ensures { result ≡ digits_value 10 digits.now }
+{
+    let mut value = 0;
+    for digit in digits {
+        value = value * 10 + u128::from(*digit - b'0');
+    }
+    value
+}
