@@ -1,8 +1,11 @@
+pub mod DraftLemmas
 pub mod HistoryLemmas
 pub mod LawLemmas
 pub mod ListLemmas
+pub mod NameLemmas
 pub mod NumberLemmas
 pub mod PaddingLemmas
+pub mod ParticipantLemmas
 pub mod PortLemmas
 pub mod StepLemmas
 pub mod TextLemmas

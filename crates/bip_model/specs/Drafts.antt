@@ -2,9 +2,10 @@
 use Rattle.std.specs.Prelude.{◌≡◌, ℕ, ◌+◌, Bool, ◌==◌, ◌||◌, nat_lt, nat_le, List, [], ◌∷◌, ◌++◌, length, None, Some, Result, Ok, Err, IfSome, is_some, slice_get, position, unwrap_or, if◌then◌else◌}
 use Rattle.std.specs.List.{list_any}
 use Rattle.std.specs.Option.{ok_or}
-use Rattle.bip_model.specs.Naming.{same_text}
+use Rattle.smallvec.specs.SmallVec.{SmallVec}
+use Rattle.bip_model.specs.Naming.{is_known, same_text}
 use Rattle.bip_model.specs.System.{IsComponentSoFar, IsSystemSoFar, Participant, same_start}
-use Rattle.bip_model.specs.declared.building.Draft.{Draft}
+use Rattle.bip_model.specs.declared.drafts.Draft.{Draft}
 use Rattle.bip_model.specs.declared.faults.BuildFault.{BuildFault}
 use Rattle.bip_model.specs.declared.faults.BuildFault.TheVariants.{Unknown, Twice, TooMany, Missing, TwoTransitions, Memory}
 use Rattle.bip_model.specs.declared.parts.Component.{Component}
@@ -16,10 +17,6 @@ infixl 10 ◌>>=◌
 abbrev pub ◌>>=◌ : {A B : Type 0} → Result A BuildFault → (A → Result B BuildFault) → Result B BuildFault
 (Ok x) >>= f = f x
 (Err e) >>= f = Err e
-
--- whether a name is in a list
-abbrev pub is_known : List ℕ → List (List ℕ) → Bool
-is_known name names = list_any (same_text name) names
 
 -- the number of a name in a list
 abbrev pub number_in : List (List ℕ) → List ℕ → Result ℕ BuildFault
@@ -72,7 +69,7 @@ port_line name c =
 abbrev pub with_transition : Transition → Component → Result Component BuildFault
 with_transition t c =
     if nat_le MOST_TRANSITIONS (length c.transitions) then Err TooMany
-    else if list_any (same_start t) c.transitions then Err TwoTransitions
+    else if list_any (λ u. same_start u t) c.transitions then Err TwoTransitions
     else Ok (record c { transitions = c.transitions ++ t ∷ [] })
 
 -- `trans PORT FROM TO`
@@ -122,11 +119,18 @@ abbrev pub finished : Draft → Result System BuildFault
 finished d = if is_some d.begun || length d.system.components == 0 then Err Missing else Ok d.system
 
 -- a call did what the line says, or refused it with its fault, or had no memory for a line without fault; after a refusal the draft is as before
-abbrev pub Follows : Result Draft BuildFault → Draft → Result (Unit {0}) BuildFault → Draft → Type 0
+abbrev pub Follows : {X : Type 0} → Result X BuildFault → X → Result (Unit {0}) BuildFault → X → Type 0
 Follows (Ok said) old (Ok u) new = new ≡ said
 Follows (Ok said) old (Err e) new = (e ≡ Memory) × (new ≡ old)
 Follows (Err fault) old (Ok u) new = ⊥
 Follows (Err fault) old (Err e) new = (e ≡ fault) × (new ≡ old)
+
+-- a call found what is to be found, or the fault
+abbrev pub Finds : {X : Type 0} → Result (List X) BuildFault → Result (SmallVec X) BuildFault → Type 0
+Finds (Ok found) (Ok xs) = xs.items ≡ found
+Finds (Ok found) (Err e) = ⊥
+Finds (Err fault) (Ok xs) = ⊥
+Finds (Err fault) (Err e) = e ≡ fault
 
 -- drafts that lines lead to
 pub record IsDraft (d : Draft) : Type 0 where

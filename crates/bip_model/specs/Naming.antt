@@ -1,8 +1,8 @@
 -- What a name is, and what lists of names are apart.
-use Rattle.std.specs.Prelude.{ℕ, ◌≤◌, Bool, not, ◌&&◌, ◌||◌, ◌==◌, nat_lt, nat_eq, List, length, slice_index, IsTrue, codes}
+use Rattle.std.specs.Prelude.{◌≡◌, ℕ, ◌≤◌, Bool, false, not, ◌&&◌, ◌||◌, ◌==◌, nat_lt, nat_eq, List, [], ◌∷◌, length, slice_index, ⊤, IsTrue, codes}
 use Rattle.std.specs.Char.{is_ascii_alphabetic, is_ascii_alphanumeric}
 use Rattle.std.specs.Cmp.Lexicographic.{pointwise}
-use Rattle.std.specs.List.{list_all, IsDistinct}
+use Rattle.std.specs.List.{list_all, list_any}
 
 -- whether two texts have the same bytes
 abbrev pub same_text : List ℕ → List ℕ → Bool
@@ -32,6 +32,11 @@ is_spelled_as_name text = nat_lt 0 (length text) && is_name_start (slice_index t
 abbrev pub IsName : List ℕ → Type 0
 IsName text = IsTrue (is_spelled_as_name text) × (length text ≤ 32) × IsTrue (not (is_reserved text))
 
+-- whether a name is in a list
+abbrev pub is_known : List ℕ → List (List ℕ) → Bool
+is_known name names = list_any (same_text name) names
+
 -- no name stands twice
 abbrev pub AreApart : List (List ℕ) → Type 0
-AreApart names = IsDistinct same_text names
+AreApart [] = ⊤
+AreApart (name ∷ names) = (is_known name names ≡ false) × AreApart names

@@ -57,6 +57,7 @@ pub record IsInteraction (components : List Component) (interaction : Interactio
 -- what a model may declare, and have declared so far
 pub record IsSystemSoFar (m : System) : Type 0 where
   pub few_components : length m.component_names ≤ MOST_COMPONENTS
+  pub enough_names : length m.components ≤ length m.component_names
   pub components_apart : AreApart m.component_names
   pub components : All IsComponent m.components
   pub few_interactions : length m.interactions ≤ MOST_INTERACTIONS

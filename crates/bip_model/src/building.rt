@@ -1,11 +1,126 @@
 //! Models built line by line.
-use crate::Component;
-use crate::parts::System;
+ghost use Rattle.std.specs.Prelude.{◌≡◌, ◌<◌, ◌↔◌, length, position, IsTrue, IsSome, IsNone, IfOk};
+ghost use Rattle.std.specs.Option.{option_map};
+ghost use Rattle.bip_model.specs.Drafts.{Follows, component_line, empty_draft, end_line, finished, inside, interaction_line, loc_line, port_line, trans_line};
+ghost use Rattle.bip_model.specs.Naming.{same_text};
 
-/// What the lines so far have said: all that is declared whole, and the component that is begun and not ended. The name of
-/// a begun component is the last of the components' names.
+use crate::drafts::Draft;
+use crate::{BuildFault, InterId, Model, Name};
+use std::alloc::{AllocError, Global};
+use std::marker;
+
+/// A model that is being built, one line of its text after another (docs/DEFINITIONS.md, "Model lines").
+/// Contracts see it as what the lines so far have said. A call that refuses leaves it as it was.
 #[derive(Drop)]
-pub struct Draft {
-    pub system: System,
-    pub begun: Option<Component>,
+pub struct Builder {
+    draft: Draft,
+    alloc: Global,
+}
+
+impl marker::Model for Builder {
+    ghost use Rattle.bip_model.specs.declared.drafts.Draft.{Draft};
+    ghost use Rattle.bip_model.specs.Drafts.{IsDraft};
+
+    ghost Value = { Draft };
+
+    ghost view = { λ b. b.draft };
+
+    ghost invariant = { λ b. IsDraft b.draft };
+}
+
+impl Builder {
+    /// A builder that no line has been given.
+    pub fn new(alloc: Global) -> Result<Builder, AllocError>
+        ensures { IfOk result (λ builder. builder ≡ empty_draft) }
+    {
+        Ok(Builder {
+            draft: Draft::new(alloc),
+            alloc,
+        })
+    }
+
+    /// Whether a component is begun and not ended.
+    pub fn is_inside(&self) -> bool
+        ensures { IsTrue result ↔ IsSome self.now.begun }
+    {
+        self.draft.begun.is_some()
+    }
+
+    /// The number of the interaction with this name, if there is one.
+    pub fn interaction_number(&self, name: &Name) -> Option<InterId>
+        ensures { option_map (λ a. a.0) result ≡ position (same_text name.now) self.now.system.interaction_names }
+    {
+        let number = self.draft.system.interaction_names.number_of(name)?;
+        Some(InterId(number as u16))
+    }
+
+    /// `component NAME` begins a component. Twice: a component has this name; then TooMany: there are 64.
+    pub fn component(&mut self, name: Name) -> Result<(), BuildFault>
+        requires { IsNone self.old.begun }
+        ensures { Follows (component_line self.old name) self.old result self.new }
+    {
+        self.draft.component(self.alloc, name)
+    }
+
+    /// `loc NAME` adds a location to the component that is begun; the first is its start. Twice: one of its locations or
+    /// ports has this name; then TooMany: it has 64 locations.
+    pub fn loc(&mut self, name: Name) -> Result<(), BuildFault>
+        requires { IsSome self.old.begun }
+        ensures { Follows (inside (loc_line name) self.old) self.old result self.new }
+    {
+        self.draft.loc(name)
+    }
+
+    /// `port NAME` adds a port to the component that is begun. Twice: one of its locations or ports has this name; then
+    /// TooMany: it has 16 ports.
+    pub fn port(&mut self, name: Name) -> Result<(), BuildFault>
+        requires { IsSome self.old.begun }
+        ensures { Follows (inside (port_line name) self.old) self.old result self.new }
+    {
+        self.draft.port(name)
+    }
+
+    /// `trans PORT FROM TO` adds a transition to the component that is begun. Unknown: it lacks the port or a location; then
+    /// TooMany: it has 256 transitions; then TwoTransitions: one with this port leaves the location already.
+    pub fn trans(&mut self, port: Name, source: Name, target: Name) -> Result<(), BuildFault>
+        requires { IsSome self.old.begun }
+        ensures { Follows (inside (trans_line port source target) self.old) self.old result self.new }
+    {
+        self.draft.trans(&port, &source, &target)
+    }
+
+    /// `end` ends the component that is begun. Missing: it has no location.
+    pub fn end(&mut self) -> Result<(), BuildFault>
+        requires { IsSome self.old.begun }
+        ensures { Follows (end_line self.old) self.old result self.new }
+    {
+        self.draft.end()
+    }
+
+    /// `interaction NAME C.p C.p ..` adds an interaction of these ports, each of a component. By the first word from the
+    /// left that is at fault, Twice: an interaction has the name, or the component takes part already; Unknown: there is
+    /// no such component, or it lacks the port. Then TooMany: there are 128 interactions, or more than 8 participants.
+    pub fn interaction(
+        &mut self,
+        name: Name,
+        participants: &[(Name, Name)],
+    ) -> Result<(), BuildFault>
+        requires outside { IsNone self.old.begun }
+        requires some { 0 < length participants.now }
+        ensures { Follows (interaction_line self.old name participants.now) self.old result self.new }
+    {
+        self.draft.interaction(self.alloc, name, participants)
+    }
+
+    /// The model that the lines have declared. Missing: a component is begun and not ended, or there is no component.
+    /// It takes no memory.
+    pub fn finish(self) -> Result<Model, BuildFault>
+        ensures { result ≡ finished self }
+    {
+        let Builder { draft, alloc: _ } = self;
+        if draft.begun.is_some() || draft.system.components.is_empty() {
+            return Err(BuildFault::Missing);
+        }
+        Ok(Model::of(draft.system))
+    }
 }

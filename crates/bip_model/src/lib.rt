@@ -2,6 +2,7 @@
 #![tactic(auto)]
 
 mod building;
+mod drafts;
 mod faults;
 mod grants;
 mod histories;
@@ -14,7 +15,8 @@ mod states;
 mod steps;
 mod texts;
 
-pub use building::Draft;
+pub use building::Builder;
+pub use drafts::Draft;
 pub use faults::{BuildFault, ClassFault, NotNow};
 pub use grants::{Grant, Role, Want, Wants};
 pub use histories::history_laws;

@@ -1,7 +1,7 @@
 //! Names, and lists of names that are numbered in order of first sight.
 ghost use Rattle.std.specs.Prelude.{◌≡◌, ◌↔◌, [], ◌∷◌, ◌++◌, false, length, position, IsSome, IfSome, OnOk, OnErr};
-ghost use Rattle.std.specs.List.{list_all, list_any};
-ghost use Rattle.bip_model.specs.Naming.{IsName, AreApart, is_reserved, is_spelled_as_name, is_name_start, is_name_byte, same_text};
+ghost use Rattle.std.specs.List.{list_all};
+ghost use Rattle.bip_model.specs.Naming.{IsName, AreApart, is_known, is_reserved, is_spelled_as_name, is_name_start, is_name_byte, same_text};
 
 use indexmap::IndexSet;
 use std::alloc::{AllocError, Global};
@@ -194,14 +194,14 @@ impl Names {
 
     /// Whether a name is in the list.
     pub fn contains(&self, name: &Name) -> bool
-        ensures { result ≡ list_any (same_text name.now) self.now }
+        ensures { result ≡ is_known name.now self.now }
     {
         self.set.contains(name)
     }
 
     /// Puts a name last that is not in the list. Without memory the list stays as it was.
     pub fn push(&mut self, name: Name) -> Result<(), AllocError>
-        requires { list_any (same_text name) self.old ≡ false }
+        requires { is_known name self.old ≡ false }
         ensures ok { OnOk result (self.new ≡ self.old ++ name ∷ []) }
         ensures err { OnErr result (self.new ≡ self.old) }
     {

@@ -1,6 +1,6 @@
-ghost use Rattle.std.specs.Prelude.{◌≡◌, ◌==◌, ◌<◌, [], ◌∷◌, ◌++◌, length, slice_set, OnOk, OnErr};
+ghost use Rattle.std.specs.Prelude.{◌≡◌, ◌==◌, ◌<◌, [], ◌∷◌, ◌++◌, length, slice_set, IfErr, OnOk, OnErr, List, Some, None};
 
-use std::alloc::AllocError;
+use std::alloc::AllocFailed;
 use std::marker::Model;
 
 /// A list of things kept in a vector, which contracts see as the list alone: its capacity says nothing.
@@ -56,15 +56,22 @@ impl<T> Seq<T> {
         self.items[index] = item;
     }
 
-    /// Puts an item last. Without memory the list stays as it was.
-    pub fn push(&mut self, item: T) -> Result<(), AllocError>
-    where
-        T: Drop,
+    /// Puts an item last. Without memory the list stays as it was, and the item comes back.
+    pub fn push(&mut self, item: T) -> Result<(), AllocFailed<T>>
         ensures ok { OnOk result (self.new ≡ self.old ++ item ∷ []) }
         ensures err { OnErr result (self.new ≡ self.old) }
+        ensures item { IfErr result (λ refused. refused.value ≡ item) }
     {
-        self.items.push(item)?;
-        Ok(())
+        self.items.push(item)
+    }
+
+    /// Takes the last item off; none where there is no item.
+    pub fn pop(&mut self) -> Option<T>
+        ensures rest { (items : List T) (item : T) → self.old ≡ items ++ item ∷ [] → self.new ≡ items }
+        ensures last { (items : List T) (item : T) → self.old ≡ items ++ item ∷ [] → result ≡ Some item }
+        ensures none { self.old ≡ [] → (self.new ≡ []) × (result ≡ None) }
+    {
+        self.items.pop()
     }
 
     /// The vector of the items.

@@ -1,0 +1,331 @@
+//! What the lines of a model's text have said so far, and what one more line says.
+ghost use Rattle.std.specs.Prelude.{◌≡◌, ◌==◌, [], false, nat_lt, position, IsSome, IsNone, IsSomeAnd};
+ghost use Rattle.smallvec.specs.SmallVec.{HasRoomFor};
+ghost use Rattle.bip_model.specs.Drafts.{Finds, Follows, component_line, empty_draft, end_line, inside, interaction_line, is_taken, loc_line, no_component, participant_named, participants_named, put_by_component, port_line, trans_line, with_interaction, with_transition};
+ghost use Rattle.bip_model.specs.Naming.{is_known};
+ghost use Rattle.bip_model.specs.System.{IsComponentSoFar, IsSystemSoFar, Participant, same_start};
+ghost use Rattle.std.specs.List.{list_any};
+
+use crate::parts::{
+    MOST_COMPONENTS, MOST_INTERACTIONS, MOST_LOCATIONS, MOST_PARTICIPANTS, MOST_PORTS,
+    MOST_TRANSITIONS, System,
+};
+use crate::{
+    BuildFault, CompId, Component, Interaction, LocId, Name, Names, PortId, Seq, Transition,
+};
+use smallvec::SmallVec;
+use std::alloc::Global;
+
+/// What the lines so far have said: all that is declared whole, and the component that is begun and not ended. The name of
+/// a begun component is the last of the components' names.
+#[derive(Drop)]
+pub struct Draft {
+    pub system: System,
+    pub begun: Option<Component>,
+}
+
+impl Component {
+    fn new(alloc: Global) -> Component
+        ensures { result ≡ no_component }
+    {
+        Component {
+            locations: Names::new(alloc),
+            ports: Names::new(alloc),
+            transitions: Seq::of(Vec::new(alloc)),
+        }
+    }
+
+    fn is_taken(&self, name: &Name) -> bool
+        ensures { result ≡ is_taken name.now self.now }
+    {
+        self.locations.contains(name) || self.ports.contains(name)
+    }
+
+    fn add_location(&mut self, name: Name) -> Result<(), BuildFault>
+        ensures { Follows (loc_line name self.old) self.old result self.new }
+    {
+        if self.is_taken(&name) {
+            return Err(BuildFault::Twice);
+        }
+        if MOST_LOCATIONS <= self.locations.len() {
+            return Err(BuildFault::TooMany);
+        }
+        self.locations.push(name).map_err(|_| BuildFault::Memory)
+    }
+
+    fn add_port(&mut self, name: Name) -> Result<(), BuildFault>
+        ensures { Follows (port_line name self.old) self.old result self.new }
+    {
+        if self.is_taken(&name) {
+            return Err(BuildFault::Twice);
+        }
+        if MOST_PORTS <= self.ports.len() {
+            return Err(BuildFault::TooMany);
+        }
+        self.ports.push(name).map_err(|_| BuildFault::Memory)
+    }
+
+    fn add_transition(&mut self, transition: Transition) -> Result<(), BuildFault>
+        ensures { Follows (with_transition transition self.old) self.old result self.new }
+    {
+        if MOST_TRANSITIONS <= self.transitions.len() {
+            return Err(BuildFault::TooMany);
+        }
+        if self.has_start_of(&transition) {
+            return Err(BuildFault::TwoTransitions);
+        }
+        self.transitions
+            .push(transition)
+            .map_err(|_| BuildFault::Memory)
+    }
+
+    fn has_start_of(&self, transition: &Transition) -> bool
+        ensures { result ≡ list_any (λ u. same_start u transition.now) self.now.transitions }
+    {
+        self.transitions.as_slice().iter().any(|t| t.source == transition.source
+            && t.port == transition.port)
+    }
+
+    fn add_named_transition(
+        &mut self,
+        port: &Name,
+        source: &Name,
+        target: &Name,
+    ) -> Result<(), BuildFault>
+        requires { IsComponentSoFar self.old }
+        ensures { Follows (trans_line port.now source.now target.now self.old) self.old result self.new }
+    {
+        let Some(port) = self.ports.number_of(port) else {
+            return Err(BuildFault::Unknown);
+        };
+        let Some(source) = self.locations.number_of(source) else {
+            return Err(BuildFault::Unknown);
+        };
+        let Some(target) = self.locations.number_of(target) else {
+            return Err(BuildFault::Unknown);
+        };
+        self.add_transition(Transition {
+            port: PortId(port as u8),
+            source: LocId(source as u8),
+            target: LocId(target as u8),
+        })
+    }
+}
+
+impl System {
+    /// The participant that a text names by its component and one of its ports.
+    fn participant(&self, word: &(Name, Name)) -> Result<(CompId, PortId), BuildFault>
+        requires { IsSystemSoFar self.now }
+        ensures { result ≡ participant_named self.now (word.now.0, word.now.1) }
+    {
+        let Some(comp) = self.component_names.number_of(&word.0) else {
+            return Err(BuildFault::Unknown);
+        };
+        let Some(component) = self.components.as_slice().get(comp) else {
+            return Err(BuildFault::Unknown);
+        };
+        let Some(port) = component.ports.number_of(&word.1) else {
+            return Err(BuildFault::Unknown);
+        };
+        Ok((CompId(comp as u16), PortId(port as u8)))
+    }
+
+    /// The participants that a text names, by component. Takes no memory.
+    fn participants(
+        &self,
+        alloc: Global,
+        words: &[(Name, Name)],
+    ) -> Result<SmallVec<(CompId, PortId), 64>, BuildFault>
+        requires { IsSystemSoFar self.now }
+        ensures { Finds (participants_named self.now [] words.now) result }
+    {
+        let mut found = SmallVec::new(alloc);
+        for word in words {
+            let participant = self.participant(word)?;
+            if takes_part(found.as_slice(), participant.0) {
+                return Err(BuildFault::Twice);
+            }
+            put_by_component(&mut found, participant);
+        }
+        Ok(found)
+    }
+}
+
+impl System {
+    fn add_interaction(
+        &mut self,
+        alloc: Global,
+        name: Name,
+        participants: &[(CompId, PortId)],
+    ) -> Result<(), BuildFault>
+        requires { is_known name self.old.interaction_names ≡ false }
+        ensures { Follows (with_interaction name participants.now self.old) self.old result self.new }
+    {
+        if MOST_INTERACTIONS <= self.interactions.len() || MOST_PARTICIPANTS < participants.len() {
+            return Err(BuildFault::TooMany);
+        }
+        let Ok(participants) = Vec::from_slice(alloc, participants) else {
+            return Err(BuildFault::Memory);
+        };
+        let participants = Seq::of(participants);
+        if self
+            .interactions
+            .push(Interaction { participants })
+            .is_err()
+        {
+            return Err(BuildFault::Memory);
+        }
+        if self.interaction_names.push(name).is_err() {
+            let _ = self.interactions.pop();
+            return Err(BuildFault::Memory);
+        }
+        Ok(())
+    }
+}
+
+fn takes_part(participants: &[(CompId, PortId)], comp: CompId) -> bool
+    ensures { result ≡ list_any (λ (q : Participant). q.0.0 == comp.0) participants.now }
+{
+    participants.iter().any(|q| q.0 == comp)
+}
+
+fn first_above(participants: &[(CompId, PortId)], comp: CompId) -> Option<usize>
+    ensures { result ≡ position (λ (q : Participant). nat_lt comp.0 q.0.0) participants.now }
+{
+    participants.iter().position(|q| comp < q.0)
+}
+
+fn put_by_component(
+    participants: &mut SmallVec<(CompId, PortId), 64>,
+    participant: (CompId, PortId),
+)
+    requires { HasRoomFor participants.old 1 }
+    ensures items { participants.new.items ≡ put_by_component participant participants.old.items }
+    ensures room { participants.new.capacity ≡ participants.old.capacity }
+{
+    match first_above(participants.as_slice(), participant.0) {
+        None => participants.push_reserved(participant),
+        Some(place) => match participants.insert(place, participant) {
+            Ok(()) => {}
+            Err(_) => unreachable!(),
+        },
+    }
+}
+
+impl Draft {
+    /// Nothing has been said yet.
+    pub(crate) fn new(alloc: Global) -> Draft
+        ensures { result ≡ empty_draft }
+    {
+        Draft {
+            system: System {
+                component_names: Names::new(alloc),
+                components: Seq::of(Vec::new(alloc)),
+                interaction_names: Names::new(alloc),
+                interactions: Seq::of(Vec::new(alloc)),
+            },
+            begun: None,
+        }
+    }
+
+    /// `component NAME`
+    pub(crate) fn component(&mut self, alloc: Global, name: Name) -> Result<(), BuildFault>
+        requires { IsNone self.old.begun }
+        ensures { Follows (component_line self.old name) self.old result self.new }
+    {
+        if self.system.component_names.contains(&name) {
+            return Err(BuildFault::Twice);
+        }
+        if MOST_COMPONENTS <= self.system.component_names.len() {
+            return Err(BuildFault::TooMany);
+        }
+        if self.system.component_names.push(name).is_err() {
+            return Err(BuildFault::Memory);
+        }
+        self.begun = Some(Component::new(alloc));
+        Ok(())
+    }
+
+    /// `loc NAME`
+    pub(crate) fn loc(&mut self, name: Name) -> Result<(), BuildFault>
+        requires { IsSome self.old.begun }
+        ensures { Follows (inside (loc_line name) self.old) self.old result self.new }
+    {
+        match &mut self.begun {
+            None => unreachable!(),
+            Some(component) => component.add_location(name),
+        }
+    }
+
+    /// `port NAME`
+    pub(crate) fn port(&mut self, name: Name) -> Result<(), BuildFault>
+        requires { IsSome self.old.begun }
+        ensures { Follows (inside (port_line name) self.old) self.old result self.new }
+    {
+        match &mut self.begun {
+            None => unreachable!(),
+            Some(component) => component.add_port(name),
+        }
+    }
+
+    /// `trans PORT FROM TO`
+    pub(crate) fn trans(
+        &mut self,
+        port: &Name,
+        source: &Name,
+        target: &Name,
+    ) -> Result<(), BuildFault>
+        requires { IsSomeAnd self.old.begun IsComponentSoFar }
+        ensures { Follows (inside (trans_line port.now source.now target.now) self.old) self.old result self.new }
+    {
+        match &mut self.begun {
+            None => unreachable!(),
+            Some(component) => component.add_named_transition(port, source, target),
+        }
+    }
+
+    /// `end`
+    pub(crate) fn end(&mut self) -> Result<(), BuildFault>
+        requires { IsSome self.old.begun }
+        ensures { Follows (end_line self.old) self.old result self.new }
+    {
+        match self.begun.take() {
+            None => unreachable!(),
+            Some(component) => {
+                if component.locations.len() == 0 {
+                    self.begun = Some(component);
+                    return Err(BuildFault::Missing);
+                }
+                match self.system.components.push(component) {
+                    Ok(()) => Ok(()),
+                    Err(refused) => {
+                        self.begun = Some(refused.value);
+                        Err(BuildFault::Memory)
+                    }
+                }
+            }
+        }
+    }
+
+    /// `interaction NAME C.p C.p ..`
+    pub(crate) fn interaction(
+        &mut self,
+        alloc: Global,
+        name: Name,
+        words: &[(Name, Name)],
+    ) -> Result<(), BuildFault>
+        requires { IsSystemSoFar self.old.system }
+        ensures { Follows (interaction_line self.old name words.now) self.old result self.new }
+    {
+        if self.system.interaction_names.contains(&name) {
+            return Err(BuildFault::Twice);
+        }
+        match self.system.participants(alloc, words) {
+            Err(fault) => Err(fault),
+            Ok(participants) => {
+                self.system
+                    .add_interaction(alloc, name, participants.as_slice())
+            }
+        }
+    }
+}
