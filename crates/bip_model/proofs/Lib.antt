@@ -6,6 +6,7 @@ pub mod NameLemmas
 pub mod NumberLemmas
 pub mod PaddingLemmas
 pub mod ParticipantLemmas
+pub mod PartitionLemmas
 pub mod PortLemmas
 pub mod StepLemmas
 pub mod TextLemmas

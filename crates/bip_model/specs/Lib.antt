@@ -5,6 +5,7 @@ pub mod Laws
 pub mod Moves
 pub mod Naming
 pub mod Padding
+pub mod Partitions
 pub mod Steps
 pub mod System
 pub mod Texts

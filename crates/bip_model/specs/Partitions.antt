@@ -1,0 +1,26 @@
+-- Partitions of the interactions of a model into classes.
+use Rattle.std.specs.Prelude.{◌≡◌, ℕ, ◌≤◌, ◌<◌, ◌==◌, List, length, map, filter, count_by, sum_by, All}
+use Rattle.std.specs.List.{list_any, range_with_len}
+use Rattle.bip_model.specs.Naming.{AreApart}
+use Rattle.bip_model.specs.declared.numbering.InterId.{InterId}
+use Rattle.bip_model.specs.declared.partitions.TheConstants.{MOST_CLASSES}
+
+-- how often an interaction stands in a list
+abbrev pub times_in : List InterId → ℕ → ℕ
+times_in list a = count_by (λ (b : InterId). b.0 == a) list
+
+-- classes, each with a name and members, that are a partition of so many interactions: each stands in exactly one of them, once
+pub record IsPartition {C : Type 0} (name : C → List ℕ) (members : C → List InterId) (count : ℕ) (classes : List C) : Type 0 where
+  pub few : length classes ≤ MOST_CLASSES
+  pub apart : AreApart (map name classes)
+  pub filled : All (λ c. 0 < length (members c)) classes
+  pub known : All (λ c. All (λ (a : InterId). a.0 < count) (members c)) classes
+  pub once : (a : ℕ) → a < count → sum_by (λ c. times_in (members c) a) classes ≡ 1
+
+-- the interactions of a model, in order of number
+abbrev pub interactions_below : ℕ → List InterId
+interactions_below count = map (λ a. record { 0 = a }) (range_with_len 0 count)
+
+-- the interactions of a class, in order of number
+abbrev pub in_order : ℕ → List InterId → List InterId
+in_order count class = filter (λ (a : InterId). list_any (λ (b : InterId). b.0 == a.0) class) (interactions_below count)

@@ -1,0 +1,197 @@
+//! Partitions: the classes into which a model's interactions are parted.
+ghost use Rattle.std.specs.Prelude.{◌≡◌, ◌<◌, ◌≤◌, ◌-◌, ◌^◌, ◌==◌, ◌↔◌, ℕ, IfOk, IsTrue, OnOk, Err, All, length, map, position, slice_get, min, sum_by, Some};
+ghost use Rattle.std.specs.List.{list_any};
+ghost use Rattle.std.specs.Option.{option_map};
+ghost use Rattle.bip_model.specs.Naming.{AreApart, same_text};
+ghost use Rattle.bip_model.specs.Partitions.{IsPartition, in_order, times_in};
+ghost use Rattle.bip_model.specs.declared.numbering.InterId.{InterId};
+ghost use Rattle.bip_model.specs.declared.faults.ClassFault.TheVariants.{NotAPartition, Memory};
+
+use crate::{ClassFault, ClassId, InterId, Model, Name, Names, Seq};
+use std::alloc::{AllocError, Global};
+
+/// How many classes a partition has at most.
+pub const MOST_CLASSES: usize = 32;
+
+/// A partition of a model's interactions into classes, each numbered by its place. The interactions of a class stand in
+/// order of their numbers.
+#[derive(Drop)]
+pub struct Classes {
+    names: Names,
+    members: Seq<Seq<InterId>>,
+}
+
+impl Classes {
+    /// The classes of a model, each a name with its interactions. NotAPartition: they are no partition
+    /// (docs/DEFINITIONS.md, "Partitions"); Memory only where they are one.
+    pub fn of(
+        alloc: Global,
+        model: &Model,
+        classes: Vec<(Name, Vec<InterId>)>,
+    ) -> Result<Classes, ClassFault>
+        ensures partition { OnOk result (IsPartition (λ c. c.0) (λ c. c.1.items) (length model.now.interactions) classes.items) }
+        ensures names { IfOk result (λ made. made.names ≡ map (λ c. c.0) classes.items) }
+        ensures members { IfOk result (λ made. made.members ≡ map (λ c. in_order (length model.now.interactions) c.1.items) classes.items) }
+        ensures refused { result ≡ Err NotAPartition → ¬ IsPartition (λ c. c.0) (λ c. c.1.items) (length model.now.interactions) classes.items }
+        ensures memory { result ≡ Err Memory → IsPartition (λ c. c.0) (λ c. c.1.items) (length model.now.interactions) classes.items }
+    {
+        let count = model.interactions().len() as u16;
+        if !are_partition(classes.as_slice(), count) {
+            return Err(ClassFault::NotAPartition);
+        }
+        let Ok(names) = names_of(alloc, classes.as_slice()) else {
+            return Err(ClassFault::Memory);
+        };
+        let Ok(members) = members_of(alloc, count, classes.as_slice()) else {
+            return Err(ClassFault::Memory);
+        };
+        Ok(Classes { names, members })
+    }
+
+    /// How many classes there are.
+    pub fn len(&self) -> usize
+        ensures { result ≡ length self.now.members }
+    {
+        self.members.len()
+    }
+
+    /// The names of the classes, in order of their numbers.
+    pub fn names(&self) -> &[Name]
+        ensures { result.now ≡ self.now.names }
+    {
+        self.names.as_slice()
+    }
+
+    /// The number of the class with this name, if there is one.
+    pub fn number(&self, name: &Name) -> Option<ClassId>
+        requires { length self.now.names ≤ MOST_CLASSES }
+        ensures { option_map (λ k. k.0) result ≡ position (same_text name.now) self.now.names }
+    {
+        let number = self.names.number_of(name)?;
+        Some(ClassId(number as u16))
+    }
+
+    /// The interactions of a class, in order of their numbers.
+    pub fn members(&self, class: ClassId) -> &[InterId]
+        requires { class.0 < length self.now.members }
+        ensures { slice_get self.now.members class.0 ≡ Some result.now }
+    {
+        self.members.as_slice()[class.0 as usize].as_slice()
+    }
+}
+
+fn are_partition(classes: &[(Name, Vec<InterId>)], count: u16) -> bool
+    ensures { IsTrue result ↔ IsPartition (λ c. c.0) (λ c. c.1.items) count classes.now }
+{
+    if MOST_CLASSES < classes.len() {
+        return false;
+    }
+    if !are_apart(classes) {
+        return false;
+    }
+    if !are_filled(classes) {
+        return false;
+    }
+    are_known(classes, count) && stand_once(classes, count)
+}
+
+fn are_filled(classes: &[(Name, Vec<InterId>)]) -> bool
+    ensures { IsTrue result ↔ All (λ c. 0 < length c.1.items) classes.now }
+{
+    classes.iter().all(|class| !class.1.is_empty())
+}
+
+fn are_known(classes: &[(Name, Vec<InterId>)], count: u16) -> bool
+    ensures { IsTrue result ↔ All (λ c. All (λ (a : InterId). a.0 < count) c.1.items) classes.now }
+{
+    classes
+        .iter()
+        .all(|class| are_below(class.1.as_slice(), count))
+}
+
+fn are_apart(classes: &[(Name, Vec<InterId>)]) -> bool
+    ensures { IsTrue result ↔ AreApart (map (λ c. c.0) classes.now) }
+{
+    let Some((first, rest)) = classes.split_first() else {
+        return true;
+    };
+    if is_name_of_one(rest, &first.0) {
+        return false;
+    }
+    are_apart(rest)
+}
+
+fn is_name_of_one(classes: &[(Name, Vec<InterId>)], name: &Name) -> bool
+    ensures { result ≡ list_any (λ c. same_text name.now c.0) classes.now }
+{
+    classes.iter().any(|class| *name == class.0)
+}
+
+fn are_below(class: &[InterId], count: u16) -> bool
+    ensures { IsTrue result ↔ All (λ (a : InterId). a.0 < count) class.now }
+{
+    class.iter().all(|inter| inter.0 < count)
+}
+
+fn stand_once(classes: &[(Name, Vec<InterId>)], count: u16) -> bool
+    ensures { IsTrue result ↔ ((a : ℕ) → a < count → sum_by (λ c. times_in c.1.items a) classes.now ≡ 1) }
+{
+    for number in 0..count {
+        if times(classes, InterId(number)) != 1 {
+            return false;
+        }
+    }
+    true
+}
+
+// How often an interaction stands in the classes, up to the greatest number of the result.
+fn times(classes: &[(Name, Vec<InterId>)], inter: InterId) -> usize
+    ensures { result ≡ min (sum_by (λ c. times_in c.1.items inter.0) classes.now) (2 ^ 64 - 1) }
+{
+    let mut times = 0usize;
+    for class in classes {
+        times = times.saturating_add(times_in(class.1.as_slice(), inter));
+    }
+    times
+}
+
+fn times_in(class: &[InterId], inter: InterId) -> usize
+    ensures { result ≡ times_in class.now inter.0 }
+{
+    class.iter().filter(|other| **other == inter).count()
+}
+
+fn names_of(alloc: Global, classes: &[(Name, Vec<InterId>)]) -> Result<Names, AllocError>
+    requires { AreApart (map (λ c. c.0) classes.now) }
+    ensures { IfOk result (λ names. names ≡ map (λ c. c.0) classes.now) }
+{
+    let mut names = Names::new(alloc);
+    for class in classes {
+        names.push(class.0)?;
+    }
+    Ok(names)
+}
+
+fn members_of(
+    alloc: Global,
+    count: u16,
+    classes: &[(Name, Vec<InterId>)],
+) -> Result<Seq<Seq<InterId>>, AllocError>
+    ensures { IfOk result (λ members. members ≡ map (λ c. in_order count c.1.items) classes.now) }
+{
+    let mut members = Seq::of(Vec::new(alloc));
+    for class in classes {
+        let class = in_order(alloc, count, class.1.as_slice())?;
+        members.push(Seq::of(class))?;
+    }
+    Ok(members)
+}
+
+fn in_order(alloc: Global, count: u16, class: &[InterId]) -> Result<Vec<InterId>, AllocError>
+    ensures { IfOk result (λ v. v.items ≡ in_order count class.now) }
+{
+    (0..count)
+        .map(|number| InterId(number))
+        .filter(|inter| class.contains(inter))
+        .collect(alloc)
+}
