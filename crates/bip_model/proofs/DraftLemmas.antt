@@ -34,7 +34,7 @@ guard_ok true e r y is = cc
 guard_ok false e r y is = (refl, is)
 
 -- an answer is the value that it was given
-same_ok : {X : Type 0} (x y : X) (r : Result X BuildFault) → r ≡ Ok x → r ≡ Ok y → x ≡ y
+pub same_ok : {X : Type 0} (x y : X) (r : Result X BuildFault) → r ≡ Ok x → r ≡ Ok y → x ≡ y
 same_ok x y r is_x is_y = cc
 
 one_longer : {X : Type 0} (xs : List X) (x : X) → length (xs ++ x ∷ []) ≡ length xs + 1

@@ -1,4 +1,5 @@
 pub mod DraftLemmas
+pub mod GrowthLemmas
 pub mod HistoryLemmas
 pub mod LawLemmas
 pub mod ListLemmas

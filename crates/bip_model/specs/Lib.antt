@@ -1,5 +1,6 @@
 pub mod Drafts
 pub mod Faults
+pub mod Growth
 pub mod Histories
 pub mod Laws
 pub mod Moves

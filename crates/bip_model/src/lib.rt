@@ -16,7 +16,7 @@ mod states;
 mod steps;
 mod texts;
 
-pub use building::Builder;
+pub use building::{Builder, builder_laws};
 pub use drafts::Draft;
 pub use faults::{BuildFault, ClassFault, NotNow};
 pub use grants::{Grant, Role, Want, Wants};
@@ -24,8 +24,11 @@ pub use histories::history_laws;
 pub use models::Model;
 pub use naming::{Name, Names};
 pub use numbering::{ClassId, CompId, InterId, LocId, Number, PortId};
-pub use partitions::Classes;
+pub use partitions::{Classes, MOST_CLASSES, Partition};
 pub use parts::{Component, Interaction, System, Transition};
 pub use sequence::Seq;
 pub use states::{Place, State, Values};
 pub use texts::{is_plain, parse_number, split_line, split_pair, split_word};
+
+#[cfg(test)]
+mod tests;

@@ -9,16 +9,34 @@ ghost use Rattle.bip_model.specs.declared.faults.ClassFault.TheVariants.{NotAPar
 
 use crate::{ClassFault, ClassId, InterId, Model, Name, Names, Seq};
 use std::alloc::{AllocError, Global};
+use std::marker;
 
 /// How many classes a partition has at most.
 pub const MOST_CLASSES: usize = 32;
 
+/// The names of classes, and the interactions of each; a name's place is the number of its class.
+#[derive(Drop)]
+pub struct Partition {
+    pub names: Names,
+    pub members: Seq<Seq<InterId>>,
+}
+
 /// A partition of a model's interactions into classes, each numbered by its place. The interactions of a class stand in
-/// order of their numbers.
+/// order of their numbers. Contracts see it as its names and members.
 #[derive(Drop)]
 pub struct Classes {
-    names: Names,
-    members: Seq<Seq<InterId>>,
+    partition: Partition,
+}
+
+impl marker::Model for Classes {
+    ghost use Rattle.std.specs.Prelude.{◌≡◌, ◌≤◌, length};
+    ghost use Rattle.bip_model.specs.declared.partitions.Partition.{Partition};
+
+    ghost Value = { Partition };
+
+    ghost view = { λ c. c.partition };
+
+    ghost invariant = { λ c. (length c.partition.names ≤ 32) × (length c.partition.members ≡ length c.partition.names) };
 }
 
 impl Classes {
@@ -45,29 +63,31 @@ impl Classes {
         let Ok(members) = members_of(alloc, count, classes.as_slice()) else {
             return Err(ClassFault::Memory);
         };
-        Ok(Classes { names, members })
+        Ok(Classes {
+            partition: Partition { names, members },
+        })
     }
 
     /// How many classes there are.
     pub fn len(&self) -> usize
-        ensures { result ≡ length self.now.members }
+        ensures members { result ≡ length self.now.members }
+        ensures names { result ≡ length self.now.names }
     {
-        self.members.len()
+        self.partition.members.len()
     }
 
     /// The names of the classes, in order of their numbers.
     pub fn names(&self) -> &[Name]
         ensures { result.now ≡ self.now.names }
     {
-        self.names.as_slice()
+        self.partition.names.as_slice()
     }
 
     /// The number of the class with this name, if there is one.
     pub fn number(&self, name: &Name) -> Option<ClassId>
-        requires { length self.now.names ≤ MOST_CLASSES }
         ensures { option_map (λ k. k.0) result ≡ position (same_text name.now) self.now.names }
     {
-        let number = self.names.number_of(name)?;
+        let number = self.partition.names.number_of(name)?;
         Some(ClassId(number as u16))
     }
 
@@ -76,7 +96,7 @@ impl Classes {
         requires { class.0 < length self.now.members }
         ensures { slice_get self.now.members class.0 ≡ Some result.now }
     {
-        self.members.as_slice()[class.0 as usize].as_slice()
+        self.partition.members.as_slice()[class.0 as usize].as_slice()
     }
 }
 

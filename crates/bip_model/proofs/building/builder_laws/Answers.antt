@@ -1,0 +1,21 @@
+use Rattle.bip_model.specs.Drafts.{loc_line, port_line, trans_line}
+use Rattle.bip_model.proofs.GrowthLemmas.{component_grows, end_grows, inside_grows, interaction_grows, loc_grows, port_grows, trans_grows}
+use Rattle.bip_model.proofs.building.builder_laws.Goals as goal
+
+pub returns-clause-component : goal.returns-clause-component
+returns-clause-component c = component_grows
+
+pub returns-clause-loc : goal.returns-clause-loc
+returns-clause-loc c = λ d e name is. inside_grows (loc_line name) (loc_grows name) d e is
+
+pub returns-clause-port : goal.returns-clause-port
+returns-clause-port c = λ d e name is. inside_grows (port_line name) (port_grows name) d e is
+
+pub returns-clause-trans : goal.returns-clause-trans
+returns-clause-trans c = λ d e port source target is. inside_grows (trans_line port source target) (trans_grows port source target) d e is
+
+pub returns-clause-end : goal.returns-clause-end
+returns-clause-end c = end_grows
+
+pub returns-clause-interaction : goal.returns-clause-interaction
+returns-clause-interaction c = interaction_grows
