@@ -1,0 +1,130 @@
+-- Lemmas on what lines say one after another, and on how far reading has come.
+use Rattle.std.proofs.Common.{◌≡◌, ◌≢◌, ℕ, ◌+◌, ◌-◌, ◌≤◌, ◌<◌, List, [], ◌∷◌, ◌++◌, length, take, drop, max, Result, Ok, Err, refl, ap, ◌∙◌, sym, append_assoc, arith, length-append}
+use Rattle.std.specs.Prelude.{IsOk}
+use Rattle.std.proofs.lemmas.List.{append-nil, take-append-drop}
+use Rattle.std.proofs.Math.Seq.{take-append_seam}
+use Rattle.bip_model.specs.Texts.{last_line, lines}
+use Rattle.bip_reader.specs.declared.faults.ReadFault.{ReadFault}
+use Rattle.bip_reader.specs.declared.faults.Why.{Why}
+use Rattle.bip_reader.specs.declared.faults.Why.TheVariants.{Syntax, Unknown, Twice, TooMany, Missing, TwoTransitions, PriorityCycle, NotAPartition, Memory}
+use Rattle.bip_reader.specs.declared.reading.Reading.{Reading}
+use Rattle.bip_model.specs.declared.parts.System.{System}
+use Rattle.bip_reader.specs.ModelTexts.{◌>>=◌, ClassList, IsReached, at_line, ended, fresh, line_said, lines_said, declared_by}
+use Rattle.bip_reader.specs.Outcomes.{Fails, Leads}
+
+-- a fault other than want of memory is the one that is there
+pub fails_unless : {A : Type 0} (why : Why) (said : Result A Why) → Fails why said → why ≢ Memory → said ≡ Err why
+fails_unless Syntax said h n = h
+fails_unless Unknown said h n = h
+fails_unless Twice said h n = h
+fails_unless TooMany said h n = h
+fails_unless Missing said h n = h
+fails_unless TwoTransitions said h n = h
+fails_unless PriorityCycle said h n = h
+fails_unless NotAPartition said h n = h
+fails_unless Memory said h n = absurd (n refl)
+
+-- a call that fails with nothing leads to what is said
+pub led : {A : Type 0} (said : Result A Why) (result : Result (Unit {0}) Why) (new : A) → ((why : Why) → result ≡ Err why → ⊥) → Leads said result new → said ≡ Ok new
+led said (Ok u) new none h = h
+led said (Err why) new none h = absurd (none why refl)
+
+lines_said-after : (n : ℕ) (x : List ℕ) (xs ys : List (List ℕ)) (said : Result Reading ReadFault)
+    → ((r : Reading) → lines_said (n + 1) (xs ++ ys) r ≡ lines_said (n + 1) xs r >>= lines_said (n + 1 + length xs) ys)
+    → said >>= lines_said (n + 1) (xs ++ ys) ≡ said >>= lines_said (n + 1) xs >>= lines_said (n + length (x ∷ xs)) ys
+lines_said-after n x xs ys (Ok r) h =
+    let e : n + length (x ∷ xs) ≡ n + 1 + length xs = omega arith in
+    rw e (h r)
+lines_said-after n x xs ys (Err fault) h = refl
+
+-- what lines say, and then what more lines say
+pub lines_said-append : (n : ℕ) (xs ys : List (List ℕ)) (r : Reading) → lines_said n (xs ++ ys) r ≡ lines_said n xs r >>= lines_said (n + length xs) ys
+lines_said-append n [] ys r = let e : n + 0 ≡ n = omega arith in rw e refl
+lines_said-append n (x ∷ xs) ys r = lines_said-after n x xs ys (at_line n (line_said x r)) (lines_said-append (n + 1) xs ys)
+
+-- how far reading has come: these lines are read, and led to what is read; the rest is still to be read
+pub record IsAt (text : List ℕ) (read : ℕ) (r : Reading) (rest : List ℕ) : Type 0 where
+  pub before : List (List ℕ)
+  pub whole : lines text ≡ before ++ lines rest
+  pub counted : length before ≡ read
+  pub said : lines_said 1 before fresh ≡ Ok r
+  pub short : read + length rest ≤ length text
+
+pub starts : (text : List ℕ) → IsAt text 0 fresh text
+starts text = record { before = []; whole = refl; counted = refl; said = refl; short = omega arith }
+
+-- one line more
+pub goes_on : (text : List ℕ) (read : ℕ) (r new : Reading) (rest line after : List ℕ) → IsAt text read r rest → lines rest ≡ line ∷ lines after → length after < length rest
+    → line_said line r ≡ Ok new → IsAt text (read + 1) new after
+goes_on text read r new rest line after h e shorter s = record {
+  before = h.before ++ line ∷ [];
+  whole = h.whole ∙ ap (λ (ls : List (List ℕ)). h.before ++ ls) e ∙ sym (append_assoc h.before (line ∷ []) (lines after));
+  counted = omega (arith, length-append h.before (line ∷ []));
+  said = lines_said-append 1 h.before (line ∷ []) fresh ∙ rw (h.said, s) refl;
+  short = omega arith;
+}
+
+-- the next line is at fault
+pub at_fault : (text : List ℕ) (read : ℕ) (r : Reading) (rest line after : List ℕ) (why : Why) → IsAt text read r rest → lines rest ≡ line ∷ lines after
+    → line_said line r ≡ Err why → declared_by text ≡ Err (record { line = read + 1; why = why })
+unfolding declared_by
+at_fault text read r rest line after why h e s =
+    let place : 1 + length h.before ≡ read + 1 = omega arith in
+    let all : lines_said 1 (lines text) fresh ≡ Err (record { line = read + 1; why = why }) =
+    ap (λ (ls : List (List ℕ)). lines_said 1 ls fresh) (h.whole ∙ ap (λ (ls : List (List ℕ)). h.before ++ ls) e)
+    ∙ lines_said-append 1 h.before (line ∷ lines after) fresh ∙ rw (h.said, s, place) refl
+    in
+    rw all refl
+
+-- the next line is reached
+pub reached : (text : List ℕ) (read : ℕ) (r : Reading) (rest line after : List ℕ) → IsAt text read r rest → lines rest ≡ line ∷ lines after → IsReached text (read + 1)
+reached text read r rest line after h e =
+    let back : read + 1 - 1 ≡ length h.before = omega arith in
+    let front : take (read + 1 - 1) (lines text) ≡ h.before = rw (back, h.whole) (take-append_seam h.before (lines rest)) in
+    let many : length (lines text) ≡ length h.before + length (lines rest) = ap length h.whole ∙ length-append h.before (lines rest) in
+    let some : length (lines rest) ≡ length (line ∷ lines after) = ap length e in
+    record {
+      first = omega arith;
+      last = omega arith;
+      clear = rw (front, h.said) refl;
+    }
+
+lines_of_nothing : (rest : List ℕ) → length rest ≡ 0 → lines rest ≡ []
+lines_of_nothing [] e = refl
+lines_of_nothing (b ∷ bs) e = absurd (omega arith)
+
+all_before : (text : List ℕ) (read : ℕ) (r : Reading) (rest : List ℕ) (h : IsAt text read r rest) → length rest ≡ 0 → lines text ≡ h.before
+all_before text read r rest h e = h.whole ∙ rw (lines_of_nothing rest e) (append-nil h.before)
+
+-- all lines are read
+pub all_said : (text : List ℕ) (read : ℕ) (r : Reading) (rest : List ℕ) → IsAt text read r rest → length rest ≡ 0 → lines_said 1 (lines text) fresh ≡ Ok r
+all_said text read r rest h e = ap (λ (ls : List (List ℕ)). lines_said 1 ls fresh) (all_before text read r rest h e) ∙ h.said
+
+pub all_counted : (text : List ℕ) (read : ℕ) (r : Reading) (rest : List ℕ) → IsAt text read r rest → length rest ≡ 0 → max 1 read ≡ last_line text
+all_counted text read r rest h e = ap (λ (n : ℕ). max 1 n) (sym h.counted ∙ ap length (sym (all_before text read r rest h e)))
+
+is_ok_first : {A B E : Type 0} (said : Result A E) (f : A → Result B E) (y : B) → said >>= f ≡ Ok y → IsOk said
+is_ok_first (Ok x) f y e = refl
+is_ok_first (Err d) f y e = absurd (cc)
+
+-- the last line is reached where no line is at fault
+pub last_reached : (text : List ℕ) (r : Reading) → lines_said 1 (lines text) fresh ≡ Ok r → IsReached text (last_line text)
+last_reached text r e =
+    let n = last_line text - 1 in
+    let cut : lines_said 1 (take n (lines text) ++ drop n (lines text)) fresh ≡ Ok r = ap (λ (ls : List (List ℕ)). lines_said 1 ls fresh) (take-append-drop n (lines text)) ∙ e in
+    record {
+      first = omega arith;
+      last = omega arith;
+      clear = is_ok_first (lines_said 1 (take n (lines text)) fresh) (lines_said (1 + length (take n (lines text))) (drop n (lines text))) r
+          (sym (lines_said-append 1 (take n (lines text)) (drop n (lines text)) fresh) ∙ cut);
+    }
+
+-- the lines end, and have declared a model
+pub declares : (text : List ℕ) (r : Reading) (declared : System × ClassList) → lines_said 1 (lines text) fresh ≡ Ok r → ended r ≡ Ok declared → declared_by text ≡ Ok declared
+unfolding declared_by
+declares text r declared e d = rw (e, d) refl
+
+-- the lines end, and lack something
+pub lacks : (text : List ℕ) (r : Reading) (why : Why) → lines_said 1 (lines text) fresh ≡ Ok r → ended r ≡ Err why → declared_by text ≡ Err (record { line = last_line text; why = why })
+unfolding declared_by
+lacks text r why e d = rw (e, d) refl

@@ -1,0 +1,19 @@
+use Rattle.bip_reader.proofs.FirstLemmas.{first_fault, nothing_past}
+use Rattle.bip_reader.proofs.LawLemmas.{no_last_line_feed, same_meaning}
+use Rattle.bip_reader.proofs.StatementLemmas.{names_are_taken}
+use Rattle.bip_reader.proofs.texts.meaning_laws.Goals as goal
+
+pub returns-clause-same : goal.returns-clause-same
+returns-clause-same c = same_meaning
+
+pub returns-clause-last : goal.returns-clause-last
+returns-clause-last c = no_last_line_feed
+
+pub returns-clause-first : goal.returns-clause-first
+returns-clause-first c = first_fault
+
+pub returns-clause-past : goal.returns-clause-past
+returns-clause-past c = nothing_past
+
+pub returns-clause-names : goal.returns-clause-names
+returns-clause-names c = names_are_taken

@@ -1,0 +1,14 @@
+use Rattle.bip_reader.proofs.TextLemmas.{at_fault, fails_unless, goes_on, led}
+use Rattle.bip_reader.specs.ModelTexts.{line_said}
+use Rattle.bip_reader.proofs.texts.read_lines.Goals as goal
+
+pub returns-in-Err-read_line-clause-fault : goal.returns-in-Err-read_line-clause-fault
+returns-in-Err-read_line-clause-fault c = λ other.
+    at_fault c.args.text.now c.loop-rest.line c.loop-rest.reading c.loop-rest.rest.now c.split_line.result.0.now c.split_line.result.1.now c.in-Err-read_line.why c.loop-rest.invariant c.split_line.ensures.lines
+    (fails_unless c.in-Err-read_line.why (line_said c.split_line.result.0.now c.loop-rest.reading) c.in-Err-read_line.ensures other)
+
+pub loop-rest-preserved : goal.loop-rest-preserved
+loop-rest-preserved c =
+    goes_on c.args.text.now c.loop-rest.line c.loop-rest.reading c.read_line.new.self c.loop-rest.rest.now c.split_line.result.0.now c.split_line.result.1.now c.loop-rest.invariant c.split_line.ensures.lines
+    c.split_line.ensures.shorter
+    (led (line_said c.split_line.result.0.now c.loop-rest.reading) c.read_line.result c.read_line.new.self c.in_default.not-Err c.read_line.ensures)

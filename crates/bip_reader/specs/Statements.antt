@@ -1,0 +1,107 @@
+-- The forms of the lines of a model's text: from the words of a line to what it states.
+use Rattle.std.specs.Prelude.{ℕ, ◌↔◌, IsSome, ◌&&◌, ◌==◌, not, nat_le, List, [], ◌∷◌, length, Option, None, Some, option_and_then, codes, if◌then◌else◌}
+use Rattle.std.specs.Option.{option_map}
+use Rattle.bip_model.specs.Naming.{IsName, is_spelled_as_name, is_reserved, same_text}
+use Rattle.bip_model.specs.Texts.{pair_of}
+use Rattle.bip_reader.specs.declared.statements.Keyword.{Keyword}
+use Rattle.bip_reader.specs.declared.statements.Keyword.TheVariants as keyword
+use Rattle.bip_reader.specs.declared.statements.Statement.{Statement}
+use Rattle.bip_reader.specs.declared.statements.Statement.TheVariants.{Header, Component, Loc, Port, Trans, End, Interaction, Class}
+
+infixl 10 ◌>>=◌
+abbrev pub ◌>>=◌ : {A B : Type 0} → Option A → (A → Option B) → Option B
+o >>= f = option_and_then f o
+
+-- the name that a word is: spelled as one, of at most 32 bytes, and not reserved
+unfoldable pub name_of : List ℕ → Option (List ℕ)
+name_of word = if is_spelled_as_name word && nat_le (length word) 32 && not (is_reserved word) then Some word else None
+
+-- a word is taken as a name exactly where it is one
+abbrev pub NamesAreTaken : Type 0
+NamesAreTaken = (word : List ℕ) → IsSome (name_of word) ↔ IsName word
+
+-- `C.p`, a component and one of its ports
+unfoldable pub participant_of : List ℕ → Option (List ℕ × List ℕ)
+participant_of word = do
+  parts ← pair_of 46 word
+  component ← name_of parts.0
+  port ← name_of parts.1
+  Some (component, port)
+
+-- what all the words are, each by itself; none where one is nothing
+abbrev pub each_of : {A : Type 0} → (List ℕ → Option A) → List (List ℕ) → Option (List A)
+each_of f [] = Some []
+each_of f (word ∷ rest) = f word >>= λ x. option_map (λ xs. x ∷ xs) (each_of f rest)
+
+-- the same of one word or more
+abbrev pub one_or_more_of : {A : Type 0} → (List ℕ → Option A) → List (List ℕ) → Option (List A)
+one_or_more_of f ws = if length ws == 0 then None else each_of f ws
+
+-- the keyword that a word is
+unfoldable pub keyword_of : List ℕ → Option Keyword
+keyword_of word =
+    if same_text word (codes "bip") then Some keyword.Bip
+    else if same_text word (codes "component") then Some keyword.Component
+    else if same_text word (codes "loc") then Some keyword.Loc
+    else if same_text word (codes "port") then Some keyword.Port
+    else if same_text word (codes "trans") then Some keyword.Trans
+    else if same_text word (codes "end") then Some keyword.End
+    else if same_text word (codes "interaction") then Some keyword.Interaction
+    else if same_text word (codes "class") then Some keyword.Class
+    else None
+
+-- `1`
+unfoldable pub header_form : List (List ℕ) → Option Statement
+header_form (version ∷ []) = if same_text version (codes "1") then Some Header else None
+header_form _ = None
+
+-- `NAME`
+unfoldable pub one_name : List (List ℕ) → Option (List ℕ)
+one_name (word ∷ []) = name_of word
+one_name _ = None
+
+-- `PORT FROM TO`
+unfoldable pub trans_form : List (List ℕ) → Option Statement
+trans_form (a ∷ b ∷ c ∷ []) = do
+  port ← name_of a
+  source ← name_of b
+  target ← name_of c
+  Some (Trans port source target)
+trans_form _ = None
+
+-- no word
+unfoldable pub end_form : List (List ℕ) → Option Statement
+end_form [] = Some End
+end_form _ = None
+
+-- `NAME C.p C.p ..`, at least one participant
+unfoldable pub interaction_form : List (List ℕ) → Option Statement
+interaction_form [] = None
+interaction_form (word ∷ rest) = do
+  name ← name_of word
+  participants ← one_or_more_of participant_of rest
+  Some (Interaction name participants)
+
+-- `NAME INTER INTER ..`, at least one interaction
+unfoldable pub class_form : List (List ℕ) → Option Statement
+class_form [] = None
+class_form (word ∷ rest) = do
+  name ← name_of word
+  interactions ← one_or_more_of name_of rest
+  Some (Class name interactions)
+
+-- what a line states that begins with a keyword, by the words that follow
+abbrev pub form : Keyword → List (List ℕ) → Option Statement
+form keyword.Bip rest = header_form rest
+form keyword.Component rest = option_map Component (one_name rest)
+form keyword.Loc rest = option_map Loc (one_name rest)
+form keyword.Port rest = option_map Port (one_name rest)
+form keyword.Trans rest = trans_form rest
+form keyword.End rest = end_form rest
+form keyword.Interaction rest = interaction_form rest
+form keyword.Class rest = class_form rest
+
+-- what the words of a line state; none where they have no form
+unfoldable pub statement_of : List (List ℕ) → Option Statement
+statement_of [] = None
+statement_of (word ∷ rest) = keyword_of word >>= λ k. form k rest
