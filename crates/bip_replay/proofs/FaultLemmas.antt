@@ -1,0 +1,148 @@
+-- Faults: the first want that is wrong, and what it means that none is.
+use Rattle.std.proofs.Common.{◌≡◌, ℕ, suc, ◌+◌, ◌<◌, ◌≤◌, Bool, true, false, not, ◌&&◌, eqb, List, [], ◌∷◌, length, map, get_or, Option, None, Some, find, refl, sym, ap, ◌∙◌, subst, arith, eqb-true, eq-eqb}
+use Rattle.std.specs.Prelude.{All, slice_get, nat_lt}
+use Rattle.std.specs.Option.{option_map_or}
+use Rattle.std.specs.List.{list_all, zip}
+use Rattle.std.specs.List.Sorted.{IsStrictlyIncreasing}
+use Rattle.std.proofs.lemmas.Bool.{and_parts, and_from, ltb-true, lt-ltb, both_ways, not-true}
+use Rattle.std.proofs.lemmas.List.{get_or-map, length-map}
+use Rattle.std.proofs.lemmas.List.Elements.{All-nil, All-cons, All-weaker, All-map, All-get_or, All-from_get_or}
+use Rattle.std.proofs.lemmas.List.Kept.{AllPairs-from_increasing}
+use Rattle.std.proofs.lemmas.Option.{slice_get_within, get_or_from_slice_get}
+use Rattle.bip_model.specs.declared.grants.Grant.{Grant}
+use Rattle.bip_model.specs.declared.grants.Want.{Want}
+use Rattle.bip_model.specs.declared.parts.Interaction.{Interaction}
+use Rattle.bip_model.specs.declared.parts.System.{System}
+use Rattle.bip_model.specs.Steps.{State, MayRun, participants_of}
+use Rattle.bip_model.specs.System.{IsInteraction, IsPortIn, IsSystem, Participant, components_in}
+use Rattle.bip_model.specs.Wants.{components_of, is_moved}
+use Rattle.bip_replay.specs.Faults.{IsLowestWrong, KnownAreRight, has_next_number, is_party, is_wrong}
+use Rattle.bip_replay.specs.Runs.{HasItsParties, HasNextNumber, IsNext, components_moved, components_seen, last_number}
+use Rattle.bip_replay.proofs.PartyLemmas.{all_moved, moved-from_test, moved_components, seen-from_test, test-from_parties}
+
+pub has_next-true : (used : ℕ → ℕ) (w : Want) → has_next_number used w ≡ true → HasNextNumber used w
+has_next-true used w test =
+    let parts = and_parts (nat_lt (used w.comp.0) last_number) (eqb (used w.comp.0 + 1) w.number) test in
+    let below : used w.comp.0 < last_number = ltb-true (used w.comp.0) last_number parts.0 in
+    let same : used w.comp.0 + 1 ≡ w.number = eqb-true (used w.comp.0 + 1) w.number parts.1 in
+    record { next = sym same; fits = omega arith }
+
+pub has_next-from : (used : ℕ → ℕ) (w : Want) → HasNextNumber used w → has_next_number used w ≡ true
+has_next-from used w has =
+    let next : w.number ≡ used w.comp.0 + 1 = has.next in
+    let fits : w.number ≤ last_number = has.fits in
+    and_from (nat_lt (used w.comp.0) last_number) (eqb (used w.comp.0 + 1) w.number) (lt-ltb (used w.comp.0) last_number (omega arith)) (eq-eqb (used w.comp.0 + 1) w.number (sym next))
+
+-- a want that isn't wrong, of a component of the model
+pub right : (m : System) (used : ℕ → ℕ) (w : Want) → is_wrong (length m.components) used w ≡ false → w.comp.0 < length m.components → HasNextNumber used w
+right m used w test known = by_test (has_next_number used w) refl
+  where
+    by_test : (b : Bool) → has_next_number used w ≡ b → HasNextNumber used w
+    by_test true e = has_next-true used w e
+    by_test false e =
+        absurd (both_ways (is_wrong (length m.components) used w) test (and_from (nat_lt w.comp.0 (length m.components)) (not (has_next_number used w)) (lt-ltb w.comp.0 (length m.components) known) (rw e refl)))
+
+-- later components are higher
+pub rising-head : (w : Want) (ws : List Want) → IsStrictlyIncreasing (components_of (w ∷ ws)) → All (λ (v : Want). w.comp.0 < v.comp.0) ws
+rising-head w ws rising =
+    All-from_get_or (λ (v : Want). w.comp.0 < v.comp.0) ws w (λ i within.
+    let mapped : i < length (components_of ws) = simp length-map within in
+    let later : w.comp.0 < get_or (components_of ws) i 0 = AllPairs-from_increasing (components_of (w ∷ ws)) rising 0 (suc i) 0 (omega arith) (omega arith) in
+    let e : get_or (components_of ws) i 0 ≡ (get_or ws i w).comp.0 = get_or-map (λ (v : Want). v.comp.0) ws i w 0 within in
+    omega arith)
+
+pub rising-tail : (w : Want) (ws : List Want) → IsStrictlyIncreasing (components_of (w ∷ ws)) → IsStrictlyIncreasing (components_of ws)
+rising-tail w ws rising = λ k within. AllPairs-from_increasing (components_of (w ∷ ws)) rising (suc k) (suc (k + 1)) 0 (omega arith) (omega arith)
+
+-- a want of a component below another is right
+abbrev RightBelow : (ℕ → ℕ) → ℕ → Want → Type 0
+RightBelow used c w = w.comp.0 < c → HasNextNumber used w
+
+lowest_here : (m : System) (used : ℕ → ℕ) (x : Want) (xs : List Want) → IsStrictlyIncreasing (components_of (x ∷ xs)) → is_wrong (length m.components) used x ≡ true → IsLowestWrong m used (x ∷ xs) x.comp.0
+lowest_here m used x xs rising test =
+    let parts = and_parts (nat_lt x.comp.0 (length m.components)) (not (has_next_number used x)) test in
+    record {
+      known = ltb-true x.comp.0 (length m.components) parts.0;
+      wrong = (0, x, omega arith, refl, (refl, λ has. both_ways (has_next_number used x) (not-true (has_next_number used x) parts.1) (has_next-from used x has)));
+      lower = All-cons (RightBelow used x.comp.0) x xs (λ below. absurd (omega arith))
+          (All-weaker (λ (v : Want). x.comp.0 < v.comp.0) (RightBelow used x.comp.0) (λ v above below. absurd (omega arith)) xs (rising-head x xs rising));
+    }
+
+lowest_later : (m : System) (used : ℕ → ℕ) (x : Want) (xs : List Want) (c : ℕ) → is_wrong (length m.components) used x ≡ false → IsLowestWrong m used xs c → IsLowestWrong m used (x ∷ xs) c
+lowest_later m used x xs c test r =
+    let known : c < length m.components = r.known in
+    let at = r.wrong in
+    let within : at.0 < length xs = at.2 in
+    record {
+      known = r.known;
+      wrong = (suc at.0, at.1, omega arith, at.3, at.4);
+      lower = All-cons (RightBelow used c) x xs (λ below. right m used x test (omega arith)) r.lower;
+    }
+
+-- the first want that is wrong is of the lowest component that is
+pub lowest_wrong : (m : System) (used : ℕ → ℕ) (ws : List Want) (w : Want) → IsStrictlyIncreasing (components_of ws) → find (is_wrong (length m.components) used) ws ≡ Some w → IsLowestWrong m used ws w.comp.0
+lowest_wrong m used [] w rising found = cc
+lowest_wrong m used (x ∷ xs) w rising found = by_test (lowest_wrong m used xs w (rising-tail x xs rising)) (is_wrong (length m.components) used x) refl
+  where
+    by_test : (find (is_wrong (length m.components) used) xs ≡ Some w → IsLowestWrong m used xs w.comp.0) → (b : Bool) → is_wrong (length m.components) used x ≡ b → IsLowestWrong m used (x ∷ xs) w.comp.0
+    by_test rest true e =
+        let same : x ≡ w = let f : Some x ≡ Some w = rw e at found in cc in
+        subst (λ (v : Want). IsLowestWrong m used (x ∷ xs) v.comp.0) same (lowest_here m used x xs rising e)
+    by_test rest false e = lowest_later m used x xs w.comp.0 e (rest (rw e at found))
+
+-- a want is right where its component is one of the model
+abbrev RightWhereKnown : System → (ℕ → ℕ) → Want → Type 0
+RightWhereKnown m used w = w.comp.0 < length m.components → HasNextNumber used w
+
+-- where no want is wrong, each of a component of the model is right
+pub none_wrong : (m : System) (used : ℕ → ℕ) (ws : List Want) → find (is_wrong (length m.components) used) ws ≡ None → KnownAreRight m used ws
+none_wrong m used [] found = All-nil (RightWhereKnown m used)
+none_wrong m used (x ∷ xs) found = by_test (none_wrong m used xs) (is_wrong (length m.components) used x) refl
+  where
+    by_test : (find (is_wrong (length m.components) used) xs ≡ None → KnownAreRight m used xs) → (b : Bool) → is_wrong (length m.components) used x ≡ b → KnownAreRight m used (x ∷ xs)
+    by_test rest true e = let f : Some x ≡ None = rw e at found in cc
+    by_test rest false e = All-cons (RightWhereKnown m used) x xs (right m used x e) (rest (rw e at found))
+
+-- a component of the model
+abbrev KnownIn : System → ℕ → Type 0
+KnownIn m c = c < length m.components
+
+-- the participants of an interaction are components of the model
+pub participants_known : (m : System) (a : ℕ) → IsSystem m → All (λ c. c < length m.components) (components_in (participants_of m a))
+participants_known m a valid = by_look (slice_get m.interactions a) refl
+  where
+    by_look : (o : Option Interaction) → slice_get m.interactions a ≡ o → All (KnownIn m) (components_in (option_map_or (λ (i : Interaction). i.participants) o []))
+    by_look None e = All-nil (KnownIn m)
+    by_look (Some i) e =
+        let there : IsInteraction m.components i =
+        subst (λ (j : Interaction). IsInteraction m.components j) (get_or_from_slice_get m.interactions a i i e) (All-get_or (IsInteraction m.components) m.interactions a i (slice_get_within m.interactions a i e) valid.so_far.interactions) in
+        All-map (KnownIn m) (λ (q : Participant). q.0.0) i.participants (All-weaker (IsPortIn m.components) (λ (q : Participant). q.0.0 < length m.components) (λ q port. port.component) i.participants there.ports)
+
+-- wants that move the participants are of components of the model
+pub moved_known : (m : System) (a : ℕ) (ws : List Want) → IsSystem m → components_moved ws ≡ components_in (participants_of m a) → All (λ (w : Want). is_moved w.role ≡ true → w.comp.0 < length m.components) ws
+moved_known m a ws valid moved =
+    moved_components (λ c. c < length m.components) ws (subst (λ (cs : List ℕ). All (λ c. c < length m.components) cs) (sym moved) (participants_known m a valid))
+
+-- where no want is wrong and the wants are of the parties, each is right
+pub all_right : (m : System) (used : ℕ → ℕ) (a : ℕ) (ws : List Want) → IsSystem m → KnownAreRight m used ws → components_moved ws ≡ components_in (participants_of m a) → components_seen ws ≡ [] → All (HasNextNumber used) ws
+all_right m used a ws valid known moved seen = λ k d within. known k d within (moved_known m a ws valid moved k d within (all_moved ws seen k d within))
+
+-- wants that fail the test aren't of the parties
+pub not_parties : (m : System) (g : Grant) (qs : List Participant) → qs ≡ participants_of m g.inter.0 → (eqb (length g.wants) (length qs) && list_all is_party (zip g.wants qs)) ≡ false → ¬ HasItsParties m g
+not_parties m g qs e test has =
+    let passes = test-from_parties g.wants qs (has.moved ∙ ap components_in (sym e)) has.seen in
+    both_ways (eqb (length g.wants) (length qs) && list_all is_party (zip g.wants qs)) test
+    (and_from (eqb (length g.wants) (length qs)) (list_all is_party (zip g.wants qs)) (eq-eqb (length g.wants) (length qs) passes.0) passes.1)
+
+-- a grant of an enabled interaction, no want of which is wrong and whose wants pass the test, is next
+pub next_from_tests : (m : System) (s : State) (used : ℕ → ℕ) (g : Grant) (qs : List Participant) → IsSystem m → qs ≡ participants_of m g.inter.0 → MayRun m s g.inter.0 → find (is_wrong (length m.components) used) g.wants ≡ None → (eqb (length g.wants) (length qs) && list_all is_party (zip g.wants qs)) ≡ true → IsNext m s used g
+next_from_tests m s used g qs valid e may found test =
+    let parts = and_parts (eqb (length g.wants) (length qs)) (list_all is_party (zip g.wants qs)) test in
+    let same : length g.wants ≡ length qs = eqb-true (length g.wants) (length qs) parts.0 in
+    let moved : components_moved g.wants ≡ components_in (participants_of m g.inter.0) = moved-from_test g.wants qs same parts.1 ∙ ap components_in e in
+    let seen : components_seen g.wants ≡ [] = seen-from_test g.wants qs same parts.1 in
+    record {
+      may = may;
+      numbers = all_right m used g.inter.0 g.wants valid (none_wrong m used g.wants found) moved seen;
+      parties = record { moved = moved; seen = seen };
+    }

@@ -1,0 +1,11 @@
+pub mod ExactLemmas
+pub mod FaultLemmas
+pub mod KnownLemmas
+pub mod LineLemmas
+pub mod NamedLemmas
+pub mod PartyLemmas
+pub mod PositionLemmas
+pub mod ReadingLemmas
+pub mod ReplayLemmas
+pub mod RunLemmas
+pub mod UsedLemmas

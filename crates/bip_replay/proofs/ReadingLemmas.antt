@@ -1,0 +1,69 @@
+-- Readings of traces: the lines read so far, and the first line at fault.
+use Rattle.std.proofs.Common.{◌≡◌, ℕ, suc, ◌+◌, ◌<◌, ◌≤◌, List, [], ◌∷◌, ◌++◌, length, Option, None, Some, Result, Ok, Err, refl, sym, ap, ◌∙◌, subst, arith}
+use Rattle.bip_model.specs.declared.grants.Grant.{Grant}
+use Rattle.bip_model.specs.declared.parts.System.{System}
+use Rattle.bip_model.specs.Texts.{lines}
+use Rattle.bip_replay.specs.declared.faults.LineFault.{LineFault}
+use Rattle.bip_replay.specs.declared.faults.TraceFault.{TraceFault}
+use Rattle.bip_replay.specs.declared.faults.TraceFault.TheVariants.{Syntax, Unknown, Memory}
+use Rattle.bip_replay.specs.Readings.{IsTraceFault, Reads, one_more}
+use Rattle.bip_replay.specs.Traces.{before_rest, grant_on, grants_from, grants_of}
+use Rattle.bip_replay.proofs.ReplayLemmas.{grants_from-push, moved_on, numbered_on}
+
+-- a line at fault behind lines that read as grants
+pub grants_from-fault : (m : System) (n k : ℕ) (front rest : List (List ℕ)) (line : List ℕ) (gs : List Grant) (fault : LineFault) → grants_from m n front ≡ Ok gs → grant_on m line ≡ Err fault → k ≡ n + length front → grants_from m n (front ++ line ∷ rest) ≡ Err (k, fault)
+grants_from-fault m n k [] rest line gs fault reads says e =
+    let same : n ≡ k = omega arith in rw says (ap (λ (j : ℕ). Err (j, fault)) same)
+grants_from-fault m n k (first ∷ front) rest line gs fault reads says e =
+    by_first (λ hs r. grants_from-fault m (n + 1) k front rest line hs fault r says (omega arith)) (grant_on m first) reads
+  where
+    by_rest : ((hs : List Grant) → grants_from m (n + 1) front ≡ Ok hs → grants_from m (n + 1) (front ++ line ∷ rest) ≡ Err (k, fault)) → (g : Grant) → (r : Result (List Grant) (ℕ × LineFault)) → grants_from m (n + 1) front ≡ r → before_rest n (Ok (Some g)) r ≡ Ok gs → before_rest n (Ok (Some g)) (grants_from m (n + 1) (front ++ line ∷ rest)) ≡ Err (k, fault)
+    by_rest later g (Err d) is s = cc
+    by_rest later g (Ok hs) is s = rw (later hs is) refl
+
+    by_first : ((hs : List Grant) → grants_from m (n + 1) front ≡ Ok hs → grants_from m (n + 1) (front ++ line ∷ rest) ≡ Err (k, fault)) → (r : Result (Option Grant) LineFault) → before_rest n r (grants_from m (n + 1) front) ≡ Ok gs → before_rest n r (grants_from m (n + 1) (front ++ line ∷ rest)) ≡ Err (k, fault)
+    by_first later (Err d) s = cc
+    by_first later (Ok None) s = later gs s
+    by_first later (Ok (Some g)) s = by_rest later g (grants_from m (n + 1) front) refl s
+
+-- what has been read of a text: the lines in front read as these grants
+pub record HasRead (m : System) (text rest : List ℕ) (grants : List Grant) (number : ℕ) : Type 0 where
+  pub front : List (List ℕ)
+  pub split : lines text ≡ front ++ lines rest
+  pub reads : grants_from m 1 front ≡ Ok grants
+  pub numbered : length front + 1 ≡ number
+
+pub has_read-none : (m : System) (text : List ℕ) → HasRead m text text [] 1
+has_read-none m text = record { front = []; split = refl; reads = refl; numbered = refl }
+
+pub has_read-more : (m : System) (text rest after line : List ℕ) (old new : List Grant) (number : ℕ) (u : Unit {0}) → HasRead m text rest old number → lines rest ≡ line ∷ lines after → Reads m old line (Ok u) new → HasRead m text after new (number + 1)
+has_read-more m text rest after line old new number u so next reads =
+    record {
+      front = so.front ++ line ∷ [];
+      split = moved_on so.front text rest after line so.split next;
+      reads = grants_from-push m 1 so.front line old reads.0 so.reads reads.1 ∙ ap (λ (gs : List Grant). Ok gs) (sym reads.2);
+      numbered = numbered_on so.front line number so.numbered;
+    }
+
+pub has_read-end : (m : System) (text rest : List ℕ) (grants : List Grant) (number : ℕ) → HasRead m text rest grants number → rest ≡ [] → grants_of m text ≡ Ok grants
+has_read-end m text rest grants number so empty =
+    let whole : lines text ≡ so.front = so.split ∙ (ap (λ (r : List ℕ). so.front ++ lines r) empty ∙ append_nil so.front) in
+    rw whole so.reads
+  where
+    append_nil : (ls : List (List ℕ)) → ls ++ [] ≡ ls
+    append_nil [] = refl
+    append_nil (l ∷ ls) = ap (λ (ks : List (List ℕ)). l ∷ ks) (append_nil ls)
+
+pub has_read-fault : (m : System) (text rest after line : List ℕ) (old new : List Grant) (number : ℕ) (fault : TraceFault) → HasRead m text rest old number → lines rest ≡ line ∷ lines after → Reads m old line (Err fault) new → IsTraceFault m text number fault
+has_read-fault m text rest after line old new number fault so next reads = by_fault fault reads
+  where
+    at : (f : LineFault) → grant_on m line ≡ Err f → grants_of m text ≡ Err (number, f)
+    at f says =
+        let numbered : length so.front + 1 ≡ number = so.numbered in
+        let split : lines text ≡ so.front ++ line ∷ lines after = so.split ∙ ap (λ (ls : List (List ℕ)). so.front ++ ls) next in
+        rw split (grants_from-fault m 1 number so.front (lines after) line old f so.reads says (omega arith))
+
+    by_fault : (f : TraceFault) → Reads m old line (Err f) new → IsTraceFault m text number f
+    by_fault Syntax says = at _ says
+    by_fault Unknown says = at _ says
+    by_fault Memory says = record { front = so.front; rest = lines rest; grants = old; split = so.split; numbered = sym so.numbered; reads = so.reads }

@@ -1,0 +1,122 @@
+-- Replays: the lines read so far, and one line more.
+use Rattle.std.proofs.Common.{◌≡◌, ℕ, ◌+◌, ◌<◌, ◌≤◌, Bool, true, false, List, [], ◌∷◌, ◌++◌, length, Option, None, Some, Result, Ok, Err, refl, sym, ap, ◌∙◌, subst, arith, append_assoc, length-append}
+use Rattle.bip_model.specs.declared.grants.Grant.{Grant}
+use Rattle.bip_model.specs.declared.parts.System.{System}
+use Rattle.bip_model.specs.Steps.{State, place_in}
+use Rattle.bip_model.specs.Texts.{lines}
+use Rattle.bip_replay.specs.declared.faults.LineFault.{LineFault}
+use Rattle.bip_replay.specs.declared.faults.ReplayFault.{ReplayFault}
+use Rattle.bip_replay.specs.declared.faults.ReplayFault.TheVariants.{Syntax, Unknown, NotARun, Memory}
+use Rattle.bip_replay.specs.declared.position.Position.{Position}
+use Rattle.bip_replay.specs.Positions.{Leads, used_in}
+use Rattle.bip_replay.specs.Readings.{one_more}
+use Rattle.bip_replay.specs.Replays.{IsFirstFault, IsLineFault, IsReplayFault, IsRunOf, Takes, TakesOn}
+use Rattle.bip_replay.specs.Runs.{state_after, used_after}
+use Rattle.bip_replay.specs.Traces.{before_rest, grant_on, grants_from}
+use Rattle.bip_replay.proofs.PositionLemmas.{leads_on}
+
+-- the grants of one line more
+pub grants_from-push : (m : System) (n : ℕ) (front : List (List ℕ)) (line : List ℕ) (gs : List Grant) (o : Option Grant) → grants_from m n front ≡ Ok gs → grant_on m line ≡ Ok o → grants_from m n (front ++ line ∷ []) ≡ Ok (one_more gs o)
+grants_from-push m n [] line gs None reads says = rw says (let e : [] ≡ gs = cc in ap (λ (hs : List Grant). Ok hs) e)
+grants_from-push m n [] line gs (Some g) reads says = rw says (let e : [] ≡ gs = cc in ap (λ (hs : List Grant). Ok (hs ++ g ∷ [])) e)
+grants_from-push m n (first ∷ front) line gs o reads says =
+    by_first (λ hs e. grants_from-push m (n + 1) front line hs o e says) (grant_on m first) reads
+  where
+    by_rest : ((hs : List Grant) → grants_from m (n + 1) front ≡ Ok hs → grants_from m (n + 1) (front ++ line ∷ []) ≡ Ok (one_more hs o)) → (g : Grant) → (r : Result (List Grant) (ℕ × LineFault)) → grants_from m (n + 1) front ≡ r → before_rest n (Ok (Some g)) r ≡ Ok gs → before_rest n (Ok (Some g)) (grants_from m (n + 1) (front ++ line ∷ [])) ≡ Ok (one_more gs o)
+    by_rest later g (Err e) is s = cc
+    by_rest later g (Ok hs) is s =
+        let same : g ∷ hs ≡ gs = cc in
+        rw (later hs is) (grown o ∙ ap (λ (ks : List Grant). Ok (one_more ks o)) same)
+      where
+        grown : (p : Option Grant) → before_rest n (Ok (Some g)) (Ok (one_more hs p)) ≡ Ok (one_more (g ∷ hs) p)
+        grown None = refl
+        grown (Some h) = refl
+
+    by_first : ((hs : List Grant) → grants_from m (n + 1) front ≡ Ok hs → grants_from m (n + 1) (front ++ line ∷ []) ≡ Ok (one_more hs o)) → (r : Result (Option Grant) LineFault) → before_rest n r (grants_from m (n + 1) front) ≡ Ok gs → before_rest n r (grants_from m (n + 1) (front ++ line ∷ [])) ≡ Ok (one_more gs o)
+    by_first later (Err e) s = cc
+    by_first later (Ok None) s = later gs s
+    by_first later (Ok (Some g)) s = by_rest later g (grants_from m (n + 1) front) refl s
+
+-- what has been read of a text: the lines in front read as grants that lead here
+pub record SoFar (m : System) (base : ℕ) (text rest : List ℕ) (p : Position) (count number : ℕ) : Type 0 where
+  pub front : List (List ℕ)
+  pub grants : List Grant
+  pub split : lines text ≡ front ++ lines rest
+  pub reads : grants_from m 1 front ≡ Ok grants
+  pub leads : Leads m base grants p
+  pub counted : length grants ≡ count
+  pub numbered : length front + 1 ≡ number
+
+pub so_far-none : (m : System) (base : ℕ) (text : List ℕ) (p : Position) → Leads m base [] p → SoFar m base text text p 0 1
+so_far-none m base text p leads =
+    record { front = []; grants = []; split = refl; reads = refl; leads = leads; counted = refl; numbered = refl }
+
+pub moved_on : (front : List (List ℕ)) (text rest after line : List ℕ) → lines text ≡ front ++ lines rest → lines rest ≡ line ∷ lines after → lines text ≡ (front ++ line ∷ []) ++ lines after
+moved_on front text rest after line split next =
+    split ∙ (ap (λ (ls : List (List ℕ)). front ++ ls) next ∙ sym (append_assoc front (line ∷ []) (lines after)))
+
+pub numbered_on : (front : List (List ℕ)) (line : List ℕ) (number : ℕ) → length front + 1 ≡ number → length (front ++ line ∷ []) + 1 ≡ number + 1
+numbered_on front line number e = omega (arith, length-append front (line ∷ []))
+
+pub so_far-skip : (m : System) (base : ℕ) (text rest after line : List ℕ) (p q : Position) (count number : ℕ) → SoFar m base text rest p count number → lines rest ≡ line ∷ lines after → Takes m p line (Ok false) q → SoFar m base text after q count (number + 1)
+so_far-skip m base text rest after line p q count number so next takes =
+    record {
+      front = so.front ++ line ∷ [];
+      grants = so.grants;
+      split = moved_on so.front text rest after line so.split next;
+      reads = grants_from-push m 1 so.front line so.grants None so.reads takes.0;
+      leads = subst (λ (r : Position). Leads m base so.grants r) (sym takes.1) so.leads;
+      counted = so.counted;
+      numbered = numbered_on so.front line number so.numbered;
+    }
+
+pub so_far-more : (m : System) (base : ℕ) (text rest after line : List ℕ) (p q : Position) (count number : ℕ) → SoFar m base text rest p count number → lines rest ≡ line ∷ lines after → Takes m p line (Ok true) q → SoFar m base text after q (count + 1) (number + 1)
+so_far-more m base text rest after line p q count number so next takes =
+    let counted : length so.grants ≡ count = so.counted in
+    record {
+      front = so.front ++ line ∷ [];
+      grants = so.grants ++ takes.grant ∷ [];
+      split = moved_on so.front text rest after line so.split next;
+      reads = grants_from-push m 1 so.front line so.grants (Some takes.grant) so.reads takes.reads;
+      leads = leads_on m base so.grants p takes.grant q so.leads takes.next takes.on;
+      counted = omega (arith, length-append so.grants (takes.grant ∷ []));
+      numbered = numbered_on so.front line number so.numbered;
+    }
+
+-- the end of the text: what was read is the run
+pub so_far-end : (m : System) (base : ℕ) (text rest : List ℕ) (p : Position) (count number : ℕ) → SoFar m base text rest p count number → rest ≡ [] → IsRunOf m base text count
+so_far-end m base text rest p count number so empty =
+    let whole : lines text ≡ so.front = so.split ∙ (ap (λ (r : List ℕ). so.front ++ lines r) empty ∙ append_nil so.front) in
+    record { grants = so.grants; reads = rw whole so.reads; run = so.leads.run; counted = so.counted }
+  where
+    append_nil : (ls : List (List ℕ)) → ls ++ [] ≡ ls
+    append_nil [] = refl
+    append_nil (l ∷ ls) = ap (λ (ks : List (List ℕ)). l ∷ ks) (append_nil ls)
+
+-- a line at fault is the first one
+pub so_far-fault : (m : System) (base : ℕ) (text rest after line : List ℕ) (p q : Position) (count number : ℕ) (fault : ReplayFault) → SoFar m base text rest p count number → lines rest ≡ line ∷ lines after → Takes m p line (Err fault) q → IsReplayFault m base text number fault
+so_far-fault m base text rest after line p q count number fault so next takes = by_fault fault (at fault takes)
+  where
+    at : (f : ReplayFault) → IsLineFault m (place_in p.state) (used_in p) line f → IsLineFault m (state_after m so.grants) (used_after base so.grants) line f
+    at f why =
+        subst (λ (s : State). IsLineFault m s (used_after base so.grants) line f) so.leads.state (subst (λ (u : ℕ → ℕ). IsLineFault m (place_in p.state) u line f) so.leads.used why)
+
+    first : (f : ReplayFault) → IsLineFault m (state_after m so.grants) (used_after base so.grants) line f → IsFirstFault m base text number f
+    first f why =
+        record {
+          front = so.front;
+          line = line;
+          rest = lines after;
+          grants = so.grants;
+          split = so.split ∙ ap (λ (ls : List (List ℕ)). so.front ++ ls) next;
+          numbered = sym so.numbered;
+          reads = so.reads;
+          run = so.leads.run;
+          why = why;
+        }
+
+    by_fault : (f : ReplayFault) → IsLineFault m (state_after m so.grants) (used_after base so.grants) line f → IsReplayFault m base text number f
+    by_fault Syntax why = first Syntax why
+    by_fault Unknown why = first Unknown why
+    by_fault (NotARun f) why = first (NotARun f) why
+    by_fault Memory why = absurd why

@@ -1,0 +1,41 @@
+-- Runs: one grant more, the beginning of a run, and the history that a run is.
+use Rattle.std.proofs.Common.{◌≡◌, ℕ, ◌+◌, ◌<◌, List, [], ◌∷◌, ◌++◌, refl, arith}
+use Rattle.std.proofs.lemmas.List.Elements.{All-weaker}
+use Rattle.bip_model.specs.declared.grants.Grant.{Grant}
+use Rattle.bip_model.specs.declared.grants.Want.{Want}
+use Rattle.bip_model.specs.declared.parts.System.{System}
+use Rattle.bip_model.specs.Histories.{IsHistory, used_by}
+use Rattle.bip_model.specs.Steps.{State, IsRun, after, end_of}
+use Rattle.bip_model.specs.Wants.{IsFresh, raised}
+use Rattle.bip_replay.specs.Runs.{HasNextNumber, IsNext, IsRunFrom, interactions_of}
+
+pub IsRunFrom-push : (m : System) (s : State) (used : ℕ → ℕ) (gs : List Grant) (g : Grant) → IsRunFrom m s used gs → IsNext m (end_of m s (interactions_of gs)) (used_by used gs) g → IsRunFrom m s used (gs ++ g ∷ [])
+IsRunFrom-push m s used [] g run next = (next, tt)
+IsRunFrom-push m s used (h ∷ gs) g run next = (run.0, IsRunFrom-push m (after m s h.inter.0) (raised used h.wants) gs g run.1 next)
+
+pub IsRunFrom-last : (m : System) (s : State) (used : ℕ → ℕ) (gs : List Grant) (g : Grant) → IsRunFrom m s used (gs ++ g ∷ []) → IsNext m (end_of m s (interactions_of gs)) (used_by used gs) g
+IsRunFrom-last m s used [] g run = run.0
+IsRunFrom-last m s used (h ∷ gs) g run = IsRunFrom-last m (after m s h.inter.0) (raised used h.wants) gs g run.1
+
+pub IsRunFrom-beginning : (m : System) (s : State) (used : ℕ → ℕ) (gs hs : List Grant) → IsRunFrom m s used (gs ++ hs) → IsRunFrom m s used gs
+IsRunFrom-beginning m s used [] hs run = tt
+IsRunFrom-beginning m s used (g ∷ gs) hs run = (run.0, IsRunFrom-beginning m (after m s g.inter.0) (raised used g.wants) gs hs run.1)
+
+pub end_of-push : (m : System) (s : State) (gs : List Grant) (g : Grant) → end_of m s (interactions_of (gs ++ g ∷ [])) ≡ after m (end_of m s (interactions_of gs)) g.inter.0
+end_of-push m s [] g = refl
+end_of-push m s (h ∷ gs) g = end_of-push m (after m s h.inter.0) gs g
+
+pub IsRun-from_grants : (m : System) (s : State) (used : ℕ → ℕ) (gs : List Grant) → IsRunFrom m s used gs → IsRun m s (interactions_of gs)
+IsRun-from_grants m s used [] run = tt
+IsRun-from_grants m s used (g ∷ gs) run = (run.0.may, IsRun-from_grants m (after m s g.inter.0) (raised used g.wants) gs run.1)
+
+-- the number of a next move is fresh
+fresh : (used : ℕ → ℕ) (w : Want) → HasNextNumber used w → used w.comp.0 < w.number
+fresh used w has = let next : w.number ≡ used w.comp.0 + 1 = has.next in omega arith
+
+pub IsHistory-from_run : (m : System) (s : State) (used : ℕ → ℕ) (gs : List Grant) → IsRunFrom m s used gs → IsHistory used gs
+IsHistory-from_run m s used [] run = tt
+IsHistory-from_run m s used (g ∷ gs) run = (
+  All-weaker (HasNextNumber used) (λ (w : Want). used w.comp.0 < w.number) (fresh used) g.wants run.0.numbers,
+  IsHistory-from_run m (after m s g.inter.0) (raised used g.wants) gs run.1,
+)

@@ -1,0 +1,62 @@
+-- Used numbers: wants granted one after another.
+use Rattle.std.proofs.Common.{◌≡◌, ◌≢◌, ℕ, ◌+◌, ◌<◌, Bool, true, false, cond, ◌&&◌, eqb, max, List, [], ◌∷◌, ◌++◌, length, take, get_or, refl, sym, ap, ◌∙◌, arith, inl, inr}
+use Rattle.std.specs.Prelude.{All}
+use Rattle.std.specs.List.Sorted.{IsStrictlyIncreasing}
+use Rattle.std.proofs.lemmas.Bool.{ne_eqb, eqb-true, and_parts, cases_Bool}
+use Rattle.std.proofs.lemmas.List.{get_or-map, get_or-take, length-map, length-take-le, take_more}
+use Rattle.std.proofs.lemmas.List.Elements.{All-head, All-tail, All-from_get_or}
+use Rattle.std.proofs.lemmas.List.Kept.{AllPairs-from_increasing}
+use Rattle.bip_model.specs.declared.grants.Want.{Want}
+use Rattle.bip_model.specs.Wants.{components_of, is_moved, moved_in}
+
+-- whether a want moves a component
+abbrev pub moves_it : Want → ℕ → Bool
+moves_it w c = eqb w.comp.0 c && is_moved w.role
+
+-- a want of another component
+abbrev IsOther : ℕ → Want → Type 0
+IsOther c w = w.comp.0 ≢ c
+
+-- what wants of other components move a component with
+moved_in-absent : (ws : List Want) (c : ℕ) → All (IsOther c) ws → moved_in ws c ≡ 0
+moved_in-absent [] c others = refl
+moved_in-absent (w ∷ ws) c others =
+    rw (ne_eqb w.comp.0 c (All-head (IsOther c) w ws others)) (moved_in-absent ws c (All-tail (IsOther c) w ws others))
+
+-- one more want, the first of its component
+moved_in-push_first : (ws : List Want) (w : Want) (c : ℕ) → All (IsOther c) ws → moved_in (ws ++ w ∷ []) c ≡ cond (moves_it w c) w.number 0
+moved_in-push_first [] w c others = refl
+moved_in-push_first (v ∷ ws) w c others =
+    rw (ne_eqb v.comp.0 c (All-head (IsOther c) v ws others)) (moved_in-push_first ws w c (All-tail (IsOther c) v ws others))
+
+-- one more want that doesn't move the component
+moved_in-push_other : (ws : List Want) (w : Want) (c : ℕ) → moves_it w c ≡ false → moved_in (ws ++ w ∷ []) c ≡ moved_in ws c
+moved_in-push_other [] w c other = rw other refl
+moved_in-push_other (v ∷ ws) w c other = ap (λ (n : ℕ). cond (moves_it v c) v.number n) (moved_in-push_other ws w c other)
+
+-- the wants before one are of other components
+others_before : (ws : List Want) (i : ℕ) (d : Want) → IsStrictlyIncreasing (components_of ws) → i < length ws → All (IsOther (get_or ws i d).comp.0) (take i ws)
+others_before ws i d rising within =
+    let shorter : length (take i ws) ≡ i = length-take-le i ws (omega arith) in
+    All-from_get_or (IsOther (get_or ws i d).comp.0) (take i ws) d (λ k below.
+    let earlier : k < i = omega arith in
+    let early : k < length ws = omega arith in
+    let mapped : i < length (components_of ws) = simp length-map within in
+    let e : get_or (components_of ws) k 0 ≡ (get_or ws k d).comp.0 = get_or-map (λ (v : Want). v.comp.0) ws k d 0 early in
+    let f : get_or (components_of ws) i 0 ≡ (get_or ws i d).comp.0 = get_or-map (λ (v : Want). v.comp.0) ws i d 0 within in
+    let less : get_or (components_of ws) k 0 < get_or (components_of ws) i 0 = AllPairs-from_increasing (components_of ws) rising k i 0 earlier mapped in
+    rw (get_or-take i ws k d earlier) (λ same. omega arith))
+
+-- used numbers after one more want
+pub raised_more : (u n : ℕ) (ws : List Want) (i : ℕ) (d : Want) (c : ℕ) → IsStrictlyIncreasing (components_of ws) → i < length ws → n ≡ max u (moved_in (take i ws) c) → cond (moves_it (get_or ws i d) c) (max n (get_or ws i d).number) n ≡ max u (moved_in (take (i + 1) ws) c)
+raised_more u n ws i d c rising within before =
+    rw (take_more ws i d within) (by_test (moves_it (get_or ws i d) c) refl)
+  where
+    by_test : (b : Bool) → moves_it (get_or ws i d) c ≡ b → cond b (max n (get_or ws i d).number) n ≡ max u (moved_in (take i ws ++ get_or ws i d ∷ []) c)
+    by_test true e =
+        let same : (get_or ws i d).comp.0 ≡ c = eqb-true (get_or ws i d).comp.0 c (and_parts (eqb (get_or ws i d).comp.0 c) (is_moved (get_or ws i d).role) e).0 in
+        let others : All (IsOther c) (take i ws) = rw same at (others_before ws i d rising within) in
+        let none : moved_in (take i ws) c ≡ 0 = moved_in-absent (take i ws) c others in
+        let more : moved_in (take i ws ++ get_or ws i d ∷ []) c ≡ (get_or ws i d).number = moved_in-push_first (take i ws) (get_or ws i d) c others ∙ rw e refl in
+        omega arith
+    by_test false e = before ∙ ap (λ (k : ℕ). max u k) (sym (moved_in-push_other (take i ws) (get_or ws i d) c e))

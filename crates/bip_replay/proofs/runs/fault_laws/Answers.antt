@@ -1,0 +1,8 @@
+use Rattle.bip_replay.proofs.ExactLemmas.{not_next, no_run}
+use Rattle.bip_replay.proofs.runs.fault_laws.Goals as goal
+
+pub returns-clause-refused : goal.returns-clause-refused
+returns-clause-refused c = not_next
+
+pub returns-clause-first : goal.returns-clause-first
+returns-clause-first c = no_run

@@ -1,0 +1,10 @@
+pub mod FaultTexts
+pub mod Faults
+pub mod Ledgers
+pub mod Positions
+pub mod Readings
+pub mod Replays
+pub mod Rooms
+pub mod Runs
+pub mod Traces
+pub mod Writing

@@ -1,0 +1,58 @@
+-- Runs of a model with exact numbers: which grant may come next, and what a list of grants leads to.
+use Rattle.std.specs.Prelude.{◌≡◌, ℕ, ◌+◌, ◌≤◌, not, List, [], ◌∷◌, map, filter, All, ⊤}
+use Rattle.bip_model.specs.declared.grants.Grant.{Grant}
+use Rattle.bip_model.specs.declared.grants.Want.{Want}
+use Rattle.bip_model.specs.declared.parts.System.{System}
+use Rattle.bip_model.specs.Histories.{used_by}
+use Rattle.bip_model.specs.Steps.{State, MayRun, after, end_of, participants_of, start_of}
+use Rattle.bip_model.specs.System.{components_in}
+use Rattle.bip_model.specs.Wants.{components_of, is_moved, raised}
+
+-- no number is above this one
+abbrev pub last_number : ℕ
+last_number = 18446744073709551615
+
+-- a want has the number of its component's next move: one above the used number, where there is one
+pub record HasNextNumber (used : ℕ → ℕ) (w : Want) : Type 0 where
+  pub next : w.number ≡ used w.comp.0 + 1
+  pub fits : w.number ≤ last_number
+
+-- the components that wants move, in the order of the wants
+abbrev pub components_moved : List Want → List ℕ
+components_moved wants = components_of (filter (λ (w : Want). is_moved w.role) wants)
+
+-- the components that wants only look at, in the order of the wants
+abbrev pub components_seen : List Want → List ℕ
+components_seen wants = components_of (filter (λ (w : Want). not (is_moved w.role)) wants)
+
+-- a grant moves the participants of its interaction, and looks at nothing: a plain model has no priorities
+pub record HasItsParties (m : System) (g : Grant) : Type 0 where
+  pub moved : components_moved g.wants ≡ components_in (participants_of m g.inter.0)
+  pub seen : components_seen g.wants ≡ []
+
+-- a grant may come next in a state, after the used numbers
+pub record IsNext (m : System) (s : State) (used : ℕ → ℕ) (g : Grant) : Type 0 where
+  pub may : MayRun m s g.inter.0
+  pub numbers : All (HasNextNumber used) g.wants
+  pub parties : HasItsParties m g
+
+-- grants, each of which may come next where those before it lead
+abbrev pub IsRunFrom : System → State → (ℕ → ℕ) → List Grant → Type 0
+IsRunFrom m s used [] = ⊤
+IsRunFrom m s used (g ∷ gs) = IsNext m s used g × IsRunFrom m (after m s g.inter.0) (raised used g.wants) gs
+
+-- grants that are a run of the model from its start, with exact numbers above a base
+abbrev pub IsModelRun : System → ℕ → List Grant → Type 0
+IsModelRun m base gs = IsRunFrom m (start_of m) (λ _. base) gs
+
+-- the interactions of grants
+abbrev pub interactions_of : List Grant → List ℕ
+interactions_of gs = map (λ (g : Grant). g.inter.0) gs
+
+-- the state to which grants lead
+abbrev pub state_after : System → List Grant → State
+state_after m gs = end_of m (start_of m) (interactions_of gs)
+
+-- the used numbers to which grants lead from a base
+abbrev pub used_after : ℕ → List Grant → ℕ → ℕ
+used_after base gs = used_by (λ _. base) gs

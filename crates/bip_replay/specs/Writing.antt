@@ -1,0 +1,52 @@
+-- The one spelling of traces: moved components, then the seen ones, each by component; one space between words, and a line feed after each line.
+use Rattle.std.specs.Prelude.{ℕ, ◌<◌, Bool, not, List, [], ◌∷◌, ◌++◌, length, map, filter, All, codes, slice_index_or, if◌then◌else◌}
+use Rattle.std.specs.Fmt.{decimal}
+use Rattle.std.specs.List.{flat_map, list_any}
+use Rattle.bip_model.specs.Wants.{is_moved}
+use Rattle.bip_model.specs.declared.grants.Grant.{Grant}
+use Rattle.bip_model.specs.declared.grants.Role.{Role}
+use Rattle.bip_model.specs.declared.grants.Role.TheVariants.{Moved, Seen}
+use Rattle.bip_model.specs.declared.grants.Want.{Want}
+use Rattle.bip_model.specs.declared.parts.System.{System}
+
+-- a grant of a model: the model has its interaction and its components
+pub record IsGrantOf (m : System) (g : Grant) : Type 0 where
+  pub inter : g.inter.0 < length m.interaction_names
+  pub components : All (λ (w : Want). w.comp.0 < length m.component_names) g.wants
+
+-- the name with a number
+abbrev pub name_in : List (List ℕ) → ℕ → List ℕ
+name_in names n = slice_index_or names n []
+
+-- `C:N`
+abbrev pub want_word : System → Want → List ℕ
+want_word m w = name_in m.component_names w.comp.0 ++ 58 ∷ decimal w.number
+
+-- whether a want has a role
+abbrev pub has_role : Role → Want → Bool
+has_role Moved w = is_moved w.role
+has_role Seen w = not (is_moved w.role)
+
+-- the words of the wants with a role
+abbrev pub want_words : System → Role → List Want → List (List ℕ)
+want_words m role wants = map (want_word m) (filter (has_role role) wants)
+
+-- `see C:N ..`, where a component is seen
+abbrev pub seen_words : System → List Want → List (List ℕ)
+seen_words m wants = if list_any (has_role Seen) wants then codes "see" ∷ want_words m Seen wants else []
+
+-- what stands behind the word `grant`
+abbrev pub words_behind : System → Grant → List (List ℕ)
+words_behind m g = name_in m.interaction_names g.inter.0 ∷ (want_words m Moved g.wants ++ seen_words m g.wants)
+
+-- a word behind a space
+abbrev pub spaced : List ℕ → List ℕ
+spaced word = 32 ∷ word
+
+-- the line of a grant, with its line feed
+abbrev pub line_of : System → Grant → List ℕ
+line_of m g = codes "grant" ++ flat_map spaced (words_behind m g) ++ 10 ∷ []
+
+-- the text of grants
+abbrev pub text_of : System → List Grant → List ℕ
+text_of m gs = flat_map (line_of m) gs

@@ -1,0 +1,77 @@
+//! The book of a run: its grants, with the position to which they lead.
+ghost use Rattle.std.specs.Prelude.{◌≡◌, ◌≤◌, [], ◌∷◌, ◌++◌, length, IfOk, IfErr, OnOk, OnErr};
+ghost use Rattle.bip_replay.specs.Ledgers.{GoesOn, IsAppendFault};
+ghost use Rattle.bip_replay.specs.Runs.{IsModelRun};
+
+use crate::{BookFault, Position};
+use bip_model::{Grant, Model, Number};
+use std::alloc::{AllocError, Global};
+use std::marker;
+
+/// The grants of a run with exact numbers, and where they lead: whatever a book holds is a run of its model from
+/// the model's start (docs/DEFINITIONS.md, "Runs with exact numbers"). Contracts see the model, the base of the
+/// numbers and the grants.
+#[derive(Drop)]
+pub struct Book<'m> {
+    model: &'m Model,
+    position: Position,
+    grants: Vec<Grant>,
+}
+
+impl<'m> marker::Model for Book<'m> {
+    ghost use Rattle.bip_replay.specs.Ledgers.{Ledger};
+    ghost use Rattle.bip_replay.specs.Positions.{Leads};
+
+    ghost Value = { Ledger };
+
+    ghost view = { λ b. record { model = b.model.now; base = b.position.base; grants = b.grants.items } };
+
+    ghost invariant = { λ b. Leads b.model.now b.position.base b.grants.items b.position };
+}
+
+impl<'m> Book<'m> {
+    /// The book of the empty run above a base.
+    pub fn start(alloc: Global, model: &'m Model, base: Number) -> Result<Book<'m>, AllocError>
+        requires { base ≤ 18446744073709551614 }
+        ensures { IfOk result (λ book. book ≡ record { model = model.now; base = base; grants = [] }) }
+    {
+        let position = Position::start(alloc, model, base)?;
+        Ok(Book {
+            model,
+            position,
+            grants: Vec::new(alloc),
+        })
+    }
+
+    /// The grants, the first one first.
+    pub fn grants(&self) -> &[Grant]
+        ensures grants { result.now ≡ self.now.grants }
+        ensures run { IsModelRun self.now.model self.now.base self.now.grants }
+    {
+        let _opened = &self.position;
+        self.grants.as_slice()
+    }
+
+    /// Appends a grant that can be next, and says how many stood before. Any other grant is refused with its fault,
+    /// and the book stays as it was; so it does without memory, which is asked for last.
+    pub fn append(&mut self, grant: Grant) -> Result<u64, BookFault>
+        ensures count { IfOk result (λ before. before ≡ length self.old.grants) }
+        ensures ok { OnOk result (self.new ≡ record self.old { grants = self.old.grants ++ grant ∷ [] }) }
+        ensures run { OnOk result (GoesOn self.old grant) }
+        ensures fault { IfErr result (λ e. IsAppendFault self.old grant e) }
+        ensures err { OnErr result (self.new ≡ self.old) }
+    {
+        let before = self.grants.len() as u64;
+        let wants = grant.wants.as_slice();
+        if let Err(fault) = self.position.check(self.model, grant.inter, wants) {
+            return Err(BookFault::of(fault));
+        }
+        if self.grants.reserve(1).is_err() {
+            return Err(BookFault::Memory);
+        }
+        let wants = grant.wants.as_slice();
+        self.position.go_on(self.model, grant.inter, wants);
+        let _pushed = self.grants.push(grant);
+        Ok(before)
+    }
+}

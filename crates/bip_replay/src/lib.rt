@@ -1,0 +1,20 @@
+//! Runs of grants with exact numbers: a position in a run, and the book of its grants.
+#![tactic(auto)]
+
+mod book;
+mod faults;
+mod lines;
+mod position;
+mod replays;
+mod rooms;
+mod runs;
+mod traces;
+mod writing;
+
+pub use book::Book;
+pub use faults::{BookFault, LineFault, ReplayFault, StepFault, TraceFault};
+pub use position::Position;
+pub use replays::replay;
+pub use runs::{fault_laws, run_laws};
+pub use traces::read_trace;
+pub use writing::write_trace;

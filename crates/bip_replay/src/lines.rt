@@ -1,0 +1,188 @@
+//! What a line of a trace says: a grant by names, and the grant of a model.
+ghost use Rattle.std.specs.Prelude.{◌≡◌, ◌+◌, ◌<◌, ◌≤◌, [], ◌∷◌, None, Some, length, nat_le, nat_lt, not, ◌||◌, position, vec_capacity, vec_len, if◌then◌else◌};
+ghost use Rattle.std.specs.Option.{option_and_then};
+ghost use Rattle.bip_model.specs.Naming.{same_text};
+ghost use Rattle.bip_model.specs.Texts.{words};
+ghost use Rattle.bip_model.specs.declared.grants.Role.TheVariants.{Moved};
+ghost use Rattle.bip_replay.specs.Traces.{as_said, is_name, is_named, named_on, put_by_component, said, want_said, wants_known, wants_said, with_want};
+
+use crate::LineFault;
+use bip_model::{
+    CompId, Model, Name, Number, Role, Want, is_plain, parse_number, split_pair, split_word,
+};
+
+/// How many wants a line has at most.
+pub(crate) const MOST_WANTS: usize = 32;
+
+/// A want as a line names it: a component, its number, and whether it is moved.
+#[derive(Clone, Copy)]
+pub(crate) struct NamedWant {
+    pub name: Name,
+    pub number: Number,
+    pub role: Role,
+}
+
+/// The interaction that a line names, with its wants in the room for them; none of a line that says nothing.
+pub(crate) fn read_line(named: &mut Vec<NamedWant>, line: &[u8]) -> Result<Option<Name>, LineFault>
+    requires { MOST_WANTS ≤ vec_capacity named.old }
+    ensures said { as_said result named.new.items ≡ named_on line.now }
+    ensures room { MOST_WANTS ≤ vec_capacity named.new }
+{
+    if !is_plain(line) {
+        return Err(LineFault::Syntax);
+    }
+    let Some((word, rest)) = split_word(line) else {
+        return Ok(None);
+    };
+    if word[0] == b'#' {
+        return Ok(None);
+    }
+    read_grant(named, word, rest)
+}
+
+// The interaction of a line that begins with a word, with its wants in the room for them.
+fn read_grant(
+    named: &mut Vec<NamedWant>,
+    word: &[u8],
+    line: &[u8],
+) -> Result<Option<Name>, LineFault>
+    requires { MOST_WANTS ≤ vec_capacity named.old }
+    ensures said { as_said result named.new.items ≡ said (word.now ∷ words line.now) }
+    ensures room { MOST_WANTS ≤ vec_capacity named.new }
+{
+    let Some((inter, rest)) = split_word(line) else {
+        return Err(LineFault::Syntax);
+    };
+    if !is_text(word, b"grant") {
+        return Err(LineFault::Syntax);
+    }
+    let Some(inter) = name_of(inter) else {
+        return Err(LineFault::Syntax);
+    };
+    if !read_wants(named, rest) {
+        return Err(LineFault::Syntax);
+    }
+    Ok(Some(inter))
+}
+
+// The wants behind an interaction; where they haven't their form, the answer is no.
+fn read_wants(named: &mut Vec<NamedWant>, line: &[u8]) -> bool
+    requires { MOST_WANTS ≤ vec_capacity named.old }
+    ensures said { wants_said Moved [] (words line.now) ≡ (if result then Some named.new.items else None) }
+    ensures room { MOST_WANTS ≤ vec_capacity named.new }
+{
+    named.clear();
+    let mut role = Role::Moved;
+    let mut rest = line;
+    while let Some((word, after)) = split_word(rest) {
+        if role == Role::Moved && is_text(word, b"see") {
+            if named.is_empty() || split_word(after).is_none() {
+                return false;
+            }
+            role = Role::Seen;
+        } else if !read_want(named, role, word) {
+            return false;
+        }
+        rest = after;
+    }
+    !named.is_empty()
+}
+
+// The want of a word, put last; where it hasn't its form or can't stand there, the answer is no.
+fn read_want(named: &mut Vec<NamedWant>, role: Role, word: &[u8]) -> bool
+    requires { MOST_WANTS ≤ vec_capacity named.old }
+    ensures said { option_and_then (with_want named.old.items) (want_said role word.now) ≡ (if result then Some named.new.items else None) }
+    ensures room { MOST_WANTS ≤ vec_capacity named.new }
+{
+    match parse_want(role, word) {
+        Some(want) => add_want(named, want),
+        None => false,
+    }
+}
+
+fn add_want(named: &mut Vec<NamedWant>, want: NamedWant) -> bool
+    requires { MOST_WANTS ≤ vec_capacity named.old }
+    ensures said { with_want named.old.items want ≡ (if result then Some named.new.items else None) }
+    ensures room { MOST_WANTS ≤ vec_capacity named.new }
+{
+    if !has_room_for(named, &want.name) {
+        return false;
+    }
+    let _pushed = named.push(want);
+    true
+}
+
+// Whether a component can join: it doesn't stand among these, and they aren't too many.
+fn has_room_for(named: &[NamedWant], name: &Name) -> bool
+    ensures { result ≡ not (is_named name.now named.now || nat_le 32 (length named.now)) }
+{
+    !(is_named(named, name) || named.len() >= MOST_WANTS)
+}
+
+fn is_named(named: &[NamedWant], name: &Name) -> bool
+    ensures { result ≡ is_named name.now named.now }
+{
+    named.iter().any(|other| *name == other.name)
+}
+
+fn parse_want(role: Role, word: &[u8]) -> Option<NamedWant>
+    ensures { result ≡ want_said role word.now }
+{
+    let (name, number) = split_pair(word, b':')?;
+    let name = name_of(name)?;
+    let number = parse_number(number)?;
+    Some(NamedWant { name, number, role })
+}
+
+fn name_of(text: &[u8]) -> Option<Name>
+    ensures { result ≡ (if is_name text.now then Some text.now else None) }
+{
+    Name::of(text)
+}
+
+/// The wants by the numbers of their components, by component, in the room for them; where the model lacks a
+/// component, the answer is no.
+pub(crate) fn look_up(wants: &mut Vec<Want>, model: &Model, named: &[NamedWant]) -> bool
+    requires room { MOST_WANTS ≤ vec_capacity wants.old }
+    requires few { length named.now ≤ MOST_WANTS }
+    ensures known { wants_known model.now.component_names [] named.now ≡ (if result then Some wants.new.items else None) }
+    ensures room { MOST_WANTS ≤ vec_capacity wants.new }
+{
+    wants.clear();
+    for want in named {
+        let Some(comp) = model.component(&want.name) else {
+            return false;
+        };
+        let known = Want {
+            comp,
+            number: want.number,
+            role: want.role,
+        };
+        put_by_component(wants, known);
+    }
+    true
+}
+
+fn put_by_component(wants: &mut Vec<Want>, want: Want)
+    requires room { MOST_WANTS ≤ vec_capacity wants.old }
+    requires few { vec_len wants.old < MOST_WANTS }
+    ensures put { wants.new.items ≡ put_by_component want wants.old.items }
+    ensures len { vec_len wants.new ≡ vec_len wants.old + 1 }
+    ensures room { MOST_WANTS ≤ vec_capacity wants.new }
+{
+    let end = wants.len();
+    let at = first_above(wants, want.comp).unwrap_or(end);
+    let _inserted = wants.insert(at, want);
+}
+
+fn first_above(wants: &[Want], comp: CompId) -> Option<usize>
+    ensures { result ≡ position (λ w. nat_lt comp.0 w.comp.0) wants.now }
+{
+    wants.iter().position(|want| comp < want.comp)
+}
+
+fn is_text(text: &[u8], word: &[u8]) -> bool
+    ensures { result ≡ same_text text.now word.now }
+{
+    text == word
+}

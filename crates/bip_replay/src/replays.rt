@@ -1,0 +1,70 @@
+//! Replaying a trace: whether the grants of a text are a run of a model.
+ghost use Rattle.std.specs.Prelude.{◌≡◌, ◌≤◌, length, IfOk, IfErr};
+ghost use Rattle.bip_replay.specs.Rooms.{IsRoomy};
+ghost use Rattle.bip_replay.specs.Replays.{IsReplayFault, IsRunOf, Takes};
+
+use crate::rooms::Room;
+use crate::{BookFault, LineFault, Position, ReplayFault};
+use bip_model::{Model, Number, split_line};
+use std::alloc::Global;
+
+/// Reads and checks a trace line by line: how many grants it has where they are a run of the model with exact
+/// numbers above a base, or else the number of the first line at fault with its fault; what follows that line doesn't
+/// count (docs/DEFINITIONS.md, "Traces"). Its memory doesn't grow with the trace: it takes some at the start, and
+/// want of it is told of line 1.
+pub fn replay(
+    alloc: Global,
+    model: &Model,
+    base: Number,
+    text: &[u8],
+) -> Result<u64, (u64, ReplayFault)>
+    requires { base ≤ 18446744073709551614 }
+    ensures run { IfOk result (λ count. IsRunOf model.now base text.now count) }
+    ensures fault { IfErr result (λ e. IsReplayFault model.now base text.now e.0 e.1) }
+{
+    let Ok(mut position) = Position::start(alloc, model, base) else {
+        return Err((1, ReplayFault::Memory));
+    };
+    let Ok(mut room) = Room::new(alloc) else {
+        return Err((1, ReplayFault::Memory));
+    };
+    let mut count = 0;
+    let mut number = 1;
+    let mut rest = text;
+    while !rest.is_empty() {
+        let (line, after) = split_line(rest);
+        let found = match take_line(&mut position, &mut room, model, line) {
+            Ok(found) => found,
+            Err(fault) => return Err((number, fault)),
+        };
+        if found {
+            count += 1;
+        }
+        number += 1;
+        rest = after;
+    }
+    Ok(count)
+}
+
+// Goes on by the grant of a line: whether it has one, or why the trace stops there.
+fn take_line(
+    position: &mut Position,
+    room: &mut Room,
+    model: &Model,
+    line: &[u8],
+) -> Result<bool, ReplayFault>
+    requires counted { length position.old.used ≡ length model.now.components }
+    requires room { IsRoomy room.old }
+    ensures takes { Takes model.now position.old line.now result position.new }
+    ensures room { IsRoomy room.new }
+{
+    match room.read(model, line) {
+        Err(LineFault::Syntax) => Err(ReplayFault::Syntax),
+        Err(LineFault::Unknown) => Err(ReplayFault::Unknown),
+        Ok(None) => Ok(false),
+        Ok(Some(inter)) => match position.step(model, inter, &room.wants) {
+            Ok(()) => Ok(true),
+            Err(fault) => Err(ReplayFault::NotARun(BookFault::of(fault))),
+        },
+    }
+}

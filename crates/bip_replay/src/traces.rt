@@ -1,0 +1,62 @@
+//! Reading and writing traces.
+ghost use Rattle.std.specs.Prelude.{◌≡◌, Ok, IfOk, IfErr};
+ghost use Rattle.bip_replay.specs.Readings.{IsTraceFault, Reads};
+ghost use Rattle.bip_replay.specs.Rooms.{IsRoomy};
+ghost use Rattle.bip_replay.specs.Traces.{grants_of};
+
+use crate::rooms::Room;
+use crate::{LineFault, TraceFault};
+use bip_model::{Grant, Model, Wants, split_line};
+use std::alloc::Global;
+
+/// The grants of a trace of a model, or the number of the first line at fault with its fault; what follows that line
+/// doesn't count. Want of memory comes only where no line before is at fault (docs/DEFINITIONS.md, "Traces").
+pub fn read_trace(
+    alloc: Global,
+    model: &Model,
+    text: &[u8],
+) -> Result<Vec<Grant>, (u64, TraceFault)>
+    ensures grants { IfOk result (λ grants. grants_of model.now text.now ≡ Ok grants.items) }
+    ensures fault { IfErr result (λ e. IsTraceFault model.now text.now e.0 e.1) }
+{
+    let Ok(mut room) = Room::new(alloc) else {
+        return Err((1, TraceFault::Memory));
+    };
+    let mut grants = Vec::new(alloc);
+    let mut number = 1;
+    let mut rest = text;
+    while !rest.is_empty() {
+        let (line, after) = split_line(rest);
+        if let Err(fault) = read_one(alloc, &mut grants, &mut room, model, line) {
+            return Err((number, fault));
+        }
+        number += 1;
+        rest = after;
+    }
+    Ok(grants)
+}
+
+// The grant of a line, put last, or the line's fault.
+fn read_one(
+    alloc: Global,
+    grants: &mut Vec<Grant>,
+    room: &mut Room,
+    model: &Model,
+    line: &[u8],
+) -> Result<(), TraceFault>
+    requires { IsRoomy room.old }
+    ensures reads { Reads model.now grants.old.items line.now result grants.new.items }
+    ensures room { IsRoomy room.new }
+{
+    match room.read(model, line) {
+        Err(LineFault::Syntax) => Err(TraceFault::Syntax),
+        Err(LineFault::Unknown) => Err(TraceFault::Unknown),
+        Ok(None) => Ok(()),
+        Ok(Some(inter)) => match Wants::of(alloc, &room.wants) {
+            None => unreachable!(),
+            Some(wants) => grants
+                .push(Grant { inter, wants })
+                .map_err(|_| TraceFault::Memory),
+        },
+    }
+}

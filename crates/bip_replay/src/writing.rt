@@ -1,0 +1,88 @@
+//! Writing traces.
+ghost use Rattle.std.specs.Prelude.{◌≡◌, ◌<◌, ◌∷◌, ◌++◌, [], length, All, OnOk, IfOk, IsTrue, codes};
+ghost use Rattle.std.specs.List.{flat_map, list_any};
+ghost use Rattle.bip_model.specs.declared.grants.Role.TheVariants.{Seen};
+ghost use Rattle.bip_model.specs.declared.grants.Want.{Want};
+ghost use Rattle.bip_replay.specs.Writing.{IsGrantOf, has_role, line_of, seen_words, spaced, text_of, want_word, want_words};
+
+use bip_model::{Grant, Model, Role, Want};
+use itoa::Buffer;
+use std::alloc::{AllocError, Global};
+
+/// The text of grants of a model: a line for each, its moved components and then those that are only looked at, each by
+/// component (docs/DEFINITIONS.md, "Traces").
+pub fn write_trace(alloc: Global, model: &Model, grants: &[Grant]) -> Result<Vec<u8>, AllocError>
+    requires { All (IsGrantOf model.now) grants.now }
+    ensures { IfOk result (λ text. text.items ≡ text_of model.now grants.now) }
+{
+    let mut text = Vec::new(alloc);
+    for grant in grants {
+        write_line(&mut text, model, grant)?;
+    }
+    Ok(text)
+}
+
+fn write_line(text: &mut Vec<u8>, model: &Model, grant: &Grant) -> Result<(), AllocError>
+    requires { IsGrantOf model.now grant.now }
+    ensures { OnOk result (text.new.items ≡ text.old.items ++ line_of model.now grant.now) }
+{
+    text.extend_from_slice(b"grant")?;
+    let name = &model.interaction_names()[grant.inter.0 as usize];
+    write_word(text, name.as_bytes())?;
+    write_wants(text, model, grant.wants.as_slice(), Role::Moved)?;
+    write_seen(text, model, grant.wants.as_slice())?;
+    text.push(b'\n')?;
+    Ok(())
+}
+
+fn write_seen(text: &mut Vec<u8>, model: &Model, wants: &[Want]) -> Result<(), AllocError>
+    requires { All (λ (w : Want). w.comp.0 < length model.now.component_names) wants.now }
+    ensures { OnOk result (text.new.items ≡ text.old.items ++ flat_map spaced (seen_words model.now wants.now)) }
+{
+    if look(wants) {
+        write_word(text, b"see")?;
+        write_wants(text, model, wants, Role::Seen)?;
+    }
+    Ok(())
+}
+
+fn look(wants: &[Want]) -> bool
+    ensures { result ≡ list_any (has_role Seen) wants.now }
+{
+    wants.iter().any(|want| want.role == Role::Seen)
+}
+
+fn write_wants(
+    text: &mut Vec<u8>,
+    model: &Model,
+    wants: &[Want],
+    role: Role,
+) -> Result<(), AllocError>
+    requires { All (λ (w : Want). w.comp.0 < length model.now.component_names) wants.now }
+    ensures { OnOk result (text.new.items ≡ text.old.items ++ flat_map spaced (want_words model.now role wants.now)) }
+{
+    for want in wants {
+        write_want(text, model, want, role)?;
+    }
+    Ok(())
+}
+
+fn write_want(text: &mut Vec<u8>, model: &Model, want: &Want, role: Role) -> Result<(), AllocError>
+    requires { want.now.comp.0 < length model.now.component_names }
+    ensures { OnOk result (text.new.items ≡ text.old.items ++ flat_map spaced (want_words model.now role (want.now ∷ []))) }
+{
+    if want.role == role {
+        let name = &model.component_names()[want.comp.0 as usize];
+        write_word(text, name.as_bytes())?;
+        text.push(b':')?;
+        text.extend_from_slice(Buffer::new().format(want.number).as_bytes())?;
+    }
+    Ok(())
+}
+
+fn write_word(text: &mut Vec<u8>, word: &[u8]) -> Result<(), AllocError>
+    ensures { OnOk result (text.new.items ≡ text.old.items ++ spaced word.now) }
+{
+    text.push(b' ')?;
+    text.extend_from_slice(word)
+}
