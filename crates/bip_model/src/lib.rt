@@ -19,7 +19,7 @@ mod texts;
 pub use building::{Builder, builder_laws};
 pub use drafts::Draft;
 pub use faults::{BuildFault, ClassFault, NotNow};
-pub use grants::{Grant, Role, Want, Wants};
+pub use grants::{Grant, MOST_WANTS, Role, Want, Wants};
 pub use histories::history_laws;
 pub use models::Model;
 pub use naming::{Name, Names};

@@ -13,7 +13,7 @@ use Rattle.bip_reader.specs.declared.faults.ReadFault.{ReadFault}
 use Rattle.bip_reader.specs.declared.faults.Why.{Why}
 use Rattle.bip_reader.specs.declared.faults.Why.TheVariants.{Syntax, Unknown, Twice, TooMany, Missing}
 use Rattle.bip_reader.specs.declared.reading.Reading.{Reading}
-use Rattle.bip_reader.specs.declared.reading.TheConstants.{MOST_CLASSES}
+use Rattle.bip_model.specs.declared.partitions.TheConstants.{MOST_CLASSES}
 use Rattle.bip_reader.specs.declared.statements.Statement.{Statement}
 use Rattle.bip_reader.specs.declared.statements.Statement.TheVariants.{Header, Component, Loc, Port, Trans, End, Interaction, Class}
 use Rattle.bip_reader.specs.Faults.{why_of_build}

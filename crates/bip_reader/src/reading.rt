@@ -11,12 +11,9 @@ ghost use Rattle.bip_reader.specs.Statements.{each_of};
 
 use crate::Why;
 use crate::statements::{Statement, read_statement};
-use bip_model::{Builder, InterId, Model, Name, Seq, is_plain, split_word};
+use bip_model::{Builder, InterId, MOST_CLASSES, Model, Name, Seq, is_plain, split_word};
 use std::alloc::{AllocError, Global};
 use std::marker;
-
-/// How many classes a model has at most.
-pub(crate) const MOST_CLASSES: usize = 32;
 
 /// Classes as a text names them, each a name with numbers of interactions. Contracts see the list of them.
 #[derive(Drop)]

@@ -90,7 +90,7 @@ fn participants_and_members_are_in_order(rt: HostRuntime) -> Result<(), Fail> {
 }
 
 #[test]
-fn lines_without_a_form(rt: HostRuntime) {
+fn first_lines_and_bytes_of_no_line(rt: HostRuntime) {
     refuse(
         &rt,
         rt.alloc(),
@@ -106,6 +106,16 @@ fn lines_without_a_form(rt: HostRuntime) {
             ("\n# c\n \t\nbip 2", 4, Why::Syntax),
             ("component A\nbip 1", 1, Why::Syntax),
             ("bip 1\n\nbip 1", 3, Why::Syntax),
+        ],
+    );
+}
+
+#[test]
+fn words_that_are_no_name(rt: HostRuntime) {
+    refuse(
+        &rt,
+        rt.alloc(),
+        &[
             ("bip 1\ncomponent end", 2, Why::Syntax),
             ("bip 1\ncomponent see", 2, Why::Syntax),
             ("bip 1\ncomponent 1a", 2, Why::Syntax),
@@ -117,6 +127,16 @@ fn lines_without_a_form(rt: HostRuntime) {
                 2,
                 Why::Syntax,
             ),
+        ],
+    );
+}
+
+#[test]
+fn lines_out_of_place(rt: HostRuntime) {
+    refuse(
+        &rt,
+        rt.alloc(),
+        &[
             ("bip 1\nend", 2, Why::Syntax),
             ("bip 1\nloc a", 2, Why::Syntax),
             ("bip 1\nport p", 2, Why::Syntax),
@@ -127,6 +147,16 @@ fn lines_without_a_form(rt: HostRuntime) {
             ("bip 1\ncomponent A\nbip 1", 3, Why::Syntax),
             ("bip 1\ncomponent A\nend A", 3, Why::Syntax),
             ("bip 1\ncomponent A\nvar v 0", 3, Why::Syntax),
+        ],
+    );
+}
+
+#[test]
+fn lines_without_a_form(rt: HostRuntime) {
+    refuse(
+        &rt,
+        rt.alloc(),
+        &[
             ("bip 1\ncomponent A\ntrans p a", 3, Why::Syntax),
             ("bip 1\ncomponent A\ntrans p a a when", 3, Why::Syntax),
             ("bip 1\ncomponent A\ntrans p a a do a", 3, Why::Syntax),

@@ -1,5 +1,6 @@
 -- Readings of traces: the lines read so far, and the first line at fault.
 use Rattle.std.proofs.Common.{◌≡◌, ℕ, suc, ◌+◌, ◌<◌, ◌≤◌, List, [], ◌∷◌, ◌++◌, length, Option, None, Some, Result, Ok, Err, refl, sym, ap, ◌∙◌, subst, arith}
+use Rattle.std.proofs.lemmas.List.{length-append}
 use Rattle.bip_model.specs.declared.grants.Grant.{Grant}
 use Rattle.bip_model.specs.declared.parts.System.{System}
 use Rattle.bip_model.specs.Texts.{lines}
@@ -66,4 +67,7 @@ has_read-fault m text rest after line old new number fault so next reads = by_fa
     by_fault : (f : TraceFault) → Reads m old line (Err f) new → IsTraceFault m text number f
     by_fault Syntax says = at _ says
     by_fault Unknown says = at _ says
-    by_fault Memory says = record { front = so.front; rest = lines rest; grants = old; split = so.split; numbered = sym so.numbered; reads = so.reads }
+    by_fault Memory says =
+        let counted : length (lines text) ≡ length so.front + length (line ∷ lines after) = ap length (so.split ∙ ap (λ (ls : List (List ℕ)). so.front ++ ls) next) ∙ length-append so.front (line ∷ lines after) in
+        let numbered : length so.front + 1 ≡ number = so.numbered in
+        record { front = so.front; rest = lines rest; grants = old; split = so.split; numbered = sym so.numbered; last = omega arith; reads = so.reads }

@@ -1,6 +1,6 @@
 -- Readings of traces: the grants of the lines read so far, and why a text is no trace.
-use Rattle.std.specs.Prelude.{◌≡◌, ℕ, ◌+◌, List, [], ◌∷◌, ◌++◌, length, Option, None, Some, Result, Ok, Err}
-use Rattle.bip_model.specs.Texts.{lines}
+use Rattle.std.specs.Prelude.{◌≡◌, ℕ, ◌+◌, ◌≤◌, List, [], ◌∷◌, ◌++◌, length, Option, None, Some, Result, Ok, Err}
+use Rattle.bip_model.specs.Texts.{last_line, lines}
 use Rattle.bip_model.specs.declared.grants.Grant.{Grant}
 use Rattle.bip_model.specs.declared.parts.System.{System}
 use Rattle.bip_replay.specs.declared.faults.LineFault.TheVariants as line_fault
@@ -20,6 +20,7 @@ pub record IsOutOfMemory (m : System) (text : List ℕ) (number : ℕ) : Type 0 
   pub grants : List Grant
   pub split : lines text ≡ front ++ rest
   pub numbered : number ≡ length front + 1
+  pub last : number ≤ last_line text
   pub reads : grants_from m 1 front ≡ Ok grants
 
 -- why a text isn't read as a trace

@@ -4,15 +4,14 @@ ghost use Rattle.std.specs.Option.{option_and_then};
 ghost use Rattle.bip_model.specs.Naming.{same_text};
 ghost use Rattle.bip_model.specs.Texts.{words};
 ghost use Rattle.bip_model.specs.declared.grants.Role.TheVariants.{Moved};
+ghost use Rattle.bip_model.specs.declared.grants.TheConstants.{MOST_WANTS};
 ghost use Rattle.bip_replay.specs.Traces.{as_said, is_name, is_named, named_on, put_by_component, said, want_said, wants_known, wants_said, with_want};
 
 use crate::LineFault;
 use bip_model::{
-    CompId, Model, Name, Number, Role, Want, is_plain, parse_number, split_pair, split_word,
+    CompId, MOST_WANTS, Model, Name, Number, Role, Want, is_plain, parse_number, split_pair,
+    split_word,
 };
-
-/// How many wants a line has at most.
-pub(crate) const MOST_WANTS: usize = 32;
 
 /// A want as a line names it: a component, its number, and whether it is moved.
 #[derive(Clone, Copy)]

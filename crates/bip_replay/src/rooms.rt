@@ -6,8 +6,8 @@ ghost use Rattle.bip_replay.specs.Rooms.{IsRoomy};
 ghost use Rattle.bip_replay.specs.Traces.{grant_on};
 
 use crate::LineFault;
-use crate::lines::{MOST_WANTS, NamedWant, look_up, read_line};
-use bip_model::{InterId, Model, Want};
+use crate::lines::{NamedWant, look_up, read_line};
+use bip_model::{InterId, MOST_WANTS, Model, Want};
 use std::alloc::{AllocError, Global};
 
 /// Room for the wants of a line, used again for each line.

@@ -1,11 +1,12 @@
-use Rattle.std.proofs.Common.{[], refl, arith}
+use Rattle.std.proofs.Common.{[], length, refl, arith}
+use Rattle.std.proofs.Math.Nat.{le-max_left}
 use Rattle.bip_model.specs.Texts.{lines}
 use Rattle.bip_replay.proofs.ReadingLemmas.{has_read-more, has_read-fault}
 use Rattle.bip_replay.proofs.traces.read_trace.Goals as goal
 
 pub returns-in_default-clause-fault : goal.returns-in_default-clause-fault
 returns-in_default-clause-fault c =
-    record { front = []; rest = lines c.args.text.now; grants = []; split = refl; numbered = refl; reads = refl }
+    record { front = []; rest = lines c.args.text.now; grants = []; split = refl; numbered = refl; last = le-max_left 1 (length (lines c.args.text.now)); reads = refl }
 
 pub returns-in-Err-clause-fault : goal.returns-in-Err-clause-fault
 returns-in-Err-clause-fault c =
