@@ -1,5 +1,5 @@
 -- The wants of known components, put by component: their components rise.
-use Rattle.std.proofs.Common.{◌≡◌, ◌≢◌, ℕ, zero, suc, ◌+◌, ◌<◌, ◌≤◌, Bool, true, false, cond, ◌||◌, eqb, eq-eqb, List, [], ◌∷◌, length, map, get_or, Option, None, Some, refl, sym, ap, ◌∙◌, subst, arith, position}
+use Rattle.std.proofs.Common.{◌≡◌, ◌≢◌, ℕ, zero, suc, ◌+◌, ◌<◌, ◌≤◌, Bool, true, false, cond, ◌||◌, eqb, eq-eqb, List, [], ◌∷◌, length, get_or, Option, None, Some, refl, sym, ap, ◌∙◌, subst, arith, position}
 use Rattle.std.specs.Prelude.{All, nat_lt, slice_index}
 use Rattle.std.specs.List.{list_any}
 use Rattle.std.specs.Option.{option_and_then}
@@ -56,7 +56,7 @@ IsNew names w v = position (same_text w.name) names ≢ Some v.comp.0
 abbrev pub AreNew : List (List ℕ) → List Want → NamedWant → Type 0
 AreNew names before w = All (IsNew names w) before
 
-same_text-refl : (text : List ℕ) → same_text text text ≡ true
+pub same_text-refl : (text : List ℕ) → same_text text text ≡ true
 same_text-refl [] = refl
 same_text-refl (b ∷ bs) = and_from (eqb b b) (same_text bs bs) (eq-eqb b b refl) (same_text-refl bs)
 

@@ -5,7 +5,10 @@ pub mod LineLemmas
 pub mod NamedLemmas
 pub mod PartyLemmas
 pub mod PositionLemmas
+pub mod PutLemmas
 pub mod ReadingLemmas
 pub mod ReplayLemmas
 pub mod RunLemmas
 pub mod UsedLemmas
+pub mod WordLemmas
+pub mod WrittenLemmas

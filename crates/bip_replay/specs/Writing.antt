@@ -1,13 +1,16 @@
 -- The one spelling of traces: moved components, then the seen ones, each by component; one space between words, and a line feed after each line.
-use Rattle.std.specs.Prelude.{ℕ, ◌<◌, Bool, not, List, [], ◌∷◌, ◌++◌, length, map, filter, All, codes, slice_index_or, if◌then◌else◌}
+use Rattle.std.specs.Prelude.{◌≡◌, ℕ, ◌<◌, ◌^◌, Bool, not, IsTrue, List, [], ◌∷◌, ◌++◌, length, map, filter, All, Ok, Some, codes, slice_index_or, if◌then◌else◌}
 use Rattle.std.specs.Fmt.{decimal}
 use Rattle.std.specs.List.{flat_map, list_any}
+use Rattle.bip_model.specs.Naming.{IsName}
+use Rattle.bip_model.specs.Texts.{is_plain}
 use Rattle.bip_model.specs.Wants.{is_moved}
 use Rattle.bip_model.specs.declared.grants.Grant.{Grant}
 use Rattle.bip_model.specs.declared.grants.Role.{Role}
 use Rattle.bip_model.specs.declared.grants.Role.TheVariants.{Moved, Seen}
 use Rattle.bip_model.specs.declared.grants.Want.{Want}
 use Rattle.bip_model.specs.declared.parts.System.{System}
+use Rattle.bip_replay.specs.Traces.{grant_on}
 
 -- a grant of a model: the model has its interaction and its components
 pub record IsGrantOf (m : System) (g : Grant) : Type 0 where
@@ -50,3 +53,18 @@ line_of m g = codes "grant" ++ flat_map spaced (words_behind m g) ++ 10 ∷ []
 -- the text of grants
 abbrev pub text_of : System → List Grant → List ℕ
 text_of m gs = flat_map (line_of m) gs
+
+-- a want whose word can be read: its component has a name, and its number is one of 64 bits
+pub record IsSpelled (m : System) (w : Want) : Type 0 where
+  pub component : w.comp.0 < length m.component_names
+  pub name : IsName (name_in m.component_names w.comp.0)
+  pub high : w.number < 2 ^ 64
+
+-- the line of a grant, without its line feed
+abbrev pub bare_line : System → Grant → List ℕ
+bare_line m g = codes "grant" ++ flat_map spaced (words_behind m g)
+
+-- the line of a grant reads as that grant
+pub record ReadsBack (m : System) (g : Grant) : Type 0 where
+  pub plain : IsTrue (is_plain (bare_line m g))
+  pub reads : grant_on m (bare_line m g) ≡ Ok (Some g)

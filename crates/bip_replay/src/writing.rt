@@ -1,19 +1,21 @@
 //! Writing traces.
-ghost use Rattle.std.specs.Prelude.{◌≡◌, ◌<◌, ◌∷◌, ◌++◌, [], length, All, OnOk, IfOk, IsTrue, codes};
+ghost use Rattle.std.specs.Prelude.{◌≡◌, ◌<◌, ◌∷◌, ◌++◌, [], length, All, Ok, OnOk, IfOk, IsTrue, codes};
 ghost use Rattle.std.specs.List.{flat_map, list_any};
 ghost use Rattle.bip_model.specs.declared.grants.Role.TheVariants.{Seen};
 ghost use Rattle.bip_model.specs.declared.grants.Want.{Want};
-ghost use Rattle.bip_replay.specs.Writing.{IsGrantOf, has_role, line_of, seen_words, spaced, text_of, want_word, want_words};
+ghost use Rattle.bip_replay.specs.Traces.{grants_of};
+ghost use Rattle.bip_replay.specs.Writing.{IsGrantOf, IsSpelled, ReadsBack, has_role, line_of, seen_words, spaced, text_of, want_word, want_words};
 
 use bip_model::{Grant, Model, Role, Want};
 use itoa::Buffer;
 use std::alloc::{AllocError, Global};
 
 /// The text of grants of a model: a line for each, its moved components and then those that are only looked at, each by
-/// component (docs/DEFINITIONS.md, "Traces").
+/// component. It reads back as the same grants (docs/DEFINITIONS.md, "Traces").
 pub fn write_trace(alloc: Global, model: &Model, grants: &[Grant]) -> Result<Vec<u8>, AllocError>
     requires { All (IsGrantOf model.now) grants.now }
-    ensures { IfOk result (λ text. text.items ≡ text_of model.now grants.now) }
+    ensures text { IfOk result (λ text. text.items ≡ text_of model.now grants.now) }
+    ensures reads_back { IfOk result (λ text. grants_of model.now text.items ≡ Ok grants.now) }
 {
     let mut text = Vec::new(alloc);
     for grant in grants {
@@ -24,7 +26,8 @@ pub fn write_trace(alloc: Global, model: &Model, grants: &[Grant]) -> Result<Vec
 
 fn write_line(text: &mut Vec<u8>, model: &Model, grant: &Grant) -> Result<(), AllocError>
     requires { IsGrantOf model.now grant.now }
-    ensures { OnOk result (text.new.items ≡ text.old.items ++ line_of model.now grant.now) }
+    ensures text { OnOk result (text.new.items ≡ text.old.items ++ line_of model.now grant.now) }
+    ensures reads_back { OnOk result (ReadsBack model.now grant.now) }
 {
     text.extend_from_slice(b"grant")?;
     let name = &model.interaction_names()[grant.inter.0 as usize];
@@ -59,7 +62,8 @@ fn write_wants(
     role: Role,
 ) -> Result<(), AllocError>
     requires { All (λ (w : Want). w.comp.0 < length model.now.component_names) wants.now }
-    ensures { OnOk result (text.new.items ≡ text.old.items ++ flat_map spaced (want_words model.now role wants.now)) }
+    ensures text { OnOk result (text.new.items ≡ text.old.items ++ flat_map spaced (want_words model.now role wants.now)) }
+    ensures spelled { OnOk result (All (IsSpelled model.now) wants.now) }
 {
     for want in wants {
         write_want(text, model, want, role)?;
@@ -69,13 +73,15 @@ fn write_wants(
 
 fn write_want(text: &mut Vec<u8>, model: &Model, want: &Want, role: Role) -> Result<(), AllocError>
     requires { want.now.comp.0 < length model.now.component_names }
-    ensures { OnOk result (text.new.items ≡ text.old.items ++ flat_map spaced (want_words model.now role (want.now ∷ []))) }
+    ensures text { OnOk result (text.new.items ≡ text.old.items ++ flat_map spaced (want_words model.now role (want.now ∷ []))) }
+    ensures spelled { IsSpelled model.now want.now }
 {
+    let Want { comp, number, .. } = *want;
+    let name = model.component_names()[comp.0 as usize].as_bytes();
     if want.role == role {
-        let name = &model.component_names()[want.comp.0 as usize];
-        write_word(text, name.as_bytes())?;
+        write_word(text, name)?;
         text.push(b':')?;
-        text.extend_from_slice(Buffer::new().format(want.number).as_bytes())?;
+        text.extend_from_slice(Buffer::new().format(number).as_bytes())?;
     }
     Ok(())
 }
