@@ -2,8 +2,10 @@
 mod faulting;
 mod reading;
 mod replaying;
+mod writing;
 
-use bip_model::{BuildFault, Builder, Model, Name};
+use crate::read_trace;
+use bip_model::{BuildFault, Builder, CompId, Grant, InterId, Model, Name, Number, Role, Want};
 use std::alloc::Global;
 use std::process::Abort;
 use std::test::Fail;
@@ -75,4 +77,35 @@ fn build(rt: &impl Abort, alloc: Global, table: &str) -> Result<Model, Fail> {
         say(rt, alloc, &mut builder, line)?;
     }
     Ok(builder.finish()?)
+}
+
+fn moved(comp: u16, number: Number) -> Want {
+    Want {
+        comp: CompId(comp),
+        number,
+        role: Role::Moved,
+    }
+}
+
+fn seen(comp: u16, number: Number) -> Want {
+    Want {
+        comp: CompId(comp),
+        number,
+        role: Role::Seen,
+    }
+}
+
+/// Compares a grant with its parts.
+fn is_grant(rt: &impl Abort, grants: &[Grant], place: usize, inter: u16, wants: &[Want]) {
+    let grant = grants.get(place).expect(rt, "a grant");
+    assert_eq!(rt; grant.inter, InterId(inter), "grant {place}");
+    assert_eq!(rt; grant.wants.as_slice(), wants, "grant {place}");
+}
+
+/// The one grant of a text.
+fn grant_of(rt: &impl Abort, alloc: Global, model: &Model, text: &str) -> Grant {
+    match read_trace(alloc, model, text.as_bytes()) {
+        Ok(mut grants) => grants.pop().expect(rt, "a grant"),
+        Err((line, fault)) => panic!(rt; "line {line}: {fault}"),
+    }
 }

@@ -1,7 +1,8 @@
-use super::{OWN_WAYS, build};
+use super::{OWN_WAYS, build, grant_of, moved, seen};
 use crate::{read_trace, replay};
-use bip_model::Model;
+use bip_model::{Model, Want};
 use std::alloc::Global;
+use std::fmt::Write;
 use std::process::Abort;
 use std::test::Fail;
 
@@ -76,4 +77,49 @@ fn what_the_model_lacks_is_unknown(rt: HostRuntime) -> Result<(), Fail> {
 #[test]
 fn the_form_of_a_line_comes_before_its_names(rt: HostRuntime) -> Result<(), Fail> {
     refuse(&rt, rt.alloc(), SYNTAX_FIRST, "line 2: syntax")
+}
+
+/// A model of so many components, of which the first one moves.
+fn many(rt: &impl Abort, alloc: Global, count: u32) -> Result<Model, Fail> {
+    let mut table = format!(in alloc; "component c0|loc l|port p|end")?;
+    for number in 1..count {
+        write!(table, "|component c{number}|loc l|end")?;
+    }
+    write!(table, "|interaction m c0.p")?;
+    build(rt, alloc, table.as_str())
+}
+
+/// A line that moves the first component, and sees so many after it, the last one first.
+fn seeing(alloc: Global, count: u32) -> Result<String, Fail> {
+    let mut line = format!(in alloc; "grant m c0:1 see")?;
+    for number in 0..count {
+        write!(line, " c{}:1", count - number)?;
+    }
+    Ok(line)
+}
+
+/// Compares the wants of a line: the first component is moved, and 31 are seen.
+fn are_most(rt: &impl Abort, wants: &[Want]) {
+    assert_eq!(rt; wants.len(), 32);
+    assert_eq!(rt; wants.get(0).copied(), Some(moved(0, 1)));
+    assert_eq!(rt; wants.get(1).copied(), Some(seen(1, 1)));
+    assert_eq!(rt; wants.get(31).copied(), Some(seen(31, 1)));
+}
+
+#[test]
+fn a_line_has_32_components(rt: HostRuntime) -> Result<(), Fail> {
+    let model = many(&rt, rt.alloc(), 33)?;
+    let most = seeing(rt.alloc(), 31)?;
+    let grant = grant_of(&rt, rt.alloc(), &model, most.as_str());
+    are_most(&rt, grant.wants.as_slice());
+    Ok(())
+}
+
+#[test]
+fn a_line_of_33_components_has_another_form(rt: HostRuntime) -> Result<(), Fail> {
+    let model = many(&rt, rt.alloc(), 33)?;
+    let past = seeing(rt.alloc(), 32)?;
+    let fault = told(&rt, rt.alloc(), &model, past.as_str())?;
+    assert_eq!(rt; fault.as_str(), "line 1: syntax");
+    Ok(())
 }
