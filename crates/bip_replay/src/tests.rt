@@ -1,5 +1,7 @@
 //! What no clause says: traces and books worked by hand, limits at and one past, and that each call can succeed.
+mod appending;
 mod faulting;
+mod positions;
 mod reading;
 mod replaying;
 mod writing;
