@@ -8,6 +8,8 @@ mod position;
 mod replays;
 mod rooms;
 mod runs;
+#[cfg(test)]
+mod tests;
 mod traces;
 mod writing;
 
