@@ -1,0 +1,38 @@
+-- The answer to a replay: a function of the model's text, the trace's text and the base.
+use Rattle.std.specs.Prelude.{◌≡◌, ◌≢◌, ℕ, List, []}
+use Rattle.bip_model.specs.declared.parts.System.{System}
+use Rattle.bip_model.specs.declared.partitions.Classes.{Classes}
+use Rattle.bip_reader.specs.Meanings.{HasFault, Means}
+use Rattle.bip_reader.specs.declared.faults.ReadFault.{ReadFault}
+use Rattle.bip_reader.specs.declared.faults.Why.TheVariants.{Memory}
+use Rattle.bip_replay.specs.Replays.{IsFirstFault, IsRunOf}
+use Rattle.bip_replay.specs.declared.faults.BookFault.{BookFault}
+use Rattle.bip_replay.specs.declared.faults.LineFault.{LineFault}
+use Rattle.bip_replay.specs.declared.faults.LineFault.TheVariants as line_fault
+use Rattle.bip_replay.specs.declared.faults.ReplayFault.{ReplayFault}
+use Rattle.bip_replay.specs.declared.faults.ReplayFault.TheVariants as replay_fault
+use Rattle.bipr.specs.Wording.{model_text, run_text, trace_text, verdict_text}
+use Rattle.bipr.specs.declared.answers.Answer.{Answer}
+use Rattle.bipr.specs.declared.answers.Status.TheVariants.{Done, Refused, NotARun}
+
+-- a line that says no grant, as a fault of a replay
+abbrev pub of_line : LineFault → ReplayFault
+of_line line_fault.Syntax = replay_fault.Syntax
+of_line line_fault.Unknown = replay_fault.Unknown
+
+-- the answer to the texts of a model and a trace, from a base
+pub data IsAnswer (base : ℕ) (model trace : List ℕ) : Answer → Type 0 where
+  -- the grants of the trace are a run of the model
+  run : (m : System) (classes : Classes) (count : ℕ) → Means model m classes → IsRunOf m base trace count
+      → IsAnswer base model trace (record { status = Done; output = run_text count; complaint = [] })
+  -- the first line at fault has a grant that can't be next after those before it
+  not_a_run : (m : System) (classes : Classes) (number : ℕ) (fault : BookFault) → Means model m classes
+      → IsFirstFault m base trace number (replay_fault.NotARun fault)
+      → IsAnswer base model trace (record { status = NotARun; output = verdict_text m trace number fault; complaint = [] })
+  -- the first line at fault is no grant of the model
+  no_trace : (m : System) (classes : Classes) (number : ℕ) (fault : LineFault) → Means model m classes
+      → IsFirstFault m base trace number (of_line fault)
+      → IsAnswer base model trace (record { status = Refused; output = []; complaint = trace_text number fault })
+  -- the model's text is none; the trace doesn't count
+  no_model : (fault : ReadFault) → fault.why ≢ Memory → HasFault model fault
+      → IsAnswer base model trace (record { status = Refused; output = []; complaint = model_text fault })

@@ -1,0 +1,4 @@
+pub mod Answers
+pub mod Dividing
+pub mod Endings
+pub mod Wording

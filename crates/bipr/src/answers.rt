@@ -1,0 +1,134 @@
+//! Answers: what the program writes for the texts that it is given, and the status with which it ends.
+ghost use Rattle.std.specs.Prelude.{◌≡◌, ◌≢◌, ◌≤◌, ℕ, List, [], IfOk};
+ghost use Rattle.bip_model.specs.declared.partitions.Classes.{Classes};
+ghost use Rattle.bip_reader.specs.Meanings.{Means};
+ghost use Rattle.bip_reader.specs.declared.faults.Why.TheVariants.{Memory};
+ghost use Rattle.bipr.specs.Answers.{IsAnswer};
+ghost use Rattle.bipr.specs.declared.answers.Status.TheVariants.{Refused};
+ghost use Rattle.bipr.specs.Wording.{code_of, model_text};
+
+use crate::wording::{model_refusal, run_text, trace_refusal, verdict_text};
+use bip_model::{Model, Number, Seq};
+use bip_reader::{ReadFault, Why, read_model};
+use bip_replay::{LineFault, ReplayFault, replay};
+use std::alloc::{AllocError, Global};
+
+/// How a command ends.
+#[derive(Clone, Copy, Debug, PartialEq, Eq)]
+pub enum Status {
+    /// What was asked is done.
+    Done,
+    /// An input is refused, or the answer can't be written.
+    Refused,
+    /// The command line has no command's form.
+    BadCommandLine,
+    /// Want of memory.
+    NoMemory,
+    /// The trace is no run of the model.
+    NotARun,
+}
+
+impl Status {
+    /// The status as the system sees it.
+    pub fn code(&self) -> u8
+        ensures { result ≡ code_of self.now }
+    {
+        match self {
+            Status::Done => 0,
+            Status::Refused => 1,
+            Status::BadCommandLine => 2,
+            Status::NoMemory => 3,
+            Status::NotARun => 4,
+        }
+    }
+}
+
+/// The answer to a command: its status, and what it writes on standard output and on standard error.
+#[derive(Drop)]
+pub struct Answer {
+    pub status: Status,
+    pub output: Seq<u8>,
+    pub complaint: Seq<u8>,
+}
+
+/// The answer to the replay of a trace's text on a model's text from a base: `run N` where the grants are a run of the model;
+/// else the verdict on the first line at fault where that line's grant can't be next; else the first fault of the model's
+/// text, or of the trace's (docs/DEFINITIONS.md, "Answers"). The only error is want of memory.
+pub fn answer_replay(
+    alloc: Global,
+    model: &[u8],
+    trace: &[u8],
+    base: Number,
+) -> Result<Answer, AllocError>
+    requires { base ≤ 18446744073709551614 }
+    ensures { IfOk result (IsAnswer base model.now trace.now) }
+{
+    let (system, _classes) = match read_model(alloc, model) {
+        Ok(read) => read,
+        Err(fault) => return answer_fault(alloc, &fault),
+    };
+    answer_trace(alloc, &system, trace, base)
+}
+
+/// The answer to a model's text with a fault.
+pub fn answer_fault(alloc: Global, fault: &ReadFault) -> Result<Answer, AllocError>
+    ensures { IfOk result (λ answer. (fault.now.why ≢ Memory) × (answer ≡ record { status = Refused; output = []; complaint = model_text fault.now })) }
+{
+    if fault.why == Why::Memory {
+        return Err(AllocError);
+    }
+    Ok(refused(alloc, model_refusal(alloc, fault)?))
+}
+
+/// The answer to a trace, where the model's text is one.
+pub fn answer_trace(
+    alloc: Global,
+    model: &Model,
+    trace: &[u8],
+    base: Number,
+) -> Result<Answer, AllocError>
+    requires { base ≤ 18446744073709551614 }
+    ensures { IfOk result (λ answer. (text : List ℕ) (classes : Classes) → Means text model.now classes → IsAnswer base text trace.now answer) }
+{
+    match replay(alloc, model, base, trace) {
+        Ok(count) => Ok(said(alloc, Status::Done, run_text(alloc, count)?)),
+        Err((line, fault)) => match fault {
+            ReplayFault::Syntax => Ok(refused(
+                alloc,
+                trace_refusal(alloc, line, &LineFault::Syntax)?,
+            )),
+            ReplayFault::Unknown => Ok(refused(
+                alloc,
+                trace_refusal(alloc, line, &LineFault::Unknown)?,
+            )),
+            ReplayFault::NotARun(why) => Ok(said(
+                alloc,
+                Status::NotARun,
+                verdict_text(alloc, model, trace, line, &why)?,
+            )),
+            ReplayFault::Memory => Err(AllocError),
+        },
+    }
+}
+
+// An answer on standard output.
+fn said(alloc: Global, status: Status, output: Vec<u8>) -> Answer
+    ensures { result ≡ record { status = status; output = output.items; complaint = [] } }
+{
+    Answer {
+        status,
+        output: Seq::of(output),
+        complaint: Seq::of(Vec::new(alloc)),
+    }
+}
+
+// A refusal, which says nothing on standard output.
+fn refused(alloc: Global, complaint: Vec<u8>) -> Answer
+    ensures { result ≡ record { status = Refused; output = []; complaint = complaint.items } }
+{
+    Answer {
+        status: Status::Refused,
+        output: Seq::of(Vec::new(alloc)),
+        complaint: Seq::of(complaint),
+    }
+}

@@ -1,0 +1,127 @@
+//! The texts of answers.
+ghost use Rattle.std.specs.Prelude.{◌≡◌, ◌≤◌, ◌++◌, ◌-◌, [], IfOk, OnOk, slice_index_or};
+ghost use Rattle.bip_model.specs.Texts.{lines, words};
+ghost use Rattle.bip_replay.specs.Writing.{name_in};
+ghost use Rattle.bipr.specs.Wording.{interaction_on, model_text, run_text, step_text, trace_text, verdict_text};
+
+use bip_model::{CompId, InterId, Model, split_line, split_word};
+use bip_reader::ReadFault;
+use bip_replay::{BookFault, LineFault};
+use std::alloc::{AllocError, Global};
+
+/// `run N`.
+pub fn run_text(alloc: Global, count: u64) -> Result<Vec<u8>, AllocError>
+    ensures { IfOk result (λ text. text.items ≡ run_text count) }
+{
+    Ok(format!(in alloc; "run {count}\n")?.into_bytes())
+}
+
+/// The complaint of a model's text.
+pub fn model_refusal(alloc: Global, fault: &ReadFault) -> Result<Vec<u8>, AllocError>
+    ensures { IfOk result (λ text. text.items ≡ model_text fault.now) }
+{
+    Ok(format!(in alloc; "bipr: model {fault}\n")?.into_bytes())
+}
+
+/// The complaint of a trace's text.
+pub fn trace_refusal(alloc: Global, line: u64, fault: &LineFault) -> Result<Vec<u8>, AllocError>
+    ensures { IfOk result (λ text. text.items ≡ trace_text line fault.now) }
+{
+    Ok(format!(in alloc; "bipr: trace line {line}: {fault}\n")?.into_bytes())
+}
+
+/// The verdict on a trace whose line with this number has a grant that can't be next.
+pub fn verdict_text(
+    alloc: Global,
+    model: &Model,
+    trace: &[u8],
+    line: u64,
+    fault: &BookFault,
+) -> Result<Vec<u8>, AllocError>
+    ensures { IfOk result (λ text. text.items ≡ verdict_text model.now trace.now line fault.now) }
+{
+    let mut text = format!(in alloc; "line {line}: ")?.into_bytes();
+    write_step(alloc, &mut text, model, interaction_on(trace, line), fault)?;
+    text.push(b'\n')?;
+    Ok(text)
+}
+
+// Puts last why a grant of an interaction can't be next.
+fn write_step(
+    alloc: Global,
+    text: &mut Vec<u8>,
+    model: &Model,
+    inter: &[u8],
+    fault: &BookFault,
+) -> Result<(), AllocError>
+    ensures { OnOk result (text.new.items ≡ text.old.items ++ step_text model.now inter.now fault.now) }
+{
+    match fault {
+        BookFault::NotEnabled => {
+            text.extend_from_slice(inter)?;
+            text.extend_from_slice(b" not enabled")
+        }
+        BookFault::Below(above) => {
+            text.extend_from_slice(inter)?;
+            text.extend_from_slice(b" below ")?;
+            text.extend_from_slice(interaction_name(model, *above))
+        }
+        BookFault::Number(comp, expected) => {
+            text.extend_from_slice(component_name(model, *comp))?;
+            text.extend_from_slice(format!(in alloc; " expected {expected}")?.as_bytes())
+        }
+        BookFault::Parties => {
+            text.extend_from_slice(inter)?;
+            text.extend_from_slice(b" parties")
+        }
+        BookFault::Memory => text.extend_from_slice(b"no memory"),
+    }
+}
+
+fn interaction_name(model: &Model, inter: InterId) -> &[u8]
+    ensures { result.now ≡ name_in model.now.interaction_names inter.0 }
+{
+    match model.interaction_names().get(inter.0 as usize) {
+        Some(name) => name.as_bytes(),
+        None => &[],
+    }
+}
+
+fn component_name(model: &Model, comp: CompId) -> &[u8]
+    ensures { result.now ≡ name_in model.now.component_names comp.0 }
+{
+    match model.component_names().get(comp.0 as usize) {
+        Some(name) => name.as_bytes(),
+        None => &[],
+    }
+}
+
+// The second word of the line with this number: what a grant's line names as its interaction.
+fn interaction_on(trace: &[u8], number: u64) -> &[u8]
+    ensures { result.now ≡ interaction_on trace.now number }
+{
+    match split_word(line_at(trace, number)) {
+        None => &[],
+        Some((_, rest)) => match split_word(rest) {
+            None => &[],
+            Some((word, _)) => word,
+        },
+    }
+}
+
+// The line with this number; empty where the text has none.
+fn line_at(text: &[u8], number: u64) -> &[u8]
+    ensures { result.now ≡ slice_index_or (lines text.now) (number - 1) [] }
+{
+    let mut before = number.saturating_sub(1);
+    let mut rest = text;
+    while !rest.is_empty() {
+        let (line, after) = split_line(rest);
+        if before == 0 {
+            return line;
+        }
+        before -= 1;
+        rest = after;
+    }
+    &[]
+}
