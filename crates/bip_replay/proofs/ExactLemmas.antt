@@ -1,10 +1,12 @@
 -- Faults are exact: what is at fault can't be next, and a trace with a first fault is no run.
-use Rattle.std.proofs.Common.{◌≡◌, ℕ, ◌+◌, List, [], ◌∷◌, ◌++◌, length, Option, None, Some, Result, Ok, Err, refl, sym, ap, ◌∙◌, subst, arith}
+use Rattle.std.proofs.Common.{◌≡◌, ℕ, ◌+◌, List, [], ◌∷◌, ◌++◌, Option, None, Some, Result, Ok, Err, refl, sym, subst}
+use Rattle.std.specs.Prelude.{⊤}
 use Rattle.bip_model.specs.declared.grants.Grant.{Grant}
 use Rattle.bip_model.specs.declared.grants.Want.{Want}
 use Rattle.bip_model.specs.declared.parts.System.{System}
-use Rattle.bip_model.specs.Steps.{State, start_of}
-use Rattle.bip_model.specs.Texts.{lines}
+use Rattle.bip_model.specs.Histories.{used_by}
+use Rattle.bip_model.specs.Steps.{State, after, end_of, start_of}
+use Rattle.bip_model.specs.Wants.{raised}
 use Rattle.bip_replay.specs.declared.faults.LineFault.{LineFault}
 use Rattle.bip_replay.specs.declared.faults.ReplayFault.{ReplayFault}
 use Rattle.bip_replay.specs.declared.faults.ReplayFault.TheVariants as replay
@@ -12,11 +14,10 @@ use Rattle.bip_replay.specs.declared.faults.StepFault.{StepFault}
 use Rattle.bip_replay.specs.declared.faults.StepFault.TheVariants.{NotEnabled, Below, Number, Parties}
 use Rattle.bip_replay.specs.Faults.{IsFaultOf}
 use Rattle.bip_replay.specs.Replays.{IsFirstFault, IsLineFault}
-use Rattle.bip_replay.specs.Runs.{HasNextNumber, IsModelRun, IsNext, state_after, used_after}
+use Rattle.bip_replay.specs.Runs.{HasNextNumber, IsModelRun, IsNext, IsRunFrom, interactions_of}
 use Rattle.bip_replay.specs.Traces.{before_rest, grant_on, grants_from, grants_of}
-use Rattle.bip_replay.proofs.ReadingLemmas.{grants_from-fault}
-use Rattle.bip_replay.proofs.RunLemmas.{IsRunFrom-beginning, IsRunFrom-last}
 
+-- a grant with a fault isn't next
 pub not_next : (m : System) (s : State) (used : ℕ → ℕ) (g : Grant) (fault : StepFault) → IsFaultOf m s used g fault → IsNext m s used g → ⊥
 not_next m s used g NotEnabled why next = why next.may
 not_next m s used g (Below b) why next = why
@@ -25,51 +26,73 @@ not_next m s used g (Number c expected) why next =
     at.4.1 (subst (λ (w : Want). HasNextNumber used w) at.3 (next.numbers at.0 at.1 at.2))
 not_next m s used g Parties why next = why.2 next.parties
 
--- the grants of lines begin with those of their beginning
-begins : (m : System) (n : ℕ) (front rest : List (List ℕ)) (line : List ℕ) (before gs : List Grant) (g : Grant) → grants_from m n front ≡ Ok before → grant_on m line ≡ Ok (Some g) → grants_from m n (front ++ line ∷ rest) ≡ Ok gs → (more : List Grant) × (gs ≡ (before ++ g ∷ []) ++ more)
-begins m n [] rest line before gs g reads says all = by_rest (grants_from m (n + 1) rest) (rw says at all)
-  where
-    by_rest : (r : Result (List Grant) (ℕ × LineFault)) → before_rest n (Ok (Some g)) r ≡ Ok gs → (more : List Grant) × (gs ≡ (before ++ g ∷ []) ++ more)
-    by_rest (Err e) s = cc
-    by_rest (Ok hs) s = let none : [] ≡ before = cc in let same : g ∷ hs ≡ gs = cc in (hs, sym same ∙ ap (λ (bs : List Grant). (bs ++ g ∷ []) ++ hs) none)
-begins m n (first ∷ front) rest line before gs g reads says all =
-    by_first (λ hs ks e f. begins m (n + 1) front rest line hs ks g e says f) (grant_on m first) reads all
-  where
-    by_rest : ((hs ks : List Grant) → grants_from m (n + 1) front ≡ Ok hs → grants_from m (n + 1) (front ++ line ∷ rest) ≡ Ok ks → (more : List Grant) × (ks ≡ (hs ++ g ∷ []) ++ more)) → (h : Grant) → (r t : Result (List Grant) (ℕ × LineFault)) → grants_from m (n + 1) front ≡ r → grants_from m (n + 1) (front ++ line ∷ rest) ≡ t → before_rest n (Ok (Some h)) r ≡ Ok before → before_rest n (Ok (Some h)) t ≡ Ok gs → (more : List Grant) × (gs ≡ (before ++ g ∷ []) ++ more)
-    by_rest later h (Err e) t is are s u = cc
-    by_rest later h (Ok hs) (Err e) is are s u = cc
-    by_rest later h (Ok hs) (Ok ks) is are s u =
-        let front_is : h ∷ hs ≡ before = cc in
-        let all_are : h ∷ ks ≡ gs = cc in
-        let found = later hs ks is are in
-        (found.0, sym all_are ∙ (ap (λ (xs : List Grant). h ∷ xs) found.1 ∙ ap (λ (bs : List Grant). (bs ++ g ∷ []) ++ found.0) front_is))
+-- lines read as grants that are a run from a state, and this holds where they lead
+pub record LeadTo (m : System) (s : State) (used : ℕ → ℕ) (n : ℕ) (ls : List (List ℕ)) (Holds : State → (ℕ → ℕ) → Type 0) : Type 0 where
+  pub grants : List Grant
+  pub reads : grants_from m n ls ≡ Ok grants
+  pub run : IsRunFrom m s used grants
+  pub there : Holds (end_of m s (interactions_of grants)) (used_by used grants)
 
-    by_first : ((hs ks : List Grant) → grants_from m (n + 1) front ≡ Ok hs → grants_from m (n + 1) (front ++ line ∷ rest) ≡ Ok ks → (more : List Grant) × (ks ≡ (hs ++ g ∷ []) ++ more)) → (r : Result (Option Grant) LineFault) → before_rest n r (grants_from m (n + 1) front) ≡ Ok before → before_rest n r (grants_from m (n + 1) (front ++ line ∷ rest)) ≡ Ok gs → (more : List Grant) × (gs ≡ (before ++ g ∷ []) ++ more)
-    by_first later (Err e) s u = cc
-    by_first later (Ok None) s u = later before gs s u
-    by_first later (Ok (Some h)) s u = by_rest later h (grants_from m (n + 1) front) (grants_from m (n + 1) (front ++ line ∷ rest)) refl refl s u
+-- where no lines lead it holds of the state itself
+pub leads-nowhere : (m : System) (s : State) (used : ℕ → ℕ) (n : ℕ) (Holds : State → (ℕ → ℕ) → Type 0) → LeadTo m s used n [] Holds → Holds s used
+leads-nowhere m s used n Holds to =
+    let none : [] ≡ to.grants = let reads : Ok [] ≡ Ok to.grants = to.reads in cc in
+    subst (λ (gs : List Grant). Holds (end_of m s (interactions_of gs)) (used_by used gs)) (sym none) to.there
+
+-- where the lines after one lead, by what that line says
+abbrev pub LeadOn : System → State → (ℕ → ℕ) → ℕ → List (List ℕ) → (State → (ℕ → ℕ) → Type 0) → Result (Option Grant) LineFault → Type 0
+LeadOn m s used n ls Holds (Err e) = ⊥
+LeadOn m s used n ls Holds (Ok None) = LeadTo m s used (n + 1) ls Holds
+LeadOn m s used n ls Holds (Ok (Some g)) = IsNext m s used g × LeadTo m (after m s g.inter.0) (raised used g.wants) (n + 1) ls Holds
+
+-- lines lead on from what the first of them says
+pub leads-on : (m : System) (s : State) (used : ℕ → ℕ) (n : ℕ) (line : List ℕ) (ls : List (List ℕ)) (Holds : State → (ℕ → ℕ) → Type 0) → LeadTo m s used n (line ∷ ls) Holds → LeadOn m s used n ls Holds (grant_on m line)
+leads-on m s used n line ls Holds to = by_line (grant_on m line) to.grants to.reads to.run to.there
+  where
+    At : List Grant → Type 0
+    At gs = Holds (end_of m s (interactions_of gs)) (used_by used gs)
+
+    by_rest : (g : Grant) (r : Result (List Grant) (ℕ × LineFault)) (gs : List Grant) → grants_from m (n + 1) ls ≡ r → before_rest n (Ok (Some g)) r ≡ Ok gs → IsRunFrom m s used gs → At gs → LeadOn m s used n ls Holds (Ok (Some g))
+    by_rest g (Err d) gs is reads run there = cc
+    by_rest g (Ok hs) gs is reads run there =
+        let same : gs ≡ g ∷ hs = cc in
+        let goes : IsRunFrom m s used (g ∷ hs) = subst (λ (ks : List Grant). IsRunFrom m s used ks) same run in
+        (goes.0, record { grants = hs; reads = is; run = goes.1; there = subst At same there })
+
+    by_line : (r : Result (Option Grant) LineFault) (gs : List Grant) → before_rest n r (grants_from m (n + 1) ls) ≡ Ok gs → IsRunFrom m s used gs → At gs → LeadOn m s used n ls Holds r
+    by_line (Err e) gs reads run there = cc
+    by_line (Ok None) gs reads run there = record { grants = gs; reads = reads; run = run; there = there }
+    by_line (Ok (Some g)) gs reads run there = by_rest g (grants_from m (n + 1) ls) gs refl reads run there
+
+-- lines of which the first is at fault lead nowhere
+pub stays : (m : System) (s : State) (used : ℕ → ℕ) (n : ℕ) (line : List ℕ) (ls : List (List ℕ)) (Holds : State → (ℕ → ℕ) → Type 0) (fault : ReplayFault) → IsLineFault m s used line fault → LeadTo m s used n (line ∷ ls) Holds → ⊥
+stays m s used n line ls Holds fault why to = by_fault fault why (leads-on m s used n line ls Holds to)
+  where
+    by_fault : (f : ReplayFault) → IsLineFault m s used line f → LeadOn m s used n ls Holds (grant_on m line) → ⊥
+    by_fault replay.Syntax says on = subst (λ r. LeadOn m s used n ls Holds r) says on
+    by_fault replay.Unknown says on = subst (λ r. LeadOn m s used n ls Holds r) says on
+    by_fault (replay.NotARun w) says on =
+        let next = subst (λ r. LeadOn m s used n ls Holds r) says.2.reads on in
+        not_next m s used says.2.grant says.0 says.2.why next.0
+    by_fault replay.Memory says on = says
+
+-- lines of which one is at fault where those before it lead are no run
+stops : (m : System) (s : State) (used : ℕ → ℕ) (n : ℕ) (front rest : List (List ℕ)) (line : List ℕ) (fault : ReplayFault) → LeadTo m s used n front (λ t u. IsLineFault m t u line fault) → LeadTo m s used n (front ++ line ∷ rest) (λ t u. ⊤) → ⊥
+stops m s used n [] rest line fault at to = stays m s used n line rest (λ t u. ⊤) fault (leads-nowhere m s used n (λ t u. IsLineFault m t u line fault) at) to
+stops m s used n (first ∷ front) rest line fault at to =
+    by_first (grant_on m first) (λ t u a b. stops m t u (n + 1) front rest line fault a b) (leads-on m s used n first front (λ t u. IsLineFault m t u line fault) at) (leads-on m s used n first (front ++ line ∷ rest) (λ t u. ⊤) to)
+  where
+    by_first : (r : Result (Option Grant) LineFault) → ((t : State) (u : ℕ → ℕ) → LeadTo m t u (n + 1) front (λ v w. IsLineFault m v w line fault) → LeadTo m t u (n + 1) (front ++ line ∷ rest) (λ v w. ⊤) → ⊥) → LeadOn m s used n front (λ t u. IsLineFault m t u line fault) r → LeadOn m s used n (front ++ line ∷ rest) (λ t u. ⊤) r → ⊥
+    by_first (Err e) later a b = a
+    by_first (Ok None) later a b = later s used a b
+    by_first (Ok (Some g)) later a b = later (after m s g.inter.0) (raised used g.wants) a.1 b.1
+
+-- the first fault of a trace, as the place to which the lines before it lead
+pub led : (m : System) (base : ℕ) (text : List ℕ) (number : ℕ) (fault : ReplayFault) → (first : IsFirstFault m base text number fault) → LeadTo m (start_of m) (λ _. base) 1 first.front (λ t u. IsLineFault m t u first.line fault)
+led m base text number fault first = record { grants = first.grants; reads = first.reads; run = first.run; there = first.why }
 
 -- a trace with a first fault is no run
 pub no_run : (m : System) (base : ℕ) (text : List ℕ) (number : ℕ) (fault : ReplayFault) → IsFirstFault m base text number fault → (gs : List Grant) → grants_of m text ≡ Ok gs → IsModelRun m base gs → ⊥
-no_run m base text number fault first gs reads run = by_fault fault first.why
-  where
-    whole : grants_from m 1 (first.front ++ first.line ∷ first.rest) ≡ Ok gs
-    whole = subst (λ (ls : List (List ℕ)). grants_from m 1 ls ≡ Ok gs) first.split reads
-
-    by_form : (f : LineFault) → grant_on m first.line ≡ Err f → ⊥
-    by_form f says =
-        let wrong : grants_from m 1 (first.front ++ first.line ∷ first.rest) ≡ Err (1 + length first.front, f) =
-        grants_from-fault m 1 (1 + length first.front) first.front first.rest first.line first.grants f first.reads says refl in
-        let clash : Ok gs ≡ Err (1 + length first.front, f) = sym whole ∙ wrong in
-        cc
-
-    by_fault : (f : ReplayFault) → IsLineFault m (state_after m first.grants) (used_after base first.grants) first.line f → ⊥
-    by_fault replay.Syntax why = by_form _ why
-    by_fault replay.Unknown why = by_form _ why
-    by_fault (replay.NotARun w) why =
-        let refused = why.2 in
-        let found = begins m 1 first.front first.rest first.line first.grants gs refused.grant first.reads refused.reads whole in
-        let longer : IsModelRun m base ((first.grants ++ refused.grant ∷ []) ++ found.0) = subst (λ (hs : List Grant). IsModelRun m base hs) found.1 run in
-        let beginning = IsRunFrom-beginning m (start_of m) (λ _. base) (first.grants ++ refused.grant ∷ []) found.0 longer in
-        not_next m (state_after m first.grants) (used_after base first.grants) refused.grant why.0 refused.why (IsRunFrom-last m (start_of m) (λ _. base) first.grants refused.grant beginning)
-    by_fault replay.Memory why = why
+no_run m base text number fault first gs reads run =
+    let whole : grants_from m 1 (first.front ++ first.line ∷ first.rest) ≡ Ok gs = subst (λ (ls : List (List ℕ)). grants_from m 1 ls ≡ Ok gs) first.split reads in
+    stops m (start_of m) (λ _. base) 1 first.front first.rest first.line fault (led m base text number fault first) (record { grants = gs; reads = whole; run = run; there = tt })

@@ -3,6 +3,7 @@ pub mod FaultLemmas
 pub mod KnownLemmas
 pub mod LineLemmas
 pub mod NamedLemmas
+pub mod OneFaultLemmas
 pub mod PartyLemmas
 pub mod PositionLemmas
 pub mod PutLemmas

@@ -1,4 +1,5 @@
 use Rattle.bip_replay.proofs.ExactLemmas.{not_next, no_run}
+use Rattle.bip_replay.proofs.OneFaultLemmas.{one_first}
 use Rattle.bip_replay.proofs.runs.fault_laws.Goals as goal
 
 pub returns-clause-refused : goal.returns-clause-refused
@@ -6,3 +7,6 @@ returns-clause-refused c = not_next
 
 pub returns-clause-first : goal.returns-clause-first
 returns-clause-first c = no_run
+
+pub returns-clause-one : goal.returns-clause-one
+returns-clause-one c = one_first

@@ -1,0 +1,128 @@
+-- One fault: a line has at most one fault in a state, and a trace at most one first fault.
+use Rattle.std.proofs.Common.{◌≡◌, ℕ, suc, ◌+◌, ◌<◌, List, [], ◌∷◌, ◌++◌, length, Option, None, Some, Result, Ok, Err, refl, sym, ap, ◌∙◌, subst, arith, ◌⊎◌, inl, inr}
+use Rattle.std.proofs.lemmas.Bool.{cases_order}
+use Rattle.std.specs.Prelude.{All, Any}
+use Rattle.bip_model.specs.declared.grants.Grant.{Grant}
+use Rattle.bip_model.specs.declared.grants.Want.{Want}
+use Rattle.bip_model.specs.declared.numbering.CompId.{CompId}
+use Rattle.bip_model.specs.declared.parts.System.{System}
+use Rattle.bip_model.specs.Steps.{State, after, start_of}
+use Rattle.bip_model.specs.Wants.{raised}
+use Rattle.bip_replay.specs.declared.faults.LineFault.{LineFault}
+use Rattle.bip_replay.specs.declared.faults.ReplayFault.{ReplayFault}
+use Rattle.bip_replay.specs.declared.faults.ReplayFault.TheVariants.{Syntax, Unknown, NotARun, Memory}
+use Rattle.bip_replay.specs.declared.faults.StepFault.{StepFault}
+use Rattle.bip_replay.specs.declared.faults.StepFault.TheVariants.{NotEnabled, Below, Number, Parties}
+use Rattle.bip_replay.specs.Faults.{IsFaultOf, IsLowestWrong, expected_after, of_step}
+use Rattle.bip_replay.specs.Replays.{IsFirstFault, IsLineFault}
+use Rattle.bip_replay.specs.Runs.{HasNextNumber}
+use Rattle.bip_replay.specs.Traces.{grant_on}
+use Rattle.bip_replay.proofs.ExactLemmas.{LeadOn, LeadTo, leads-nowhere, leads-on, led, stays}
+
+-- no want of a component is wrong where those below a higher one are right
+not_wrong : (used : ℕ → ℕ) (ws : List Want) (c k : ℕ) → Any (λ (w : Want). (w.comp.0 ≡ c) × ¬ HasNextNumber used w) ws → All (λ (w : Want). w.comp.0 < k → HasNextNumber used w) ws → c < k → ⊥
+not_wrong used ws c k wrong right below =
+    let w : Want = wrong.1 in
+    let is : w.comp.0 ≡ c = wrong.4.0 in
+    let has : w.comp.0 < k → HasNextNumber used w = subst (λ (v : Want). v.comp.0 < k → HasNextNumber used v) wrong.3 (right wrong.0 wrong.1 wrong.2) in
+    wrong.4.1 (has (omega arith))
+
+-- one component is the lowest that is wrong
+one_lowest : (m : System) (used : ℕ → ℕ) (ws : List Want) (c d : ℕ) → IsLowestWrong m used ws c → IsLowestWrong m used ws d → c ≡ d
+one_lowest m used ws c d one other = by_order (cases_order c d)
+  where
+    by_order : (c ≡ d) ⊎ ((c < d) ⊎ (d < c)) → c ≡ d
+    by_order (inl same) = same
+    by_order (inr (inl below)) = absurd (not_wrong used ws c d one.wrong other.lower below)
+    by_order (inr (inr above)) = absurd (not_wrong used ws d c other.wrong one.lower above)
+
+-- the lowest component that is wrong, and the number that it should have, are one fault
+one_number : (m : System) (used : ℕ → ℕ) (ws : List Want) (c d : CompId) (n k : ℕ) → IsLowestWrong m used ws c.0 → IsLowestWrong m used ws d.0 → n ≡ expected_after (used c.0) → k ≡ expected_after (used d.0) → Number c n ≡ Number d k
+one_number m used ws c d n k one other is are =
+    let same : c.0 ≡ d.0 = one_lowest m used ws c.0 d.0 one other in
+    let comp : c ≡ d = ap (λ (a : ℕ). record { 0 = a }) same in
+    let expected : n ≡ k = is ∙ (ap (λ (a : ℕ). expected_after (used a)) same ∙ sym are) in
+    cc
+
+-- a grant has one fault
+one_step : (m : System) (s : State) (used : ℕ → ℕ) (g : Grant) (f h : StepFault) → IsFaultOf m s used g f → IsFaultOf m s used g h → f ≡ h
+one_step m s used g NotEnabled NotEnabled one other = refl
+one_step m s used g NotEnabled (Below b) one other = absurd other
+one_step m s used g NotEnabled (Number c n) one other = absurd (one other.0)
+one_step m s used g NotEnabled Parties one other = absurd (one other.0)
+one_step m s used g (Below b) h one other = absurd one
+one_step m s used g (Number c n) NotEnabled one other = absurd (other one.0)
+one_step m s used g (Number c n) (Below b) one other = absurd other
+one_step m s used g (Number c n) (Number d k) one other = one_number m used g.wants c d n k one.1 other.1 one.2 other.2
+one_step m s used g (Number c n) Parties one other = absurd (not_wrong used g.wants c.0 (length m.components) one.1.wrong other.1 one.1.known)
+one_step m s used g Parties NotEnabled one other = absurd (other one.0)
+one_step m s used g Parties (Below b) one other = absurd other
+one_step m s used g Parties (Number d k) one other = absurd (not_wrong used g.wants d.0 (length m.components) other.1.wrong one.1 other.1.known)
+one_step m s used g Parties Parties one other = refl
+
+-- a line reads as one grant
+one_grant : (m : System) (line : List ℕ) (g h : Grant) → grant_on m line ≡ Ok (Some g) → grant_on m line ≡ Ok (Some h) → g ≡ h
+one_grant m line g h one other = cc
+
+-- a line has one fault
+one_line : (m : System) (s : State) (used : ℕ → ℕ) (line : List ℕ) (f h : ReplayFault) → IsLineFault m s used line f → IsLineFault m s used line h → f ≡ h
+one_line m s used line Syntax Syntax one other = refl
+one_line m s used line Syntax Unknown one other = cc
+one_line m s used line Syntax (NotARun w) one other = let reads : grant_on m line ≡ Ok (Some other.2.grant) = other.2.reads in cc
+one_line m s used line Syntax Memory one other = absurd other
+one_line m s used line Unknown Syntax one other = cc
+one_line m s used line Unknown Unknown one other = refl
+one_line m s used line Unknown (NotARun w) one other = let reads : grant_on m line ≡ Ok (Some other.2.grant) = other.2.reads in cc
+one_line m s used line Unknown Memory one other = absurd other
+one_line m s used line (NotARun v) Syntax one other = let reads : grant_on m line ≡ Ok (Some one.2.grant) = one.2.reads in cc
+one_line m s used line (NotARun v) Unknown one other = let reads : grant_on m line ≡ Ok (Some one.2.grant) = one.2.reads in cc
+one_line m s used line (NotARun v) (NotARun w) one other =
+    let same : one.2.grant ≡ other.2.grant = one_grant m line one.2.grant other.2.grant one.2.reads other.2.reads in
+    let why : one.0 ≡ other.0 = one_step m s used other.2.grant one.0 other.0 (subst (λ (g : Grant). IsFaultOf m s used g one.0) same one.2.why) other.2.why in
+    ap (λ w. NotARun w) (one.1 ∙ (ap of_step why ∙ sym other.1))
+one_line m s used line (NotARun v) Memory one other = absurd other
+one_line m s used line Memory h one other = absurd one
+
+-- one place and one fault: the lines before it are as many, and the fault is the same
+abbrev AreOne : List (List ℕ) → List (List ℕ) → ReplayFault → ReplayFault → Type 0
+AreOne front before f h = (length front ≡ length before) × (f ≡ h)
+
+-- lines lead to a place where a line is at fault
+abbrev LeadToFault : System → State → (ℕ → ℕ) → ℕ → List (List ℕ) → List ℕ → ReplayFault → Type 0
+LeadToFault m s used n front line fault = LeadTo m s used n front (λ t u. IsLineFault m t u line fault)
+
+-- the same, after a line that says this
+abbrev LeadOnToFault : System → State → (ℕ → ℕ) → ℕ → List (List ℕ) → List ℕ → ReplayFault → Result (Option Grant) LineFault → Type 0
+LeadOnToFault m s used n front line fault r = LeadOn m s used n front (λ t u. IsLineFault m t u line fault) r
+
+-- of the same lines at most one is the first at fault
+one_place : (m : System) (s : State) (used : ℕ → ℕ) (n : ℕ) (front before rest more : List (List ℕ)) (line other : List ℕ) (f h : ReplayFault) → front ++ line ∷ rest ≡ before ++ other ∷ more → LeadToFault m s used n front line f → LeadToFault m s used n before other h → AreOne front before f h
+one_place m s used n [] [] rest more line other f h split at there =
+    let same : line ≡ other = cc in
+    let here = subst (λ (l : List ℕ). IsLineFault m s used l f) same (leads-nowhere m s used n (λ t u. IsLineFault m t u line f) at) in
+    (refl, one_line m s used other f h here (leads-nowhere m s used n (λ t u. IsLineFault m t u other h) there))
+one_place m s used n [] (y ∷ before) rest more line other f h split at there =
+    let same : line ≡ y = cc in
+    let here = subst (λ (l : List ℕ). IsLineFault m s used l f) same (leads-nowhere m s used n (λ t u. IsLineFault m t u line f) at) in
+    absurd (stays m s used n y before (λ t u. IsLineFault m t u other h) f here there)
+one_place m s used n (x ∷ front) [] rest more line other f h split at there =
+    let same : other ≡ x = cc in
+    let here = subst (λ (l : List ℕ). IsLineFault m s used l h) same (leads-nowhere m s used n (λ t u. IsLineFault m t u other h) there) in
+    absurd (stays m s used n x front (λ t u. IsLineFault m t u line f) h here at)
+one_place m s used n (x ∷ front) (y ∷ before) rest more line other f h split at there =
+    let first : y ≡ x = cc in
+    let tails : front ++ line ∷ rest ≡ before ++ other ∷ more = cc in
+    let mine = subst (λ (l : List ℕ). LeadToFault m s used n (l ∷ before) other h) first there in
+    by_first (grant_on m x) (λ t u a b. one_place m t u (n + 1) front before rest more line other f h tails a b) (leads-on m s used n x front (λ t u. IsLineFault m t u line f) at) (leads-on m s used n x before (λ t u. IsLineFault m t u other h) mine)
+  where
+    by_first : (r : Result (Option Grant) LineFault) → ((t : State) (u : ℕ → ℕ) → LeadToFault m t u (n + 1) front line f → LeadToFault m t u (n + 1) before other h → AreOne front before f h) → LeadOnToFault m s used n front line f r → LeadOnToFault m s used n before other h r → AreOne (x ∷ front) (y ∷ before) f h
+    by_first (Err e) later a b = absurd a
+    by_first (Ok None) later a b = let found = later s used a b in (ap suc found.0, found.1)
+    by_first (Ok (Some g)) later a b = let found = later (after m s g.inter.0) (raised used g.wants) a.1 b.1 in (ap suc found.0, found.1)
+
+-- a trace has one first fault at most
+pub one_first : (m : System) (base : ℕ) (text : List ℕ) (n k : ℕ) (f g : ReplayFault) → IsFirstFault m base text n f → IsFirstFault m base text k g → (n ≡ k) × (f ≡ g)
+one_first m base text n k f g one other =
+    let split : one.front ++ one.line ∷ one.rest ≡ other.front ++ other.line ∷ other.rest = sym one.split ∙ other.split in
+    let found = one_place m (start_of m) (λ _. base) 1 one.front other.front one.rest other.rest one.line other.line f g split (led m base text n f one) (led m base text k g other) in
+    (one.numbered ∙ (ap (λ (i : ℕ). i + 1) found.0 ∙ sym other.numbered), found.1)
