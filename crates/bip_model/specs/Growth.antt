@@ -1,6 +1,5 @@
 -- What earlier lines said is kept by later ones.
-use Rattle.std.specs.Prelude.{◌≡◌, ◌⊎◌, ℕ, List, [], ◌∷◌, ◌++◌, Some, Ok, IfSome, IsNone, IsSome}
-use Rattle.bip_model.specs.Drafts.{component_line, end_line, inside, interaction_line, loc_line, port_line, trans_line}
+use Rattle.std.specs.Prelude.{◌≡◌, ◌⊎◌, List, [], ◌∷◌, ◌++◌, Some, IfSome}
 use Rattle.bip_model.specs.declared.drafts.Draft.{Draft}
 use Rattle.bip_model.specs.declared.parts.Component.{Component}
 

@@ -1,5 +1,5 @@
 -- Readings of traces: the lines read so far, and the first line at fault.
-use Rattle.std.proofs.Common.{◌≡◌, ℕ, suc, ◌+◌, ◌<◌, ◌≤◌, List, [], ◌∷◌, ◌++◌, length, Option, None, Some, Result, Ok, Err, refl, sym, ap, ◌∙◌, subst, arith}
+use Rattle.std.proofs.Common.{◌≡◌, ℕ, ◌+◌, List, [], ◌∷◌, ◌++◌, length, Option, None, Some, Result, Ok, Err, refl, sym, ap, ◌∙◌, arith}
 use Rattle.std.proofs.lemmas.List.{length-append}
 use Rattle.bip_model.specs.declared.grants.Grant.{Grant}
 use Rattle.bip_model.specs.declared.parts.System.{System}
@@ -7,7 +7,7 @@ use Rattle.bip_model.specs.Texts.{lines}
 use Rattle.bip_replay.specs.declared.faults.LineFault.{LineFault}
 use Rattle.bip_replay.specs.declared.faults.TraceFault.{TraceFault}
 use Rattle.bip_replay.specs.declared.faults.TraceFault.TheVariants.{Syntax, Unknown, Memory}
-use Rattle.bip_replay.specs.Readings.{IsTraceFault, Reads, one_more}
+use Rattle.bip_replay.specs.Readings.{IsTraceFault, Reads}
 use Rattle.bip_replay.specs.Traces.{before_rest, grant_on, grants_from, grants_of}
 use Rattle.bip_replay.proofs.ReplayLemmas.{grants_from-push, moved_on, numbered_on}
 

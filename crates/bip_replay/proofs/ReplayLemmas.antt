@@ -1,5 +1,5 @@
 -- Replays: the lines read so far, and one line more.
-use Rattle.std.proofs.Common.{◌≡◌, ℕ, ◌+◌, ◌<◌, ◌≤◌, Bool, true, false, List, [], ◌∷◌, ◌++◌, length, Option, None, Some, Result, Ok, Err, refl, sym, ap, ◌∙◌, subst, arith, append_assoc, length-append}
+use Rattle.std.proofs.Common.{◌≡◌, ℕ, ◌+◌, true, false, List, [], ◌∷◌, ◌++◌, length, Option, None, Some, Result, Ok, Err, refl, sym, ap, ◌∙◌, subst, arith, append_assoc, length-append}
 use Rattle.bip_model.specs.declared.grants.Grant.{Grant}
 use Rattle.bip_model.specs.declared.parts.System.{System}
 use Rattle.bip_model.specs.Steps.{State, place_in}
@@ -10,7 +10,7 @@ use Rattle.bip_replay.specs.declared.faults.ReplayFault.TheVariants.{Syntax, Unk
 use Rattle.bip_replay.specs.declared.position.Position.{Position}
 use Rattle.bip_replay.specs.Positions.{Leads, used_in}
 use Rattle.bip_replay.specs.Readings.{one_more}
-use Rattle.bip_replay.specs.Replays.{IsFirstFault, IsLineFault, IsReplayFault, IsRunOf, Takes, TakesOn}
+use Rattle.bip_replay.specs.Replays.{IsFirstFault, IsLineFault, IsReplayFault, IsRunOf, Takes}
 use Rattle.bip_replay.specs.Runs.{state_after, used_after}
 use Rattle.bip_replay.specs.Traces.{before_rest, grant_on, grants_from}
 use Rattle.bip_replay.proofs.PositionLemmas.{leads_on}

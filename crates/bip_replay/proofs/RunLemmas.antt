@@ -6,7 +6,7 @@ use Rattle.bip_model.specs.declared.grants.Want.{Want}
 use Rattle.bip_model.specs.declared.parts.System.{System}
 use Rattle.bip_model.specs.Histories.{IsHistory, used_by}
 use Rattle.bip_model.specs.Steps.{State, IsRun, after, end_of}
-use Rattle.bip_model.specs.Wants.{IsFresh, raised}
+use Rattle.bip_model.specs.Wants.{raised}
 use Rattle.bip_replay.specs.Runs.{HasNextNumber, IsNext, IsRunFrom, interactions_of}
 
 pub IsRunFrom-push : (m : System) (s : State) (used : ℕ → ℕ) (gs : List Grant) (g : Grant) → IsRunFrom m s used gs → IsNext m (end_of m s (interactions_of gs)) (used_by used gs) g → IsRunFrom m s used (gs ++ g ∷ [])

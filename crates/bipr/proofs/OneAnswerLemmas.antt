@@ -18,11 +18,11 @@ use Rattle.bipr.specs.declared.answers.Answer.{Answer}
 
 -- what the libraries below say of texts
 pub record AreExact : Type 0 where
-    pub meaning : OneMeaning
-    pub fault : OneFault
-    pub either : NoFault
-    pub no_run : (m : System) (base : ℕ) (text : List ℕ) (number : ℕ) (fault : ReplayFault) → IsFirstFault m base text number fault → (gs : List Grant) → grants_of m text ≡ Ok gs → IsModelRun m base gs → ⊥
-    pub one : (m : System) (base : ℕ) (text : List ℕ) (n k : ℕ) (f g : ReplayFault) → IsFirstFault m base text n f → IsFirstFault m base text k g → (n ≡ k) × (f ≡ g)
+  pub meaning : OneMeaning
+  pub fault : OneFault
+  pub either : NoFault
+  pub no_run : (m : System) (base : ℕ) (text : List ℕ) (number : ℕ) (fault : ReplayFault) → IsFirstFault m base text number fault → (gs : List Grant) → grants_of m text ≡ Ok gs → IsModelRun m base gs → ⊥
+  pub one : (m : System) (base : ℕ) (text : List ℕ) (n k : ℕ) (f g : ReplayFault) → IsFirstFault m base text n f → IsFirstFault m base text k g → (n ≡ k) × (f ≡ g)
 
 same_grants : (found : Result (List Grant) (ℕ × LineFault)) (gs hs : List Grant) → found ≡ Ok gs → found ≡ Ok hs → gs ≡ hs
 same_grants found gs hs a b = cc

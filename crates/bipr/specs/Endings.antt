@@ -1,5 +1,8 @@
 -- How a command ends that got no answer out.
 use Rattle.std.specs.Prelude.{◌≡◌, ℕ, List, ◌++◌, ⊤, Option, None, Some, codes}
+use Rattle.bip_model.specs.declared.parts.System.{System}
+use Rattle.bip_model.specs.declared.partitions.Classes.{Classes}
+use Rattle.bip_reader.specs.Meanings.{Means}
 use Rattle.bipr.specs.Wording.{complaint_text}
 use Rattle.bipr.specs.declared.answers.Status.{Status}
 use Rattle.bipr.specs.declared.answers.Status.TheVariants.{Refused, NoMemory}
@@ -12,6 +15,10 @@ use Rattle.bipr.specs.declared.replaying.Text.TheVariants.{Model, Trace}
 abbrev pub Holds : {R : Type 0} → (R → Option (List ℕ)) → Option R → List ℕ → Type 0
 Holds remaining None text = ⊤
 Holds remaining (Some reader) text = remaining reader ≡ Some text
+
+-- a text means a model
+abbrev pub IsModelText : List ℕ → Type 0
+IsModelText text = (m : System) × (classes : Classes) × Means text m classes
 
 -- the status of a command that got no answer out
 abbrev pub status_of_stop : Stop → Status

@@ -4,13 +4,14 @@ ghost use Rattle.bip_model.specs.declared.partitions.Classes.{Classes};
 ghost use Rattle.bip_reader.specs.Meanings.{Means};
 ghost use Rattle.bip_reader.specs.declared.faults.Why.TheVariants.{Memory};
 ghost use Rattle.bipr.specs.Answers.{IsAnswer};
+ghost use Rattle.bipr.specs.declared.answers.Answer.{Answer};
 ghost use Rattle.bipr.specs.declared.answers.Status.TheVariants.{Refused};
 ghost use Rattle.bipr.specs.Wording.{code_of, model_text};
 
 use crate::wording::{model_refusal, run_text, trace_refusal, verdict_text};
 use bip_model::{Model, Number, Seq};
-use bip_reader::{ReadFault, Why, read_model};
-use bip_replay::{LineFault, ReplayFault, replay};
+use bip_reader::{ReadFault, Why, meaning_laws, read_model};
+use bip_replay::{LineFault, ReplayFault, fault_laws, replay};
 use std::alloc::{AllocError, Global};
 
 /// How a command ends.
@@ -131,4 +132,12 @@ fn refused(alloc: Global, complaint: Vec<u8>) -> Answer
         output: Seq::of(Vec::new(alloc)),
         complaint: Seq::of(complaint),
     }
+}
+
+/// Two texts and a base have one answer (docs/DEFINITIONS.md, "Answers").
+pub fn answer_laws()
+    ensures one { (base : ℕ) (model trace : List ℕ) (a b : Answer) → IsAnswer base model trace a → IsAnswer base model trace b → a ≡ b }
+{
+    meaning_laws();
+    fault_laws();
 }

@@ -3,9 +3,9 @@ ghost use Rattle.std.specs.Prelude.{◌≡◌, ◌≢◌, ◌≤◌, ◌⊎◌, 
 ghost use Rattle.std.specs.Io.KnownBytes.{Appends, Keeps};
 ghost use Rattle.bipr.specs.Answers.{IsAnswer};
 ghost use Rattle.bipr.specs.Dividing.{after_mark, before_mark};
-ghost use Rattle.bipr.specs.Endings.{Holds, complaint_of_stop, path_of, status_of_stop};
+ghost use Rattle.bipr.specs.Endings.{Holds, IsModelText, complaint_of_stop, path_of, status_of_stop};
 ghost use Rattle.bipr.specs.declared.replaying.Stop.TheVariants.{CannotRead, CannotWrite, OutOfMemory};
-ghost use Rattle.bipr.specs.declared.replaying.Text.TheVariants.{Model};
+ghost use Rattle.bipr.specs.declared.replaying.Text.TheVariants.{Model, Trace};
 
 use crate::answers::{Answer, Status, answer_fault, answer_replay, answer_trace};
 use crate::inputs::{InputFault, MOST_BYTES, divide, read_text};
@@ -82,6 +82,7 @@ pub fn replay_inputs<M: Read + Drop, T: Read + Drop, W: Write>(
     ensures written { IfOk result (λ answer. Appends (W.contents output.old) (W.contents output.new) answer.output) }
     ensures silent { IfErr result (λ stop. stop ≢ CannotWrite → Keeps (W.contents output.old) (W.contents output.new)) }
     ensures unopened { model ≡ None → result ≡ Err (CannotRead Model) }
+    ensures order { IfErr result (λ stop. stop ≡ CannotRead Trace → (m : List ℕ) → Holds M.remaining model m → IsModelText m) }
 {
     let answer = answer_inputs(alloc, model, trace, base)?;
     write_output(output, answer)
@@ -112,6 +113,7 @@ fn answer_inputs<M: Read + Drop, T: Read + Drop>(
     requires { base ≤ 18446744073709551614 }
     ensures answered { IfOk result (λ answer. (m t : List ℕ) → Holds M.remaining model m → Holds T.remaining trace t → IsAnswer base m t answer) }
     ensures unopened { model ≡ None → result ≡ Err (CannotRead Model) }
+    ensures order { IfErr result (λ stop. stop ≡ CannotRead Trace → (m : List ℕ) → Holds M.remaining model m → IsModelText m) }
     ensures stopped { IfErr result (λ stop. stop ≢ CannotWrite) }
 {
     let text = read_input(alloc, model, Text::Model)?;
@@ -143,7 +145,7 @@ fn or_out_of_memory(answer: Result<Answer, AllocError>) -> Result<Answer, Stop>
 fn read_input<R: Read + Drop>(alloc: Global, input: Option<R>, which: Text) -> Result<Vec<u8>, Stop>
     ensures text { IfOk result (λ text. (t : List ℕ) → Holds R.remaining input t → text.items ≡ t) }
     ensures unopened { input ≡ None → result ≡ Err (CannotRead which) }
-    ensures stopped { IfErr result (λ stop. stop ≢ CannotWrite) }
+    ensures stopped { IfErr result (λ stop. (stop ≡ CannotRead which) ⊎ (stop ≡ OutOfMemory)) }
 {
     let Some(mut reader) = input else {
         return Err(Stop::CannotRead(which));

@@ -1,5 +1,5 @@
 //! The command over readers and writers that give little, or fail.
-use crate::answers::{Answer, Status};
+use crate::answers::{Answer, Status, answer_laws};
 use crate::inputs::{InputFault, divide, read_text};
 use crate::replaying::{Stop, Text, replay_inputs, replay_joined};
 use std::alloc::Global;
@@ -334,4 +334,9 @@ fn each_stop_has_its_complaint(rt: HostRuntime) {
         Status::NoMemory,
         "bipr: no memory\n",
     );
+}
+
+#[test]
+fn laws_take_nothing() {
+    answer_laws();
 }

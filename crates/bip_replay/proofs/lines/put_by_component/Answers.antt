@@ -1,4 +1,4 @@
-use Rattle.std.proofs.Common.{◌≡◌, ◌∙◌, length, ap, insert, rules, refl, vec_len, unwrap_or}
+use Rattle.std.proofs.Common.{◌≡◌, ◌∙◌, length, insert, rules, vec_len}
 use Rattle.std.specs.List.{position_or_len}
 use Rattle.bip_replay.proofs.LineLemmas.{put-insert, place_or_end, is_above}
 use Rattle.bip_replay.proofs.lines.put_by_component.Goals as goal

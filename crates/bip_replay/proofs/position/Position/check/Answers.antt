@@ -1,4 +1,4 @@
-use Rattle.std.proofs.Common.{◌≡◌, ◌∙◌, sym, refl}
+use Rattle.std.proofs.Common.{sym, refl}
 use Rattle.bip_model.specs.Steps.{place_in}
 use Rattle.bip_replay.specs.Positions.{used_in}
 use Rattle.bip_replay.proofs.FaultLemmas.{lowest_wrong, none_wrong, not_parties, next_from_tests}

@@ -1,4 +1,4 @@
-use Rattle.std.proofs.Common.{◌≡◌, ◌<◌, ◌∙◌, length, get_or, arith}
+use Rattle.std.proofs.Common.{◌∙◌, arith}
 use Rattle.bip_model.specs.declared.parts.System.{System}
 use Rattle.bip_replay.specs.Positions.{used_in}
 use Rattle.bip_replay.proofs.FaultLemmas.{moved_known}

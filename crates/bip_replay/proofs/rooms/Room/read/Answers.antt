@@ -1,4 +1,4 @@
-use Rattle.std.proofs.Common.{◌≡◌, sym}
+use Rattle.std.proofs.Common.{sym}
 use Rattle.bip_replay.specs.Traces.{NamedGrant}
 use Rattle.bip_replay.proofs.KnownLemmas.{known-IsWants}
 use Rattle.bip_replay.proofs.NamedLemmas.{named_on-stand}

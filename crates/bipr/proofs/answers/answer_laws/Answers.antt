@@ -1,0 +1,7 @@
+use Rattle.bipr.proofs.OneAnswerLemmas.{has_one_answer}
+use Rattle.bipr.proofs.answers.answer_laws.Goals as goal
+
+pub returns : goal.returns
+returns c = record {
+  one = has_one_answer (record { meaning = c.meaning_laws.ensures.meaning; fault = c.meaning_laws.ensures.fault; either = c.meaning_laws.ensures.either; no_run = c.fault_laws.ensures.first; one = c.fault_laws.ensures.one });
+}
