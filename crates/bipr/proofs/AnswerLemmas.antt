@@ -1,5 +1,5 @@
 -- Answers that were written out are those that the texts have.
-use Rattle.std.proofs.Common.{◌≡◌, ◌≢◌, ◌⊎◌, inl, inr, ℕ, List, [], Result, Ok, Err, IfOk, refl, sym, ap, ◌∙◌, subst}
+use Rattle.std.proofs.Common.{◌≡◌, ◌≢◌, ◌⊎◌, inl, inr, ℕ, ◌≤◌, List, [], length, Option, None, Some, Result, Ok, Err, IfErr, IfOk, sym, ap, ◌∙◌, subst}
 use Rattle.std.proofs.lemmas.Result.{IfOk-at_ok}
 use Rattle.bip_model.specs.declared.parts.System.{System}
 use Rattle.bip_model.specs.declared.partitions.Classes.{Classes}
@@ -11,6 +11,7 @@ use Rattle.bip_replay.specs.declared.faults.BookFault.{BookFault}
 use Rattle.bip_replay.specs.declared.faults.LineFault.{LineFault}
 use Rattle.bip_replay.specs.declared.faults.ReplayFault.TheVariants as replay_fault
 use Rattle.bipr.specs.Answers.{IsAnswer, run, not_a_run, no_trace, no_model, of_line}
+use Rattle.bipr.specs.Inputs.{Gives, Holds, IsModelInput, most_bytes}
 use Rattle.bipr.specs.Wording.{model_text, run_text, trace_text, verdict_text}
 use Rattle.bipr.specs.declared.answers.Answer.{Answer}
 use Rattle.bipr.specs.declared.answers.Status.{Status}
@@ -54,3 +55,32 @@ pub has_handed-on : {E : Type 0} (given : Result Answer E) (result : Result Answ
     → (result ≡ Err OutOfMemory) ⊎ ((answer : Answer) × (given ≡ Ok answer) × (result ≡ Ok answer)) → IfOk given P → IfOk result P
 has_handed-on given result P (inl stopped) holds = subst (λ r. IfOk r P) (sym stopped) tt
 has_handed-on given result P (inr on) holds = subst (λ r. IfOk r P) (sym on.2) (IfOk-at_ok P on.1 holds)
+
+-- what needs no answer holds of every answer
+pub holds_anyway : {A E : Type 0} (P : Type 0) (result : Result A E) → P → IfOk result (λ _. P)
+holds_anyway P (Ok answer) holds = holds
+holds_anyway P (Err stop) holds = tt
+
+-- an input that is known to give a text holds it
+pub gives_held : {R : Type 0} (remaining : R → Option (List ℕ)) (input : Option R) (text : List ℕ) → Gives remaining input text → Holds remaining input text
+gives_held remaining None text gives = absurd gives
+gives_held remaining (Some reader) text gives = gives
+
+-- what was read is short, so what the input is known to give is
+pub gives_short : {R : Type 0} (remaining : R → Option (List ℕ)) (input : Option R) (read : List ℕ)
+    → ((text : List ℕ) → Holds remaining input text → read ≡ text) → length read ≤ most_bytes → (text : List ℕ) → Gives remaining input text → length text ≤ most_bytes
+gives_short remaining input read same short text gives = subst (λ (t : List ℕ). length t ≤ most_bytes) (same text (gives_held remaining input text gives)) short
+
+-- what holds of every stop
+pub holds_of_each_stop : {A E : Type 0} (P : E → Type 0) (result : Result A E) → ((stop : E) → P stop) → IfErr result P
+holds_of_each_stop P (Ok answer) holds = tt
+holds_of_each_stop P (Err stop) holds = holds stop
+
+-- what was read means a model and is short
+pub is_model_input : {R : Type 0} (remaining : R → Option (List ℕ)) (input : Option R) (read : List ℕ) (m : System) (classes : Classes)
+    → ((text : List ℕ) → Holds remaining input text → read ≡ text) → length read ≤ most_bytes → Means read m classes → IsModelInput remaining input
+is_model_input remaining input read m classes same short means =
+    record {
+      means = λ text held. (m, classes, subst (λ (t : List ℕ). Means t m classes) (same text held) means);
+      fits = gives_short remaining input read same short;
+    }

@@ -1,5 +1,5 @@
 -- Two texts and a base have one answer.
-use Rattle.std.proofs.Common.{◌≡◌, ℕ, List, length, Result, Ok, Err, refl, sym, ap, ◌∙◌, subst}
+use Rattle.std.proofs.Common.{◌≡◌, ℕ, List, length, Result, Ok, refl, sym, ap, ◌∙◌, subst}
 use Rattle.bip_model.specs.declared.grants.Grant.{Grant}
 use Rattle.bip_model.specs.declared.parts.System.{System}
 use Rattle.bip_model.specs.declared.partitions.Classes.{Classes}
@@ -13,7 +13,6 @@ use Rattle.bip_replay.specs.declared.faults.LineFault.TheVariants as line_fault
 use Rattle.bip_replay.specs.declared.faults.ReplayFault.{ReplayFault}
 use Rattle.bip_replay.specs.declared.faults.ReplayFault.TheVariants.{NotARun}
 use Rattle.bipr.specs.Answers.{IsAnswer, run, not_a_run, no_trace, no_model, of_line}
-use Rattle.bipr.specs.Wording.{run_text, trace_text, verdict_text, model_text}
 use Rattle.bipr.specs.declared.answers.Answer.{Answer}
 
 -- what the libraries below say of texts

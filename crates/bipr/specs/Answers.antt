@@ -1,5 +1,5 @@
--- The answer to a replay: a function of the model's text, the trace's text and the base.
-use Rattle.std.specs.Prelude.{◌≡◌, ◌≢◌, ℕ, List, []}
+-- The answer to a replay: the one that the text of a model, the text of a trace and a base have.
+use Rattle.std.specs.Prelude.{◌≢◌, ℕ, List, []}
 use Rattle.bip_model.specs.declared.parts.System.{System}
 use Rattle.bip_model.specs.declared.partitions.Classes.{Classes}
 use Rattle.bip_reader.specs.Meanings.{HasFault, Means}

@@ -1,28 +1,31 @@
 -- How a command ends that got no answer out.
-use Rattle.std.specs.Prelude.{◌≡◌, ℕ, List, ◌++◌, ⊤, Option, None, Some, codes}
-use Rattle.bip_model.specs.declared.parts.System.{System}
-use Rattle.bip_model.specs.declared.partitions.Classes.{Classes}
-use Rattle.bip_reader.specs.Meanings.{Means}
+use Rattle.std.specs.Prelude.{◌≡◌, ℕ, List, ◌++◌, ⊤, codes}
 use Rattle.bipr.specs.Wording.{complaint_text}
 use Rattle.bipr.specs.declared.answers.Status.{Status}
 use Rattle.bipr.specs.declared.answers.Status.TheVariants.{Refused, NoMemory}
 use Rattle.bipr.specs.declared.replaying.Stop.{Stop}
-use Rattle.bipr.specs.declared.replaying.Stop.TheVariants.{CannotRead, CannotWrite, OutOfMemory}
+use Rattle.bipr.specs.declared.replaying.Stop.TheVariants.{CannotRead, TooLong, CannotWrite, OutOfMemory}
 use Rattle.bipr.specs.declared.replaying.Text.{Text}
 use Rattle.bipr.specs.declared.replaying.Text.TheVariants.{Model, Trace}
 
--- an input is known to give this text; of one that couldn't be opened any text can be said
-abbrev pub Holds : {R : Type 0} → (R → Option (List ℕ)) → Option R → List ℕ → Type 0
-Holds remaining None text = ⊤
-Holds remaining (Some reader) text = remaining reader ≡ Some text
+-- what stops the reading of a text: it can't be read, is too long, or memory is out
+abbrev pub IsAbout : Text → Stop → Type 0
+IsAbout which (CannotRead text) = text ≡ which
+IsAbout which (TooLong text) = text ≡ which
+IsAbout which CannotWrite = ⊥
+IsAbout which OutOfMemory = ⊤
 
--- a text means a model
-abbrev pub IsModelText : List ℕ → Type 0
-IsModelText text = (m : System) × (classes : Classes) × Means text m classes
+-- the trace can't be read, or is too long
+abbrev pub IsAboutTrace : Stop → Type 0
+IsAboutTrace (CannotRead text) = text ≡ Trace
+IsAboutTrace (TooLong text) = text ≡ Trace
+IsAboutTrace CannotWrite = ⊥
+IsAboutTrace OutOfMemory = ⊥
 
 -- the status of a command that got no answer out
 abbrev pub status_of_stop : Stop → Status
 status_of_stop (CannotRead text) = Refused
+status_of_stop (TooLong text) = Refused
 status_of_stop CannotWrite = Refused
 status_of_stop OutOfMemory = NoMemory
 
@@ -34,5 +37,6 @@ path_of model trace Trace = trace
 -- the complaint of a command that got no answer out, by the paths of the model and the trace
 abbrev pub complaint_of_stop : List ℕ → List ℕ → Stop → List ℕ
 complaint_of_stop model trace (CannotRead text) = complaint_text (codes "cannot read " ++ path_of model trace text)
+complaint_of_stop model trace (TooLong text) = complaint_text (codes "cannot read " ++ path_of model trace text)
 complaint_of_stop model trace CannotWrite = complaint_text (codes "cannot write")
 complaint_of_stop model trace OutOfMemory = complaint_text (codes "no memory")

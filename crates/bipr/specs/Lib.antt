@@ -1,4 +1,6 @@
 pub mod Answers
 pub mod Dividing
 pub mod Endings
+pub mod Inputs
+pub mod Requests
 pub mod Wording

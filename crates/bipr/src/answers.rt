@@ -4,6 +4,7 @@ ghost use Rattle.bip_model.specs.declared.partitions.Classes.{Classes};
 ghost use Rattle.bip_reader.specs.Meanings.{Means};
 ghost use Rattle.bip_reader.specs.declared.faults.Why.TheVariants.{Memory};
 ghost use Rattle.bipr.specs.Answers.{IsAnswer};
+ghost use Rattle.bipr.specs.Dividing.{AreParts, after_mark, before_mark};
 ghost use Rattle.bipr.specs.declared.answers.Answer.{Answer};
 ghost use Rattle.bipr.specs.declared.answers.Status.TheVariants.{Refused};
 ghost use Rattle.bipr.specs.Wording.{code_of, model_text};
@@ -134,8 +135,10 @@ fn refused(alloc: Global, complaint: Vec<u8>) -> Answer
     }
 }
 
-/// Two texts and a base have one answer (docs/DEFINITIONS.md, "Answers").
+/// Two texts and a base have one answer, and two texts in one are parted by lines (docs/DEFINITIONS.md, "Answers" and "Two texts
+/// in one").
 pub fn answer_laws()
+    ensures parts { (text : List ℕ) → AreParts text (before_mark text) (after_mark text) }
     ensures one { (base : ℕ) (model trace : List ℕ) (a b : Answer) → IsAnswer base model trace a → IsAnswer base model trace b → a ≡ b }
 {
     meaning_laws();

@@ -1,5 +1,6 @@
 //! The command line.
-ghost use Rattle.std.specs.Prelude.{◌≤◌, IfSome};
+ghost use Rattle.std.specs.Prelude.{IfSome};
+ghost use Rattle.bipr.specs.Requests.{IsAsked, IsRequest};
 
 use bip_model::Number;
 use clap::{Arg, ArgMatches, Command, value_parser};
@@ -82,18 +83,24 @@ fn replay<'a>(alloc: Global) -> Result<Command<'a>, AllocError> {
         .arg(base)
 }
 
-/// What a command line asks; none where a value is out of its range.
+/// What a command line asks; none where it asks for no replay, or its base is out of range (docs/DEFINITIONS.md, "Requests").
 pub fn read_request<'a>(matches: &ArgMatches<'a>) -> Option<Request<'a>>
-    ensures { IfSome result (λ request. request.base ≤ 18446744073709551614) }
+    ensures { IfSome result (IsRequest matches.now) }
 {
-    let replay = matches.subcommand_matches("replay")?;
-    let base = replay.get_one::<u64>("base")?;
+    read_replay(matches.subcommand_matches("replay")?)
+}
+
+// What the words behind `replay` ask.
+fn read_replay<'a>(matches: &ArgMatches<'a>) -> Option<Request<'a>>
+    ensures { IfSome result (IsAsked matches.now) }
+{
+    let base = matches.get_one::<u64>("base")?;
     if base > GREATEST_BASE {
         return None;
     }
     Some(Request {
-        model: replay.get_str("model")?,
-        trace: replay.get_str("trace")?,
+        model: matches.get_str("model")?,
+        trace: matches.get_str("trace")?,
         base,
     })
 }

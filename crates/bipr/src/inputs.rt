@@ -25,7 +25,7 @@ pub enum InputFault {
     NoMemory,
 }
 
-/// All that a reader gives, at most so many bytes (docs/DEFINITIONS.md, "Answers").
+/// All that a reader gives, at most so many bytes (docs/DEFINITIONS.md, "Inputs").
 pub fn read_text<R: Read>(
     alloc: Global,
     reader: &mut R,
@@ -59,7 +59,7 @@ pub fn read_text<R: Read>(
 }
 
 /// Two texts in one: what stands before the first line `---`, and what stands behind it; the second is empty where there is
-/// no such line (docs/DEFINITIONS.md, "Answers").
+/// no such line (docs/DEFINITIONS.md, "Two texts in one").
 pub fn divide(text: &[u8]) -> (&[u8], &[u8])
     ensures before { result.0.now ≡ before_mark text.now }
     ensures after { result.1.now ≡ after_mark text.now }

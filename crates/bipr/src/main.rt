@@ -1,7 +1,9 @@
 //! `bipr`: says of a trace of grants whether it is an execution of a model.
 #![tactic(auto)]
 
-ghost use Rattle.std.specs.Prelude.{◌≤◌};
+ghost use Rattle.std.specs.Prelude.{◌≡◌, ◌≤◌, IfErr, IfOk};
+ghost use Rattle.bipr.specs.Endings.{status_of_stop};
+ghost use Rattle.bipr.specs.declared.answers.Status.TheVariants.{BadCommandLine};
 
 mod answers;
 mod command_line;
@@ -53,12 +55,25 @@ fn carry_out<R: AllocGlobal + Files + Input + Print, E: Write>(
 ) -> Status
     requires { request.now.base ≤ 18446744073709551614 }
 {
-    match replay(rt, request) {
+    finish(errors, replay(rt, request), request.model, request.trace)
+}
+
+// Ends with an answer, or with none.
+fn finish<E: Write>(
+    errors: &mut E,
+    ended: Result<Answer, Stop>,
+    model: &str,
+    trace: &str,
+) -> Status
+    ensures answered { IfOk ended (λ answer. result ≡ answer.status) }
+    ensures stopped { IfErr ended (λ why. result ≡ status_of_stop why) }
+{
+    match ended {
         Ok(answer) => {
             let _ = errors.write_all(answer.complaint.as_slice());
             answer.status
         }
-        Err(why) => stop(errors, why, request.model, request.trace),
+        Err(why) => stop(errors, why, model, trace),
     }
 }
 
@@ -90,7 +105,9 @@ fn replay<R: AllocGlobal + Files + Input + Print>(
     }
 }
 
-fn stop<E: Write>(errors: &mut E, why: Stop, model: &str, trace: &str) -> Status {
+fn stop<E: Write>(errors: &mut E, why: Stop, model: &str, trace: &str) -> Status
+    ensures { result ≡ status_of_stop why }
+{
     let _ = why.complain(errors, model, trace);
     why.status()
 }
@@ -107,7 +124,9 @@ fn refuse_words<E: Write>(errors: &mut E, error: &io::Error) -> Status {
     Status::BadCommandLine
 }
 
-fn refuse_base<E: Write>(errors: &mut E) -> Status {
+fn refuse_base<E: Write>(errors: &mut E) -> Status
+    ensures { result ≡ BadCommandLine }
+{
     let _ = writeln!(
         errors,
         "bipr: bad command line\nerror: --base is 0 to 18446744073709551614"

@@ -1,10 +1,11 @@
 //! The command `replay`, from its inputs to its output.
-ghost use Rattle.std.specs.Prelude.{◌≡◌, ◌≢◌, ◌≤◌, ◌⊎◌, ℕ, List, None, Ok, Err, IfOk, IfErr, IfSome, OnOk};
+ghost use Rattle.std.specs.Prelude.{◌≡◌, ◌≢◌, ◌<◌, ◌≤◌, ◌⊎◌, ℕ, List, length, None, Ok, Err, IfOk, IfErr, IfSome, OnOk};
 ghost use Rattle.std.specs.Io.KnownBytes.{Appends, Keeps};
 ghost use Rattle.bipr.specs.Answers.{IsAnswer};
-ghost use Rattle.bipr.specs.Dividing.{after_mark, before_mark};
-ghost use Rattle.bipr.specs.Endings.{Holds, IsModelText, complaint_of_stop, path_of, status_of_stop};
-ghost use Rattle.bipr.specs.declared.replaying.Stop.TheVariants.{CannotRead, CannotWrite, OutOfMemory};
+ghost use Rattle.bipr.specs.Endings.{IsAbout, IsAboutTrace, complaint_of_stop, path_of, status_of_stop};
+ghost use Rattle.bipr.specs.Inputs.{Gives, Holds, IsAnswerTo, IsAnswerToJoined, IsModelInput, IsModelText, most_bytes};
+ghost use Rattle.bipr.specs.declared.answers.Answer.{Answer};
+ghost use Rattle.bipr.specs.declared.replaying.Stop.TheVariants.{CannotRead, CannotWrite, OutOfMemory, TooLong};
 ghost use Rattle.bipr.specs.declared.replaying.Text.TheVariants.{Model, Trace};
 
 use crate::answers::{Answer, Status, answer_fault, answer_replay, answer_trace};
@@ -24,8 +25,10 @@ pub enum Text {
 /// Why a command got no answer out.
 #[derive(Clone, Copy, Debug, PartialEq, Eq)]
 pub enum Stop {
-    /// The input couldn't be opened, a read failed, or the text is too long.
+    /// The input couldn't be opened, a read failed, or the reader doesn't end.
     CannotRead(Text),
+    /// The text is longer than the limit.
+    TooLong(Text),
     /// A write failed, or the last flush.
     CannotWrite,
     /// Want of memory.
@@ -39,6 +42,7 @@ impl Stop {
     {
         match self {
             Stop::CannotRead(_) => Status::Refused,
+            Stop::TooLong(_) => Status::Refused,
             Stop::CannotWrite => Status::Refused,
             Stop::OutOfMemory => Status::NoMemory,
         }
@@ -50,6 +54,9 @@ impl Stop {
     {
         match self {
             Stop::CannotRead(text) => {
+                writeln!(writer, "bipr: cannot read {}", path_of(model, trace, *text))
+            }
+            Stop::TooLong(text) => {
                 writeln!(writer, "bipr: cannot read {}", path_of(model, trace, *text))
             }
             Stop::CannotWrite => writeln!(writer, "bipr: cannot write"),
@@ -69,7 +76,7 @@ fn path_of<'a>(model: &'a str, trace: &'a str, text: Text) -> &'a str
 
 /// Reads the text of a model and then that of a trace, and writes the answer to their replay from a base; an input that
 /// couldn't be opened is none. The trace is read only where the model's text is one. What is written is the answer's output;
-/// where the command stops before it writes, nothing is (docs/DEFINITIONS.md, "Answers").
+/// where the command stops before it writes, nothing is (docs/DEFINITIONS.md, "Inputs").
 pub fn replay_inputs<M: Read + Drop, T: Read + Drop, W: Write>(
     alloc: Global,
     model: Option<M>,
@@ -78,11 +85,14 @@ pub fn replay_inputs<M: Read + Drop, T: Read + Drop, W: Write>(
     output: &mut W,
 ) -> Result<Answer, Stop>
     requires { base ≤ 18446744073709551614 }
-    ensures answered { IfOk result (λ answer. (m t : List ℕ) → Holds M.remaining model m → Holds T.remaining trace t → IsAnswer base m t answer) }
+    ensures answered { IfOk result (IsAnswerTo M.remaining T.remaining base model trace) }
     ensures written { IfOk result (λ answer. Appends (W.contents output.old) (W.contents output.new) answer.output) }
     ensures silent { IfErr result (λ stop. stop ≢ CannotWrite → Keeps (W.contents output.old) (W.contents output.new)) }
+    ensures unwritten { IfErr result (λ stop. stop ≡ CannotWrite → (answer : Answer) × IsAnswerTo M.remaining T.remaining base model trace answer) }
     ensures unopened { model ≡ None → result ≡ Err (CannotRead Model) }
-    ensures order { IfErr result (λ stop. stop ≡ CannotRead Trace → (m : List ℕ) → Holds M.remaining model m → IsModelText m) }
+    ensures order { IfErr result (λ stop. IsAboutTrace stop → IsModelInput M.remaining model) }
+    ensures long { IfErr result (λ stop. stop ≡ TooLong Model → (m : List ℕ) → Gives M.remaining model m → most_bytes < length m) }
+    ensures trace_long { IfErr result (λ stop. stop ≡ TooLong Trace → (t : List ℕ) → Gives T.remaining trace t → most_bytes < length t) }
 {
     let answer = answer_inputs(alloc, model, trace, base)?;
     write_output(output, answer)
@@ -96,9 +106,12 @@ pub fn replay_joined<R: Read + Drop, W: Write>(
     output: &mut W,
 ) -> Result<Answer, Stop>
     requires { base ≤ 18446744073709551614 }
-    ensures answered { IfOk result (λ answer. IfSome (R.remaining input) (λ text. IsAnswer base (before_mark text) (after_mark text) answer)) }
+    ensures answered { IfOk result (IsAnswerToJoined R.remaining base input) }
     ensures written { IfOk result (λ answer. Appends (W.contents output.old) (W.contents output.new) answer.output) }
     ensures silent { IfErr result (λ stop. stop ≢ CannotWrite → Keeps (W.contents output.old) (W.contents output.new)) }
+    ensures unwritten { IfErr result (λ stop. stop ≡ CannotWrite → (answer : Answer) × IsAnswerToJoined R.remaining base input answer) }
+    ensures about { IfErr result (λ stop. IsAbout Model stop ⊎ (stop ≡ CannotWrite)) }
+    ensures long { IfErr result (λ stop. stop ≡ TooLong Model → IfSome (R.remaining input) (λ text. most_bytes < length text)) }
 {
     let answer = answer_joined(alloc, input, base)?;
     write_output(output, answer)
@@ -112,8 +125,13 @@ fn answer_inputs<M: Read + Drop, T: Read + Drop>(
 ) -> Result<Answer, Stop>
     requires { base ≤ 18446744073709551614 }
     ensures answered { IfOk result (λ answer. (m t : List ℕ) → Holds M.remaining model m → Holds T.remaining trace t → IsAnswer base m t answer) }
+    ensures refused { IfOk result (λ answer. (m t : List ℕ) → Holds M.remaining model m → (IsModelText m → ⊥) → IsAnswer base m t answer) }
+    ensures fits { IfOk result (λ _. (m : List ℕ) → Gives M.remaining model m → length m ≤ most_bytes) }
+    ensures trace_fits { IfOk result (λ _. (m t : List ℕ) → Holds M.remaining model m → IsModelText m → Gives T.remaining trace t → length t ≤ most_bytes) }
     ensures unopened { model ≡ None → result ≡ Err (CannotRead Model) }
-    ensures order { IfErr result (λ stop. stop ≡ CannotRead Trace → (m : List ℕ) → Holds M.remaining model m → IsModelText m) }
+    ensures order { IfErr result (λ stop. IsAboutTrace stop → IsModelInput M.remaining model) }
+    ensures long { IfErr result (λ stop. stop ≡ TooLong Model → (m : List ℕ) → Gives M.remaining model m → most_bytes < length m) }
+    ensures trace_long { IfErr result (λ stop. stop ≡ TooLong Trace → (t : List ℕ) → Gives T.remaining trace t → most_bytes < length t) }
     ensures stopped { IfErr result (λ stop. stop ≢ CannotWrite) }
 {
     let text = read_input(alloc, model, Text::Model)?;
@@ -127,8 +145,9 @@ fn answer_inputs<M: Read + Drop, T: Read + Drop>(
 
 fn answer_joined<R: Read + Drop>(alloc: Global, input: R, base: Number) -> Result<Answer, Stop>
     requires { base ≤ 18446744073709551614 }
-    ensures answered { IfOk result (λ answer. IfSome (R.remaining input) (λ text. IsAnswer base (before_mark text) (after_mark text) answer)) }
-    ensures stopped { IfErr result (λ stop. stop ≢ CannotWrite) }
+    ensures answered { IfOk result (IsAnswerToJoined R.remaining base input) }
+    ensures about { IfErr result (IsAbout Model) }
+    ensures long { IfErr result (λ stop. stop ≡ TooLong Model → IfSome (R.remaining input) (λ text. most_bytes < length text)) }
 {
     let text = read_input(alloc, Some(input), Text::Model)?;
     let (model, trace) = divide(&text);
@@ -145,7 +164,9 @@ fn or_out_of_memory(answer: Result<Answer, AllocError>) -> Result<Answer, Stop>
 fn read_input<R: Read + Drop>(alloc: Global, input: Option<R>, which: Text) -> Result<Vec<u8>, Stop>
     ensures text { IfOk result (λ text. (t : List ℕ) → Holds R.remaining input t → text.items ≡ t) }
     ensures unopened { input ≡ None → result ≡ Err (CannotRead which) }
-    ensures stopped { IfErr result (λ stop. (stop ≡ CannotRead which) ⊎ (stop ≡ OutOfMemory)) }
+    ensures stopped { IfErr result (IsAbout which) }
+    ensures fits { IfOk result (λ text. length text.items ≤ most_bytes) }
+    ensures long { IfErr result (λ stop. stop ≡ TooLong which → (t : List ℕ) → Gives R.remaining input t → most_bytes < length t) }
 {
     let Some(mut reader) = input else {
         return Err(Stop::CannotRead(which));
@@ -153,7 +174,7 @@ fn read_input<R: Read + Drop>(alloc: Global, input: Option<R>, which: Text) -> R
     match read_text(alloc, &mut reader, MOST_BYTES) {
         Ok(text) => Ok(text),
         Err(InputFault::Failed) => Err(Stop::CannotRead(which)),
-        Err(InputFault::TooLong) => Err(Stop::CannotRead(which)),
+        Err(InputFault::TooLong) => Err(Stop::TooLong(which)),
         Err(InputFault::NoMemory) => Err(Stop::OutOfMemory),
     }
 }

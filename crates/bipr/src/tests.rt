@@ -1,5 +1,6 @@
 //! The command over readers and writers that give little, or fail.
 use crate::answers::{Answer, Status, answer_laws};
+use crate::command_line::{command, read_request};
 use crate::inputs::{InputFault, divide, read_text};
 use crate::replaying::{Stop, Text, replay_inputs, replay_joined};
 use std::alloc::Global;
@@ -330,6 +331,13 @@ fn each_stop_has_its_complaint(rt: HostRuntime) {
     complains(
         &rt,
         alloc,
+        Stop::TooLong(Text::Trace),
+        Status::Refused,
+        "bipr: cannot read t.trace\n",
+    );
+    complains(
+        &rt,
+        alloc,
         Stop::OutOfMemory,
         Status::NoMemory,
         "bipr: no memory\n",
@@ -339,4 +347,70 @@ fn each_stop_has_its_complaint(rt: HostRuntime) {
 #[test]
 fn laws_take_nothing() {
     answer_laws();
+}
+
+/// What the words of a command line ask; none where they ask for nothing.
+fn asks(
+    rt: &impl Abort,
+    alloc: Global,
+    line: &str,
+    want: Option<(&str, &str, u64)>,
+) -> Result<(), Fail> {
+    let mut words: Vec<String> = Vec::new(alloc);
+    for word in line.split(' ') {
+        words.push(String::from_str(alloc, word)?)?;
+    }
+    let found = match command(alloc)?.try_get_matches_from(words.as_slice()) {
+        Err(_) => None,
+        Ok(matches) => read_request(&matches).map(|it| (it.model, it.trace, it.base)),
+    };
+    assert!(rt; found == want, "{line}");
+    Ok(())
+}
+
+#[test]
+fn command_lines_are_read(rt: HostRuntime) -> Result<(), Fail> {
+    let alloc = rt.alloc();
+    asks(&rt, alloc, "bipr replay m t", Some(("m", "t", 0)))?;
+    asks(&rt, alloc, "bipr replay m --base 7 t", Some(("m", "t", 7)))?;
+    asks(&rt, alloc, "bipr replay --base=5 - -", Some(("-", "-", 5)))?;
+    Ok(())
+}
+
+#[test]
+fn bases_have_a_bound(rt: HostRuntime) -> Result<(), Fail> {
+    let alloc = rt.alloc();
+    let greatest = Some(("m", "t", 18_446_744_073_709_551_614));
+    asks(
+        &rt,
+        alloc,
+        "bipr replay m t --base 18446744073709551614",
+        greatest,
+    )?;
+    asks(
+        &rt,
+        alloc,
+        "bipr replay m t --base 18446744073709551615",
+        None,
+    )?;
+    asks(
+        &rt,
+        alloc,
+        "bipr replay m t --base 18446744073709551616",
+        None,
+    )?;
+    asks(&rt, alloc, "bipr replay m t --base -1", None)?;
+    Ok(())
+}
+
+#[test]
+fn other_command_lines_ask_for_nothing(rt: HostRuntime) -> Result<(), Fail> {
+    let alloc = rt.alloc();
+    asks(&rt, alloc, "bipr", None)?;
+    asks(&rt, alloc, "bipr check m", None)?;
+    asks(&rt, alloc, "bipr help", None)?;
+    asks(&rt, alloc, "bipr replay m", None)?;
+    asks(&rt, alloc, "bipr replay m t t", None)?;
+    asks(&rt, alloc, "bipr replay m t --base 1 --base 1", None)?;
+    Ok(())
 }
