@@ -10,6 +10,7 @@ pub mod PutLemmas
 pub mod ReadingLemmas
 pub mod ReplayLemmas
 pub mod RunLemmas
+pub mod TraceLemmas
 pub mod UsedLemmas
 pub mod WordLemmas
 pub mod WrittenLemmas

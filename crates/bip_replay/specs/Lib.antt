@@ -6,5 +6,6 @@ pub mod Readings
 pub mod Replays
 pub mod Rooms
 pub mod Runs
+pub mod TraceLaws
 pub mod Traces
 pub mod Writing

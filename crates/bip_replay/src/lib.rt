@@ -18,5 +18,5 @@ pub use faults::{BookFault, LineFault, ReplayFault, StepFault, TraceFault};
 pub use position::Position;
 pub use replays::replay;
 pub use runs::{fault_laws, run_laws};
-pub use traces::read_trace;
+pub use traces::{read_trace, trace_laws};
 pub use writing::write_trace;

@@ -2,6 +2,7 @@
 ghost use Rattle.std.specs.Prelude.{◌≡◌, Ok, IfOk, IfErr};
 ghost use Rattle.bip_replay.specs.Readings.{IsTraceFault, Reads};
 ghost use Rattle.bip_replay.specs.Rooms.{IsRoomy};
+ghost use Rattle.bip_replay.specs.TraceLaws.{AreOfModel, NamesItsInteraction, SameGrants};
 ghost use Rattle.bip_replay.specs.Traces.{grants_of};
 
 use crate::rooms::Room;
@@ -59,4 +60,14 @@ fn read_one(
                 .map_err(|_| TraceFault::Memory),
         },
     }
+}
+
+/// Texts that say the same words, line by line, are the same grants, whatever blanks and skipped lines are between them; the
+/// second word of a grant's line is the name of its interaction; and what is read are grants of the model
+/// (docs/DEFINITIONS.md, "Traces").
+pub fn trace_laws()
+    ensures same { SameGrants }
+    ensures named { NamesItsInteraction }
+    ensures of_model { AreOfModel }
+{
 }

@@ -295,6 +295,36 @@ fn a_text_has_so_many_bytes_at_most(rt: HostRuntime) {
     }
 }
 
+/// A reader of so many number signs: a text of one comment.
+#[derive(Drop)]
+struct Comment {
+    left: usize,
+}
+
+impl Read for Comment {
+    fn read(&mut self, buf: &mut [u8]) -> io::Result<usize> {
+        let count = buf.len().min(self.left);
+        buf[..count].fill(b'#');
+        self.left -= count;
+        Ok(count)
+    }
+}
+
+/// What is said of a comment of so many bytes as a model.
+fn commented(alloc: Global, left: usize) -> Result<Status, Stop> {
+    let mut written = Vec::new(alloc);
+    let trace = "".as_bytes();
+    replay_inputs(alloc, Some(Comment { left }), Some(trace), 0, &mut written)
+        .map(|answer| answer.status)
+}
+
+#[test]
+fn the_programs_limit_is_16_mebibytes(rt: HostRuntime) {
+    let alloc = rt.alloc();
+    assert_eq!(rt; commented(alloc, 16_777_216), Ok(Status::Refused));
+    assert_eq!(rt; commented(alloc, 16_777_217), Err(Stop::TooLong(Text::Model)));
+}
+
 fn complains(rt: &impl Abort, alloc: Global, stop: Stop, status: Status, complaint: &str) {
     let mut written = Vec::new(alloc);
     let told = stop.complain(&mut written, "m.bip", "t.trace");

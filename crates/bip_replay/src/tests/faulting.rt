@@ -1,4 +1,4 @@
-use crate::{BookFault, LineFault, ReplayFault, StepFault, TraceFault, fault_laws, run_laws};
+use crate::{BookFault, LineFault, ReplayFault, StepFault, TraceFault, fault_laws, run_laws, trace_laws};
 use bip_model::{CompId, InterId};
 use std::alloc::Global;
 use std::process::Abort;
@@ -100,5 +100,6 @@ fn faults_of_a_line_are_worded(rt: HostRuntime) -> Result<(), Fail> {
     );
     run_laws();
     fault_laws();
+    trace_laws();
     Ok(())
 }

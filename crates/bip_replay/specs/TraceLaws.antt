@@ -1,0 +1,30 @@
+-- What texts of grants have in common.
+use Rattle.std.specs.Prelude.{◌≡◌, ℕ, Bool, true, false, List, [], ◌∷◌, Option, None, Some, Ok, All, filter, map, slice_index_or}
+use Rattle.bip_model.specs.Texts.{lines, words, words_said}
+use Rattle.bip_model.specs.declared.grants.Grant.{Grant}
+use Rattle.bip_model.specs.declared.parts.System.{System}
+use Rattle.bip_replay.specs.Traces.{grant_on, grants_of}
+use Rattle.bip_replay.specs.Writing.{IsGrantOf, name_in}
+
+-- a line says something: it has words and is no comment, or a byte that can stand in no line
+abbrev pub says_something : Option (List (List ℕ)) → Bool
+says_something None = true
+says_something (Some []) = false
+says_something (Some (word ∷ rest)) = true
+
+-- the words of the lines that say something, however blanks part them, whatever lines are skipped between them
+abbrev pub said_in : List ℕ → List (Option (List (List ℕ)))
+said_in text = filter says_something (map words_said (lines text))
+
+-- texts that say the same words in as many lines are the same grants
+abbrev pub SameGrants : Type 0
+SameGrants = (m : System) (a b : List ℕ) → said_in a ≡ said_in b → (gs : List Grant) → grants_of m a ≡ Ok gs → grants_of m b ≡ Ok gs
+
+-- the second word of a grant's line is the name of its interaction
+abbrev pub NamesItsInteraction : Type 0
+NamesItsInteraction =
+    (m : System) (line : List ℕ) (g : Grant) → grant_on m line ≡ Ok (Some g) → slice_index_or (words line) 1 [] ≡ name_in m.interaction_names g.inter.0
+
+-- the grants that a text is are grants of the model
+abbrev pub AreOfModel : Type 0
+AreOfModel = (m : System) (text : List ℕ) (gs : List Grant) → grants_of m text ≡ Ok gs → All (IsGrantOf m) gs
