@@ -1,15 +1,45 @@
--- Histories: one grant more, and no component moved twice with one number.
-use Rattle.std.proofs.Common.{◌≡◌, ℕ, zero, suc, ◌<◌, Bool, true, false, cond, ◌&&◌, eqb, max, List, [], ◌∷◌, ◌++◌, Some, refl, ap, subst, eqb-true, arith}
+-- Histories: one grant more, the greatest number used, and no component moved twice with one number.
+use Rattle.std.proofs.Common.{◌≡◌, ℕ, zero, suc, ◌<◌, ◌≤◌, Bool, true, false, cond, ◌&&◌, eqb, max, List, [], ◌∷◌, ◌++◌, length, Some, refl, ap, subst, eqb-true, inl, inr, arith}
 use Rattle.std.specs.Prelude.{slice_get}
-use Rattle.std.proofs.lemmas.List.Elements.{All-head, All-tail}
+use Rattle.std.proofs.lemmas.Bool.{cases_lt}
+use Rattle.std.proofs.lemmas.List.Elements.{All-cons, All-head, All-nil, All-tail}
 use Rattle.bip_model.specs.declared.grants.Grant.{Grant}
 use Rattle.bip_model.specs.declared.grants.Want.{Want}
-use Rattle.bip_model.specs.Histories.{IsHistory, MovesOnceEach, used_by}
+use Rattle.bip_model.specs.Histories.{IsGreatestUsed, IsHistory, MovesOnceEach, used_by}
 use Rattle.bip_model.specs.Wants.{IsFresh, is_moved, moved_in, raised}
 
 pub used_by-push : (floor : ℕ → ℕ) (gs : List Grant) (g : Grant) → used_by floor (gs ++ g ∷ []) ≡ raised (used_by floor gs) g.wants
 used_by-push floor [] g = refl
 used_by-push floor (h ∷ gs) g = used_by-push (raised floor h.wants) gs g
+
+-- what is greatest above the numbers that a grant raised, is so with that grant at the front
+greatest_behind : (floor : ℕ → ℕ) (g : Grant) (gs : List Grant) (c n : ℕ) → IsGreatestUsed (raised floor g.wants) gs c n → IsGreatestUsed floor (g ∷ gs) c n
+greatest_behind floor g gs c n later =
+    let within : max (floor c) (moved_in g.wants c) ≤ n = later.floor_within in
+    record {
+      floor_within = omega arith;
+      moves_within = All-cons (λ (h : Grant). moved_in h.wants c ≤ n) g gs (omega arith) later.moves_within;
+      reached = elim later.reached [
+        | inl first ↦
+            let e : n ≡ max (floor c) (moved_in g.wants c) = first in
+            elim (cases_lt (floor c) (moved_in g.wants c)) [
+              | inl moves ↦ inr (g, (0, omega arith, refl), omega arith, omega arith)
+              | inr stays ↦ inl (omega arith)
+            ]
+        | inr moved ↦
+            let at : moved.1.0 < length gs = moved.1.1 in
+            inr (moved.0, (suc moved.1.0, omega arith, moved.1.2), moved.2, moved.3)
+      ];
+    }
+
+pub greatest_used : (floor : ℕ → ℕ) (gs : List Grant) (c : ℕ) → IsGreatestUsed floor gs c (used_by floor gs c)
+greatest_used floor [] c = record {
+  floor_within = omega arith;
+  moves_within = All-nil (λ (h : Grant). moved_in h.wants c ≤ floor c);
+  reached = inl refl;
+}
+greatest_used floor (g ∷ gs) c =
+    greatest_behind floor g gs c (used_by (raised floor g.wants) gs c) (greatest_used (raised floor g.wants) gs c)
 
 pub IsHistory-push : (floor : ℕ → ℕ) (gs : List Grant) (g : Grant) → IsHistory floor gs → IsFresh (used_by floor gs) g.wants → IsHistory floor (gs ++ g ∷ [])
 IsHistory-push floor [] g history fresh = (fresh, tt)

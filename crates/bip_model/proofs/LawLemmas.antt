@@ -1,6 +1,6 @@
 -- The laws of the joint step.
-use Rattle.std.proofs.Common.{◌≡◌, ℕ, ◌<◌, Bool, true, false, cond, ◌||◌, eqb, List, [], ◌∷◌, get_or, Option, None, Some, refl, sym, ap, ◌∙◌, inl, inr, arith, eq-eqb, eqb-true, subst, ◌&&◌}
-use Rattle.std.specs.Prelude.{Contains, find, slice_get}
+use Rattle.std.proofs.Common.{◌≡◌, ℕ, ◌<◌, Bool, true, false, cond, ◌||◌, eqb, List, [], ◌∷◌, length, suc, get_or, Option, None, Some, refl, sym, ap, ◌∙◌, inl, inr, arith, eq-eqb, eqb-true, subst, ◌&&◌}
+use Rattle.std.specs.Prelude.{Contains, find, is_some, slice_get}
 use Rattle.std.specs.List.{list_any}
 use Rattle.std.specs.Option.{option_map, option_map_or}
 use Rattle.std.specs.List.Sorted.{IsStrictlyIncreasing}
@@ -12,7 +12,7 @@ use Rattle.bip_model.specs.declared.parts.Component.{Component}
 use Rattle.bip_model.specs.declared.parts.System.{System}
 use Rattle.bip_model.specs.declared.parts.Transition.{Transition}
 use Rattle.bip_model.specs.declared.states.Place.{Place}
-use Rattle.bip_model.specs.Laws.{OthersStay, ParticipantsGo, Commute, MoveApart}
+use Rattle.bip_model.specs.Laws.{CanGo, EnabledWhereAllCanGo, OthersStay, ParticipantsGo, Commute, MoveApart}
 use Rattle.bip_model.specs.declared.numbering.LocId.{LocId}
 use Rattle.bip_model.specs.declared.numbering.PortId.{PortId}
 use Rattle.bip_model.specs.Moves.{transition_for, offers_at}
@@ -78,6 +78,60 @@ participants_go m valid s a q place t member its =
     let sound : IsComponent its.component = All-slice_get IsComponent m.components q.0.0 its.component valid.so_far.components its.declared in
     let found : transition_for its.component place.location q.1 ≡ Some t = transition_for-member its.component place.location q.1 t sound its.declares its.source its.port in
     rw (at, its.at, its.declared, found) refl
+
+-- what a search finds stands in the list and passes
+found_member : {X : Type 0} (p : X → Bool) (xs : List X) → is_some (find p xs) ≡ true → (x : X) × Contains xs x × (p x ≡ true)
+found_member p [] found = absurd (false≢true found)
+found_member {X} p (x ∷ xs) found =
+    elim (p x) as (λ b. p x ≡ b → is_some (cond b (Some x) (find p xs)) ≡ true → (y : X) × Contains (x ∷ xs) y × (p y ≡ true)) [
+      | true ↦ λ is any. (x, (0, omega arith, refl), is)
+      | false ↦ λ is any.
+          let later = found_member p xs any in
+          let within : later.1.0 < length xs = later.1.1 in
+          (later.0, (suc later.1.0, omega arith, later.1.2), later.2)
+    ] refl found
+
+-- a participant whose port is offered can go
+can_go : (m : System) (s : State) (q : Participant) (declared : Option Component) (at : Option Place) → slice_get m.components q.0.0 ≡ declared → s q.0.0 ≡ at → option_map_or (λ component. option_map_or (λ place. offers_at component place q.1) at false) declared false ≡ true → CanGo m s q
+can_go m s q None at is_declared is_at offers = absurd (false≢true offers)
+can_go m s q (Some component) None is_declared is_at offers = absurd (false≢true offers)
+can_go m s q (Some component) (Some place) is_declared is_at offers =
+    let leaves : Transition → Bool = λ t. eqb t.source.0 place.location.0 && eqb t.port.0 q.1.0 in
+    let found = found_member leaves component.transitions offers in
+    let both = and_both (eqb found.0.source.0 place.location.0) (eqb found.0.port.0 q.1.0) found.2 in (
+      place,
+      found.0,
+      record {
+        component = component;
+        declared = is_declared;
+        declares = found.1;
+        port = eqb-true found.0.port.0 q.1.0 both.1;
+        at = is_at;
+        source = eqb-true found.0.source.0 place.location.0 both.0;
+      },
+    )
+
+-- the port of a participant that can go is offered
+offered_where : (m : System) (s : State) (q : Participant) → IsSystem m → CanGo m s q → offered m s q ≡ true
+offered_where m s q valid go =
+    let its = go.2 in
+    let sound : IsComponent its.component = All-slice_get IsComponent m.components q.0.0 its.component valid.so_far.components its.declared in
+    let found : transition_for its.component go.0.location q.1 ≡ Some go.1 = transition_for-member its.component go.0.location q.1 go.1 sound its.declares its.source its.port in
+    rw (its.declared, its.at, found) refl
+
+pub enabled_where : (m : System) → IsSystem m → EnabledWhereAllCanGo m
+enabled_where m valid s a = (
+  λ enabled. (
+    enabled.declared,
+    λ k d within.
+        let q = get_or (participants_of m a) k d in
+        can_go m s q (slice_get m.components q.0.0) (s q.0.0) refl refl (enabled.offered_all k d within),
+  ),
+  λ known. record {
+    declared = known.0;
+    offered_all = λ k d within. offered_where m s (get_or (participants_of m a) k d) valid (known.1 k d within);
+  },
+)
 
 -- what an interaction does to a component depends on where that one is
 pub after-same : (m : System) (s t : State) (a c : ℕ) → s c ≡ t c → after m s a c ≡ after m t a c

@@ -1,6 +1,6 @@
 -- Lines and words, taken off the front of a text.
-use Rattle.std.proofs.Common.{◌≡◌, ℕ, zero, suc, ◌<◌, Bool, true, false, not, List, [], ◌∷◌, ◌++◌, length, get_or, take, drop, drop-cons, None, refl, sym, ap, ◌∙◌, inl, inr, arith}
-use Rattle.std.specs.Prelude.{filter, position}
+use Rattle.std.proofs.Common.{◌≡◌, ℕ, zero, suc, ◌<◌, Bool, true, false, not, List, [], ◌∷◌, ◌++◌, length, get_or, take, drop, drop-cons, None, refl, sym, ap, ◌∙◌, inl, inr, arith, eqb-true}
+use Rattle.std.specs.Prelude.{All, IsTrue, filter, position}
 use Rattle.std.specs.List.{slice_split}
 use Rattle.std.specs.List.{position_or_len}
 use Rattle.std.proofs.lemmas.Bool.{cases_lt, lt-ltb}
@@ -36,6 +36,13 @@ lines_whole b (c ∷ cs) none =
     let first : is_line_feed b ≡ false = none 0 (omega arith) in
     rw first (ap (onto_first_line b) (lines_whole c cs (fails_behind is_line_feed b (c ∷ cs) (suc (length cs)) none)))
 
+pub line_parts : (text : List ℕ) (i : ℕ) → i < length text → is_line_feed (get_or text i 0) ≡ true → text ≡ take i text ++ 10 ∷ drop (suc i) text
+line_parts text i within ends =
+    let feed : get_or text i 0 ≡ 10 = eqb-true (get_or text i 0) 10 ends in
+    let rest : drop i text ≡ get_or text i 0 ∷ drop (suc i) text = drop-cons text i 0 within in
+    sym (take-append-drop i text)
+    ∙ ap (λ (ys : List ℕ). take i text ++ ys) (rest ∙ ap (λ (b : ℕ). b ∷ drop (suc i) text) feed)
+
 -- where no place is found, the test fails everywhere
 pub position_none : (p : ℕ → Bool) (xs : List ℕ) → position p xs ≡ None → FailsBelow p xs (length xs)
 position_none p xs none k below =
@@ -51,6 +58,16 @@ words_blank b bs blank = rw blank refl
 not_not : (t : Bool) → not t ≡ false → t ≡ true
 not_not true h = refl
 not_not false h = sym h
+
+-- what stands before the first byte of a word
+pub blanks_before : (xs : List ℕ) (i : ℕ) → i < length xs → FailsBelow is_inked xs i → All (λ b. IsTrue (is_blank b)) (take i xs)
+blanks_before xs i within blanks = All-from_get_or (λ b. IsTrue (is_blank b)) (take i xs) 0 early
+  where
+    early : (k : ℕ) → k < length (take i xs) → is_blank (get_or (take i xs) k 0) ≡ true
+    early k below =
+        let shorter : length (take i xs) ≡ i = length-take-le i xs (omega arith) in
+        let before : k < i = omega arith in
+        rw (get_or-take i xs k 0 before) (not_not (is_blank (get_or xs k 0)) (blanks k before))
 
 pub words_behind : (xs : List ℕ) (i : ℕ) → i < length xs → FailsBelow is_inked xs i → words xs ≡ words (drop i xs)
 words_behind [] i within blanks = absurd (omega arith)

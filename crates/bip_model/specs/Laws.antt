@@ -1,5 +1,5 @@
 -- What the joint step means, in the subject's own words.
-use Rattle.std.specs.Prelude.{◌≡◌, ℕ, false, true, [], ◌∷◌, Some, slice_get, Contains}
+use Rattle.std.specs.Prelude.{◌≡◌, ◌↔◌, ℕ, ◌<◌, false, true, [], ◌∷◌, length, Some, slice_get, All, Contains}
 use Rattle.bip_model.specs.declared.parts.Component.{Component}
 use Rattle.bip_model.specs.declared.parts.System.{System}
 use Rattle.bip_model.specs.declared.parts.Transition.{Transition}
@@ -19,6 +19,15 @@ pub record IsItsTransition (m : System) (s : State) (q : Participant) (place : P
   pub port : t.port.0 ≡ q.1.0
   pub at : s q.0.0 ≡ Some place
   pub source : t.source.0 ≡ place.location.0
+
+-- a participant has a place in the state, and a transition with its port from there
+abbrev pub CanGo : System → State → Participant → Type 0
+CanGo m s q = (place : Place) × (t : Transition) × IsItsTransition m s q place t
+
+-- an interaction is enabled exactly where the model has it and each of its participants can go
+abbrev pub EnabledWhereAllCanGo : System → Type 0
+EnabledWhereAllCanGo m =
+    (s : State) (a : ℕ) → IsEnabled m s a ↔ ((a < length m.interactions) × All (CanGo m s) (participants_of m a))
 
 -- each participant ends where its one transition leads
 abbrev pub ParticipantsGo : System → Type 0

@@ -1,5 +1,5 @@
 -- What a name is, and what lists of names are apart.
-use Rattle.std.specs.Prelude.{◌≡◌, ℕ, ◌≤◌, Bool, false, not, ◌&&◌, ◌||◌, ◌==◌, nat_lt, nat_eq, List, [], ◌∷◌, length, slice_index, ⊤, IsTrue, codes}
+use Rattle.std.specs.Prelude.{◌≡◌, ℕ, ◌≤◌, Bool, false, not, ◌&&◌, ◌||◌, ◌==◌, nat_lt, nat_le, nat_eq, List, [], ◌∷◌, length, slice_index, ⊤, IsTrue, codes}
 use Rattle.std.specs.Char.{is_ascii_alphabetic, is_ascii_alphanumeric}
 use Rattle.std.specs.Cmp.Lexicographic.{pointwise}
 use Rattle.std.specs.List.{list_all, list_any}
@@ -31,6 +31,10 @@ is_spelled_as_name text = nat_lt 0 (length text) && is_name_start (slice_index t
 -- a name: spelled as one, of at most 32 bytes, and not reserved
 abbrev pub IsName : List ℕ → Type 0
 IsName text = IsTrue (is_spelled_as_name text) × (length text ≤ 32) × IsTrue (not (is_reserved text))
+
+-- whether a text is a name
+abbrev pub is_name : List ℕ → Bool
+is_name text = is_spelled_as_name text && nat_le (length text) 32 && not (is_reserved text)
 
 -- whether a name is in a list
 abbrev pub is_known : List ℕ → List (List ℕ) → Bool

@@ -1,5 +1,5 @@
 -- What all texts have in common: lines, words and numbers.
-use Rattle.std.specs.Prelude.{ℕ, ◌+◌, ◌^◌, Bool, false, true, ◌==◌, ◌&&◌, ◌||◌, nat_lt, nat_le, List, [], ◌∷◌, length, max, Option, None, Some, filter, position, take, drop, slice_index, if◌then◌else◌}
+use Rattle.std.specs.Prelude.{◌≡◌, ◌⊎◌, ℕ, ◌+◌, ◌^◌, Bool, false, true, ◌==◌, ◌&&◌, ◌||◌, nat_lt, nat_le, List, [], ◌∷◌, ◌++◌, length, max, map, Option, None, Some, filter, position, take, drop, slice_index, All, IsTrue, if◌then◌else◌}
 use Rattle.std.specs.Char.{is_ascii_digit, is_ascii_graphic}
 use Rattle.std.specs.List.{list_all, slice_split}
 use Rattle.std.specs.Option.{option_map}
@@ -17,6 +17,10 @@ is_line_feed b = b == 10
 abbrev pub lines : List ℕ → List (List ℕ)
 lines [] = []
 lines (b ∷ bs) = if is_line_feed b then [] ∷ lines bs else onto_first_line b (lines bs)
+
+-- a text is a line, its line feed and the rest, or it is a line alone
+unfoldable pub IsLineAndRest : List ℕ → List ℕ → List ℕ → Type 0
+IsLineAndRest text line rest = (text ≡ line ++ 10 ∷ rest) ⊎ ((text ≡ line) × (rest ≡ []))
 
 -- the number of the last line; an empty text has one line
 abbrev pub last_line : List ℕ → ℕ
@@ -39,6 +43,11 @@ is_longer (b ∷ bs) = true
 abbrev pub words : List ℕ → List (List ℕ)
 words line = filter is_longer (slice_split is_blank line)
 
+-- a line is blanks, a word and the rest, which is empty or begins with a blank
+unfoldable pub IsWordAndRest : List ℕ → List ℕ → List ℕ → Type 0
+IsWordAndRest line word rest =
+    (blanks : List ℕ) × All (λ b. IsTrue (is_blank b)) blanks × (line ≡ blanks ++ word ++ rest) × ((rest ≡ []) ⊎ IsTrue (is_blank (slice_index rest 0)))
+
 -- the first word begins with a number sign
 abbrev pub is_comment : List (List ℕ) → Bool
 is_comment [] = false
@@ -47,6 +56,16 @@ is_comment (word ∷ rest) = slice_index word 0 == 35
 -- the words that a line says, none of a comment; none at all where a byte can stand in no line
 abbrev pub words_said : List ℕ → Option (List (List ℕ))
 words_said line = if is_plain line then Some (if is_comment (words line) then [] else words line) else None
+
+-- a line says something: it has words and is no comment, or a byte that can stand in no line
+abbrev pub says_something : Option (List (List ℕ)) → Bool
+says_something None = true
+says_something (Some []) = false
+says_something (Some (word ∷ rest)) = true
+
+-- the words of the lines that say something, however blanks part them, whatever lines are skipped between them
+abbrev pub said_in : List ℕ → List (Option (List (List ℕ)))
+said_in text = filter says_something (map words_said (lines text))
 
 -- a word of 1 to most digits
 abbrev pub is_numeral : ℕ → List ℕ → Bool

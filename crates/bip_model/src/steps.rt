@@ -1,7 +1,7 @@
 //! The steps of a model: what is enabled in a state, and where an interaction leads.
 ghost use Rattle.std.specs.Prelude.{◌≡◌, ◌<◌, ◌↔◌, ◌==◌, ℕ, IsTrue, length, slice_get, IfOk, IfSome, OnOk, OnErr, IfErr, if◌then◌else◌};
 ghost use Rattle.std.specs.Option.{option_map};
-ghost use Rattle.bip_model.specs.Laws.{OthersStay, ParticipantsGo, Commute};
+ghost use Rattle.bip_model.specs.Laws.{EnabledWhereAllCanGo, OthersStay, ParticipantsGo, Commute};
 ghost use Rattle.bip_model.specs.Moves.{AreOffered, IsPlaceOf, moved, place_of};
 ghost use Rattle.bip_model.specs.Steps.{IsEnabled, after, led, offered, place_in, start_of};
 ghost use Rattle.bip_model.specs.declared.faults.NotNow.TheVariants.{NotEnabled};
@@ -91,6 +91,7 @@ impl Model {
 
     /// What the joint step means (docs/DEFINITIONS.md, "The joint step").
     pub fn step_laws(&self)
+        ensures enabled { EnabledWhereAllCanGo self.now }
         ensures stay { OthersStay self.now }
         ensures go { ParticipantsGo self.now }
         ensures commute { Commute self.now }

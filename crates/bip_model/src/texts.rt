@@ -1,10 +1,10 @@
 //! What all texts have in common: lines, words and numbers (docs/DEFINITIONS.md, "Texts").
-ghost use Rattle.std.specs.Prelude.{◌≡◌, ◌<◌, ◌≤◌, ◌∷◌, [], ◌==◌, not, position, true, false, length, slice_index, IfNone, IfSome};
+ghost use Rattle.std.specs.Prelude.{◌≡◌, ◌⊎◌, ◌<◌, ◌≤◌, ◌∷◌, ◌++◌, [], ◌==◌, not, position, true, false, length, slice_index, IfNone, IfSome, IsTrue};
 ghost use Rattle.std.specs.Char.{is_ascii_digit};
 ghost use Rattle.std.specs.List.{list_all};
 ghost use Rattle.std.specs.Option.{option_map};
 ghost use Rattle.std.specs.Str.Parse.{digits_value};
-ghost use Rattle.bip_model.specs.Texts.{is_blank, is_line_feed, is_numeral, is_plain, lines, number_of, pair_of, words};
+ghost use Rattle.bip_model.specs.Texts.{IsLineAndRest, IsWordAndRest, is_blank, is_line_feed, is_numeral, is_plain, lines, number_of, pair_of, words};
 
 /// The most digits that a participation number is written with.
 const NUMBER_DIGITS: usize = 20;
@@ -13,6 +13,7 @@ const NUMBER_DIGITS: usize = 20;
 pub fn split_line(text: &[u8]) -> (&[u8], &[u8])
     requires { 0 < length text.now }
     ensures lines { lines text.now ≡ result.0.now ∷ lines result.1.now }
+    ensures whole { IsLineAndRest text.now result.0.now result.1.now }
     ensures shorter { length result.1.now < length text.now }
 {
     match line_end(text) {
@@ -33,6 +34,7 @@ pub fn is_plain(line: &[u8]) -> bool
 pub fn split_word(line: &[u8]) -> Option<(&[u8], &[u8])>
     ensures none { IfNone result (words line.now ≡ []) }
     ensures word { IfSome result (λ parts. words line.now ≡ parts.0.now ∷ words parts.1.now) }
+    ensures whole { IfSome result (λ parts. IsWordAndRest line.now parts.0.now parts.1.now) }
     ensures longer { IfSome result (λ parts. 0 < length parts.0.now) }
     ensures shorter { IfSome result (λ parts. length parts.1.now < length line.now) }
 {
@@ -45,6 +47,8 @@ fn split_first_word(line: &[u8]) -> (&[u8], &[u8])
     requires longer { 0 < length line.now }
     requires begins { is_blank (slice_index line.now 0) ≡ false }
     ensures word { words line.now ≡ result.0.now ∷ words result.1.now }
+    ensures whole { line.now ≡ result.0.now ++ result.1.now }
+    ensures parted { (result.1.now ≡ []) ⊎ IsTrue (is_blank (slice_index result.1.now 0)) }
     ensures longer { 0 < length result.0.now }
     ensures shorter { length result.1.now < length line.now }
 {

@@ -4,10 +4,11 @@ use Rattle.std.specs.Prelude.{nat_lt, unwrap_or}
 use Rattle.std.specs.List.{position_or_len}
 use Rattle.std.specs.Option.{option_and_then, option_map}
 use Rattle.std.proofs.lemmas.Bool.{ltb-false}
+use Rattle.bip_model.specs.Naming.{is_name}
 use Rattle.bip_model.specs.Texts.{number_of, pair_of}
 use Rattle.bip_model.specs.declared.grants.Role.{Role}
 use Rattle.bip_model.specs.declared.grants.Want.{Want}
-use Rattle.bip_replay.specs.Traces.{is_name, put_by_component, want_said}
+use Rattle.bip_replay.specs.Traces.{put_by_component, want_said}
 use Rattle.bip_replay.specs.declared.lines.NamedWant.{NamedWant}
 
 -- a want of the parts of a word

@@ -7,12 +7,12 @@ use Rattle.std.specs.Cmp.Lexicographic as texts
 use Rattle.std.proofs.lemmas.List.Elements.{All-nil, All-cons}
 use Rattle.std.proofs.lemmas.List.Quantifiers.{position-Some}
 use Rattle.bip_model.specs.Naming.{same_text}
-use Rattle.bip_model.specs.Texts.{is_comment, is_plain, lines, words, words_said}
+use Rattle.bip_model.specs.Texts.{is_comment, is_plain, lines, says_something, words, words_said}
 use Rattle.bip_model.specs.declared.grants.Grant.{Grant}
 use Rattle.bip_model.specs.declared.grants.Role.TheVariants.{Moved}
 use Rattle.bip_model.specs.declared.grants.Want.{Want}
 use Rattle.bip_model.specs.declared.parts.System.{System}
-use Rattle.bip_replay.specs.TraceLaws.{AreOfModel, NamesItsInteraction, SameGrants, said_in, says_something}
+use Rattle.bip_replay.specs.TraceLaws.{AreOfModel, NamesItsInteraction, SameGrants}
 use Rattle.bip_replay.specs.Traces.{NamedGrant, before_rest, grant_on, grants_from, grants_of, known, looked_up, named_on, put_by_component, said, wants_known, wants_said}
 use Rattle.bip_replay.specs.Writing.{IsGrantOf, name_in}
 use Rattle.bip_replay.specs.declared.faults.LineFault.{LineFault}

@@ -18,9 +18,8 @@ use Rattle.std.proofs.lemmas.List.Splits.{slice_split_at, slice_split_none}
 use Rattle.std.proofs.lemmas.List.Sums.{AllPass-from_list_all}
 use Rattle.std.proofs.lemmas.Str.Parse.{digit_from_value}
 use Rattle.bip_model.proofs.ListLemmas.{neither}
-use Rattle.bip_model.specs.Naming.{AreApart, IsName, is_known, is_name_byte, same_text}
+use Rattle.bip_model.specs.Naming.{AreApart, IsName, is_known, is_name, is_name_byte, same_text}
 use Rattle.bip_model.specs.Texts.{is_blank, is_line_feed, is_longer, is_plain, lines, number_of, onto_first_line, pair_of, words}
-use Rattle.bip_replay.specs.Traces.{is_name}
 use Rattle.bip_replay.specs.Writing.{name_in, spaced}
 use Rattle.bip_replay.proofs.KnownLemmas.{same_text-refl}
 

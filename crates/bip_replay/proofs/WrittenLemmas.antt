@@ -6,7 +6,7 @@ use Rattle.std.proofs.lemmas.Bool.{and_right, lt-leb, ne_eqb}
 use Rattle.std.proofs.lemmas.List.{append-nil, append_assoc, length-append, length-map, map-append}
 use Rattle.std.proofs.lemmas.List.Elements.{All-append, All-cons, All-filter, All-head, All-map, All-nil, All-push, All-tail, All-weaker, filter_passes}
 use Rattle.std.proofs.lemmas.List.Filters.{length-filter_both}
-use Rattle.bip_model.specs.Naming.{AreApart, IsName, same_text}
+use Rattle.bip_model.specs.Naming.{AreApart, IsName, is_name, same_text}
 use Rattle.bip_model.specs.System.{IsSystem}
 use Rattle.bip_model.specs.Texts.{is_plain, lines, words}
 use Rattle.bip_model.specs.Wants.{IsWants, is_moved}
@@ -15,7 +15,7 @@ use Rattle.bip_model.specs.declared.grants.Role.{Role}
 use Rattle.bip_model.specs.declared.grants.Role.TheVariants.{Moved, Seen}
 use Rattle.bip_model.specs.declared.grants.Want.{Want}
 use Rattle.bip_model.specs.declared.parts.System.{System}
-use Rattle.bip_replay.specs.Traces.{grant_on, grants_from, grants_of, is_named, is_name, known, put_by_component, want_said, wants_known, wants_said, with_want}
+use Rattle.bip_replay.specs.Traces.{grant_on, grants_from, grants_of, is_named, known, put_by_component, want_said, wants_known, wants_said, with_want}
 use Rattle.bip_replay.specs.Writing.{IsGrantOf, IsSpelled, ReadsBack, bare_line, has_role, line_of, name_in, seen_words, spaced, text_of, want_word, want_words, words_behind}
 use Rattle.bip_replay.specs.declared.lines.NamedWant.{NamedWant}
 use Rattle.bip_replay.proofs.KnownLemmas.{HasNumber, IsElse, Rises}

@@ -1,20 +1,10 @@
 -- What texts of grants have in common.
-use Rattle.std.specs.Prelude.{◌≡◌, ℕ, Bool, true, false, List, [], ◌∷◌, Option, None, Some, Ok, All, filter, map, slice_index_or}
-use Rattle.bip_model.specs.Texts.{lines, words, words_said}
+use Rattle.std.specs.Prelude.{◌≡◌, ℕ, List, [], Some, Ok, All, slice_index_or}
+use Rattle.bip_model.specs.Texts.{said_in, words}
 use Rattle.bip_model.specs.declared.grants.Grant.{Grant}
 use Rattle.bip_model.specs.declared.parts.System.{System}
 use Rattle.bip_replay.specs.Traces.{grant_on, grants_of}
 use Rattle.bip_replay.specs.Writing.{IsGrantOf, name_in}
-
--- a line says something: it has words and is no comment, or a byte that can stand in no line
-abbrev pub says_something : Option (List (List ℕ)) → Bool
-says_something None = true
-says_something (Some []) = false
-says_something (Some (word ∷ rest)) = true
-
--- the words of the lines that say something, however blanks part them, whatever lines are skipped between them
-abbrev pub said_in : List ℕ → List (Option (List (List ℕ)))
-said_in text = filter says_something (map words_said (lines text))
 
 -- texts that say the same words in as many lines are the same grants
 abbrev pub SameGrants : Type 0

@@ -2,7 +2,7 @@
 use Rattle.std.specs.Prelude.{ℕ, ◌+◌, Bool, not, ◌==◌, ◌&&◌, ◌||◌, nat_lt, nat_le, List, [], ◌∷◌, ◌++◌, length, Option, None, Some, Result, Ok, Err, position, codes, if◌then◌else◌}
 use Rattle.std.specs.List.{list_any}
 use Rattle.std.specs.Option.{option_and_then, option_map, option_map_or}
-use Rattle.bip_model.specs.Naming.{is_reserved, is_spelled_as_name, same_text}
+use Rattle.bip_model.specs.Naming.{is_name, same_text}
 use Rattle.bip_model.specs.Texts.{lines, number_of, pair_of, words_said}
 use Rattle.bip_model.specs.Wants.{is_moved}
 use Rattle.bip_model.specs.declared.grants.Grant.{Grant}
@@ -18,10 +18,6 @@ use Rattle.bip_replay.specs.declared.lines.NamedWant.{NamedWant}
 pub record NamedGrant : Type 0 where
   pub inter : List ℕ
   pub wants : List NamedWant
-
--- whether a text is a name
-abbrev pub is_name : List ℕ → Bool
-is_name text = nat_le (length text) 32 && is_spelled_as_name text && not (is_reserved text)
 
 -- `C:N`: a component and its number
 abbrev pub want_said : Role → List ℕ → Option NamedWant

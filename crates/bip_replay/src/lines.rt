@@ -1,11 +1,11 @@
 //! What a line of a trace says: a grant by names, and the grant of a model.
 ghost use Rattle.std.specs.Prelude.{◌≡◌, ◌+◌, ◌<◌, ◌≤◌, [], ◌∷◌, None, Some, length, nat_le, nat_lt, not, ◌||◌, position, vec_capacity, vec_len, if◌then◌else◌};
 ghost use Rattle.std.specs.Option.{option_and_then};
-ghost use Rattle.bip_model.specs.Naming.{same_text};
+ghost use Rattle.bip_model.specs.Naming.{is_name, same_text};
 ghost use Rattle.bip_model.specs.Texts.{words};
 ghost use Rattle.bip_model.specs.declared.grants.Role.TheVariants.{Moved};
 ghost use Rattle.bip_model.specs.declared.grants.TheConstants.{MOST_WANTS};
-ghost use Rattle.bip_replay.specs.Traces.{as_said, is_name, is_named, named_on, put_by_component, said, want_said, wants_known, wants_said, with_want};
+ghost use Rattle.bip_replay.specs.Traces.{as_said, is_named, named_on, put_by_component, said, want_said, wants_known, wants_said, with_want};
 
 use crate::LineFault;
 use bip_model::{

@@ -1,7 +1,7 @@
-use Rattle.std.proofs.Common.{◌≡◌, ℕ, zero, suc, ◌<◌, List, [], ◌∷◌, true, false, None, Some, length, drop, take, get_or, arith, sym, ◌∙◌}
+use Rattle.std.proofs.Common.{◌≡◌, ℕ, zero, suc, ◌<◌, List, [], ◌∷◌, true, false, None, Some, length, drop, take, get_or, arith, sym, ◌∙◌, inr, add-zero, append-nil, take-append-drop}
 use Rattle.std.specs.Prelude.{position}
 use Rattle.std.proofs.lemmas.Bool.{false≢true}
-use Rattle.std.proofs.lemmas.List.{take_rest}
+use Rattle.std.proofs.lemmas.List.{get_or-drop, take_rest}
 use Rattle.std.proofs.lemmas.List.Quantifiers.{position-Some}
 use Rattle.bip_model.specs.Texts.{is_blank, words}
 use Rattle.bip_model.proofs.TextLemmas.{FailsBelow, words_at, words_whole, position_none}
@@ -28,3 +28,20 @@ returns-in-Some-clause-word c =
     let found : position is_blank line ≡ Some end = sym c.word_end.ensures ∙ c.in-Some.is in
     let at = position-Some is_blank line end 0 found in
     rw (take_rest line end) (cut line end c.requires.begins at.0 at.1 at.2)
+
+pub returns-in-None-clause-whole : goal.returns-in-None-clause-whole
+returns-in-None-clause-whole c = sym (append-nil c.args.line.now)
+
+pub returns-in-Some-clause-whole : goal.returns-in-Some-clause-whole
+returns-in-Some-clause-whole c =
+    let line : List ℕ = c.args.line.now in
+    let end = c.in-Some.end in
+    rw (take_rest line end) (sym (take-append-drop end line))
+
+pub returns-in-Some-clause-parted : goal.returns-in-Some-clause-parted
+returns-in-Some-clause-parted c =
+    let line : List ℕ = c.args.line.now in
+    let end = c.in-Some.end in
+    let found : position is_blank line ≡ Some end = sym c.word_end.ensures ∙ c.in-Some.is in
+    let at = position-Some is_blank line end 0 found in
+    rw (take_rest line end) (inr (rw (get_or-drop end line 0 0, add-zero end) at.1))
