@@ -12,6 +12,7 @@ use Rattle.bip_model.specs.declared.parts.System.{System}
 use Rattle.bip_reader.specs.ModelTexts.{◌>>=◌, ClassList, IsReached, MayLackMemory, is_listing, at_line, ended, fresh, line_said, lines_said, declared_by}
 use Rattle.bip_reader.specs.Outcomes.{Fails, Leads, has_fault}
 use Rattle.bip_reader.specs.Statements.{lists_words}
+use Rattle.bip_reader.proofs.FaultLemmas.{fair_lines, no_want}
 use Rattle.bip_reader.proofs.OutcomeLemmas.{hidden_none}
 
 -- a fault other than want of memory is the one that is there
@@ -146,7 +147,7 @@ at_end n (Err why) fault e = ap (λ (f : ReadFault). f.line) (same_fault fault (
 pub lacks_first : (text : List ℕ) → MayLackMemory text 1
 lacks_first text = record {
   reached = record { first = omega arith; last = omega arith; clear = refl };
-  hidden = λ fault e other. inl refl;
+  hidden = λ fault e. inl refl;
 }
 
 -- memory may be wanting where no line is at fault
@@ -156,7 +157,7 @@ lacks_last text r e =
     let all : lines_said 1 (take (last_line text) (lines text)) fresh ≡ Ok r = rw (take_all (last_line text) (lines text) long) e in
     record {
       reached = last_reached text r e;
-      hidden = λ fault f other. absurd (not_both r fault (lines_said 1 (take (last_line text) (lines text)) fresh) all f);
+      hidden = λ fault f. absurd (not_both r fault (lines_said 1 (take (last_line text) (lines text)) fresh) all f);
     }
 
 hidden_by : (lists : Bool) (n : ℕ) (said : Result Reading Why) (fault : ReadFault) → (lists || not (has_fault said)) ≡ true → at_line n said >>= lines_said (n + 1) [] ≡ Err fault
@@ -186,5 +187,5 @@ lacks_next text read r rest line after h e may =
     in
     record {
       reached = reached text read r rest line after h e;
-      hidden = λ fault f other. inr (rw here (hidden_by (lists_words (words line)) (1 + length h.before) (line_said line r) fault may (sym said ∙ f) other));
+      hidden = λ fault f. inr (rw here (hidden_by (lists_words (words line)) (1 + length h.before) (line_said line r) fault may (sym said ∙ f) (no_want fault.why (fair_lines 1 (take (read + 1) (lines text)) fresh fault f))));
     }

@@ -1,5 +1,5 @@
 -- What the text of a model means: line after line, and then as a whole.
-use Rattle.std.specs.Prelude.{◌≡◌, ◌≢◌, ◌⊎◌, ℕ, ◌+◌, ◌-◌, ◌≤◌, take, IsOk, IsTrue, slice_get, ◌++◌, ◌&&◌, Bool, false, true, not, nat_le, List, [], ◌∷◌, length, Option, None, Some, Result, Ok, Err, is_some, position, if◌then◌else◌}
+use Rattle.std.specs.Prelude.{◌≡◌, ◌⊎◌, ℕ, ◌+◌, ◌-◌, ◌≤◌, take, IsOk, IsTrue, slice_get, ◌++◌, ◌&&◌, Bool, false, true, not, nat_le, List, [], ◌∷◌, length, Option, None, Some, Result, Ok, Err, is_some, position, if◌then◌else◌}
 use Rattle.std.specs.List.{list_any}
 use Rattle.std.specs.Option.{ok_or, option_map}
 use Rattle.bip_model.specs.Drafts.{component_line, empty_draft, end_line, finished, inside, interaction_line, loc_line, port_line, trans_line}
@@ -11,7 +11,7 @@ use Rattle.bip_model.specs.declared.numbering.InterId.{InterId}
 use Rattle.bip_model.specs.declared.parts.System.{System}
 use Rattle.bip_reader.specs.declared.faults.ReadFault.{ReadFault}
 use Rattle.bip_reader.specs.declared.faults.Why.{Why}
-use Rattle.bip_reader.specs.declared.faults.Why.TheVariants.{Syntax, Unknown, Twice, TooMany, Missing, Memory}
+use Rattle.bip_reader.specs.declared.faults.Why.TheVariants.{Syntax, Unknown, Twice, TooMany, Missing}
 use Rattle.bip_reader.specs.declared.reading.Reading.{Reading}
 use Rattle.bip_model.specs.declared.partitions.TheConstants.{MOST_CLASSES}
 use Rattle.bip_reader.specs.declared.statements.Statement.{Statement}
@@ -130,5 +130,5 @@ is_listing (Some line) = lists_words (words line)
 -- memory may be wanting at a line: reading comes to it, and a fault of its own is hidden only where it is the first line, or lists words
 pub record MayLackMemory (text : List ℕ) (line : ℕ) : Type 0 where
   pub reached : IsReached text line
-  pub hidden : (fault : ReadFault) → lines_said 1 (take line (lines text)) fresh ≡ Err fault → fault.why ≢ Memory
+  pub hidden : (fault : ReadFault) → lines_said 1 (take line (lines text)) fresh ≡ Err fault
       → (line ≡ 1) ⊎ IsTrue (is_listing (slice_get (lines text) (line - 1)))

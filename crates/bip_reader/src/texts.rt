@@ -4,7 +4,7 @@ ghost use Rattle.bip_model.specs.Texts.{last_line, lines};
 ghost use Rattle.bip_model.specs.declared.partitions.Classes.{Classes};
 ghost use Rattle.bip_model.specs.declared.parts.System.{System};
 ghost use Rattle.bip_reader.specs.declared.faults.Why.TheVariants.{Memory, NotAPartition};
-ghost use Rattle.bip_reader.specs.Meanings.{FirstFault, HasFault, IsParted, Means, NoFault, NoLastLineFeed, NothingPast, OneFault, OneMeaning, SameMeaning, classes_of};
+ghost use Rattle.bip_reader.specs.Meanings.{FirstFault, HasFault, IsParted, Means, NoFault, NoLastLineFeed, NothingPast, OneFault, OneMeaning, SameMeaning, TextFaults, classes_of};
 ghost use Rattle.bip_reader.specs.ModelTexts.{MayLackMemory, at_line, declared_by, ended, fresh, lines_said};
 ghost use Rattle.bip_reader.specs.Statements.{NamesAreTaken};
 
@@ -109,13 +109,14 @@ fn read_lines(alloc: Global, text: &[u8]) -> Result<(Reading, u64), ReadFault>
     Ok((reading, line.max(1)))
 }
 
-/// A text has at most one meaning or one fault, and never both. Its fault is the first, and what stands behind a line at
+/// A text has at most one meaning or one fault, and never both. Its fault is never want of memory or a priority cycle, is the first, and what stands behind a line at
 /// fault counts for nothing. Texts that differ only in skipped lines, in blanks between
 /// words or in a last line feed mean the same model and classes. A word is taken as a name exactly where it is one.
 pub fn meaning_laws()
     ensures meaning { OneMeaning }
     ensures fault { OneFault }
     ensures either { NoFault }
+    ensures whys { TextFaults }
     ensures first { FirstFault }
     ensures past { NothingPast }
     ensures names { NamesAreTaken }
