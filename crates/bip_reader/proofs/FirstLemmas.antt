@@ -9,7 +9,7 @@ use Rattle.bip_reader.specs.declared.reading.Reading.{Reading}
 use Rattle.bip_reader.specs.Meanings.{FirstFault, NothingPast}
 use Rattle.bip_reader.specs.ModelTexts.{◌>>=◌, IsReached, at_line, declared_by, ended, fresh, line_said, lines_said}
 use Rattle.bip_reader.proofs.LawLemmas.{Ends, ends}
-use Rattle.bip_reader.proofs.TextLemmas.{last_reached, lines_said-append}
+use Rattle.bip_reader.proofs.TextLemmas.{at_end, last_reached, lines_said-append}
 
 -- the fault of lines, the first of which is numbered n, comes after so many without fault
 record IsFirst (n : ℕ) (ls : List (List ℕ)) (r : Reading) (fault : ReadFault) : Type 0 where
@@ -56,10 +56,6 @@ reached_first text fault h =
       last = omega (arith, h.place, h.within);
       clear = rw back h.clear;
     }
-
-at_end : (n : ℕ) {A : Type 0} (said : Result A Why) (fault : ReadFault) → at_line n said ≡ Err fault → fault.line ≡ n
-at_end n (Ok x) fault e = absurd (cc)
-at_end n (Err why) fault e = ap (λ (f : ReadFault). f.line) (same_err fault (record { line = n; why = why }) (at_line n (Err why)) e refl)
 
 reached_by : (text : List ℕ) (fault : ReadFault) (said : Result Reading ReadFault) → lines_said 1 (lines text) fresh ≡ said
     → said >>= (λ r. at_line (last_line text) (ended r)) ≡ Err fault → IsReached text fault.line

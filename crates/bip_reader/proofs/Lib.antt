@@ -1,3 +1,5 @@
+pub mod DraftFaults
+pub mod FaultLemmas
 pub mod FirstLemmas
 pub mod LawLemmas
 pub mod MeaningLemmas

@@ -12,9 +12,10 @@ use Rattle.bip_model.specs.declared.numbering.InterId.{InterId}
 use Rattle.bip_model.specs.declared.partitions.Classes.{Classes}
 use Rattle.bip_model.specs.declared.parts.System.{System}
 use Rattle.bip_reader.specs.declared.faults.Why.{Why}
-use Rattle.bip_reader.specs.declared.faults.Why.TheVariants.{Memory}
+use Rattle.bip_reader.specs.declared.faults.Why.TheVariants.{NotAPartition, Memory}
+use Rattle.bip_reader.specs.declared.faults.ReadFault.{ReadFault}
 use Rattle.bip_reader.specs.Faults.{why_of_class}
-use Rattle.bip_reader.specs.Meanings.{HasFault, IsParted, Means}
+use Rattle.bip_reader.specs.Meanings.{HasFault, IsParted, classes_of}
 use Rattle.bip_reader.specs.ModelTexts.{ClassList, declared_by}
 
 All-unmap : {X Y : Type 0} (P : X → Type 0) (f : Y → X) (ys : List Y) → All P (map f ys) → All (λ y. P (f y)) ys
@@ -52,35 +53,46 @@ parted_as_seen v name members count cs h = record {
   once = λ a within. sym (sum_by-map (λ d. times_in (members d) a) v cs) ∙ h.once a within;
 }
 
--- classes were made of the lists that a text declares
-pub means : {C : Type 0} (v : C → List ℕ × List InterId) (text : List ℕ) (m : System) (listed : ClassList) (cs : List C) (classes : Classes)
-    → declared_by text ≡ Ok (m, listed) → map v cs ≡ listed → IsPartition (λ c. (v c).0) (λ c. (v c).1) (length m.interactions) cs
-    → classes.names ≡ map (λ c. (v c).0) cs → classes.members ≡ map (λ c. in_order (length m.interactions) (v c).1) cs → Means text m classes
-means v text m listed cs classes declared seen parted names members =
+-- lists that are seen in another way part the interactions
+pub parts : {C : Type 0} (v : C → List ℕ × List InterId) (m : System) (listed : ClassList) (cs : List C) → map v cs ≡ listed
+    → IsPartition (λ c. (v c).0) (λ c. (v c).1) (length m.interactions) cs → IsParted m listed
+parts v m listed cs seen partition = subst (IsParted m) seen (parted_seen v (λ (d : List ℕ × List InterId). d.0) (λ d. d.1) (length m.interactions) cs partition)
+
+pub parts_as_seen : {C : Type 0} (v : C → List ℕ × List InterId) (m : System) (listed : ClassList) (cs : List C) → map v cs ≡ listed
+    → IsParted m listed → IsPartition (λ c. (v c).0) (λ c. (v c).1) (length m.interactions) cs
+parts_as_seen v m listed cs seen parted = parted_as_seen v (λ (d : List ℕ × List InterId). d.0) (λ d. d.1) (length m.interactions) cs (subst (IsParted m) (sym seen) parted)
+
+-- no classes could be made of the lists
+pub no_parts : {C : Type 0} (v : C → List ℕ × List InterId) (m : System) (listed : ClassList) (cs : List C) (fault : ClassFault) (why : Why) → map v cs ≡ listed → why ≡ why_of_class fault
+    → (fault ≡ class_fault.NotAPartition → ¬ IsPartition (λ c. (v c).0) (λ c. (v c).1) (length m.interactions) cs) → why ≢ Memory → (why ≡ NotAPartition) × ¬ IsParted m listed
+no_parts v m listed cs class_fault.NotAPartition why seen is refused other = (is, λ parted. refused refl (parts_as_seen v m listed cs seen parted))
+no_parts v m listed cs class_fault.Memory why seen is refused other = absurd (other is)
+
+-- memory was wanting for the classes of the lists
+pub parts_short : {C : Type 0} (v : C → List ℕ × List InterId) (m : System) (listed : ClassList) (cs : List C) (fault : ClassFault) (why : Why) → map v cs ≡ listed → why ≡ why_of_class fault
+    → (fault ≡ class_fault.Memory → IsPartition (λ c. (v c).0) (λ c. (v c).1) (length m.interactions) cs) → why ≡ Memory → IsParted m listed
+parts_short v m listed cs class_fault.NotAPartition why seen is short memory = absurd (cc)
+parts_short v m listed cs class_fault.Memory why seen is short memory = parts v m listed cs seen (short refl)
+
+-- classes that were made of lists that are seen in another way
+pub numbers : {C : Type 0} (v : C → List ℕ × List InterId) (m : System) (listed : ClassList) (cs : List C) (classes : Classes) → map v cs ≡ listed
+    → classes.names ≡ map (λ c. (v c).0) cs → classes.members ≡ map (λ c. in_order (length m.interactions) (v c).1) cs → classes ≡ classes_of m listed
+numbers v m listed cs classes seen names members =
     let names_are : classes.names ≡ map (λ (d : List ℕ × List InterId). d.0) listed = names ∙ sym (map-map (λ (d : List ℕ × List InterId). d.0) v cs) ∙ ap (map (λ (d : List ℕ × List InterId). d.0)) seen in
     let members_are : classes.members ≡ map (λ (d : List ℕ × List InterId). in_order (length m.interactions) d.1) listed =
     members ∙ sym (map-map (λ (d : List ℕ × List InterId). in_order (length m.interactions) d.1) v cs)
     ∙ ap (map (λ (d : List ℕ × List InterId). in_order (length m.interactions) d.1)) seen
     in
-    record {
-      listed = listed;
-      declared = declared;
-      parted = subst (IsParted m) seen (parted_seen v (λ (d : List ℕ × List InterId). d.0) (λ d. d.1) (length m.interactions) cs parted);
-      numbered =
-          ap (λ (ns : List (List ℕ)). record { names = ns; members = classes.members }) names_are
-          ∙ ap (λ (ms : List (List InterId)). record { names = map (λ (d : List ℕ × List InterId). d.0) listed; members = ms }) members_are;
-    }
+    ap (λ (ns : List (List ℕ)). record { names = ns; members = classes.members }) names_are
+    ∙ ap (λ (ms : List (List InterId)). record { names = map (λ (d : List ℕ × List InterId). d.0) listed; members = ms }) members_are
 
--- no classes could be made of the lists that a text declares
-pub unparted : {C : Type 0} (v : C → List ℕ × List InterId) (text : List ℕ) (m : System) (listed : ClassList) (cs : List C) (line : ℕ) (fault : ClassFault) (why : Why)
-    → declared_by text ≡ Ok (m, listed) → map v cs ≡ listed → line ≡ last_line text → why ≡ why_of_class fault
-    → (fault ≡ class_fault.NotAPartition → ¬ IsPartition (λ c. (v c).0) (λ c. (v c).1) (length m.interactions) cs) → why ≢ Memory
-    → HasFault text (record { line = line; why = why })
-unparted v text m listed cs line class_fault.NotAPartition why declared seen last is refused other = inr (record {
+-- the lists that a text declares are no partition
+pub unparted : (text : List ℕ) (m : System) (listed : ClassList) (fault : ReadFault) → declared_by text ≡ Ok (m, listed) → fault.line ≡ last_line text
+    → (fault.why ≡ NotAPartition) × ¬ IsParted m listed → HasFault text fault
+unparted text m listed fault declared last why = inr (record {
   model = m;
   listed = listed;
   declared = declared;
-  unparted = λ parted. refused refl (parted_as_seen v (λ (d : List ℕ × List InterId). d.0) (λ d. d.1) (length m.interactions) cs (subst (IsParted m) (sym seen) parted));
-  at_end = rw (last, is) refl;
+  unparted = why.1;
+  at_end = ap (λ (n : ℕ). record { line = n; why = fault.why }) last ∙ ap (λ (w : Why). record { line = last_line text; why = w }) why.0;
 })
-unparted v text m listed cs line class_fault.Memory why declared seen last is refused other = absurd (other is)

@@ -1,6 +1,7 @@
 -- Lemmas on the forms of lines.
 use Rattle.std.proofs.Common.{◌≡◌, ℕ, ◌++◌, ◌∷◌, [], append_assoc, Err, Bool, true, false, cond, ◌&&◌, not, List, length, option_and_then, Option, None, Some, refl, sym, ap, ◌∙◌, arith, rules}
-use Rattle.std.specs.Prelude.{IfSome, IfNone, IsSome, ◌↔◌, nat_le}
+use Rattle.std.specs.Prelude.{IfSome, IfNone, IsSome, ◌↔◌, is_some, nat_le}
+use Rattle.std.specs.List.{list_all}
 use Rattle.std.proofs.lemmas.Bool.{leb-true, le-leb}
 use Rattle.bip_model.specs.Naming.{IsName, is_spelled_as_name, is_reserved}
 use Rattle.std.specs.Option.{option_map}
@@ -49,6 +50,17 @@ names_are_taken word =
           (p.0, leb-true (length word) 32 p.1, p.2),
       λ n. rw (spelled a (nat_le (length word) 32) c n.0 (le-leb (length word) 32 n.1) n.2) refl,
     )
+
+one_before_each : {A : Type 0} (x : Option A) (more : Option (List A)) (all : Bool) → all ≡ is_some more
+    → (is_some x && all) ≡ is_some (option_and_then (λ y. option_map (λ ys. y ∷ ys) more) x)
+one_before_each None more all e = refl
+one_before_each (Some x) None all e = e
+one_before_each (Some x) (Some xs) all e = e
+
+-- whether each word is something by itself, and whether all are
+pub all_are_each : {A : Type 0} (f : List ℕ → Option A) (ws : List (List ℕ)) → list_all (λ w. is_some (f w)) ws ≡ is_some (each_of f ws)
+all_are_each f [] = refl
+all_are_each f (word ∷ rest) = one_before_each (f word) (each_of f rest) (list_all (λ w. is_some (f w)) rest) (all_are_each f rest)
 
 -- what was read before, and what is still read
 abbrev pub with_front : {A : Type 0} → List A → Option (List A) → Option (List A)

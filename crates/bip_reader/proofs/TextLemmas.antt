@@ -1,33 +1,36 @@
 -- Lemmas on what lines say one after another, and on how far reading has come.
-use Rattle.std.proofs.Common.{◌≡◌, ◌≢◌, ℕ, ◌+◌, ◌-◌, ◌≤◌, ◌<◌, List, [], ◌∷◌, ◌++◌, length, take, drop, max, Result, Ok, Err, refl, ap, ◌∙◌, sym, append_assoc, arith, length-append}
-use Rattle.std.specs.Prelude.{IsOk}
-use Rattle.std.proofs.lemmas.List.{append-nil, take-append-drop}
+use Rattle.std.proofs.Common.{◌≡◌, ◌≢◌, ℕ, ◌+◌, ◌-◌, ◌≤◌, ◌<◌, List, [], ◌∷◌, ◌++◌, length, take, drop, max, Result, Ok, Err, refl, ap, ◌∙◌, sym, subst, inl, inr, append_assoc, arith, length-append}
+use Rattle.std.specs.Prelude.{Bool, true, false, IsOk, IsTrue, Option, None, Some, not, slice_get, ◌||◌, ◌⊎◌}
+use Rattle.std.proofs.lemmas.List.{append-nil, take-append-drop, take_all}
 use Rattle.std.proofs.Math.Seq.{take-append_seam}
-use Rattle.bip_model.specs.Texts.{last_line, lines}
+use Rattle.bip_model.specs.Texts.{last_line, lines, words}
 use Rattle.bip_reader.specs.declared.faults.ReadFault.{ReadFault}
 use Rattle.bip_reader.specs.declared.faults.Why.{Why}
 use Rattle.bip_reader.specs.declared.faults.Why.TheVariants.{Syntax, Unknown, Twice, TooMany, Missing, TwoTransitions, PriorityCycle, NotAPartition, Memory}
 use Rattle.bip_reader.specs.declared.reading.Reading.{Reading}
 use Rattle.bip_model.specs.declared.parts.System.{System}
-use Rattle.bip_reader.specs.ModelTexts.{◌>>=◌, ClassList, IsReached, at_line, ended, fresh, line_said, lines_said, declared_by}
-use Rattle.bip_reader.specs.Outcomes.{Fails, Leads}
+use Rattle.bip_reader.specs.ModelTexts.{◌>>=◌, ClassList, IsReached, MayLackMemory, is_listing, at_line, ended, fresh, line_said, lines_said, declared_by}
+use Rattle.bip_reader.specs.Outcomes.{Fails, Leads, has_fault}
+use Rattle.bip_reader.specs.Statements.{lists_words}
+use Rattle.bip_reader.proofs.FaultLemmas.{fair_lines, no_want}
+use Rattle.bip_reader.proofs.OutcomeLemmas.{hidden_none}
 
 -- a fault other than want of memory is the one that is there
-pub fails_unless : {A : Type 0} (why : Why) (said : Result A Why) → Fails why said → why ≢ Memory → said ≡ Err why
-fails_unless Syntax said h n = h
-fails_unless Unknown said h n = h
-fails_unless Twice said h n = h
-fails_unless TooMany said h n = h
-fails_unless Missing said h n = h
-fails_unless TwoTransitions said h n = h
-fails_unless PriorityCycle said h n = h
-fails_unless NotAPartition said h n = h
-fails_unless Memory said h n = absurd (n refl)
+pub fails_unless : {A : Type 0} (may : Bool) (why : Why) (said : Result A Why) → Fails may why said → why ≢ Memory → said ≡ Err why
+fails_unless may Syntax said h n = h
+fails_unless may Unknown said h n = h
+fails_unless may Twice said h n = h
+fails_unless may TooMany said h n = h
+fails_unless may Missing said h n = h
+fails_unless may TwoTransitions said h n = h
+fails_unless may PriorityCycle said h n = h
+fails_unless may NotAPartition said h n = h
+fails_unless may Memory said h n = absurd (n refl)
 
 -- a call that fails with nothing leads to what is said
-pub led : {A : Type 0} (said : Result A Why) (result : Result (Unit {0}) Why) (new : A) → ((why : Why) → result ≡ Err why → ⊥) → Leads said result new → said ≡ Ok new
-led said (Ok u) new none h = h
-led said (Err why) new none h = absurd (none why refl)
+pub led : {A : Type 0} (hides : Bool) (said : Result A Why) (result : Result (Unit {0}) Why) (new : A) → ((why : Why) → result ≡ Err why → ⊥) → Leads hides said result new → said ≡ Ok new
+led hides said (Ok u) new none h = h
+led hides said (Err why) new none h = absurd (none why refl)
 
 lines_said-after : (n : ℕ) (x : List ℕ) (xs ys : List (List ℕ)) (said : Result Reading ReadFault)
     → ((r : Reading) → lines_said (n + 1) (xs ++ ys) r ≡ lines_said (n + 1) xs r >>= lines_said (n + 1 + length xs) ys)
@@ -41,6 +44,12 @@ lines_said-after n x xs ys (Err fault) h = refl
 pub lines_said-append : (n : ℕ) (xs ys : List (List ℕ)) (r : Reading) → lines_said n (xs ++ ys) r ≡ lines_said n xs r >>= lines_said (n + length xs) ys
 lines_said-append n [] ys r = let e : n + 0 ≡ n = omega arith in rw e refl
 lines_said-append n (x ∷ xs) ys r = lines_said-after n x xs ys (at_line n (line_said x r)) (lines_said-append (n + 1) xs ys)
+
+same_fault : {A E : Type 0} (x y : E) (said : Result A E) → said ≡ Err x → said ≡ Err y → x ≡ y
+same_fault x y said e f = cc
+
+not_both : {A E : Type 0} (x : A) (y : E) (said : Result A E) → said ≡ Ok x → said ≡ Err y → ⊥
+not_both x y said e f = cc
 
 -- how far reading has come: these lines are read, and led to what is read; the rest is still to be read
 pub record IsAt (text : List ℕ) (read : ℕ) (r : Reading) (rest : List ℕ) : Type 0 where
@@ -119,12 +128,64 @@ last_reached text r e =
           (sym (lines_said-append 1 (take n (lines text)) (drop n (lines text)) fresh) ∙ cut);
     }
 
+-- the lines end: what they declare
+pub ends_with : (text : List ℕ) (r : Reading) (line : ℕ) → lines_said 1 (lines text) fresh ≡ Ok r → line ≡ last_line text → declared_by text ≡ at_line line (ended r)
+unfolding declared_by
+ends_with text r line e last = rw (e, last) refl
+
 -- the lines end, and have declared a model
 pub declares : (text : List ℕ) (r : Reading) (declared : System × ClassList) → lines_said 1 (lines text) fresh ≡ Ok r → ended r ≡ Ok declared → declared_by text ≡ Ok declared
 unfolding declared_by
 declares text r declared e d = rw (e, d) refl
 
--- the lines end, and lack something
-pub lacks : (text : List ℕ) (r : Reading) (why : Why) → lines_said 1 (lines text) fresh ≡ Ok r → ended r ≡ Err why → declared_by text ≡ Err (record { line = last_line text; why = why })
-unfolding declared_by
-lacks text r why e d = rw (e, d) refl
+-- a fault is told of its line
+pub at_end : (n : ℕ) {A : Type 0} (said : Result A Why) (fault : ReadFault) → at_line n said ≡ Err fault → fault.line ≡ n
+at_end n (Ok x) fault e = absurd (cc)
+at_end n (Err why) fault e = ap (λ (f : ReadFault). f.line) (same_fault fault (record { line = n; why = why }) (at_line n (Err why)) e refl)
+
+-- memory may be wanting before the first line
+pub lacks_first : (text : List ℕ) → MayLackMemory text 1
+lacks_first text = record {
+  reached = record { first = omega arith; last = omega arith; clear = refl };
+  hidden = λ fault e. inl refl;
+}
+
+-- memory may be wanting where no line is at fault
+pub lacks_last : (text : List ℕ) (r : Reading) → lines_said 1 (lines text) fresh ≡ Ok r → MayLackMemory text (last_line text)
+lacks_last text r e =
+    let long : length (lines text) ≤ last_line text = omega arith in
+    let all : lines_said 1 (take (last_line text) (lines text)) fresh ≡ Ok r = rw (take_all (last_line text) (lines text) long) e in
+    record {
+      reached = last_reached text r e;
+      hidden = λ fault f. absurd (not_both r fault (lines_said 1 (take (last_line text) (lines text)) fresh) all f);
+    }
+
+hidden_by : (lists : Bool) (n : ℕ) (said : Result Reading Why) (fault : ReadFault) → (lists || not (has_fault said)) ≡ true → at_line n said >>= lines_said (n + 1) [] ≡ Err fault
+    → fault.why ≢ Memory → lists ≡ true
+hidden_by true n said fault h e other = refl
+hidden_by false n (Ok r) fault h e other = absurd (cc)
+hidden_by false n (Err why) fault h e other =
+    let same : record { line = n; why = why } ≡ fault = same_fault (record { line = n; why = why }) fault (Err (record { line = n; why = why })) refl e in
+    absurd (other (sym (ap (λ (f : ReadFault). f.why) same) ∙ hidden_none Reading why h))
+
+seam : (xs ys : List (List ℕ)) (y : List ℕ) → slice_get (xs ++ y ∷ ys) (length xs) ≡ Some y
+seam [] ys y = refl
+seam (x ∷ xs) ys y = seam xs ys y
+
+-- memory may be wanting for the next line
+pub lacks_next : (text : List ℕ) (read : ℕ) (r : Reading) (rest line after : List ℕ) → IsAt text read r rest → lines rest ≡ line ∷ lines after
+    → (lists_words (words line) || not (has_fault (line_said line r))) ≡ true → MayLackMemory text (read + 1)
+lacks_next text read r rest line after h e may =
+    let back : read + 1 - 1 ≡ length h.before = omega (arith, h.counted) in
+    let whole : lines text ≡ h.before ++ line ∷ lines after = h.whole ∙ ap (λ (ls : List (List ℕ)). h.before ++ ls) e in
+    let here : slice_get (lines text) (read + 1 - 1) ≡ Some line = rw (back, whole) (seam h.before (lines after) line) in
+    let parts : lines text ≡ (h.before ++ line ∷ []) ++ lines after = whole ∙ sym (append_assoc h.before (line ∷ []) (lines after)) in
+    let count : read + 1 ≡ length (h.before ++ line ∷ []) = omega (arith, h.counted, length-append h.before (line ∷ [])) in
+    let front : take (read + 1) (lines text) ≡ h.before ++ line ∷ [] = rw (count, parts) (take-append_seam (h.before ++ line ∷ []) (lines after)) in
+    let said : lines_said 1 (take (read + 1) (lines text)) fresh ≡ at_line (1 + length h.before) (line_said line r) >>= lines_said (1 + length h.before + 1) [] =
+    rw front (lines_said-append 1 h.before (line ∷ []) fresh ∙ rw h.said refl)
+    in
+    record {
+      reached = reached text read r rest line after h e;
+      hidden = λ fault f. inr (rw here (hidden_by (lists_words (words line)) (1 + length h.before) (line_said line r) fault may (sym said ∙ f) (no_want fault.why (fair_lines 1 (take (read + 1) (lines text)) fresh fault f))));
+    }

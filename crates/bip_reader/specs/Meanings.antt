@@ -1,5 +1,5 @@
 -- What the text of a model means: a model with a partition of its interactions into classes, or the first fault.
-use Rattle.std.specs.Prelude.{◌≡◌, ◌⊎◌, ◌++◌, ℕ, Bool, true, false, List, [], ◌∷◌, Option, None, Some, length, filter, map, take, Ok, Err}
+use Rattle.std.specs.Prelude.{◌≡◌, ◌⊎◌, ◌++◌, ℕ, Bool, true, false, List, [], ◌∷◌, Option, None, Some, length, filter, map, take, Ok, Err, IsTrue}
 use Rattle.bip_model.specs.Partitions.{IsPartition, in_order}
 use Rattle.bip_model.specs.Texts.{last_line, lines, words_said}
 use Rattle.bip_model.specs.declared.numbering.InterId.{InterId}
@@ -7,6 +7,7 @@ use Rattle.bip_model.specs.declared.partitions.Classes.{Classes}
 use Rattle.bip_model.specs.declared.parts.System.{System}
 use Rattle.bip_reader.specs.declared.faults.ReadFault.{ReadFault}
 use Rattle.bip_reader.specs.declared.faults.Why.TheVariants.{NotAPartition}
+use Rattle.bip_reader.specs.Faults.{is_of_text}
 use Rattle.bip_reader.specs.ModelTexts.{ClassList, IsReached, declared_by, fresh, lines_said}
 
 -- lists of a model's interactions that part them: each interaction stands in exactly one of them, once
@@ -35,6 +36,10 @@ pub record IsUnparted (text : List ℕ) (fault : ReadFault) : Type 0 where
 -- the fault of a text: the first of what its lines declare, and else that the classes are no partition
 abbrev pub HasFault : List ℕ → ReadFault → Type 0
 HasFault text fault = (declared_by text ≡ Err fault) ⊎ IsUnparted text fault
+
+-- a text has only faults that a text can have
+abbrev pub TextFaults : Type 0
+TextFaults = (text : List ℕ) (fault : ReadFault) → HasFault text fault → IsTrue (is_of_text fault.why)
 
 -- the fault of a text is the first: no line before its line is at fault
 abbrev pub FirstFault : Type 0

@@ -1,10 +1,10 @@
 -- What the text of a model means: line after line, and then as a whole.
-use Rattle.std.specs.Prelude.{ℕ, ◌+◌, ◌-◌, ◌≤◌, take, IsOk, ◌++◌, ◌&&◌, Bool, false, true, not, nat_le, List, [], ◌∷◌, length, Option, None, Some, Result, Ok, Err, is_some, position, if◌then◌else◌}
+use Rattle.std.specs.Prelude.{◌≡◌, ◌⊎◌, ℕ, ◌+◌, ◌-◌, ◌≤◌, take, IsOk, IsTrue, slice_get, ◌++◌, ◌&&◌, Bool, false, true, not, nat_le, List, [], ◌∷◌, length, Option, None, Some, Result, Ok, Err, is_some, position, if◌then◌else◌}
 use Rattle.std.specs.List.{list_any}
 use Rattle.std.specs.Option.{ok_or, option_map}
 use Rattle.bip_model.specs.Drafts.{component_line, empty_draft, end_line, finished, inside, interaction_line, loc_line, port_line, trans_line}
 use Rattle.bip_model.specs.Naming.{same_text}
-use Rattle.bip_model.specs.Texts.{last_line, lines, words_said}
+use Rattle.bip_model.specs.Texts.{last_line, lines, words, words_said}
 use Rattle.bip_model.specs.declared.drafts.Draft.{Draft}
 use Rattle.bip_model.specs.declared.faults.BuildFault.{BuildFault}
 use Rattle.bip_model.specs.declared.numbering.InterId.{InterId}
@@ -18,7 +18,7 @@ use Rattle.bip_reader.specs.declared.statements.Statement.{Statement}
 use Rattle.bip_reader.specs.declared.statements.Statement.TheVariants.{Header, Component, Loc, Port, Trans, End, Interaction, Class}
 use Rattle.bip_reader.specs.Faults.{why_of_build}
 use Rattle.bip_reader.specs.Outcomes.{or_syntax}
-use Rattle.bip_reader.specs.Statements.{each_of, statement_of}
+use Rattle.bip_reader.specs.Statements.{each_of, lists_words, statement_of}
 
 infixl 10 ◌>>=◌
 abbrev pub ◌>>=◌ : {A B E : Type 0} → Result A E → (A → Result B E) → Result B E
@@ -121,3 +121,14 @@ pub record IsReached (text : List ℕ) (line : ℕ) : Type 0 where
   pub first : 1 ≤ line
   pub last : line ≤ last_line text
   pub clear : IsOk (lines_said 1 (take (line - 1) (lines text)) fresh)
+
+-- the line lists words
+abbrev pub is_listing : Option (List ℕ) → Bool
+is_listing None = false
+is_listing (Some line) = lists_words (words line)
+
+-- memory may be wanting at a line: reading comes to it, and a fault of its own is hidden only where it is the first line, or lists words
+pub record MayLackMemory (text : List ℕ) (line : ℕ) : Type 0 where
+  pub reached : IsReached text line
+  pub hidden : (fault : ReadFault) → lines_said 1 (take line (lines text)) fresh ≡ Err fault
+      → (line ≡ 1) ⊎ IsTrue (is_listing (slice_get (lines text) (line - 1)))

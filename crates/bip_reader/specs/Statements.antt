@@ -1,5 +1,5 @@
 -- The forms of the lines of a model's text: from the words of a line to what it states.
-use Rattle.std.specs.Prelude.{ℕ, ◌↔◌, IsSome, ◌&&◌, ◌==◌, not, nat_le, List, [], ◌∷◌, length, Option, None, Some, option_and_then, codes, if◌then◌else◌}
+use Rattle.std.specs.Prelude.{ℕ, ◌↔◌, Bool, false, true, IsSome, ◌&&◌, ◌==◌, not, nat_le, List, [], ◌∷◌, length, Option, None, Some, option_and_then, codes, if◌then◌else◌}
 use Rattle.std.specs.Option.{option_map}
 use Rattle.bip_model.specs.Naming.{IsName, is_spelled_as_name, is_reserved, same_text}
 use Rattle.bip_model.specs.Texts.{pair_of}
@@ -49,6 +49,17 @@ keyword_of word =
     else if same_text word (codes "interaction") then Some keyword.Interaction
     else if same_text word (codes "class") then Some keyword.Class
     else None
+
+-- whether a line with this keyword lists words
+abbrev pub is_of_list : Option Keyword → Bool
+is_of_list (Some keyword.Interaction) = true
+is_of_list (Some keyword.Class) = true
+is_of_list _ = false
+
+-- whether a line lists words, as an interaction's and a class's do
+abbrev pub lists_words : List (List ℕ) → Bool
+lists_words [] = false
+lists_words (word ∷ rest) = is_of_list (keyword_of word)
 
 -- `1`
 unfoldable pub header_form : List (List ℕ) → Option Statement

@@ -1,13 +1,13 @@
 //! Reading the text of a model, line after line.
-ghost use Rattle.std.specs.Prelude.{◌≡◌, ◌∷◌, ◌++◌, [], ◌==◌, ◌||◌, length, map, IfOk, OnOk, IsTrue};
-ghost use Rattle.std.specs.List.{list_any};
+ghost use Rattle.std.specs.Prelude.{◌≡◌, ◌∷◌, ◌++◌, [], ◌==◌, ◌||◌, false, is_some, length, map, true, IfOk, OnOk, IsTrue};
+ghost use Rattle.std.specs.List.{list_all, list_any};
 ghost use Rattle.std.specs.Option.{ok_or};
 ghost use Rattle.bip_model.specs.Naming.{same_text};
 ghost use Rattle.bip_model.specs.Texts.{is_comment, words};
 ghost use Rattle.bip_reader.specs.declared.faults.Why.TheVariants.{Unknown};
 ghost use Rattle.bip_reader.specs.Outcomes.{Gives, Leads};
 ghost use Rattle.bip_reader.specs.ModelTexts.{class_line, ended, fresh, has_place, interaction_named, line_said, said_there};
-ghost use Rattle.bip_reader.specs.Statements.{each_of};
+ghost use Rattle.bip_reader.specs.Statements.{each_of, lists_words};
 
 use crate::Why;
 use crate::statements::{Statement, read_statement};
@@ -85,9 +85,9 @@ impl Reading {
         })
     }
 
-    /// Reads one more line.
+    /// Reads one more line. Want of memory hides a fault of it only where it lists words, which are stored before they are looked up.
     pub(crate) fn read_line(&mut self, alloc: Global, line: &[u8]) -> Result<(), Why>
-        ensures { Leads (line_said line.now self.old) result self.new }
+        ensures { Leads (lists_words (words line.now)) (line_said line.now self.old) result self.new }
     {
         if !is_plain(line) {
             return Err(Why::Syntax);
@@ -118,7 +118,7 @@ impl Reading {
     /// Takes a statement in its place.
     fn state(&mut self, alloc: Global, statement: Statement) -> Result<(), Why>
         requires { IsTrue (has_place statement self.old) }
-        ensures { Leads (said_there statement self.old) result self.new }
+        ensures { Leads false (said_there statement self.old) result self.new }
     {
         match statement {
             Statement::Header => {
@@ -145,28 +145,37 @@ impl Reading {
 
     #[tactic(auto, unfolding(crate::specs::ModelTexts::class_line))]
     fn class(&mut self, alloc: Global, name: Name, interactions: &[Name]) -> Result<(), Why>
-        ensures { Leads (class_line name interactions.now self.old) result self.new }
+        ensures { Leads false (class_line name interactions.now self.old) result self.new }
     {
         if self.classes.contains(&name) {
             return Err(Why::Twice);
         }
-        let numbers = self.interaction_numbers(alloc, interactions)?;
+        if !self.are_interactions(interactions) {
+            return Err(Why::Unknown);
+        }
         if MOST_CLASSES <= self.classes.len() {
             return Err(Why::TooMany);
         }
+        let numbers = self.interaction_numbers(alloc, interactions)?;
         self.classes.push(name, numbers)?;
         Ok(())
     }
 
+    /// Whether each name is that of an interaction, which takes no memory.
+    fn are_interactions(&self, names: &[Name]) -> bool
+        ensures { result ≡ list_all (λ name. is_some (interaction_named self.now.builder.system name)) names.now }
+    {
+        names
+            .iter()
+            .all(|name| self.interaction_number(name).is_some())
+    }
+
     fn interaction_numbers(&self, alloc: Global, names: &[Name]) -> Result<Seq<InterId>, Why>
-        ensures { Gives result (ok_or (each_of (interaction_named self.now.builder.system) names.now) Unknown) }
+        ensures { Gives true result (ok_or (each_of (interaction_named self.now.builder.system) names.now) Unknown) }
     {
         let mut numbers = Vec::new(alloc);
         for name in names {
-            let Some(number) = self.interaction_number(name) else {
-                return Err(Why::Unknown);
-            };
-            numbers.push(number)?;
+            numbers.push(self.interaction_number(name).ok_or(Why::Unknown)?)?;
         }
         Ok(Seq::of(numbers))
     }

@@ -1,9 +1,9 @@
 //! The forms of lines: from the words of a line to what it states.
-ghost use Rattle.std.specs.Prelude.{◌≡◌, ◌<◌, length};
+ghost use Rattle.std.specs.Prelude.{◌≡◌, ◌<◌, length, true};
 ghost use Rattle.bip_model.specs.Naming.{same_text};
 ghost use Rattle.bip_model.specs.Texts.{words};
 ghost use Rattle.bip_reader.specs.Outcomes.{Gives, or_syntax};
-ghost use Rattle.bip_reader.specs.Statements.{name_of, participant_of, one_or_more_of, keyword_of, header_form, one_name, trans_form, end_form, interaction_form, class_form, statement_of};
+ghost use Rattle.bip_reader.specs.Statements.{name_of, participant_of, one_or_more_of, keyword_of, header_form, one_name, trans_form, end_form, interaction_form, class_form, lists_words, statement_of};
 
 use crate::Why;
 use bip_model::{Name, Seq, split_pair, split_word};
@@ -71,10 +71,10 @@ pub(crate) enum Statement {
     },
 }
 
-/// What a line states. It is `Syntax` where the line has no form.
+/// What a line states. It is `Syntax` where the line has no form, and `Memory` only where it lists words.
 #[tactic(auto, unfolding(crate::specs::Statements::statement_of))]
 pub(crate) fn read_statement(alloc: Global, line: &[u8]) -> Result<Statement, Why>
-    ensures { Gives result (or_syntax (statement_of (words line.now))) }
+    ensures { Gives (lists_words (words line.now)) result (or_syntax (statement_of (words line.now))) }
 {
     let Some((word, rest)) = split_word(line) else {
         return Err(Why::Syntax);
@@ -96,7 +96,7 @@ pub(crate) fn read_statement(alloc: Global, line: &[u8]) -> Result<Statement, Wh
 
 #[tactic(auto, unfolding(crate::specs::Statements::interaction_form))]
 fn interaction(alloc: Global, line: &[u8]) -> Result<Statement, Why>
-    ensures { Gives result (or_syntax (interaction_form (words line.now))) }
+    ensures { Gives true result (or_syntax (interaction_form (words line.now))) }
 {
     let Some((word, rest)) = split_word(line) else {
         return Err(Why::Syntax);
@@ -110,7 +110,7 @@ fn interaction(alloc: Global, line: &[u8]) -> Result<Statement, Why>
 
 #[tactic(auto, unfolding(crate::specs::Statements::class_form))]
 fn class(alloc: Global, line: &[u8]) -> Result<Statement, Why>
-    ensures { Gives result (or_syntax (class_form (words line.now))) }
+    ensures { Gives true result (or_syntax (class_form (words line.now))) }
 {
     let Some((word, rest)) = split_word(line) else {
         return Err(Why::Syntax);
@@ -123,7 +123,7 @@ fn class(alloc: Global, line: &[u8]) -> Result<Statement, Why>
 }
 
 fn participants_in(alloc: Global, line: &[u8]) -> Result<Participants, Why>
-    ensures { Gives result (or_syntax (one_or_more_of participant_of (words line.now))) }
+    ensures { Gives true result (or_syntax (one_or_more_of participant_of (words line.now))) }
 {
     let mut participants = Vec::new(alloc);
     let mut rest = line;
@@ -138,7 +138,7 @@ fn participants_in(alloc: Global, line: &[u8]) -> Result<Participants, Why>
 }
 
 fn names_in(alloc: Global, line: &[u8]) -> Result<Seq<Name>, Why>
-    ensures { Gives result (or_syntax (one_or_more_of name_of (words line.now))) }
+    ensures { Gives true result (or_syntax (one_or_more_of name_of (words line.now))) }
 {
     let mut names = Vec::new(alloc);
     let mut rest = line;

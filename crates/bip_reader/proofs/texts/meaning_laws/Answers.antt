@@ -1,3 +1,4 @@
+use Rattle.bip_reader.proofs.FaultLemmas.{text_faults}
 use Rattle.bip_reader.proofs.FirstLemmas.{first_fault, nothing_past}
 use Rattle.bip_reader.proofs.LawLemmas.{no_last_line_feed, same_meaning}
 use Rattle.bip_reader.proofs.StatementLemmas.{names_are_taken}
@@ -8,6 +9,9 @@ returns-clause-same c = same_meaning
 
 pub returns-clause-last : goal.returns-clause-last
 returns-clause-last c = no_last_line_feed
+
+pub returns-clause-whys : goal.returns-clause-whys
+returns-clause-whys c = text_faults
 
 pub returns-clause-first : goal.returns-clause-first
 returns-clause-first c = first_fault
