@@ -1,12 +1,12 @@
 -- Why texts that say the same words mean the same.
 use Rattle.std.proofs.Common.{◌≡◌, ℕ, ◌+◌, Bool, true, false, cond, List, [], ◌∷◌, ◌++◌, map, Option, None, Some, Result, Ok, Err, refl, ap, ◌∙◌, sym, inl, inr}
 use Rattle.std.specs.Prelude.{filter, ◌⊎◌}
-use Rattle.bip_model.specs.Texts.{is_line_feed, last_line, lines, onto_first_line, words_said}
+use Rattle.bip_model.specs.Texts.{is_line_feed, last_line, lines, onto_first_line, said_in, says_something, words_said}
 use Rattle.bip_model.specs.declared.parts.System.{System}
 use Rattle.bip_reader.specs.declared.faults.ReadFault.{ReadFault}
 use Rattle.bip_reader.specs.declared.faults.Why.{Why}
 use Rattle.bip_reader.specs.declared.reading.Reading.{Reading}
-use Rattle.bip_reader.specs.Meanings.{NoLastLineFeed, SameMeaning, said_in, says_something}
+use Rattle.bip_reader.specs.Meanings.{NoLastLineFeed, SameMeaning}
 use Rattle.bip_reader.specs.ModelTexts.{◌>>=◌, ClassList, at_line, declared_by, ended, fresh, line_said, lines_said, words_say}
 use Rattle.bip_reader.proofs.TextLemmas.{declares}
 

@@ -1,7 +1,7 @@
 -- What the text of a model means: a model with a partition of its interactions into classes, or the first fault.
 use Rattle.std.specs.Prelude.{◌≡◌, ◌⊎◌, ◌++◌, ℕ, Bool, true, false, List, [], ◌∷◌, Option, None, Some, length, filter, map, take, Ok, Err, IsTrue}
 use Rattle.bip_model.specs.Partitions.{IsPartition, in_order}
-use Rattle.bip_model.specs.Texts.{last_line, lines, words_said}
+use Rattle.bip_model.specs.Texts.{last_line, lines, said_in}
 use Rattle.bip_model.specs.declared.numbering.InterId.{InterId}
 use Rattle.bip_model.specs.declared.partitions.Classes.{Classes}
 use Rattle.bip_model.specs.declared.parts.System.{System}
@@ -49,16 +49,6 @@ FirstFault = (text : List ℕ) (fault : ReadFault) → HasFault text fault → I
 abbrev pub NothingPast : Type 0
 NothingPast =
     (a b : List ℕ) (fault : ReadFault) → lines_said 1 (lines a) fresh ≡ Err fault → take fault.line (lines a) ≡ take fault.line (lines b) → HasFault b fault
-
--- a line says something: it has words and is no comment, or a byte that can stand in no line
-abbrev pub says_something : Option (List (List ℕ)) → Bool
-says_something None = true
-says_something (Some []) = false
-says_something (Some (word ∷ rest)) = true
-
--- the words of the lines that say something, however blanks part them, whatever lines are skipped between them
-abbrev pub said_in : List ℕ → List (Option (List (List ℕ)))
-said_in text = filter says_something (map words_said (lines text))
 
 -- texts that say the same words in as many lines mean the same
 abbrev pub SameMeaning : Type 0

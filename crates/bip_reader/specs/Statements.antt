@@ -1,7 +1,7 @@
 -- The forms of the lines of a model's text: from the words of a line to what it states.
 use Rattle.std.specs.Prelude.{ℕ, ◌↔◌, Bool, false, true, IsSome, ◌&&◌, ◌==◌, not, nat_le, List, [], ◌∷◌, length, Option, None, Some, option_and_then, codes, if◌then◌else◌}
 use Rattle.std.specs.Option.{option_map}
-use Rattle.bip_model.specs.Naming.{IsName, is_spelled_as_name, is_reserved, same_text}
+use Rattle.bip_model.specs.Naming.{IsName, is_name, same_text}
 use Rattle.bip_model.specs.Texts.{pair_of}
 use Rattle.bip_reader.specs.declared.statements.Keyword.{Keyword}
 use Rattle.bip_reader.specs.declared.statements.Keyword.TheVariants as keyword
@@ -14,7 +14,7 @@ o >>= f = option_and_then f o
 
 -- the name that a word is: spelled as one, of at most 32 bytes, and not reserved
 unfoldable pub name_of : List ℕ → Option (List ℕ)
-name_of word = if is_spelled_as_name word && nat_le (length word) 32 && not (is_reserved word) then Some word else None
+name_of word = if is_name word then Some word else None
 
 -- a word is taken as a name exactly where it is one
 abbrev pub NamesAreTaken : Type 0
