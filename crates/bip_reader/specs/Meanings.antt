@@ -1,5 +1,5 @@
 -- What the text of a model means: a model with a partition of its interactions into classes, or the first fault.
-use Rattle.std.specs.Prelude.{◌≡◌, ◌⊎◌, ◌++◌, ℕ, Bool, true, false, List, [], ◌∷◌, Option, None, Some, length, filter, map, take, Ok, Err, IsTrue}
+use Rattle.std.specs.Prelude.{◌≡◌, ◌⊎◌, ◌++◌, ℕ, List, [], ◌∷◌, length, map, take, Ok, Err, IsTrue}
 use Rattle.bip_model.specs.Partitions.{IsPartition, in_order}
 use Rattle.bip_model.specs.Texts.{last_line, lines, said_in}
 use Rattle.bip_model.specs.declared.numbering.InterId.{InterId}

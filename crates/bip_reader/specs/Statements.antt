@@ -1,5 +1,5 @@
 -- The forms of the lines of a model's text: from the words of a line to what it states.
-use Rattle.std.specs.Prelude.{ℕ, ◌↔◌, Bool, false, true, IsSome, ◌&&◌, ◌==◌, not, nat_le, List, [], ◌∷◌, length, Option, None, Some, option_and_then, codes, if◌then◌else◌}
+use Rattle.std.specs.Prelude.{ℕ, ◌↔◌, Bool, false, true, IsSome, ◌==◌, List, [], ◌∷◌, length, Option, None, Some, option_and_then, codes, if◌then◌else◌}
 use Rattle.std.specs.Option.{option_map}
 use Rattle.bip_model.specs.Naming.{IsName, is_name, same_text}
 use Rattle.bip_model.specs.Texts.{pair_of}

@@ -13,7 +13,7 @@ use Rattle.bip_model.specs.declared.grants.Role.TheVariants.{Moved}
 use Rattle.bip_model.specs.declared.grants.Want.{Want}
 use Rattle.bip_model.specs.declared.parts.System.{System}
 use Rattle.bip_replay.specs.TraceLaws.{AreOfModel, NamesItsInteraction, SameGrants}
-use Rattle.bip_replay.specs.Traces.{NamedGrant, before_rest, grant_on, grants_from, grants_of, known, looked_up, named_on, put_by_component, said, wants_known, wants_said}
+use Rattle.bip_replay.specs.Traces.{NamedGrant, before_rest, grant_on, grants_from, looked_up, named_on, put_by_component, said, wants_known, wants_said}
 use Rattle.bip_replay.specs.Writing.{IsGrantOf, name_in}
 use Rattle.bip_replay.specs.declared.faults.LineFault.{LineFault}
 use Rattle.bip_replay.specs.declared.faults.LineFault.TheVariants.{Syntax, Unknown}
