@@ -1,6 +1,6 @@
 -- What a line says of a draft is no fault but one that a text can have.
-use Rattle.std.proofs.Common.{◌≡◌, ℕ, Bool, true, false, cond, ◌==◌, ◌||◌, List, [], ◌∷◌, length, Option, None, Some, Result, Ok, Err, refl, arith}
-use Rattle.std.specs.Prelude.{is_some, slice_get}
+use Rattle.std.proofs.Common.{◌≡◌, ℕ, Bool, true, false, cond, ◌==◌, List, [], ◌∷◌, Option, None, Some, Result, Ok, Err, refl, arith}
+use Rattle.std.specs.Prelude.{slice_get}
 use Rattle.std.specs.List.{list_any}
 use Rattle.std.specs.Option.{ok_or}
 use Rattle.bip_model.specs.Drafts.{◌>>=◌, begun_in, component_line, end_line, finished, inside, interaction_line, loc_line, number_in, participant_named, participants_named, port_line, put_by_component, trans_line, with_interaction, with_transition}
@@ -8,7 +8,7 @@ use Rattle.bip_model.specs.Naming.{is_known}
 use Rattle.bip_model.specs.System.{Participant}
 use Rattle.bip_model.specs.declared.drafts.Draft.{Draft}
 use Rattle.bip_model.specs.declared.faults.BuildFault.{BuildFault}
-use Rattle.bip_model.specs.declared.faults.BuildFault.TheVariants.{Unknown, Twice, TooMany, Missing, TwoTransitions}
+use Rattle.bip_model.specs.declared.faults.BuildFault.TheVariants.{Unknown, Twice}
 use Rattle.bip_model.specs.declared.parts.Component.{Component}
 use Rattle.bip_model.specs.declared.parts.System.{System}
 use Rattle.bip_model.specs.declared.parts.Transition.{Transition}

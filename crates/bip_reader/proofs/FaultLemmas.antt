@@ -11,8 +11,8 @@ use Rattle.bip_model.specs.Texts.{last_line, lines, words_said}
 use Rattle.bip_model.specs.declared.drafts.Draft.{Draft}
 use Rattle.bip_model.specs.declared.faults.BuildFault.{BuildFault}
 use Rattle.bip_model.specs.declared.parts.System.{System}
-use Rattle.bip_reader.specs.Faults.{is_of_text, why_of_build}
-use Rattle.bip_reader.specs.Meanings.{HasFault, TextFaults}
+use Rattle.bip_reader.specs.Faults.{is_of_text}
+use Rattle.bip_reader.specs.Meanings.{TextFaults}
 use Rattle.bip_reader.specs.ModelTexts.{◌>>=◌, ClassList, at_line, built, class_line, declared_by, ended, fresh, has_place, interaction_named, line_said, lines_said, said_there, says, with_classes, words_say}
 use Rattle.bip_reader.specs.Outcomes.{or_syntax}
 use Rattle.bip_reader.specs.Statements.{each_of, statement_of}

@@ -1,6 +1,6 @@
 -- Lemmas on what lines say one after another, and on how far reading has come.
-use Rattle.std.proofs.Common.{◌≡◌, ◌≢◌, ℕ, ◌+◌, ◌-◌, ◌≤◌, ◌<◌, List, [], ◌∷◌, ◌++◌, length, take, drop, max, Result, Ok, Err, refl, ap, ◌∙◌, sym, subst, inl, inr, append_assoc, arith, length-append}
-use Rattle.std.specs.Prelude.{Bool, true, false, IsOk, IsTrue, Option, None, Some, not, slice_get, ◌||◌, ◌⊎◌}
+use Rattle.std.proofs.Common.{◌≡◌, ◌≢◌, ℕ, ◌+◌, ◌-◌, ◌≤◌, ◌<◌, List, [], ◌∷◌, ◌++◌, length, take, drop, max, Result, Ok, Err, refl, ap, ◌∙◌, sym, inl, inr, append_assoc, arith, length-append}
+use Rattle.std.specs.Prelude.{Bool, true, false, IsOk, Some, not, slice_get, ◌||◌}
 use Rattle.std.proofs.lemmas.List.{append-nil, take-append-drop, take_all}
 use Rattle.std.proofs.Math.Seq.{take-append_seam}
 use Rattle.bip_model.specs.Texts.{last_line, lines, words}
@@ -9,7 +9,7 @@ use Rattle.bip_reader.specs.declared.faults.Why.{Why}
 use Rattle.bip_reader.specs.declared.faults.Why.TheVariants.{Syntax, Unknown, Twice, TooMany, Missing, TwoTransitions, PriorityCycle, NotAPartition, Memory}
 use Rattle.bip_reader.specs.declared.reading.Reading.{Reading}
 use Rattle.bip_model.specs.declared.parts.System.{System}
-use Rattle.bip_reader.specs.ModelTexts.{◌>>=◌, ClassList, IsReached, MayLackMemory, is_listing, at_line, ended, fresh, line_said, lines_said, declared_by}
+use Rattle.bip_reader.specs.ModelTexts.{◌>>=◌, ClassList, IsReached, MayLackMemory, at_line, ended, fresh, line_said, lines_said, declared_by}
 use Rattle.bip_reader.specs.Outcomes.{Fails, Leads, has_fault}
 use Rattle.bip_reader.specs.Statements.{lists_words}
 use Rattle.bip_reader.proofs.FaultLemmas.{fair_lines, no_want}

@@ -1,8 +1,8 @@
-use Rattle.std.proofs.Common.{ap, not, ◌||◌}
+use Rattle.std.proofs.Common.{not, ◌||◌}
 use Rattle.bip_model.specs.Texts.{words}
 use Rattle.bip_reader.specs.Outcomes.{has_fault}
 use Rattle.bip_reader.specs.Statements.{lists_words}
-use Rattle.bip_reader.proofs.TextLemmas.{at_fault, fails_unless, goes_on, lacks_first, lacks_next, led}
+use Rattle.bip_reader.proofs.TextLemmas.{at_fault, fails_unless, goes_on, lacks_next, led}
 use Rattle.bip_reader.specs.ModelTexts.{line_said}
 use Rattle.bip_reader.proofs.OutcomeLemmas.{may_want}
 use Rattle.bip_reader.proofs.texts.read_lines.Goals as goal

@@ -1,2 +1,0 @@
-use Rattle.bip_reader.proofs.MeaningLemmas.{unparted}
-use Rattle.bip_reader.proofs.texts.read_parted.Goals as goal

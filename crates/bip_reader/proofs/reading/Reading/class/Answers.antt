@@ -1,4 +1,4 @@
-use Rattle.std.proofs.Common.{◌≡◌, ◌<◌, ◌≤◌, ◌∙◌, length, sym, arith}
+use Rattle.std.proofs.Common.{◌<◌, ◌≤◌, ◌∙◌, length, sym, arith}
 use Rattle.std.proofs.lemmas.Result.{err_from_is_err_and}
 use Rattle.bip_model.specs.declared.partitions.TheConstants.{MOST_CLASSES}
 use Rattle.bip_reader.proofs.ReadingLemmas.{class_past, class_unknown, class_wants}
