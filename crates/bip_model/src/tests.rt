@@ -3,6 +3,7 @@ mod building;
 mod granting;
 mod naming;
 mod parting;
+mod sequences;
 mod stepping;
 mod texts;
 

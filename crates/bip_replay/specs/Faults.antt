@@ -54,18 +54,6 @@ of_step (Below b) = book.Below b
 of_step (Number c expected) = book.Number c expected
 of_step Parties = book.Parties
 
-abbrev pub number_of_step : StepFault → ℕ
-number_of_step NotEnabled = 1
-number_of_step (Below b) = 2
-number_of_step (Number c expected) = 3
-number_of_step Parties = 4
-
-abbrev pub text_of_step : StepFault → List ℕ
-text_of_step NotEnabled = codes "not enabled"
-text_of_step (Below b) = codes "below interaction " ++ decimal b.0
-text_of_step (Number c expected) = codes "component " ++ (decimal c.0 ++ (codes " expected " ++ decimal expected))
-text_of_step Parties = codes "parties"
-
 abbrev pub number_of_book : BookFault → ℕ
 number_of_book book.NotEnabled = 1
 number_of_book (book.Below b) = 2
@@ -79,3 +67,10 @@ text_of_book (book.Below b) = codes "below interaction " ++ decimal b.0
 text_of_book (book.Number c expected) = codes "component " ++ (decimal c.0 ++ (codes " expected " ++ decimal expected))
 text_of_book book.Parties = codes "parties"
 text_of_book book.Memory = codes "no memory"
+
+-- the fault of a step has the number and the text of the same fault of a book
+abbrev pub number_of_step : StepFault → ℕ
+number_of_step fault = number_of_book (of_step fault)
+
+abbrev pub text_of_step : StepFault → List ℕ
+text_of_step fault = text_of_book (of_step fault)

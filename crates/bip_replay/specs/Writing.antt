@@ -46,9 +46,13 @@ words_behind m g = name_in m.interaction_names g.inter.0 ∷ (want_words m Moved
 abbrev pub spaced : List ℕ → List ℕ
 spaced word = 32 ∷ word
 
--- the line of a grant, with its line feed
+-- the line of a grant, without its line feed
+abbrev pub bare_line : System → Grant → List ℕ
+bare_line m g = codes "grant" ++ flat_map spaced (words_behind m g)
+
+-- the same, with its line feed
 abbrev pub line_of : System → Grant → List ℕ
-line_of m g = codes "grant" ++ flat_map spaced (words_behind m g) ++ 10 ∷ []
+line_of m g = bare_line m g ++ 10 ∷ []
 
 -- the text of grants
 abbrev pub text_of : System → List Grant → List ℕ
@@ -59,10 +63,6 @@ pub record IsSpelled (m : System) (w : Want) : Type 0 where
   pub component : w.comp.0 < length m.component_names
   pub name : IsName (name_in m.component_names w.comp.0)
   pub high : w.number < 2 ^ 64
-
--- the line of a grant, without its line feed
-abbrev pub bare_line : System → Grant → List ℕ
-bare_line m g = codes "grant" ++ flat_map spaced (words_behind m g)
 
 -- the line of a grant reads as that grant
 pub record ReadsBack (m : System) (g : Grant) : Type 0 where

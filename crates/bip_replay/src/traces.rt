@@ -69,5 +69,4 @@ pub fn trace_laws()
     ensures same { SameGrants }
     ensures named { NamesItsInteraction }
     ensures of_model { AreOfModel }
-{
-}
+{}

@@ -79,7 +79,7 @@ place_step begins b bs (Some at) differs h =
     let front : List ℕ = take at bs in
     let parted : lines (b ∷ bs) ≡ lines (b ∷ front) ++ lines (drop at bs) = lines_step (is_line_feed b) b front (drop at bs) refl h.0 bs h.1 in
     let same : begins_with_mark (b ∷ front) ≡ begins_with_mark (b ∷ bs) =
-        ap is_mark (sym (first_same (lines (b ∷ front)) (lines (drop at bs)) (some_line b front)) ∙ ap (λ (ls : List (List ℕ)). slice_index_or ls 0 []) (sym parted)) in
+    ap is_mark (sym (first_same (lines (b ∷ front)) (lines (drop at bs)) (some_line b front)) ∙ ap (λ (ls : List (List ℕ)). slice_index_or ls 0 []) (sym parted)) in
     let one_more : suc at ≡ at + 1 = omega arith in
     let unmarked : Unmarked begins (lines (b ∷ front)) = unmarked_step begins (is_line_feed b) b front refl (ap (λ t. begins && t) same ∙ differs) h.2 in
     let behind : Place begins (b ∷ bs) (Some (suc at)) = (late_step begins b front, parted, unmarked, h.3) in
@@ -112,6 +112,7 @@ lines_behind b (c ∷ cs) = by_feed (is_line_feed b) refl (lines_behind c cs)
         → onto_first_line b ls ≡ first_of (onto_first_line b ls) ∷ lines (drop (suc (length (first_of (onto_first_line b ls)))) (b ∷ c ∷ cs))
     onto [] some h = absurd (omega arith)
     onto (l ∷ ls) some h = ap (onto_first_line b) h
+
     by_feed : (feed : Bool) → is_line_feed b ≡ feed → lines (c ∷ cs) ≡ first_of (lines (c ∷ cs)) ∷ lines (drop (suc (length (first_of (lines (c ∷ cs))))) (c ∷ cs))
         → lines (b ∷ c ∷ cs) ≡ first_of (lines (b ∷ c ∷ cs)) ∷ lines (drop (suc (length (first_of (lines (b ∷ c ∷ cs))))) (b ∷ c ∷ cs))
     by_feed true at behind = rw (at_feed b (c ∷ cs) at) refl

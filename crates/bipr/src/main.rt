@@ -59,12 +59,7 @@ fn carry_out<R: AllocGlobal + Files + Input + Print, E: Write>(
 }
 
 // Ends with an answer, or with none.
-fn finish<E: Write>(
-    errors: &mut E,
-    ended: Result<Answer, Stop>,
-    model: &str,
-    trace: &str,
-) -> Status
+fn finish<E: Write>(errors: &mut E, ended: Result<Answer, Stop>, model: &str, trace: &str) -> Status
     ensures answered { IfOk ended (λ answer. result ≡ answer.status) }
     ensures stopped { IfErr ended (λ why. result ≡ status_of_stop why) }
 {

@@ -314,15 +314,19 @@ impl Read for Comment {
 fn commented(alloc: Global, left: usize) -> Result<Status, Stop> {
     let mut written = Vec::new(alloc);
     let trace = "".as_bytes();
-    replay_inputs(alloc, Some(Comment { left }), Some(trace), 0, &mut written)
-        .map(|answer| answer.status)
+    replay_inputs(alloc, Some(Comment { left }), Some(trace), 0, &mut written).map(
+        |answer| answer.status,
+    )
 }
 
 #[test]
 fn the_programs_limit_is_16_mebibytes(rt: HostRuntime) {
     let alloc = rt.alloc();
     assert_eq!(rt; commented(alloc, 16_777_216), Ok(Status::Refused));
-    assert_eq!(rt; commented(alloc, 16_777_217), Err(Stop::TooLong(Text::Model)));
+    assert_eq!(rt;
+        commented(alloc, 16_777_217),
+        Err(Stop::TooLong(Text::Model))
+    );
 }
 
 fn complains(rt: &impl Abort, alloc: Global, stop: Stop, status: Status, complaint: &str) {

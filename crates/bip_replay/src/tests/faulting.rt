@@ -1,4 +1,6 @@
-use crate::{BookFault, LineFault, ReplayFault, StepFault, TraceFault, fault_laws, run_laws, trace_laws};
+use crate::{
+    BookFault, LineFault, ReplayFault, StepFault, TraceFault, fault_laws, run_laws, trace_laws,
+};
 use bip_model::{CompId, InterId};
 use std::alloc::Global;
 use std::process::Abort;
