@@ -109,9 +109,10 @@ fn read_lines(alloc: Global, text: &[u8]) -> Result<(Reading, u64), ReadFault>
     Ok((reading, line.max(1)))
 }
 
-/// A text has at most one meaning or one fault, and never both. Its fault is never want of memory or a priority cycle, is the first, and what stands behind a line at
-/// fault counts for nothing. Texts that differ only in skipped lines, in blanks between
-/// words or in a last line feed mean the same model and classes. A word is taken as a name exactly where it is one.
+/// A text has at most one meaning or one fault, and never both. Its fault is never want of memory or a priority cycle, it is the
+/// first, and what stands behind a line at fault counts for nothing. Texts that differ only in skipped lines, in blanks between
+/// words or in a last line feed mean the same model and classes. A word is taken as a name exactly where it is one
+/// (docs/DEFINITIONS.md, "Model texts").
 pub fn meaning_laws()
     ensures meaning { OneMeaning }
     ensures fault { OneFault }
