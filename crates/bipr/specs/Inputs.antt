@@ -39,10 +39,11 @@ pub record IsAnswerTo {M T : Type 0} (of_model : M → Option (List ℕ)) (of_tr
   pub fits : (m : List ℕ) → Gives of_model model m → length m ≤ most_bytes
   pub trace_fits : (m t : List ℕ) → Holds of_model model m → IsModelText m → Gives of_trace trace t → length t ≤ most_bytes
 
--- the answer to an input of both, which is known to give a text
+-- the answer to a text of both
 pub record IsJoinedAnswer (base : ℕ) (text : List ℕ) (answer : Answer) : Type 0 where
   pub both : IsAnswer base (before_mark text) (after_mark text) answer
   pub fits : length text ≤ most_bytes
 
+-- the answer to an input of both, as far as it is known what that gives
 abbrev pub IsAnswerToJoined : {R : Type 0} → (R → Option (List ℕ)) → ℕ → R → Answer → Type 0
 IsAnswerToJoined remaining base input answer = IfSome (remaining input) (λ text. IsJoinedAnswer base text answer)
