@@ -1,18 +1,19 @@
 -- Each line leads from a draft that lines lead to, to another one.
 use Rattle.std.proofs.Common.{◌≡◌, ◌≢◌, ℕ, zero, suc, ◌+◌, ◌<◌, ◌≤◌, Bool, true, false, cond, ◌||◌, eqb, leb, ltb, List, [], ◌∷◌, ◌++◌, length, get_or, Option, None, Some, Ok, Err, refl, sym, ap, ◌∙◌, subst, arith}
-use Rattle.std.specs.Prelude.{unwrap_or, IfSome, IsNone, IsSome, Result, is_some, slice_get}
+use Rattle.bip_model.specs.Outcomes.{Answers, new_or_fault}
+use Rattle.std.specs.Prelude.{unwrap_or, IfSome, IsNone, IsSome, OnErr, Result, is_some, slice_get}
 use Rattle.std.specs.List.{list_any}
 use Rattle.std.proofs.lemmas.Bool.{eqb-false, false_from_ne_true, false≢true, leb-false, ltb-false}
 use Rattle.std.proofs.lemmas.List.{length-append, append_assoc}
 use Rattle.std.proofs.lemmas.List.Elements.{All-push, All-weaker, All-nil}
 use Rattle.std.proofs.lemmas.List.Folds.{list_any-append, list_any_at}
 use Rattle.std.proofs.lemmas.List.Quantifiers.{all_pairs_push}
-use Rattle.bip_model.specs.Drafts.{Follows, IsDraft, begun_in, component_line, end_line, inside, interaction_line, is_taken, loc_line, no_component, number_in, participant_named, participants_named, port_line, put_by_component, trans_line, with_interaction, with_transition}
+use Rattle.bip_model.specs.Drafts.{IsDraft, begun_in, component_line, end_line, inside, interaction_line, is_taken, loc_line, no_component, number_in, participant_named, participants_named, port_line, put_by_component, trans_line, with_interaction, with_transition}
 use Rattle.bip_model.specs.Naming.{AreApart, is_known, same_text}
 use Rattle.bip_model.specs.System.{IsComponent, IsComponentSoFar, IsInteraction, IsPortIn, IsTransitionOf, Participant, components_in, same_start}
 use Rattle.bip_model.specs.declared.drafts.Draft.{Draft}
 use Rattle.bip_model.specs.declared.faults.BuildFault.{BuildFault}
-use Rattle.bip_model.specs.declared.faults.BuildFault.TheVariants.{Twice, TooMany, Missing, TwoTransitions}
+use Rattle.bip_model.specs.declared.faults.BuildFault.TheVariants.{Twice, TooMany, Missing, TwoTransitions, Memory}
 use Rattle.bip_model.specs.declared.parts.Component.{Component}
 use Rattle.bip_model.specs.declared.parts.Interaction.{Interaction}
 use Rattle.bip_model.specs.declared.parts.System.{System}
@@ -22,11 +23,13 @@ use Rattle.bip_model.proofs.NameLemmas.{apart_between, apart_push}
 use Rattle.bip_model.proofs.ParticipantLemmas.{AreParticipants, bind_ok, increasing_from_rises, length-put, number_in-below, participants_named-valid}
 
 -- what holds before a call, and after what its line says, holds after it
-pub follows_keeps : {X : Type 0} (P : X → Type 0) (said : Result X BuildFault) (old : X) (result : Result (Unit {0}) BuildFault) (new : X) → Follows said old result new → P old → ((d : X) → said ≡ Ok d → P d) → P new
-follows_keeps P (Ok d) old (Ok u) new follows before after' = subst (λ (x : _). P x) (sym follows) (after' d refl)
-follows_keeps P (Ok d) old (Err e) new follows before after' = subst (λ (x : _). P x) (sym follows.1) before
-follows_keeps P (Err f) old (Ok u) new follows before after' = absurd follows
-follows_keeps P (Err f) old (Err e) new follows before after' = subst (λ (x : _). P x) (sym follows.1) before
+pub answers_keeps : {X : Type 0} (P : X → Type 0) (said : Result X BuildFault) (old : X)
+    (result : Result (Unit {0}) BuildFault) (new : X) → Answers Memory said (new_or_fault result new)
+    → OnErr result (new ≡ old) → P old → ((d : X) → said ≡ Ok d → P d) → P new
+answers_keeps P (Ok d) old (Ok u) new answers kept before after' = subst (λ (x : _). P x) (sym answers) (after' d refl)
+answers_keeps P (Ok d) old (Err e) new answers kept before after' = subst (λ (x : _). P x) (sym kept) before
+answers_keeps P (Err f) old (Ok u) new answers kept before after' = absurd answers
+answers_keeps P (Err f) old (Err e) new answers kept before after' = subst (λ (x : _). P x) (sym kept) before
 
 -- a test that stops didn't stop
 pub guard_ok : {X : Type 0} (b : Bool) (e : BuildFault) (r : Result X BuildFault) (y : X) → cond b (Err e) r ≡ Ok y → (b ≡ false) × (r ≡ Ok y)

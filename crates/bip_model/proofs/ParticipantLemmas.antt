@@ -12,8 +12,9 @@ use Rattle.std.proofs.lemmas.List.Sums.{fails_before_first}
 use Rattle.std.proofs.lemmas.Option.{none-some, slice_get_within}
 use Rattle.std.specs.Option.{ok_or}
 use Rattle.std.proofs.lemmas.List.Quantifiers.{position-Some}
-use Rattle.bip_model.specs.Drafts.{◌>>=◌, number_in, participant_named, participants_named, put_by_component}
+use Rattle.bip_model.specs.Drafts.{number_in, participant_named, participants_named, put_by_component}
 use Rattle.bip_model.specs.Naming.{same_text}
+use Rattle.bip_model.specs.Outcomes.{◌>>=◌}
 use Rattle.bip_model.specs.declared.faults.BuildFault.{BuildFault}
 use Rattle.bip_model.specs.declared.faults.BuildFault.TheVariants.{Twice, Unknown}
 use Rattle.bip_model.specs.declared.parts.System.{System}
@@ -151,7 +152,7 @@ few_participants components qs valid =
     all_below (r ∷ rs) all = (all.0.component, all_below rs all.1)
 
 -- what goes on with a good answer gave one
-pub bind_ok : {A B : Type 0} (r : Result A BuildFault) (f : A → Result B BuildFault) (y : B) → (r >>= f) ≡ Ok y → (x : A) × (r ≡ Ok x) × (f x ≡ Ok y)
+pub bind_ok : {A B E : Type 0} (r : Result A E) (f : A → Result B E) (y : B) → (r >>= f) ≡ Ok y → (x : A) × (r ≡ Ok x) × (f x ≡ Ok y)
 bind_ok (Ok x) f y is = (x, refl, is)
 bind_ok (Err e) f y is = cc
 

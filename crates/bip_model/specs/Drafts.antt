@@ -2,21 +2,16 @@
 use Rattle.std.specs.Prelude.{◌≡◌, ℕ, ◌+◌, Bool, ◌==◌, ◌||◌, nat_lt, nat_le, List, [], ◌∷◌, ◌++◌, length, None, Some, Result, Ok, Err, IfSome, is_some, slice_get, position, unwrap_or, if◌then◌else◌}
 use Rattle.std.specs.List.{list_any}
 use Rattle.std.specs.Option.{ok_or}
-use Rattle.smallvec.specs.SmallVec.{SmallVec}
 use Rattle.bip_model.specs.Naming.{is_known, same_text}
+use Rattle.bip_model.specs.Outcomes.{◌>>=◌}
 use Rattle.bip_model.specs.System.{IsComponentSoFar, IsSystemSoFar, Participant, same_start}
 use Rattle.bip_model.specs.declared.drafts.Draft.{Draft}
 use Rattle.bip_model.specs.declared.faults.BuildFault.{BuildFault}
-use Rattle.bip_model.specs.declared.faults.BuildFault.TheVariants.{Unknown, Twice, TooMany, Missing, TwoTransitions, Memory}
+use Rattle.bip_model.specs.declared.faults.BuildFault.TheVariants.{Unknown, Twice, TooMany, Missing, TwoTransitions}
 use Rattle.bip_model.specs.declared.parts.Component.{Component}
 use Rattle.bip_model.specs.declared.parts.System.{System}
 use Rattle.bip_model.specs.declared.parts.Transition.{Transition}
 use Rattle.bip_model.specs.declared.parts.TheConstants.{MOST_COMPONENTS, MOST_LOCATIONS, MOST_PORTS, MOST_TRANSITIONS, MOST_INTERACTIONS, MOST_PARTICIPANTS}
-
-infixl 10 ◌>>=◌
-abbrev pub ◌>>=◌ : {A B : Type 0} → Result A BuildFault → (A → Result B BuildFault) → Result B BuildFault
-(Ok x) >>= f = f x
-(Err e) >>= f = Err e
 
 -- the number of a name in a list
 abbrev pub number_in : List (List ℕ) → List ℕ → Result ℕ BuildFault
@@ -117,20 +112,6 @@ interaction_line d name words =
 -- the text ends: all that it declares, where no component is begun and there is one
 abbrev pub finished : Draft → Result System BuildFault
 finished d = if is_some d.begun || length d.system.components == 0 then Err Missing else Ok d.system
-
--- a call did what the line says, or refused it with its fault, or had no memory for a line without fault; after a refusal the draft is as before
-abbrev pub Follows : {X : Type 0} → Result X BuildFault → X → Result (Unit {0}) BuildFault → X → Type 0
-Follows (Ok said) old (Ok u) new = new ≡ said
-Follows (Ok said) old (Err e) new = (e ≡ Memory) × (new ≡ old)
-Follows (Err fault) old (Ok u) new = ⊥
-Follows (Err fault) old (Err e) new = (e ≡ fault) × (new ≡ old)
-
--- a call found what is to be found, or the fault
-abbrev pub Finds : {X : Type 0} → Result (List X) BuildFault → Result (SmallVec X) BuildFault → Type 0
-Finds (Ok found) (Ok xs) = xs.items ≡ found
-Finds (Ok found) (Err e) = ⊥
-Finds (Err fault) (Ok xs) = ⊥
-Finds (Err fault) (Err e) = e ≡ fault
 
 -- drafts that lines lead to
 pub record IsDraft (d : Draft) : Type 0 where

@@ -5,6 +5,7 @@ pub mod Histories
 pub mod Laws
 pub mod Moves
 pub mod Naming
+pub mod Outcomes
 pub mod Padding
 pub mod Partitions
 pub mod Steps

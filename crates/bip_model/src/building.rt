@@ -1,9 +1,11 @@
 //! Models built line by line.
-ghost use Rattle.std.specs.Prelude.{◌≡◌, ◌<◌, ◌↔◌, ℕ, List, Ok, length, position, IsTrue, IsSome, IsNone, IfOk};
+ghost use Rattle.std.specs.Prelude.{◌≡◌, ◌<◌, ◌↔◌, ℕ, List, Ok, length, position, IsTrue, IsSome, IsNone, IfOk, OnErr};
 ghost use Rattle.std.specs.Option.{option_map};
-ghost use Rattle.bip_model.specs.Drafts.{Follows, component_line, empty_draft, end_line, finished, inside, interaction_line, loc_line, port_line, trans_line};
+ghost use Rattle.bip_model.specs.Drafts.{component_line, empty_draft, end_line, finished, inside, interaction_line, loc_line, port_line, trans_line};
 ghost use Rattle.bip_model.specs.Growth.{KeepsDraft};
 ghost use Rattle.bip_model.specs.Naming.{same_text};
+ghost use Rattle.bip_model.specs.Outcomes.{Answers, new_or_fault};
+ghost use Rattle.bip_model.specs.declared.faults.BuildFault.TheVariants.{Memory};
 
 use crate::drafts::Draft;
 use crate::{BuildFault, InterId, Model, Name};
@@ -58,7 +60,8 @@ impl Builder {
     /// `component NAME` begins a component. Twice: a component has this name; then TooMany: there are 64.
     pub fn component(&mut self, name: Name) -> Result<(), BuildFault>
         requires { IsNone self.old.begun }
-        ensures { Follows (component_line self.old name) self.old result self.new }
+        ensures said { Answers Memory (component_line self.old name) (new_or_fault result self.new) }
+        ensures err { OnErr result (self.new ≡ self.old) }
     {
         self.draft.component(self.alloc, name)
     }
@@ -67,7 +70,8 @@ impl Builder {
     /// ports has this name; then TooMany: it has 64 locations.
     pub fn loc(&mut self, name: Name) -> Result<(), BuildFault>
         requires { IsSome self.old.begun }
-        ensures { Follows (inside (loc_line name) self.old) self.old result self.new }
+        ensures said { Answers Memory (inside (loc_line name) self.old) (new_or_fault result self.new) }
+        ensures err { OnErr result (self.new ≡ self.old) }
     {
         self.draft.loc(name)
     }
@@ -76,7 +80,8 @@ impl Builder {
     /// TooMany: it has 16 ports.
     pub fn port(&mut self, name: Name) -> Result<(), BuildFault>
         requires { IsSome self.old.begun }
-        ensures { Follows (inside (port_line name) self.old) self.old result self.new }
+        ensures said { Answers Memory (inside (port_line name) self.old) (new_or_fault result self.new) }
+        ensures err { OnErr result (self.new ≡ self.old) }
     {
         self.draft.port(name)
     }
@@ -85,7 +90,8 @@ impl Builder {
     /// TooMany: it has 256 transitions; then TwoTransitions: one with this port leaves the location already.
     pub fn trans(&mut self, port: Name, source: Name, target: Name) -> Result<(), BuildFault>
         requires { IsSome self.old.begun }
-        ensures { Follows (inside (trans_line port source target) self.old) self.old result self.new }
+        ensures said { Answers Memory (inside (trans_line port source target) self.old) (new_or_fault result self.new) }
+        ensures err { OnErr result (self.new ≡ self.old) }
     {
         self.draft.trans(&port, &source, &target)
     }
@@ -93,7 +99,8 @@ impl Builder {
     /// `end` ends the component that is begun. Missing: it has no location.
     pub fn end(&mut self) -> Result<(), BuildFault>
         requires { IsSome self.old.begun }
-        ensures { Follows (end_line self.old) self.old result self.new }
+        ensures said { Answers Memory (end_line self.old) (new_or_fault result self.new) }
+        ensures err { OnErr result (self.new ≡ self.old) }
     {
         self.draft.end()
     }
@@ -108,7 +115,8 @@ impl Builder {
     ) -> Result<(), BuildFault>
         requires outside { IsNone self.old.begun }
         requires some { 0 < length participants.now }
-        ensures { Follows (interaction_line self.old name participants.now) self.old result self.new }
+        ensures said { Answers Memory (interaction_line self.old name participants.now) (new_or_fault result self.new) }
+        ensures err { OnErr result (self.new ≡ self.old) }
     {
         self.draft.interaction(self.alloc, name, participants)
     }

@@ -1,10 +1,13 @@
 //! What the lines of a model's text have said so far, and what one more line says.
-ghost use Rattle.std.specs.Prelude.{◌≡◌, ◌==◌, [], false, nat_lt, position, IsSome, IsNone, IsSomeAnd};
+ghost use Rattle.std.specs.Prelude.{◌≡◌, ◌==◌, [], false, nat_lt, position, IsSome, IsNone, IsSomeAnd, OnErr};
 ghost use Rattle.smallvec.specs.SmallVec.{HasRoomFor};
-ghost use Rattle.bip_model.specs.Drafts.{Finds, Follows, component_line, empty_draft, end_line, inside, interaction_line, is_taken, loc_line, no_component, participant_named, participants_named, put_by_component, port_line, trans_line, with_interaction, with_transition};
+ghost use Rattle.bip_model.specs.Drafts.{component_line, empty_draft, end_line, inside, interaction_line, is_taken, loc_line, no_component, participant_named, participants_named, put_by_component, port_line, trans_line, with_interaction, with_transition};
 ghost use Rattle.bip_model.specs.Naming.{is_known};
+ghost use Rattle.bip_model.specs.Outcomes.{Answers, new_or_fault};
+ghost use Rattle.bip_model.specs.declared.faults.BuildFault.TheVariants.{Memory};
 ghost use Rattle.bip_model.specs.System.{IsComponentSoFar, IsSystemSoFar, Participant, same_start};
 ghost use Rattle.std.specs.List.{list_any};
+ghost use Rattle.std.specs.Result.{result_map_both};
 
 use crate::parts::{
     MOST_COMPONENTS, MOST_INTERACTIONS, MOST_LOCATIONS, MOST_PARTICIPANTS, MOST_PORTS,
@@ -42,7 +45,8 @@ impl Component {
     }
 
     fn add_location(&mut self, name: Name) -> Result<(), BuildFault>
-        ensures { Follows (loc_line name self.old) self.old result self.new }
+        ensures said { Answers Memory (loc_line name self.old) (new_or_fault result self.new) }
+        ensures err { OnErr result (self.new ≡ self.old) }
     {
         if self.is_taken(&name) {
             return Err(BuildFault::Twice);
@@ -54,7 +58,8 @@ impl Component {
     }
 
     fn add_port(&mut self, name: Name) -> Result<(), BuildFault>
-        ensures { Follows (port_line name self.old) self.old result self.new }
+        ensures said { Answers Memory (port_line name self.old) (new_or_fault result self.new) }
+        ensures err { OnErr result (self.new ≡ self.old) }
     {
         if self.is_taken(&name) {
             return Err(BuildFault::Twice);
@@ -66,7 +71,8 @@ impl Component {
     }
 
     fn add_transition(&mut self, transition: Transition) -> Result<(), BuildFault>
-        ensures { Follows (with_transition transition self.old) self.old result self.new }
+        ensures said { Answers Memory (with_transition transition self.old) (new_or_fault result self.new) }
+        ensures err { OnErr result (self.new ≡ self.old) }
     {
         if MOST_TRANSITIONS <= self.transitions.len() {
             return Err(BuildFault::TooMany);
@@ -93,7 +99,8 @@ impl Component {
         target: &Name,
     ) -> Result<(), BuildFault>
         requires { IsComponentSoFar self.old }
-        ensures { Follows (trans_line port.now source.now target.now self.old) self.old result self.new }
+        ensures said { Answers Memory (trans_line port.now source.now target.now self.old) (new_or_fault result self.new) }
+        ensures err { OnErr result (self.new ≡ self.old) }
     {
         let Some(port) = self.ports.number_of(port) else {
             return Err(BuildFault::Unknown);
@@ -137,7 +144,7 @@ impl System {
         words: &[(Name, Name)],
     ) -> Result<SmallVec<(CompId, PortId), 64>, BuildFault>
         requires { IsSystemSoFar self.now }
-        ensures { Finds (participants_named self.now [] words.now) result }
+        ensures { result_map_both (λ found. found.items) (λ e. e) result ≡ participants_named self.now [] words.now }
     {
         let mut found = SmallVec::new(alloc);
         for word in words {
@@ -159,7 +166,8 @@ impl System {
         participants: &[(CompId, PortId)],
     ) -> Result<(), BuildFault>
         requires { is_known name self.old.interaction_names ≡ false }
-        ensures { Follows (with_interaction name participants.now self.old) self.old result self.new }
+        ensures said { Answers Memory (with_interaction name participants.now self.old) (new_or_fault result self.new) }
+        ensures err { OnErr result (self.new ≡ self.old) }
     {
         if MOST_INTERACTIONS <= self.interactions.len() || MOST_PARTICIPANTS < participants.len() {
             return Err(BuildFault::TooMany);
@@ -231,7 +239,8 @@ impl Draft {
     /// `component NAME`
     pub(crate) fn component(&mut self, alloc: Global, name: Name) -> Result<(), BuildFault>
         requires { IsNone self.old.begun }
-        ensures { Follows (component_line self.old name) self.old result self.new }
+        ensures said { Answers Memory (component_line self.old name) (new_or_fault result self.new) }
+        ensures err { OnErr result (self.new ≡ self.old) }
     {
         if self.system.component_names.contains(&name) {
             return Err(BuildFault::Twice);
@@ -249,7 +258,8 @@ impl Draft {
     /// `loc NAME`
     pub(crate) fn loc(&mut self, name: Name) -> Result<(), BuildFault>
         requires { IsSome self.old.begun }
-        ensures { Follows (inside (loc_line name) self.old) self.old result self.new }
+        ensures said { Answers Memory (inside (loc_line name) self.old) (new_or_fault result self.new) }
+        ensures err { OnErr result (self.new ≡ self.old) }
     {
         match &mut self.begun {
             None => unreachable!(),
@@ -260,7 +270,8 @@ impl Draft {
     /// `port NAME`
     pub(crate) fn port(&mut self, name: Name) -> Result<(), BuildFault>
         requires { IsSome self.old.begun }
-        ensures { Follows (inside (port_line name) self.old) self.old result self.new }
+        ensures said { Answers Memory (inside (port_line name) self.old) (new_or_fault result self.new) }
+        ensures err { OnErr result (self.new ≡ self.old) }
     {
         match &mut self.begun {
             None => unreachable!(),
@@ -276,7 +287,8 @@ impl Draft {
         target: &Name,
     ) -> Result<(), BuildFault>
         requires { IsSomeAnd self.old.begun IsComponentSoFar }
-        ensures { Follows (inside (trans_line port.now source.now target.now) self.old) self.old result self.new }
+        ensures said { Answers Memory (inside (trans_line port.now source.now target.now) self.old) (new_or_fault result self.new) }
+        ensures err { OnErr result (self.new ≡ self.old) }
     {
         match &mut self.begun {
             None => unreachable!(),
@@ -287,7 +299,8 @@ impl Draft {
     /// `end`
     pub(crate) fn end(&mut self) -> Result<(), BuildFault>
         requires { IsSome self.old.begun }
-        ensures { Follows (end_line self.old) self.old result self.new }
+        ensures said { Answers Memory (end_line self.old) (new_or_fault result self.new) }
+        ensures err { OnErr result (self.new ≡ self.old) }
     {
         match self.begun.take() {
             None => unreachable!(),
@@ -315,7 +328,8 @@ impl Draft {
         words: &[(Name, Name)],
     ) -> Result<(), BuildFault>
         requires { IsSystemSoFar self.old.system }
-        ensures { Follows (interaction_line self.old name words.now) self.old result self.new }
+        ensures said { Answers Memory (interaction_line self.old name words.now) (new_or_fault result self.new) }
+        ensures err { OnErr result (self.new ≡ self.old) }
     {
         if self.system.interaction_names.contains(&name) {
             return Err(BuildFault::Twice);
