@@ -10,7 +10,7 @@ use Rattle.std.proofs.lemmas.List.Folds.{list_any-append, list_any_at}
 use Rattle.std.proofs.lemmas.List.Quantifiers.{all_pairs_push}
 use Rattle.bip_model.specs.Drafts.{IsDraft, begun_in, component_line, end_line, inside, interaction_line, is_taken, loc_line, no_component, number_in, participant_named, participants_named, port_line, put_by_component, trans_line, with_interaction, with_transition}
 use Rattle.bip_model.specs.Naming.{AreApart, is_known, same_text}
-use Rattle.bip_model.specs.System.{IsComponent, IsComponentSoFar, IsInteraction, IsPortIn, IsTransitionOf, Participant, components_in, same_start}
+use Rattle.bip_model.specs.Parts.{IsComponent, IsComponentSoFar, IsInteraction, IsPortIn, IsTransitionOf, Participant, components_in, same_start}
 use Rattle.bip_model.specs.declared.drafts.Draft.{Draft}
 use Rattle.bip_model.specs.declared.faults.BuildFault.{BuildFault}
 use Rattle.bip_model.specs.declared.faults.BuildFault.TheVariants.{Twice, TooMany, Missing, TwoTransitions, Memory}

@@ -6,7 +6,7 @@ use Rattle.std.proofs.lemmas.List.{append-nil}
 use Rattle.bip_model.specs.Drafts.{begun_in, component_line, end_line, inside, interaction_line, is_taken, loc_line, no_component, number_in, participants_named, port_line, trans_line, with_interaction, with_transition}
 use Rattle.bip_model.specs.Growth.{Begins, GoesOn, KeepsComponent, KeepsDraft}
 use Rattle.bip_model.specs.Naming.{is_known}
-use Rattle.bip_model.specs.System.{same_start}
+use Rattle.bip_model.specs.Parts.{same_start}
 use Rattle.bip_model.specs.declared.drafts.Draft.{Draft}
 use Rattle.bip_model.specs.declared.faults.BuildFault.{BuildFault}
 use Rattle.bip_model.specs.declared.faults.BuildFault.TheVariants.{Missing, TooMany, Twice, TwoTransitions}

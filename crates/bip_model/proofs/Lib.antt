@@ -9,5 +9,6 @@ pub mod PaddingLemmas
 pub mod ParticipantLemmas
 pub mod PartitionLemmas
 pub mod PortLemmas
+pub mod StateLemmas
 pub mod StepLemmas
 pub mod TextLemmas

@@ -1,13 +1,14 @@
 -- Lists: a search that finds nothing, elements by their places, numbers that rise.
-use Rattle.std.proofs.Common.{◌||◌, ◌≡◌, ℕ, ◌<◌, Bool, true, false, List, [], ◌∷◌, ◌++◌, length, map, get_or, take, drop, drop-cons, suc, None, Some, refl, sym, ap, ◌∙◌, subst, inl, inr, arith, find, eqb, ◌≢◌}
-use Rattle.std.specs.Prelude.{All, slice_get}
+use Rattle.std.proofs.Common.{◌||◌, ◌≡◌, ℕ, ◌<◌, Bool, true, false, List, [], ◌∷◌, ◌++◌, length, map, get_or, take, drop, drop-cons, suc, None, Some, refl, sym, ap, ◌∙◌, subst, inl, inr, arith, find, eqb, ◌≢◌, ◌+◌, cond, ltb, not, Option}
+use Rattle.std.specs.Prelude.{All, position, slice_get}
 use Rattle.std.specs.List.Sorted.{IsStrictlyIncreasing}
 use Rattle.std.proofs.lemmas.Bool.{false≢true}
-use Rattle.std.proofs.lemmas.Bool.Decides.{eqb_tells}
+use Rattle.std.proofs.lemmas.Bool.Decides.{eqb_tells, nat_tests}
 use Rattle.std.proofs.lemmas.List.{get_or-map, get_or-take, length-map, length-take-le, take-append-drop}
 use Rattle.std.proofs.lemmas.List.Elements.{All-head, All-tail, All-get_or, All-from_get_or}
 use Rattle.std.proofs.lemmas.List.Folds.{find-append}
-use Rattle.std.specs.Option.{option_or}
+use Rattle.std.specs.List.{position_or_len}
+use Rattle.std.specs.Option.{option_map, option_or}
 use Rattle.std.proofs.lemmas.List.Kept.{AllPairs-from_increasing}
 use Rattle.std.proofs.lemmas.Option.{slice_get_within, get_or_from_slice_get}
 
@@ -49,3 +50,17 @@ All-slice_get {X} P xs k x all at =
 pub neither : (a b : Bool) → (a || b) ≡ false → (a ≡ false) × (b ≡ false)
 neither true b h = absurd (false≢true (sym h))
 neither false b h = (refl, h)
+
+-- the place of the first element that passes, by the first element
+pub position_cons : {X : Type 0} (p : X → Bool) (x : X) (xs : List X) → position p (x ∷ xs) ≡ cond (p x) (Some 0) (option_map (λ i. i + 1) (position p xs))
+position_cons {X} p x xs =
+    elim (p x) as (λ b. first b ≡ cond b (Some 0) (option_map (λ i. i + 1) (position p xs))) [ true ↦ grind (arith, nat_tests) | false ↦ later ]
+  where
+    rest : ℕ
+    rest = position_or_len p xs
+
+    first : Bool → Option ℕ
+    first b = let n : ℕ = cond (not b) (1 + rest) 0 in cond (ltb n (suc (length xs))) (Some n) None
+
+    later : cond (ltb (1 + rest) (suc (length xs))) (Some (1 + rest)) None ≡ option_map (λ i. i + 1) (cond (ltb rest (length xs)) (Some rest) None)
+    later = grind (arith, nat_tests)

@@ -18,7 +18,7 @@ use Rattle.bip_model.specs.Outcomes.{◌>>=◌}
 use Rattle.bip_model.specs.declared.faults.BuildFault.{BuildFault}
 use Rattle.bip_model.specs.declared.faults.BuildFault.TheVariants.{Twice, Unknown}
 use Rattle.bip_model.specs.declared.parts.System.{System}
-use Rattle.bip_model.specs.System.{IsPortIn, Participant, components_in}
+use Rattle.bip_model.specs.Parts.{IsPortIn, Participant, components_in}
 use Rattle.bip_model.specs.declared.parts.Component.{Component}
 use Rattle.bip_model.proofs.ListLemmas.{neither}
 

@@ -8,7 +8,8 @@ pub mod Naming
 pub mod Outcomes
 pub mod Padding
 pub mod Partitions
+pub mod Parts
+pub mod States
 pub mod Steps
-pub mod System
 pub mod Texts
 pub mod Wants

@@ -1,28 +1,27 @@
--- States, and what the joint step of an interaction does to them.
-use Rattle.std.specs.Prelude.{ℕ, ◌<◌, Bool, false, ◌==◌, List, [], ◌∷◌, length, Option, find, slice_get, unwrap_or, All, IsTrue, ⊤}
+-- What is enabled in a state, what may run there, and what the joint step of an interaction does.
+use Rattle.std.specs.Prelude.{ℕ, ◌<◌, Bool, false, ◌==◌, List, [], ◌∷◌, length, Option, position, slice_get, unwrap_or, All, IsTrue, ⊤, if◌then◌else◌}
 use Rattle.std.specs.List.{list_any}
 use Rattle.std.specs.Option.{option_map, option_map_or, option_and_then}
+use Rattle.bip_model.specs.declared.faults.NotNow.{NotNow}
+use Rattle.bip_model.specs.declared.faults.NotNow.TheVariants.{NotEnabled, Below}
 use Rattle.bip_model.specs.declared.numbering.PortId.{PortId}
 use Rattle.bip_model.specs.declared.parts.System.{System}
-use Rattle.bip_model.specs.declared.states.Place.{Place}
+use Rattle.bip_model.specs.declared.states.LocalState.{LocalState}
 use Rattle.bip_model.specs.Moves.{offers_at, moved}
-use Rattle.bip_model.specs.System.{Participant}
-
--- a state: the place of each component that has one
-abbrev pub State : Type 0
-State = ℕ → Option Place
-
--- a list of places, by component, as a state
-abbrev pub place_in : List Place → State
-place_in places c = slice_get places c
+use Rattle.bip_model.specs.Parts.{Participant}
+use Rattle.bip_model.specs.States.{State}
 
 -- the state in which each component is in its first location
 abbrev pub start_of : System → State
-start_of m c = option_map (λ _. record { location = record { 0 = 0 }; values = [] }) (slice_get m.components c)
+start_of m c =
+    option_map (λ _. record { location = record { 0 = 0 }; values = [] }) (slice_get m.components c)
 
 -- whether a component offers a port in a state
 abbrev pub offered : System → State → Participant → Bool
-offered m s q = option_map_or (λ component. option_map_or (λ place. offers_at component place q.1) (s q.0.0) false) (slice_get m.components q.0.0) false
+offered m s q =
+    option_map_or
+    (λ component. option_map_or (λ local. offers_at component local q.1) (s q.0.0) false)
+    (slice_get m.components q.0.0) false
 
 -- the participants of an interaction, none where the model lacks it
 abbrev pub participants_of : System → ℕ → List Participant
@@ -33,29 +32,60 @@ pub record IsEnabled (m : System) (s : State) (a : ℕ) : Type 0 where
   pub declared : a < length m.interactions
   pub offered_all : All (λ q. IsTrue (offered m s q)) (participants_of m a)
 
--- an interaction may run where it is enabled; plain models have no priorities
-abbrev pub MayRun : System → State → ℕ → Type 0
-MayRun m s a = IsEnabled m s a
+-- the second interaction stands above the first; a plain model declares no priorities
+abbrev pub IsAbove : System → ℕ → ℕ → Type 0
+IsAbove m a b = ⊥
+
+-- some interaction stands above itself
+abbrev pub IsCyclic : System → Type 0
+IsCyclic m = (a : ℕ) × IsAbove m a a
+
+-- an interaction may run: it is enabled, and nothing above it is
+pub record MayRun (m : System) (s : State) (a : ℕ) : Type 0 where
+  pub enabled : IsEnabled m s a
+  pub clear : (b : ℕ) → IsAbove m a b → ¬ IsEnabled m s b
+
+-- the lowest-numbered of the interactions above one that are enabled
+pub record IsLowestAbove (m : System) (s : State) (a b : ℕ) : Type 0 where
+  pub above : IsAbove m a b
+  pub enabled : IsEnabled m s b
+  pub lower : (c : ℕ) → c < b → IsAbove m a c → ¬ IsEnabled m s c
+
+-- why an interaction may not run, the first that applies: it isn't enabled, or one above it is
+abbrev pub IsHeldBack : System → State → ℕ → NotNow → Type 0
+IsHeldBack m s a NotEnabled = ¬ IsEnabled m s a
+IsHeldBack m s a (Below b) = IsEnabled m s a × IsLowestAbove m s a b.0
 
 -- whether an interaction moves a component
 abbrev pub moves : System → ℕ → ℕ → Bool
 moves m a c = list_any (λ (q : Participant). q.0.0 == c) (participants_of m a)
 
--- the port by which a component takes part
-abbrev pub port_of : List Participant → ℕ → Option PortId
-port_of qs c = option_map (λ (q : Participant). q.1) (find (λ (q : Participant). q.0.0 == c) qs)
+-- the place of a component among the participants of an interaction
+abbrev pub place_of : System → ℕ → ℕ → Option ℕ
+place_of m a c = position (λ (q : Participant). q.0.0 == c) (participants_of m a)
+
+-- the port of the participant at a place
+abbrev pub port_at : System → ℕ → ℕ → PortId
+port_at m a i =
+    option_map_or (λ (q : Participant). q.1) (slice_get (participants_of m a) i) (record { 0 = 0 })
 
 -- where a component goes by a port; it stays where it has no such transition
-abbrev pub led : System → ℕ → PortId → Place → Place
-led m c port place = unwrap_or (option_and_then (λ component. moved component place port) (slice_get m.components c)) place
+abbrev pub led : System → ℕ → PortId → LocalState → LocalState
+led m c port local =
+    unwrap_or
+    (option_and_then (λ component. moved component local port) (slice_get m.components c)) local
 
--- the state after these participants went, each by its port, and all others stayed
-abbrev pub after_all : System → State → List Participant → State
-after_all m s qs c = option_map_or (λ port. option_map (led m c port) (s c)) (port_of qs c) (s c)
-
--- the state after the joint step of an interaction
+-- the state after the joint step of an interaction: each participant goes by its port, and all
+-- others stay
 abbrev pub after : System → State → ℕ → State
-after m s a = after_all m s (participants_of m a)
+after m s a c =
+    option_map_or (λ i. option_map (led m c (port_at m a i)) (s c)) (place_of m a c) (s c)
+
+-- the same, one participant after another
+abbrev pub led_all : System → State → List Participant → State
+led_all m s [] c = s c
+led_all m s (q ∷ qs) c =
+    if c == q.0.0 then option_map (led m q.0.0 q.1) (s q.0.0) else led_all m s qs c
 
 -- interactions, each of which may run where those before it lead
 abbrev pub IsRun : System → State → List ℕ → Type 0

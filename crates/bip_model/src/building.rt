@@ -1,8 +1,7 @@
 //! Models built line by line.
-ghost use Rattle.std.specs.Prelude.{◌≡◌, ◌<◌, ◌↔◌, ℕ, List, Ok, length, position, IsTrue, IsSome, IsNone, IfOk, OnErr};
+ghost use Rattle.std.specs.Prelude.{◌≡◌, ◌<◌, ◌↔◌, length, position, IsTrue, IsSome, IsNone, IfOk, OnErr};
 ghost use Rattle.std.specs.Option.{option_map};
 ghost use Rattle.bip_model.specs.Drafts.{component_line, empty_draft, end_line, finished, inside, interaction_line, loc_line, port_line, trans_line};
-ghost use Rattle.bip_model.specs.Growth.{KeepsDraft};
 ghost use Rattle.bip_model.specs.Naming.{same_text};
 ghost use Rattle.bip_model.specs.Outcomes.{Answers, new_or_fault};
 ghost use Rattle.bip_model.specs.declared.faults.BuildFault.TheVariants.{Memory};
@@ -133,15 +132,3 @@ impl Builder {
         Ok(Model::of(draft.system))
     }
 }
-
-/// A line that is taken keeps all that earlier lines said: names, components, interactions, and what the component that is
-/// begun has declared (docs/DEFINITIONS.md, "Model lines").
-pub fn builder_laws()
-    ensures component { (d e : Draft) (name : List ℕ) → IsNone d.begun → component_line d name ≡ Ok e → KeepsDraft d e }
-    ensures loc { (d e : Draft) (name : List ℕ) → inside (loc_line name) d ≡ Ok e → KeepsDraft d e }
-    ensures port { (d e : Draft) (name : List ℕ) → inside (port_line name) d ≡ Ok e → KeepsDraft d e }
-    ensures trans { (d e : Draft) (port source target : List ℕ) → inside (trans_line port source target) d ≡ Ok e → KeepsDraft d e }
-    ensures end { (d e : Draft) → end_line d ≡ Ok e → KeepsDraft d e }
-    ensures interaction { (d e : Draft) (name : List ℕ) (words : List (List ℕ × List ℕ)) → IsNone d.begun
-        → interaction_line d name words ≡ Ok e → KeepsDraft d e }
-{}

@@ -5,7 +5,7 @@ ghost use Rattle.bip_model.specs.Drafts.{component_line, empty_draft, end_line, 
 ghost use Rattle.bip_model.specs.Naming.{is_known};
 ghost use Rattle.bip_model.specs.Outcomes.{Answers, new_or_fault};
 ghost use Rattle.bip_model.specs.declared.faults.BuildFault.TheVariants.{Memory};
-ghost use Rattle.bip_model.specs.System.{IsComponentSoFar, IsSystemSoFar, Participant, same_start};
+ghost use Rattle.bip_model.specs.Parts.{IsComponentSoFar, IsSystemSoFar, Participant, same_start};
 ghost use Rattle.std.specs.List.{list_any};
 ghost use Rattle.std.specs.Result.{result_map_both};
 

@@ -5,8 +5,9 @@ mod building;
 mod drafts;
 mod faults;
 mod grants;
-mod histories;
+mod laws;
 mod models;
+mod moves;
 mod naming;
 mod numbering;
 mod partitions;
@@ -16,18 +17,18 @@ mod states;
 mod steps;
 mod texts;
 
-pub use building::{Builder, builder_laws};
+pub use building::Builder;
 pub use drafts::Draft;
 pub use faults::{BuildFault, ClassFault, NotNow};
 pub use grants::{Grant, MOST_WANTS, Role, Want, Wants};
-pub use histories::history_laws;
+pub use laws::{builder_laws, history_laws, step_laws};
 pub use models::Model;
 pub use naming::{Name, Names};
 pub use numbering::{ClassId, CompId, InterId, LocId, Number, PortId};
 pub use partitions::{Classes, MOST_CLASSES, Partition};
 pub use parts::{Component, Interaction, System, Transition};
 pub use sequence::Seq;
-pub use states::{Place, State, Values};
+pub use states::{LocalState, State, Values};
 pub use texts::{is_plain, parse_number, split_line, split_pair, split_word};
 
 #[cfg(test)]

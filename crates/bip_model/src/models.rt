@@ -17,7 +17,7 @@ pub struct Model {
 
 impl marker::Model for Model {
     ghost use Rattle.bip_model.specs.declared.parts.System.{System};
-    ghost use Rattle.bip_model.specs.System.{IsSystem};
+    ghost use Rattle.bip_model.specs.Parts.{IsSystem};
 
     ghost Value = { System };
 
@@ -27,7 +27,7 @@ impl marker::Model for Model {
 }
 
 impl Model {
-    ghost use Rattle.bip_model.specs.System.{IsSystem, components_in};
+    ghost use Rattle.bip_model.specs.Parts.{IsSystem, components_in};
     ghost use Rattle.bip_model.specs.Steps.{participants_of};
 
     /// The model that declares all this.
@@ -91,6 +91,7 @@ impl Model {
         requires { inter.0 < length self.now.interactions }
         ensures participants { result.now ≡ participants_of self.now inter.0 }
         ensures rising { IsStrictlyIncreasing (components_in result.now) }
+        ensures valid { IsSystem self.now }
     {
         self.interactions()[inter.0 as usize]
             .participants

@@ -1,4 +1,4 @@
-//! States: the place of each component.
+//! States: the local state of each component.
 ghost use Rattle.std.specs.Prelude.{◌≡◌, ◌↔◌, ◌≤◌, ℕ, [], length, IsSome, IfSome};
 
 use crate::{CompId, LocId, Seq};
@@ -63,54 +63,57 @@ impl Values {
     }
 }
 
-/// Where a component is: its location, and the values of its variables.
+/// The local state of a component: where it is, and the values of its variables.
 #[derive(Clone, Copy, Debug)]
-pub struct Place {
+pub struct LocalState {
     pub location: LocId,
     pub values: Values,
 }
 
-/// A state: the place of each component, by component.
+/// A state: the local state of each component, by component. Contracts see it as the list.
 #[derive(Drop)]
 pub struct State {
-    places: Seq<Place>,
+    locals: Seq<LocalState>,
 }
 
 impl Model for State {
     ghost use Rattle.std.specs.Prelude.{List};
-    ghost use Rattle.bip_model.specs.declared.states.Place.{Place};
+    ghost use Rattle.bip_model.specs.declared.states.LocalState.{LocalState};
 
-    ghost Value = { List Place };
+    ghost Value = { List LocalState };
 
-    ghost view = { λ s. s.places };
+    ghost view = { λ s. s.locals };
 }
 
 impl State {
-    ghost use Rattle.std.specs.Prelude.{◌==◌, ◌<◌, Some, if◌then◌else◌};
-    ghost use Rattle.bip_model.specs.Steps.{place_in};
+    ghost use Rattle.std.specs.Prelude.{◌==◌, if◌then◌else◌};
+    ghost use Rattle.std.specs.Option.{option_map};
+    ghost use Rattle.bip_model.specs.States.{state_of};
 
-    /// The state with these places.
-    pub(crate) fn of(places: Vec<Place>) -> State
-        ensures { result ≡ places.items }
+    /// The state with these local states, by component.
+    pub(crate) fn of(locals: Vec<LocalState>) -> State
+        ensures { result ≡ locals.items }
     {
         State {
-            places: Seq::of(places),
+            locals: Seq::of(locals),
         }
     }
 
-    /// Where a component is; none where the state has no such component.
-    pub fn place(&self, comp: CompId) -> Option<Place>
-        ensures { result ≡ place_in self.now comp.0 }
+    /// The local state of a component; none where the state has no such component.
+    pub fn local(&self, comp: CompId) -> Option<LocalState>
+        ensures { result ≡ state_of self.now comp.0 }
     {
-        self.places.as_slice().get(comp.0 as usize).copied()
+        self.locals.as_slice().get(comp.0 as usize).copied()
     }
 
-    /// Puts a component at a place.
-    pub(crate) fn put(&mut self, comp: CompId, place: Place)
-        requires { comp.0 < length self.old }
-        ensures moves { (c : ℕ) → place_in self.new c ≡ (if c == comp.0 then Some place else place_in self.old c) }
-        ensures length { length self.new ≡ length self.old }
+    /// Puts a component into a local state; one that has none stays without.
+    pub(crate) fn put(&mut self, comp: CompId, local: LocalState)
+        ensures { (c : ℕ) → state_of self.new c
+            ≡ (if c == comp.0 then option_map (λ _. local) (state_of self.old c)
+                else state_of self.old c) }
     {
-        self.places.set(comp.0 as usize, place);
+        if (comp.0 as usize) < self.locals.len() {
+            self.locals.set(comp.0 as usize, local);
+        }
     }
 }

@@ -1,34 +1,36 @@
 //! The steps of a model: what is enabled in a state, and where an interaction leads.
-ghost use Rattle.std.specs.Prelude.{◌≡◌, ◌<◌, ◌↔◌, ◌==◌, ℕ, IsTrue, length, slice_get, IfOk, IfSome, OnOk, OnErr, IfErr, if◌then◌else◌};
+ghost use Rattle.std.specs.Prelude.{◌≡◌, ◌<◌, ◌↔◌, ℕ, IsTrue, length, slice_get, IfOk, IfSome, OnOk, OnErr, IfErr};
 ghost use Rattle.std.specs.Option.{option_map};
-ghost use Rattle.bip_model.specs.Laws.{EnabledWhereAllCanGo, OthersStay, ParticipantsGo, Commute};
-ghost use Rattle.bip_model.specs.Moves.{AreOffered, IsPlaceOf, moved, place_of};
-ghost use Rattle.bip_model.specs.Steps.{IsEnabled, after, led, offered, place_in, start_of};
-ghost use Rattle.bip_model.specs.declared.faults.NotNow.TheVariants.{NotEnabled};
+ghost use Rattle.bip_model.specs.Moves.{AreOffered, moved};
+ghost use Rattle.bip_model.specs.Parts.{Participant};
+ghost use Rattle.bip_model.specs.States.{IsLocalStateOf, IsStateOf, local_of, state_of};
+ghost use Rattle.bip_model.specs.Steps.{IsEnabled, IsHeldBack, MayRun, after, led, led_all, offered, start_of};
 
-use crate::{CompId, InterId, LocId, Model, NotNow, Place, PortId, State, Values};
+use crate::{CompId, InterId, LocId, LocalState, Model, NotNow, PortId, State, Values};
 use std::alloc::{AllocError, Global};
 
 impl Model {
-    /// The state in which each component is in its first location.
+    /// The state in which each component is in its first location. It is a state of the model
+    /// (docs/DEFINITIONS.md, "States").
     pub fn start(&self, alloc: Global) -> Result<State, AllocError>
-        ensures { IfOk result (λ state. place_in state ≡ start_of self.now) }
+        ensures start { IfOk result (λ state. state_of state ≡ start_of self.now) }
+        ensures of_model { IfOk result (λ state. IsStateOf self.now (state_of state)) }
     {
-        let places = self
+        let locals = self
             .components()
             .iter()
-            .map(|_| Place {
+            .map(|_| LocalState {
                 location: LocId(0),
                 values: Values::none(),
             })
             .collect(alloc)?;
-        Ok(State::of(places))
+        Ok(State::of(locals))
     }
 
     /// Whether an interaction is enabled in a state: each participant's port is offered there. It is not where
     /// the model has no such interaction, or the state has no such component.
     pub fn enabled(&self, state: &State, inter: InterId) -> bool
-        ensures { IsTrue result ↔ IsEnabled self.now (place_in state.now) inter.0 }
+        ensures { IsTrue result ↔ IsEnabled self.now (state_of state.now) inter.0 }
     {
         match self.interactions().get(inter.0 as usize) {
             None => false,
@@ -40,36 +42,41 @@ impl Model {
         }
     }
 
-    /// Runs an interaction: each participant goes where its transition leads, and all others stay. An interaction
-    /// that isn't enabled is refused, and the state stays as it was.
+    /// Runs an interaction that may run: each participant goes where its transition leads, and all
+    /// others stay; a state of the model stays one. Else the first cause is told, in the order not
+    /// enabled, below, and the state stays as it was (docs/DEFINITIONS.md, "The joint step").
     pub fn fire(&self, state: &mut State, inter: InterId) -> Result<(), NotNow>
-        ensures enabled { OnOk result (IsEnabled self.now (place_in state.old) inter.0) }
-        ensures fired { OnOk result (place_in state.new ≡ after self.now (place_in state.old) inter.0) }
-        ensures refused { IfErr result (λ e. (e ≡ NotEnabled) × (¬ IsEnabled self.now (place_in state.old) inter.0)) }
+        ensures may { OnOk result (MayRun self.now (state_of state.old) inter.0) }
+        ensures fired { OnOk result
+            (state_of state.new ≡ after self.now (state_of state.old) inter.0) }
+        ensures refused { IfErr result (IsHeldBack self.now (state_of state.old) inter.0) }
         ensures err { OnErr result (state.new ≡ state.old) }
+        ensures of_model { IsStateOf self.now (state_of state.old)
+            → IsStateOf self.now (state_of state.new) }
     {
         if !self.enabled(state, inter) {
             return Err(NotNow::NotEnabled);
         }
-        for &(comp, port) in self.participants(inter) {
-            self.lead(state, comp, port);
-        }
+        self.lead_all(state, self.participants(inter));
         Ok(())
     }
 
-    /// The ports that a component offers in a place: bit p is port p.
+    /// The ports that a component offers in a local state: bit p is port p.
     pub fn ports(&self, comp: CompId, location: LocId, values: &Values) -> u16
         requires component { comp.0 < length self.now.components }
-        requires place { IfSome (slice_get self.now.components comp.0) (λ component. IsPlaceOf component (record { location = location; values = values.now })) }
-        ensures { IfSome (slice_get self.now.components comp.0) (λ component. AreOffered component (record { location = location; values = values.now }) result) }
+        requires local { IfSome (slice_get self.now.components comp.0)
+            (λ component. IsLocalStateOf component (local_of (location, values.now))) }
+        ensures { IfSome (slice_get self.now.components comp.0)
+            (λ component. AreOffered component (local_of (location, values.now)) result) }
     {
-        self.components()[comp.0 as usize].ports(&Place {
+        self.components()[comp.0 as usize].ports(&LocalState {
             location,
             values: *values,
         })
     }
 
-    /// Where a component's transition with a port leads from a place; none where there is no such transition.
+    /// Where a component's transition with a port leads from a local state; none where there is no
+    /// such transition. A local state of the component leads to one.
     pub fn move_one(
         &self,
         comp: CompId,
@@ -78,45 +85,51 @@ impl Model {
         port: PortId,
     ) -> Option<(LocId, Values)>
         requires component { comp.0 < length self.now.components }
-        requires place { IfSome (slice_get self.now.components comp.0) (λ component. IsPlaceOf component (record { location = location; values = values.now })) }
-        ensures { IfSome (slice_get self.now.components comp.0) (λ component. option_map place_of result ≡ moved component (record { location = location; values = values.now }) port) }
+        requires local { IfSome (slice_get self.now.components comp.0)
+            (λ component. IsLocalStateOf component (local_of (location, values.now))) }
+        ensures moved { IfSome (slice_get self.now.components comp.0) (λ component.
+            option_map local_of result ≡ moved component (local_of (location, values.now)) port) }
+        ensures of_component { IfSome (slice_get self.now.components comp.0) (λ component.
+            IfSome result (λ target. IsLocalStateOf component (local_of target))) }
     {
-        let place = Place {
+        let local = LocalState {
             location,
             values: *values,
         };
-        let target = self.components()[comp.0 as usize].moved(&place, port)?;
+        let target = self.components()[comp.0 as usize].moved(&local, port)?;
         Some((target.location, target.values))
     }
 
-    /// What the joint step means (docs/DEFINITIONS.md, "The joint step").
-    pub fn step_laws(&self)
-        ensures enabled { EnabledWhereAllCanGo self.now }
-        ensures stay { OthersStay self.now }
-        ensures go { ParticipantsGo self.now }
-        ensures commute { Commute self.now }
-    {
-        let _valid = self.components();
-    }
-
     fn offered(&self, state: &State, comp: CompId, port: PortId) -> bool
-        ensures { result ≡ offered self.now (place_in state.now) (comp, port) }
+        ensures { result ≡ offered self.now (state_of state.now) (comp, port) }
     {
-        match (self.components().get(comp.0 as usize), state.place(comp)) {
-            (Some(component), Some(place)) => component.offers(&place, port),
+        match (self.components().get(comp.0 as usize), state.local(comp)) {
+            (Some(component), Some(local)) => component.offers(&local, port),
             _ => false,
         }
     }
 
-    fn lead(&self, state: &mut State, comp: CompId, port: PortId)
-        ensures { (c : ℕ) → place_in state.new c ≡ (if c == comp.0 then option_map (led self.now comp.0 port) (place_in state.old comp.0) else place_in state.old c) }
+    fn lead_all(&self, state: &mut State, participants: &[(CompId, PortId)])
+        ensures { (c : ℕ) → state_of state.new c
+            ≡ led_all self.now (state_of state.old) participants.now c }
     {
-        if let Some(component) = self.components().get(comp.0 as usize) {
-            if let Some(place) = state.place(comp) {
-                if let Some(target) = component.moved(&place, port) {
-                    state.put(comp, target);
-                }
+        if let [participant, rest @ ..] = participants {
+            let target = self.led(state, participant.0, participant.1);
+            self.lead_all(state, rest);
+            if let Some(target) = target {
+                state.put(participant.0, target);
             }
+        }
+    }
+
+    /// Where a component goes by a port; none where the state has no such component.
+    fn led(&self, state: &State, comp: CompId, port: PortId) -> Option<LocalState>
+        ensures { result ≡ option_map (led self.now comp.0 port) (state_of state.now comp.0) }
+    {
+        let local = state.local(comp)?;
+        match self.components().get(comp.0 as usize) {
+            None => Some(local),
+            Some(component) => Some(component.moved(&local, port).unwrap_or(local)),
         }
     }
 }

@@ -11,8 +11,8 @@ const TABLE: &str =
 fn is_at(rt: &impl Abort, state: &State, locations: &str) {
     for (comp, digit) in locations.as_bytes().iter().enumerate() {
         assert!(rt; comp < 64 && *digit >= 48);
-        let place = state.place(CompId(comp as u16)).expect(rt, "a place");
-        assert_eq!(rt; place.location, LocId(*digit - 48), "component {comp}");
+        let local = state.local(CompId(comp as u16)).expect(rt, "a local state");
+        assert_eq!(rt; local.location, LocId(*digit - 48), "component {comp}");
     }
 }
 
@@ -48,7 +48,7 @@ fn components_go_their_own_ways(rt: HostRuntime) -> Result<(), Fail> {
     fire(&rt, &model, &mut state, 0, false, "10");
     fire(&rt, &model, &mut state, 1, true, "11");
     fire(&rt, &model, &mut state, 2, false, "11");
-    assert!(rt; state.place(CompId(2)).is_none());
+    assert!(rt; state.local(CompId(2)).is_none());
     Ok(())
 }
 
@@ -62,7 +62,7 @@ fn models_are_read_by_name_and_number(rt: HostRuntime) -> Result<(), Fail> {
     assert!(rt; model.component_names()[0] == name(&rt, "A"));
     assert_eq!(rt; model.interaction_names().len(), 2);
     assert!(rt; model.interaction_names()[1] == name(&rt, "y"));
-    model.step_laws();
+    crate::step_laws();
     Ok(())
 }
 

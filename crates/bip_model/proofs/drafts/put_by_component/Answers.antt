@@ -1,7 +1,7 @@
 use Rattle.std.proofs.Common.{◌≡◌, Bool, ltb, List, None, Some, sym, ◌∙◌}
 use Rattle.std.specs.Prelude.{position}
 use Rattle.std.proofs.lemmas.List.Quantifiers.{position-Some}
-use Rattle.bip_model.specs.System.{Participant}
+use Rattle.bip_model.specs.Parts.{Participant}
 use Rattle.bip_model.proofs.ParticipantLemmas.{All-position_none, put-at, put-last}
 use Rattle.bip_model.proofs.drafts.put_by_component.Goals as goal
 

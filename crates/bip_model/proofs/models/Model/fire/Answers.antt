@@ -1,11 +1,20 @@
-use Rattle.std.proofs.Common.{arith, refl, ◌∙◌}
-use Rattle.bip_model.specs.Steps.{place_in}
-use Rattle.bip_model.proofs.StepLemmas.{after_all-more}
+use Rattle.std.proofs.Common.{◌≡◌, ℕ, subst, sym, ◌∙◌}
+use Rattle.std.proofs.Math.Path.{fun_ext}
+use Rattle.bip_model.specs.States.{IsStateOf, State, state_of}
+use Rattle.bip_model.specs.Steps.{after}
+use Rattle.bip_model.proofs.StateLemmas.{states_lead_to_states}
+use Rattle.bip_model.proofs.StepLemmas.{fired}
 use Rattle.bip_model.proofs.models.Model.fire.Goals as goal
 
-pub loop-comp-preserved : goal.loop-comp-preserved
-loop-comp-preserved c =
-    let start = c.args.state.now in
-    λ k. c.lead.ensures k
-    ∙ after_all-more c.args.self.now (place_in c.args.state.now) (place_in c.loop-comp.state) c.participants-comp-items.result.now c.loop-comp.comp-index _ _
-    c.participants-comp-items.ensures.rising (omega arith) refl c.loop-comp.invariant k
+pub returns-clause-fired : goal.returns-clause-fired
+returns-clause-fired c =
+    fired c.args.self.now (state_of c.args.state.now) (state_of c.lead_all.new.state) c.args.inter.0 c.participants.result.now
+    c.participants.ensures.participants c.lead_all.ensures
+
+pub returns-clause-of_model : goal.returns-clause-of_model
+returns-clause-of_model c = λ own.
+    let e : state_of c.lead_all.new.state ≡ after c.args.self.now (state_of c.args.state.now) c.args.inter.0 =
+    fired c.args.self.now (state_of c.args.state.now) (state_of c.lead_all.new.state) c.args.inter.0 c.participants.result.now
+    c.participants.ensures.participants c.lead_all.ensures in
+    subst (λ (s : State). IsStateOf c.args.self.now s) (sym e)
+    (states_lead_to_states c.args.self.now c.participants.ensures.valid (state_of c.args.state.now) c.args.inter.0 own)

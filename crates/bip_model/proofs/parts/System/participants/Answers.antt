@@ -1,7 +1,7 @@
 use Rattle.std.proofs.Common.{◌≡◌, ◌≤◌, false, eqb, List, Ok, length, arith, sym, ◌∙◌}
 use Rattle.std.specs.List.{list_any}
 use Rattle.bip_model.specs.Drafts.{participant_named, put_by_component}
-use Rattle.bip_model.specs.System.{Participant}
+use Rattle.bip_model.specs.Parts.{Participant}
 use Rattle.bip_model.specs.declared.parts.System.{System}
 use Rattle.bip_model.proofs.ParticipantLemmas.{AreParticipants, few_participants, length-put, participant_named-valid, participants_named-more, put_valid}
 use Rattle.bip_model.proofs.parts.System.participants.Goals as goal

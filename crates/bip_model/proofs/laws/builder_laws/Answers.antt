@@ -1,6 +1,6 @@
 use Rattle.bip_model.specs.Drafts.{loc_line, port_line, trans_line}
 use Rattle.bip_model.proofs.GrowthLemmas.{component_grows, end_grows, inside_grows, interaction_grows, loc_grows, port_grows, trans_grows}
-use Rattle.bip_model.proofs.building.builder_laws.Goals as goal
+use Rattle.bip_model.proofs.laws.builder_laws.Goals as goal
 
 pub returns-clause-component : goal.returns-clause-component
 returns-clause-component c = component_grows

@@ -1,5 +1,5 @@
 use Rattle.bip_model.proofs.HistoryLemmas.{used_by-push, greatest_used, IsHistory-push, IsHistory-pop, moves_once}
-use Rattle.bip_model.proofs.histories.history_laws.Goals as goal
+use Rattle.bip_model.proofs.laws.history_laws.Goals as goal
 
 pub returns-clause-used : goal.returns-clause-used
 returns-clause-used c = used_by-push

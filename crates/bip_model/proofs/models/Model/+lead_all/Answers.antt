@@ -1,0 +1,14 @@
+use Rattle.std.proofs.Common.{sym, ◌∙◌}
+use Rattle.bip_model.specs.States.{state_of}
+use Rattle.bip_model.proofs.StepLemmas.{led_all-none, led_all-put}
+use Rattle.bip_model.proofs.models.Model.+lead_all.Goals as goal
+
+pub returns-in-Some : goal.returns-in-Some
+returns-in-Some t c =
+    led_all-put c.args.self.now (state_of c.args.state.now) (state_of c.lead_all.new.state) (state_of c.put.new.self) c.args.participants.now _
+    c.in-Some.target c.in-len1-up.len_at_least (sym c.in-Some.is ∙ c.led-target.ensures) c.lead_all.ensures c.put.ensures
+
+pub returns-in_default-target : goal.returns-in_default-target
+returns-in_default-target t c =
+    led_all-none c.args.self.now (state_of c.args.state.now) (state_of c.lead_all.new.state) c.args.participants.now _
+    c.in-len1-up.len_at_least (sym c.in_default-target.is ∙ c.led-target.ensures) c.lead_all.ensures
