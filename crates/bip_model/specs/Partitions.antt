@@ -1,8 +1,11 @@
 -- Partitions of the interactions of a model into classes.
 use Rattle.std.specs.Prelude.{◌≡◌, ℕ, ◌≤◌, ◌<◌, ◌==◌, List, length, map, filter, count_by, sum_by, All}
 use Rattle.std.specs.List.{list_any, range_with_len}
+use Rattle.std.specs.List.Sorted.{IsStrictlyIncreasing}
 use Rattle.bip_model.specs.Naming.{AreApart}
 use Rattle.bip_model.specs.declared.numbering.InterId.{InterId}
+use Rattle.bip_model.specs.declared.partitions.Partition.{Partition}
+use Rattle.bip_model.specs.declared.parts.System.{System}
 use Rattle.bip_model.specs.declared.partitions.TheConstants.{MOST_CLASSES}
 
 -- how often an interaction stands in a list
@@ -16,6 +19,25 @@ pub record IsPartition {C : Type 0} (name : C → List ℕ) (members : C → Lis
   pub filled : All (λ c. 0 < length (members c)) classes
   pub known : All (λ c. All (λ (a : InterId). a.0 < count) (members c)) classes
   pub once : (a : ℕ) → a < count → sum_by (λ c. times_in (members c) a) classes ≡ 1
+
+-- the numbers of interactions
+abbrev pub numbers_in : List InterId → List ℕ
+numbers_in list = map (λ (a : InterId). a.0) list
+
+-- classes as they are kept: they part the interactions below a count, and stand with their members
+-- in order of number
+pub record IsClasses (kept : Partition) : Type 0 where
+  pub few : length kept.names ≤ MOST_CLASSES
+  pub apart : AreApart kept.names
+  pub paired : length kept.members ≡ length kept.names
+  pub filled : All (λ (class : List InterId). 0 < length class) kept.members
+  pub rising : All (λ (class : List InterId). IsStrictlyIncreasing (numbers_in class)) kept.members
+  pub known : All (λ (class : List InterId). All (λ (a : InterId). a.0 < kept.count) class) kept.members
+  pub once : (a : ℕ) → a < kept.count → sum_by (λ class. times_in class a) kept.members ≡ 1
+
+-- classes of a model: they part its interactions
+abbrev pub AreClassesOf : System → Partition → Type 0
+AreClassesOf m kept = kept.count ≡ length m.interactions
 
 -- the interactions of a model, in order of number
 abbrev pub interactions_below : ℕ → List InterId

@@ -14,32 +14,37 @@ use std::marker;
 /// How many classes a partition has at most.
 pub const MOST_CLASSES: usize = 32;
 
-/// The names of classes, and the interactions of each; a name's place is the number of its class.
+/// How many interactions are parted, the names of the classes, and the interactions of each; a name's
+/// place is the number of its class.
 #[derive(Drop)]
 pub struct Partition {
+    pub count: u16,
     pub names: Names,
     pub members: Seq<Seq<InterId>>,
 }
 
-/// A partition of a model's interactions into classes, each numbered by its place. The interactions of a class stand in
-/// order of their numbers. Contracts see it as its names and members.
+/// A partition of a model's interactions into classes, each numbered by its place. The interactions
+/// of a class stand in order of their numbers. It is always a partition
+/// (docs/DEFINITIONS.md, "Partitions"), and contracts see it as its count, names and members.
 #[derive(Drop)]
 pub struct Classes {
     partition: Partition,
 }
 
 impl marker::Model for Classes {
-    ghost use Rattle.std.specs.Prelude.{◌≡◌, ◌≤◌, length};
     ghost use Rattle.bip_model.specs.declared.partitions.Partition.{Partition};
+    ghost use Rattle.bip_model.specs.Partitions.{IsClasses};
 
     ghost Value = { Partition };
 
     ghost view = { λ c. c.partition };
 
-    ghost invariant = { λ c. (length c.partition.names ≤ 32) × (length c.partition.members ≡ length c.partition.names) };
+    ghost invariant = { λ c. IsClasses c.partition };
 }
 
 impl Classes {
+    ghost use Rattle.bip_model.specs.Partitions.{AreClassesOf, IsClasses};
+
     /// The classes of a model, each a name with its interactions. NotAPartition: they are no partition
     /// (docs/DEFINITIONS.md, "Partitions"); Memory only where they are one.
     pub fn of(
@@ -50,6 +55,7 @@ impl Classes {
         ensures partition { OnOk result (IsPartition (λ c. c.0) (λ c. c.1.items) (length model.now.interactions) classes.items) }
         ensures names { IfOk result (λ made. made.names ≡ map (λ c. c.0) classes.items) }
         ensures members { IfOk result (λ made. made.members ≡ map (λ c. in_order (length model.now.interactions) c.1.items) classes.items) }
+        ensures of_model { IfOk result (AreClassesOf model.now) }
         ensures refused { result ≡ Err NotAPartition → ¬ IsPartition (λ c. c.0) (λ c. c.1.items) (length model.now.interactions) classes.items }
         ensures memory { result ≡ Err Memory → IsPartition (λ c. c.0) (λ c. c.1.items) (length model.now.interactions) classes.items }
     {
@@ -64,7 +70,11 @@ impl Classes {
             return Err(ClassFault::Memory);
         };
         Ok(Classes {
-            partition: Partition { names, members },
+            partition: Partition {
+                count,
+                names,
+                members,
+            },
         })
     }
 
@@ -94,7 +104,8 @@ impl Classes {
     /// The interactions of a class, in order of their numbers.
     pub fn members(&self, class: ClassId) -> &[InterId]
         requires { class.0 < length self.now.members }
-        ensures { slice_get self.now.members class.0 ≡ Some result.now }
+        ensures members { slice_get self.now.members class.0 ≡ Some result.now }
+        ensures valid { IsClasses self.now }
     {
         self.partition.members.as_slice()[class.0 as usize].as_slice()
     }
