@@ -1,13 +1,14 @@
 -- What each line of a model's text says: from a draft to the draft with it, or to the first fault.
-use Rattle.std.specs.Prelude.{◌≡◌, ℕ, ◌+◌, Bool, ◌==◌, ◌||◌, nat_lt, nat_le, List, [], ◌∷◌, ◌++◌, length, None, Some, Result, Ok, Err, IfSome, is_some, slice_get, position, unwrap_or, if◌then◌else◌}
+use Rattle.std.specs.Prelude.{◌≡◌, ℕ, ◌+◌, Bool, ◌<◌, ◌==◌, ◌||◌, nat_lt, nat_le, List, [], ◌∷◌, ◌++◌, length, None, Some, Result, Ok, Err, IfSome, IsNone, is_some, slice_get, position, unwrap_or, if◌then◌else◌}
 use Rattle.std.specs.List.{list_any}
 use Rattle.std.specs.Option.{ok_or}
 use Rattle.bip_model.specs.Naming.{is_known, same_text}
 use Rattle.bip_model.specs.Outcomes.{◌>>=◌}
+use Rattle.bip_model.specs.Steps.{IsCyclic}
 use Rattle.bip_model.specs.Parts.{IsComponentSoFar, IsSystemSoFar, Participant, same_start}
 use Rattle.bip_model.specs.declared.drafts.Draft.{Draft}
 use Rattle.bip_model.specs.declared.faults.BuildFault.{BuildFault}
-use Rattle.bip_model.specs.declared.faults.BuildFault.TheVariants.{Unknown, Twice, TooMany, Missing, TwoTransitions}
+use Rattle.bip_model.specs.declared.faults.BuildFault.TheVariants.{Unknown, Twice, TooMany, Missing, TwoTransitions, PriorityCycle}
 use Rattle.bip_model.specs.declared.parts.Component.{Component}
 use Rattle.bip_model.specs.declared.parts.System.{System}
 use Rattle.bip_model.specs.declared.parts.Transition.{Transition}
@@ -109,9 +110,17 @@ interaction_line d name words =
     if is_known name d.system.interaction_names then Err Twice
     else participants_named d.system [] words >>= λ participants. with_interaction name participants d.system >>= λ m. Ok (record d { system = m })
 
--- the text ends: all that it declares, where no component is begun and there is one
-abbrev pub finished : Draft → Result System BuildFault
-finished d = if is_some d.begun || length d.system.components == 0 then Err Missing else Ok d.system
+-- what the lines have declared is whole: no component is begun, and there is one
+pub record IsWhole (d : Draft) : Type 0 where
+  pub ended : IsNone d.begun
+  pub some : 0 < length d.system.components
+
+-- why lines declare no model where they end, the first that applies: what they declare isn't whole,
+-- or an interaction stands above itself
+abbrev pub IsEndFault : Draft → BuildFault → Type 0
+IsEndFault d Missing = ¬ IsWhole d
+IsEndFault d PriorityCycle = IsWhole d × IsCyclic d.system
+IsEndFault d fault = ⊥
 
 -- drafts that lines lead to
 pub record IsDraft (d : Draft) : Type 0 where

@@ -1,9 +1,10 @@
 //! Models built line by line.
-ghost use Rattle.std.specs.Prelude.{◌≡◌, ◌<◌, ◌↔◌, length, position, IsTrue, IsSome, IsNone, IfOk, OnErr};
+ghost use Rattle.std.specs.Prelude.{◌≡◌, ◌<◌, ◌↔◌, length, position, IsTrue, IsSome, IsNone, IfErr, IfOk, OnErr, OnOk};
 ghost use Rattle.std.specs.Option.{option_map};
-ghost use Rattle.bip_model.specs.Drafts.{component_line, empty_draft, end_line, finished, inside, interaction_line, loc_line, port_line, trans_line};
+ghost use Rattle.bip_model.specs.Drafts.{component_line, empty_draft, IsEndFault, IsWhole, end_line, inside, interaction_line, loc_line, port_line, trans_line};
 ghost use Rattle.bip_model.specs.Naming.{same_text};
 ghost use Rattle.bip_model.specs.Outcomes.{Answers, new_or_fault};
+ghost use Rattle.bip_model.specs.Steps.{IsCyclic};
 ghost use Rattle.bip_model.specs.declared.faults.BuildFault.TheVariants.{Memory};
 
 use crate::drafts::Draft;
@@ -120,10 +121,13 @@ impl Builder {
         self.draft.interaction(self.alloc, name, participants)
     }
 
-    /// The model that the lines have declared. Missing: a component is begun and not ended, or there is no component.
-    /// It takes no memory.
+    /// The model that the lines have declared. Missing: a component is begun and not ended, or there is
+    /// no component; then PriorityCycle: an interaction stands above itself. It takes no memory.
     pub fn finish(self) -> Result<Model, BuildFault>
-        ensures { result ≡ finished self }
+        ensures model { IfOk result (λ model. model ≡ self.system) }
+        ensures whole { OnOk result (IsWhole self) }
+        ensures acyclic { OnOk result (¬ IsCyclic self.system) }
+        ensures fault { IfErr result (IsEndFault self) }
     {
         let Builder { draft, alloc: _ } = self;
         if draft.begun.is_some() || draft.system.components.is_empty() {
