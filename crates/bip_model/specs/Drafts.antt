@@ -1,5 +1,7 @@
 -- What each line of a model's text says: from a draft to the draft with it, or to the first fault.
-use Rattle.std.specs.Prelude.{◌≡◌, ℕ, ◌+◌, Bool, ◌<◌, ◌==◌, ◌||◌, nat_lt, nat_le, List, [], ◌∷◌, ◌++◌, length, None, Some, Result, Ok, Err, IfSome, IsNone, is_some, slice_get, position, unwrap_or, if◌then◌else◌}
+use Rattle.std.specs.Prelude.{◌≡◌, ℕ, ◌+◌, Bool, ◌<◌, ◌==◌, ◌||◌, nat_lt, nat_le, List, [], ◌∷◌}
+use Rattle.std.specs.Prelude.{◌++◌, length, None, Some, Result, Ok, Err, IfSome, IsNone, is_some}
+use Rattle.std.specs.Prelude.{slice_get, position, unwrap_or, if◌then◌else◌}
 use Rattle.std.specs.List.{list_any}
 use Rattle.std.specs.Option.{ok_or}
 use Rattle.bip_model.specs.Naming.{is_known, same_text}
@@ -8,11 +10,14 @@ use Rattle.bip_model.specs.Steps.{IsCyclic}
 use Rattle.bip_model.specs.Parts.{IsComponentSoFar, IsSystemSoFar, Participant, same_start}
 use Rattle.bip_model.specs.declared.drafts.Draft.{Draft}
 use Rattle.bip_model.specs.declared.faults.BuildFault.{BuildFault}
-use Rattle.bip_model.specs.declared.faults.BuildFault.TheVariants.{Unknown, Twice, TooMany, Missing, TwoTransitions, PriorityCycle}
+use Rattle.bip_model.specs.declared.faults.BuildFault.TheVariants.{Unknown, Twice, TooMany, Missing}
+use Rattle.bip_model.specs.declared.faults.BuildFault.TheVariants.{TwoTransitions, PriorityCycle}
 use Rattle.bip_model.specs.declared.parts.Component.{Component}
 use Rattle.bip_model.specs.declared.parts.System.{System}
 use Rattle.bip_model.specs.declared.parts.Transition.{Transition}
-use Rattle.bip_model.specs.declared.parts.TheConstants.{MOST_COMPONENTS, MOST_LOCATIONS, MOST_PORTS, MOST_TRANSITIONS, MOST_INTERACTIONS, MOST_PARTICIPANTS}
+use Rattle.bip_model.specs.declared.parts.TheConstants.{MOST_COMPONENTS, MOST_LOCATIONS, MOST_PORTS}
+use Rattle.bip_model.specs.declared.parts.TheConstants.{MOST_TRANSITIONS, MOST_INTERACTIONS}
+use Rattle.bip_model.specs.declared.parts.TheConstants.{MOST_PARTICIPANTS}
 
 -- the number of a name in a list
 abbrev pub number_in : List (List ℕ) → List ℕ → Result ℕ BuildFault
@@ -37,7 +42,10 @@ abbrev pub component_line : Draft → List ℕ → Result Draft BuildFault
 component_line d name =
     if is_known name d.system.component_names then Err Twice
     else if nat_le MOST_COMPONENTS (length d.system.component_names) then Err TooMany
-    else Ok (record { system = record d.system { component_names = d.system.component_names ++ name ∷ [] }; begun = Some no_component })
+    else Ok (record {
+      system = record d.system { component_names = d.system.component_names ++ name ∷ [] };
+      begun = Some no_component;
+    })
 
 -- what a line inside a component says of that one, said of the draft
 abbrev pub inside : (Component → Result Component BuildFault) → Draft → Result Draft BuildFault
@@ -71,19 +79,27 @@ with_transition t c =
 -- `trans PORT FROM TO`
 abbrev pub trans_line : List ℕ → List ℕ → List ℕ → Component → Result Component BuildFault
 trans_line port source target c =
-    number_in c.ports port >>= λ p. number_in c.locations source >>= λ s. number_in c.locations target
-    >>= λ t. with_transition (record { port = record { 0 = p }; source = record { 0 = s }; target = record { 0 = t } }) c
+    number_in c.ports port
+    >>= λ p. number_in c.locations source
+    >>= λ s. number_in c.locations target
+    >>= λ t. with_transition
+        (record { port = record { 0 = p }; source = record { 0 = s }; target = record { 0 = t } }) c
 
 -- `end` ends the component that is begun
 abbrev pub end_line : Draft → Result Draft BuildFault
 end_line d =
     if length (begun_in d).locations == 0 then Err Missing
-    else Ok (record { system = record d.system { components = d.system.components ++ begun_in d ∷ [] }; begun = None })
+    else Ok (record {
+      system = record d.system { components = d.system.components ++ begun_in d ∷ [] };
+      begun = None;
+    })
 
 -- a participant as a text names it: a component and one of its ports
 abbrev pub participant_named : System → List ℕ × List ℕ → Result Participant BuildFault
 participant_named m word =
-    number_in m.component_names word.0 >>= λ c. ok_or (slice_get m.components c) Unknown >>= λ component. number_in component.ports word.1
+    number_in m.component_names word.0
+    >>= λ c. ok_or (slice_get m.components c) Unknown
+    >>= λ component. number_in component.ports word.1
     >>= λ p. Ok (record { 0 = c }, record { 0 = p })
 
 -- a participant among others by component
@@ -91,24 +107,33 @@ abbrev pub put_by_component : Participant → List Participant → List Particip
 put_by_component q [] = q ∷ []
 put_by_component q (r ∷ rs) = if nat_lt q.0.0 r.0.0 then q ∷ r ∷ rs else r ∷ put_by_component q rs
 
--- the participants that a text names, by component, put among those of the words before; a component that takes part already is named twice
-abbrev pub participants_named : System → List Participant → List (List ℕ × List ℕ) → Result (List Participant) BuildFault
+-- the participants that a text names, by component, put among those of the words before; a
+-- component that takes part already is named twice
+abbrev pub participants_named : System → List Participant → List (List ℕ × List ℕ)
+    → Result (List Participant) BuildFault
 participants_named m before [] = Ok before
 participants_named m before (word ∷ words) =
     participant_named m word
-    >>= λ q. (if list_any (λ (r : Participant). r.0.0 == q.0.0) before then Err Twice else participants_named m (put_by_component q before) words)
+    >>= λ q. (if list_any (λ (r : Participant). r.0.0 == q.0.0) before then Err Twice
+        else participants_named m (put_by_component q before) words)
 
 -- an interaction joins those of a system
 abbrev pub with_interaction : List ℕ → List Participant → System → Result System BuildFault
 with_interaction name participants m =
-    if nat_le MOST_INTERACTIONS (length m.interactions) || nat_lt MOST_PARTICIPANTS (length participants) then Err TooMany
-    else Ok (record m { interaction_names = m.interaction_names ++ name ∷ []; interactions = m.interactions ++ record { participants = participants } ∷ [] })
+    if nat_le MOST_INTERACTIONS (length m.interactions)
+        || nat_lt MOST_PARTICIPANTS (length participants) then Err TooMany
+    else Ok (record m {
+      interaction_names = m.interaction_names ++ name ∷ [];
+      interactions = m.interactions ++ record { participants = participants } ∷ [];
+    })
 
 -- `interaction NAME C.p C.p ..`
 abbrev pub interaction_line : Draft → List ℕ → List (List ℕ × List ℕ) → Result Draft BuildFault
 interaction_line d name words =
     if is_known name d.system.interaction_names then Err Twice
-    else participants_named d.system [] words >>= λ participants. with_interaction name participants d.system >>= λ m. Ok (record d { system = m })
+    else participants_named d.system [] words
+    >>= λ participants. with_interaction name participants d.system
+    >>= λ m. Ok (record d { system = m })
 
 -- what the lines have declared is whole: no component is begun, and there is one
 pub record IsWhole (d : Draft) : Type 0 where
@@ -126,4 +151,5 @@ IsEndFault d fault = ⊥
 pub record IsDraft (d : Draft) : Type 0 where
   pub so_far : IsSystemSoFar d.system
   pub begun_so_far : IfSome d.begun IsComponentSoFar
-  pub named : length d.system.component_names ≡ length d.system.components + (if is_some d.begun then 1 else 0)
+  pub named : length d.system.component_names
+      ≡ length d.system.components + (if is_some d.begun then 1 else 0)

@@ -16,7 +16,8 @@ pub record KeepsComponent (old new : Component) : Type 0 where
 -- a component that was begun is begun still, or it is ended, and stands behind those ended before
 abbrev pub GoesOn : Draft → Component → Draft → Type 0
 GoesOn old c new =
-    (now : Component) × KeepsComponent c now × ((new.begun ≡ Some now) ⊎ (new.system.components ≡ old.system.components ++ now ∷ []))
+    (now : Component) × KeepsComponent c now
+        × ((new.begun ≡ Some now) ⊎ (new.system.components ≡ old.system.components ++ now ∷ []))
 
 -- a draft that has all that it had
 pub record KeepsDraft (old new : Draft) : Type 0 where

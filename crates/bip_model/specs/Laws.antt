@@ -1,5 +1,6 @@
 -- What the definitions mean, in the subject's own words: laws that a reviewer reads.
-use Rattle.std.specs.Prelude.{◌≡◌, ◌↔◌, ℕ, ◌<◌, false, true, [], ◌∷◌, ◌++◌, List, length, Some, slice_get, All, Contains}
+use Rattle.std.specs.Prelude.{◌≡◌, ◌↔◌, ℕ, ◌<◌, false, true, [], ◌∷◌, ◌++◌, List, length, Some}
+use Rattle.std.specs.Prelude.{slice_get, All, Contains}
 use Rattle.bip_model.specs.declared.parts.Component.{Component}
 use Rattle.bip_model.specs.declared.parts.System.{System}
 use Rattle.bip_model.specs.declared.parts.Transition.{Transition}
@@ -74,7 +75,8 @@ Commute m =
 -- runs from the back: one more interaction goes on where those before it lead
 abbrev pub EndsAfterItsLast : System → Type 0
 EndsAfterItsLast m =
-    (s : State) (before : List ℕ) (a : ℕ) → end_of m s (before ++ a ∷ []) ≡ after m (end_of m s before) a
+    (s : State) (before : List ℕ) (a : ℕ)
+        → end_of m s (before ++ a ∷ []) ≡ after m (end_of m s before) a
 
 abbrev pub GoesOnByWhatMayRun : System → Type 0
 GoesOnByWhatMayRun m =

@@ -12,7 +12,8 @@ abbrev pub new_or_fault : {U X E : Type 0} → Result U E → X → Result X E
 new_or_fault (Ok u) new = Ok new
 new_or_fault (Err e) new = Err e
 
--- a call answered what is said, the value or the fault; or memory was wanting where there is no fault
+-- a call answered what is said, the value or the fault; or memory was wanting where there is no
+-- fault
 abbrev pub Answers : {X E : Type 0} → E → Result X E → Result X E → Type 0
 Answers memory (Ok x) (Ok y) = y ≡ x
 Answers memory (Ok x) (Err e) = e ≡ memory

@@ -1,5 +1,6 @@
 -- Partitions of the interactions of a model into classes.
-use Rattle.std.specs.Prelude.{◌≡◌, ℕ, ◌≤◌, ◌<◌, ◌==◌, List, length, map, filter, count_by, sum_by, All}
+use Rattle.std.specs.Prelude.{◌≡◌, ℕ, ◌≤◌, ◌<◌, ◌==◌, List, length, map, filter, count_by, sum_by}
+use Rattle.std.specs.Prelude.{All}
 use Rattle.std.specs.List.{list_any, range_with_len}
 use Rattle.std.specs.List.Sorted.{IsStrictlyIncreasing}
 use Rattle.bip_model.specs.Naming.{AreApart}
@@ -12,8 +13,10 @@ use Rattle.bip_model.specs.declared.partitions.TheConstants.{MOST_CLASSES}
 abbrev pub times_in : List InterId → ℕ → ℕ
 times_in list a = count_by (λ (b : InterId). b.0 == a) list
 
--- classes, each with a name and members, that are a partition of so many interactions: each stands in exactly one of them, once
-pub record IsPartition {C : Type 0} (name : C → List ℕ) (members : C → List InterId) (count : ℕ) (classes : List C) : Type 0 where
+-- classes, each with a name and members, that are a partition of so many interactions: each stands
+-- in exactly one of them, once
+pub record IsPartition {C : Type 0} (name : C → List ℕ) (members : C → List InterId)
+    (count : ℕ) (classes : List C) : Type 0 where
   pub few : length classes ≤ MOST_CLASSES
   pub apart : AreApart (map name classes)
   pub filled : All (λ c. 0 < length (members c)) classes
@@ -32,7 +35,7 @@ pub record IsClasses (kept : Partition) : Type 0 where
   pub paired : length kept.members ≡ length kept.names
   pub filled : All (λ (class : List InterId). 0 < length class) kept.members
   pub rising : All (λ (class : List InterId). IsStrictlyIncreasing (numbers_in class)) kept.members
-  pub known : All (λ (class : List InterId). All (λ (a : InterId). a.0 < kept.count) class) kept.members
+  pub known : All (All (λ (a : InterId). a.0 < kept.count)) kept.members
   pub once : (a : ℕ) → a < kept.count → sum_by (λ class. times_in class a) kept.members ≡ 1
 
 -- classes of a model: they part its interactions
@@ -45,4 +48,6 @@ interactions_below count = map (λ a. record { 0 = a }) (range_with_len 0 count)
 
 -- the interactions of a class, in order of number
 abbrev pub in_order : ℕ → List InterId → List InterId
-in_order count class = filter (λ (a : InterId). list_any (λ (b : InterId). b.0 == a.0) class) (interactions_below count)
+in_order count class =
+    filter (λ (a : InterId). list_any (λ (b : InterId). b.0 == a.0) class)
+    (interactions_below count)

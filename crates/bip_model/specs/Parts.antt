@@ -1,5 +1,6 @@
 -- What a model may declare.
-use Rattle.std.specs.Prelude.{◌≡◌, ℕ, ◌≤◌, ◌<◌, Bool, false, ◌==◌, ◌&&◌, List, ◌++◌, length, map, slice_get, All, AllPairs, IfSome}
+use Rattle.std.specs.Prelude.{◌≡◌, ℕ, ◌≤◌, ◌<◌, Bool, false, ◌==◌, ◌&&◌, List, ◌++◌, length, map}
+use Rattle.std.specs.Prelude.{slice_get, All, AllPairs, IfSome}
 use Rattle.std.specs.List.Sorted.{IsStrictlyIncreasing}
 use Rattle.bip_model.specs.Naming.{AreApart}
 use Rattle.bip_model.specs.declared.numbering.CompId.{CompId}
@@ -8,7 +9,9 @@ use Rattle.bip_model.specs.declared.parts.Component.{Component}
 use Rattle.bip_model.specs.declared.parts.Interaction.{Interaction}
 use Rattle.bip_model.specs.declared.parts.System.{System}
 use Rattle.bip_model.specs.declared.parts.Transition.{Transition}
-use Rattle.bip_model.specs.declared.parts.TheConstants.{MOST_COMPONENTS, MOST_LOCATIONS, MOST_PORTS, MOST_TRANSITIONS, MOST_INTERACTIONS, MOST_PARTICIPANTS}
+use Rattle.bip_model.specs.declared.parts.TheConstants.{MOST_COMPONENTS, MOST_LOCATIONS, MOST_PORTS}
+use Rattle.bip_model.specs.declared.parts.TheConstants.{MOST_TRANSITIONS, MOST_INTERACTIONS}
+use Rattle.bip_model.specs.declared.parts.TheConstants.{MOST_PARTICIPANTS}
 
 -- a participant of an interaction: a component and one of its ports
 abbrev pub Participant : Type 0

@@ -1,5 +1,6 @@
 -- States: the local state of each component, and which states are states of a model.
-use Rattle.std.specs.Prelude.{◌≡◌, ℕ, ◌<◌, ◌≤◌, List, Option, None, Some, length, slice_get, IsSomeAnd}
+use Rattle.std.specs.Prelude.{◌≡◌, ℕ, ◌<◌, ◌≤◌, List, Option, None, Some, length, slice_get}
+use Rattle.std.specs.Prelude.{IsSomeAnd}
 use Rattle.bip_model.specs.declared.numbering.LocId.{LocId}
 use Rattle.bip_model.specs.declared.parts.Component.{Component}
 use Rattle.bip_model.specs.declared.parts.System.{System}

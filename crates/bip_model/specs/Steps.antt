@@ -1,5 +1,6 @@
 -- What is enabled in a state, what may run there, and what the joint step of an interaction does.
-use Rattle.std.specs.Prelude.{ℕ, ◌<◌, Bool, false, ◌==◌, List, [], ◌∷◌, length, Option, position, slice_get, unwrap_or, All, IsTrue, ⊤, if◌then◌else◌}
+use Rattle.std.specs.Prelude.{ℕ, ◌<◌, Bool, false, ◌==◌, List, [], ◌∷◌, length, Option, position}
+use Rattle.std.specs.Prelude.{slice_get, unwrap_or, All, IsTrue, ⊤, if◌then◌else◌}
 use Rattle.std.specs.List.{list_any}
 use Rattle.std.specs.Option.{option_map, option_map_or, option_and_then}
 use Rattle.bip_model.specs.declared.faults.NotNow.{NotNow}

@@ -1,5 +1,7 @@
 -- What all texts have in common: lines, words and numbers.
-use Rattle.std.specs.Prelude.{◌≡◌, ◌⊎◌, ℕ, ◌+◌, ◌^◌, Bool, false, true, ◌==◌, ◌&&◌, ◌||◌, nat_lt, nat_le, List, [], ◌∷◌, ◌++◌, length, max, map, Option, None, Some, filter, position, take, drop, slice_index, All, IsTrue, if◌then◌else◌}
+use Rattle.std.specs.Prelude.{◌≡◌, ◌⊎◌, ℕ, ◌+◌, ◌^◌, Bool, false, true, ◌==◌, ◌&&◌, ◌||◌, nat_lt}
+use Rattle.std.specs.Prelude.{nat_le, List, [], ◌∷◌, ◌++◌, length, max, map, Option, None, Some}
+use Rattle.std.specs.Prelude.{filter, position, take, drop, slice_index, All, IsTrue, if◌then◌else◌}
 use Rattle.std.specs.Char.{is_ascii_digit, is_ascii_graphic}
 use Rattle.std.specs.List.{list_all, slice_split}
 use Rattle.std.specs.Option.{option_map}
@@ -46,7 +48,8 @@ words line = filter is_longer (slice_split is_blank line)
 -- a line is blanks, a word and the rest, which is empty or begins with a blank
 unfoldable pub IsWordAndRest : List ℕ → List ℕ → List ℕ → Type 0
 IsWordAndRest line word rest =
-    (blanks : List ℕ) × All (λ b. IsTrue (is_blank b)) blanks × (line ≡ blanks ++ word ++ rest) × ((rest ≡ []) ⊎ IsTrue (is_blank (slice_index rest 0)))
+    (blanks : List ℕ) × All (λ b. IsTrue (is_blank b)) blanks × (line ≡ blanks ++ word ++ rest)
+        × ((rest ≡ []) ⊎ IsTrue (is_blank (slice_index rest 0)))
 
 -- the first word begins with a number sign
 abbrev pub is_comment : List (List ℕ) → Bool
@@ -55,7 +58,8 @@ is_comment (word ∷ rest) = slice_index word 0 == 35
 
 -- the words that a line says, none of a comment; none at all where a byte can stand in no line
 abbrev pub words_said : List ℕ → Option (List (List ℕ))
-words_said line = if is_plain line then Some (if is_comment (words line) then [] else words line) else None
+words_said line = if is_plain line then Some (if is_comment (words line) then [] else words line)
+    else None
 
 -- a line says something: it has words and is no comment, or a byte that can stand in no line
 abbrev pub says_something : Option (List (List ℕ)) → Bool
@@ -63,19 +67,24 @@ says_something None = true
 says_something (Some []) = false
 says_something (Some (word ∷ rest)) = true
 
--- the words of the lines that say something, however blanks part them, whatever lines are skipped between them
+-- the words of the lines that say something, however blanks part them, whatever lines are skipped
+-- between them
 abbrev pub said_in : List ℕ → List (Option (List (List ℕ)))
 said_in text = filter says_something (map words_said (lines text))
 
 -- a word of 1 to most digits
 abbrev pub is_numeral : ℕ → List ℕ → Bool
-is_numeral most word = nat_lt 0 (length word) && nat_le (length word) most && list_all is_ascii_digit word
+is_numeral most word = nat_lt 0 (length word) && nat_le (length word) most
+    && list_all is_ascii_digit word
 
--- the participation number that a word spells: at most 20 digits, from 1 to the greatest number of 64 bits
+-- the participation number that a word spells: at most 20 digits, from 1 to the greatest number of
+-- 64 bits
 abbrev pub number_of : List ℕ → Option ℕ
 number_of word =
-    if is_numeral 20 word && nat_lt 0 (digits_value 10 word) && nat_lt (digits_value 10 word) (2 ^ 64) then Some (digits_value 10 word) else None
+    if is_numeral 20 word && nat_lt 0 (digits_value 10 word)
+        && nat_lt (digits_value 10 word) (2 ^ 64) then Some (digits_value 10 word) else None
 
 -- what stands before and after the first such byte of a word
 abbrev pub pair_of : ℕ → List ℕ → Option (List ℕ × List ℕ)
-pair_of mark word = option_map (λ i. (take i word, drop (i + 1) word)) (position (λ b. b == mark) word)
+pair_of mark word = option_map (λ i. (take i word, drop (i + 1) word))
+    (position (λ b. b == mark) word)

@@ -1,7 +1,10 @@
 //! Models built line by line.
-ghost use Rattle.std.specs.Prelude.{◌≡◌, ◌<◌, ◌↔◌, length, position, IsTrue, IsSome, IsNone, IfErr, IfOk, OnErr, OnOk};
+ghost use Rattle.std.specs.Prelude.{◌≡◌, ◌<◌, ◌↔◌, length, position, IsTrue, IsSome, IsNone, IfErr};
+ghost use Rattle.std.specs.Prelude.{IfOk, OnErr, OnOk};
 ghost use Rattle.std.specs.Option.{option_map};
-ghost use Rattle.bip_model.specs.Drafts.{component_line, empty_draft, IsEndFault, IsWhole, end_line, inside, interaction_line, loc_line, port_line, trans_line};
+ghost use Rattle.bip_model.specs.Drafts.{component_line, empty_draft, IsEndFault, IsWhole};
+ghost use Rattle.bip_model.specs.Drafts.{end_line, inside, interaction_line, loc_line, port_line};
+ghost use Rattle.bip_model.specs.Drafts.{trans_line};
 ghost use Rattle.bip_model.specs.Naming.{same_text};
 ghost use Rattle.bip_model.specs.Outcomes.{Answers, new_or_fault};
 ghost use Rattle.bip_model.specs.Steps.{IsCyclic};
@@ -12,8 +15,9 @@ use crate::{BuildFault, InterId, Model, Name};
 use std::alloc::{AllocError, Global};
 use std::marker;
 
-/// A model that is being built, one line of its text after another (docs/DEFINITIONS.md, "Model lines").
-/// Contracts see it as what the lines so far have said. A call that refuses leaves it as it was.
+/// A model that is being built, one line of its text after another (docs/DEFINITIONS.md, "Model
+/// lines"). Contracts see it as what the lines so far have said. A call that refuses leaves it as
+/// it was.
 #[derive(Drop)]
 pub struct Builder {
     draft: Draft,
@@ -51,46 +55,53 @@ impl Builder {
 
     /// The number of the interaction with this name, if there is one.
     pub fn interaction_number(&self, name: &Name) -> Option<InterId>
-        ensures { option_map (λ a. a.0) result ≡ position (same_text name.now) self.now.system.interaction_names }
+        ensures { option_map (λ a. a.0) result
+            ≡ position (same_text name.now) self.now.system.interaction_names }
     {
         let number = self.draft.system.interaction_names.number_of(name)?;
         Some(InterId(number as u16))
     }
 
-    /// `component NAME` begins a component. Twice: a component has this name; then TooMany: there are 64.
+    /// `component NAME` begins a component. Twice: a component has this name; then TooMany: there
+    /// are 64.
     pub fn component(&mut self, name: Name) -> Result<(), BuildFault>
         requires { IsNone self.old.begun }
-        ensures said { Answers Memory (component_line self.old name) (new_or_fault result self.new) }
+        ensures said { Answers Memory (component_line self.old name)
+            (new_or_fault result self.new) }
         ensures err { OnErr result (self.new ≡ self.old) }
     {
         self.draft.component(self.alloc, name)
     }
 
-    /// `loc NAME` adds a location to the component that is begun; the first is its start. Twice: one of its locations or
-    /// ports has this name; then TooMany: it has 64 locations.
+    /// `loc NAME` adds a location to the component that is begun; the first is its start. Twice:
+    /// one of its locations or ports has this name; then TooMany: it has 64 locations.
     pub fn loc(&mut self, name: Name) -> Result<(), BuildFault>
         requires { IsSome self.old.begun }
-        ensures said { Answers Memory (inside (loc_line name) self.old) (new_or_fault result self.new) }
+        ensures said { Answers Memory (inside (loc_line name) self.old)
+            (new_or_fault result self.new) }
         ensures err { OnErr result (self.new ≡ self.old) }
     {
         self.draft.loc(name)
     }
 
-    /// `port NAME` adds a port to the component that is begun. Twice: one of its locations or ports has this name; then
-    /// TooMany: it has 16 ports.
+    /// `port NAME` adds a port to the component that is begun. Twice: one of its locations or ports
+    /// has this name; then TooMany: it has 16 ports.
     pub fn port(&mut self, name: Name) -> Result<(), BuildFault>
         requires { IsSome self.old.begun }
-        ensures said { Answers Memory (inside (port_line name) self.old) (new_or_fault result self.new) }
+        ensures said { Answers Memory (inside (port_line name) self.old)
+            (new_or_fault result self.new) }
         ensures err { OnErr result (self.new ≡ self.old) }
     {
         self.draft.port(name)
     }
 
-    /// `trans PORT FROM TO` adds a transition to the component that is begun. Unknown: it lacks the port or a location; then
-    /// TooMany: it has 256 transitions; then TwoTransitions: one with this port leaves the location already.
+    /// `trans PORT FROM TO` adds a transition to the component that is begun. Unknown: it lacks the
+    /// port or a location; then TooMany: it has 256 transitions; then TwoTransitions: one with this
+    /// port leaves the location already.
     pub fn trans(&mut self, port: Name, source: Name, target: Name) -> Result<(), BuildFault>
         requires { IsSome self.old.begun }
-        ensures said { Answers Memory (inside (trans_line port source target) self.old) (new_or_fault result self.new) }
+        ensures said { Answers Memory (inside (trans_line port source target) self.old)
+            (new_or_fault result self.new) }
         ensures err { OnErr result (self.new ≡ self.old) }
     {
         self.draft.trans(&port, &source, &target)
@@ -105,9 +116,10 @@ impl Builder {
         self.draft.end()
     }
 
-    /// `interaction NAME C.p C.p ..` adds an interaction of these ports, each of a component. By the first word from the
-    /// left that is at fault, Twice: an interaction has the name, or the component takes part already; Unknown: there is
-    /// no such component, or it lacks the port. Then TooMany: there are 128 interactions, or more than 8 participants.
+    /// `interaction NAME C.p C.p ..` adds an interaction of these ports, each of a component. By
+    /// the first word from the left that is at fault, Twice: an interaction has the name, or the
+    /// component takes part already; Unknown: there is no such component, or it lacks the port.
+    /// Then TooMany: there are 128 interactions, or more than 8 participants.
     pub fn interaction(
         &mut self,
         name: Name,
@@ -115,14 +127,16 @@ impl Builder {
     ) -> Result<(), BuildFault>
         requires outside { IsNone self.old.begun }
         requires some { 0 < length participants.now }
-        ensures said { Answers Memory (interaction_line self.old name participants.now) (new_or_fault result self.new) }
+        ensures said { Answers Memory (interaction_line self.old name participants.now)
+            (new_or_fault result self.new) }
         ensures err { OnErr result (self.new ≡ self.old) }
     {
         self.draft.interaction(self.alloc, name, participants)
     }
 
-    /// The model that the lines have declared. Missing: a component is begun and not ended, or there is
-    /// no component; then PriorityCycle: an interaction stands above itself. It takes no memory.
+    /// The model that the lines have declared. Missing: a component is begun and not ended, or
+    /// there is no component; then PriorityCycle: an interaction stands above itself. It takes no
+    /// memory.
     pub fn finish(self) -> Result<Model, BuildFault>
         ensures model { IfOk result (λ model. model ≡ self.system) }
         ensures whole { OnOk result (IsWhole self) }

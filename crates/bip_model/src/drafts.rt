@@ -1,7 +1,11 @@
 //! What the lines of a model's text have said so far, and what one more line says.
-ghost use Rattle.std.specs.Prelude.{◌≡◌, ◌==◌, [], false, nat_lt, position, IsSome, IsNone, IsSomeAnd, OnErr};
+ghost use Rattle.std.specs.Prelude.{◌≡◌, ◌==◌, [], false, nat_lt, position, IsSome, IsNone};
+ghost use Rattle.std.specs.Prelude.{IsSomeAnd, OnErr};
 ghost use Rattle.smallvec.specs.SmallVec.{HasRoomFor};
-ghost use Rattle.bip_model.specs.Drafts.{component_line, empty_draft, end_line, inside, interaction_line, is_taken, loc_line, no_component, participant_named, participants_named, put_by_component, port_line, trans_line, with_interaction, with_transition};
+ghost use Rattle.bip_model.specs.Drafts.{component_line, empty_draft, end_line, inside};
+ghost use Rattle.bip_model.specs.Drafts.{interaction_line, is_taken, loc_line, no_component};
+ghost use Rattle.bip_model.specs.Drafts.{participant_named, participants_named, put_by_component};
+ghost use Rattle.bip_model.specs.Drafts.{port_line, trans_line, with_interaction, with_transition};
 ghost use Rattle.bip_model.specs.Naming.{is_known};
 ghost use Rattle.bip_model.specs.Outcomes.{Answers, new_or_fault};
 ghost use Rattle.bip_model.specs.declared.faults.BuildFault.TheVariants.{Memory};
@@ -19,8 +23,8 @@ use crate::{
 use smallvec::SmallVec;
 use std::alloc::Global;
 
-/// What the lines so far have said: all that is declared whole, and the component that is begun and not ended. The name of
-/// a begun component is the last of the components' names.
+/// What the lines so far have said: all that is declared whole, and the component that is begun and
+/// not ended. The name of a begun component is the last of the components' names.
 #[derive(Drop)]
 pub struct Draft {
     pub system: System,
@@ -71,7 +75,8 @@ impl Component {
     }
 
     fn add_transition(&mut self, transition: Transition) -> Result<(), BuildFault>
-        ensures said { Answers Memory (with_transition transition self.old) (new_or_fault result self.new) }
+        ensures said { Answers Memory (with_transition transition self.old)
+            (new_or_fault result self.new) }
         ensures err { OnErr result (self.new ≡ self.old) }
     {
         if MOST_TRANSITIONS <= self.transitions.len() {
@@ -99,7 +104,8 @@ impl Component {
         target: &Name,
     ) -> Result<(), BuildFault>
         requires { IsComponentSoFar self.old }
-        ensures said { Answers Memory (trans_line port.now source.now target.now self.old) (new_or_fault result self.new) }
+        ensures said { Answers Memory (trans_line port.now source.now target.now self.old)
+            (new_or_fault result self.new) }
         ensures err { OnErr result (self.new ≡ self.old) }
     {
         let Some(port) = self.ports.number_of(port) else {
@@ -144,7 +150,8 @@ impl System {
         words: &[(Name, Name)],
     ) -> Result<SmallVec<(CompId, PortId), 64>, BuildFault>
         requires { IsSystemSoFar self.now }
-        ensures { result_map_both (λ found. found.items) (λ e. e) result ≡ participants_named self.now [] words.now }
+        ensures { result_map_both (λ found. found.items) (λ e. e) result
+            ≡ participants_named self.now [] words.now }
     {
         let mut found = SmallVec::new(alloc);
         for word in words {
@@ -166,7 +173,8 @@ impl System {
         participants: &[(CompId, PortId)],
     ) -> Result<(), BuildFault>
         requires { is_known name self.old.interaction_names ≡ false }
-        ensures said { Answers Memory (with_interaction name participants.now self.old) (new_or_fault result self.new) }
+        ensures said { Answers Memory (with_interaction name participants.now self.old)
+            (new_or_fault result self.new) }
         ensures err { OnErr result (self.new ≡ self.old) }
     {
         if MOST_INTERACTIONS <= self.interactions.len() || MOST_PARTICIPANTS < participants.len() {
@@ -239,7 +247,8 @@ impl Draft {
     /// `component NAME`
     pub(crate) fn component(&mut self, alloc: Global, name: Name) -> Result<(), BuildFault>
         requires { IsNone self.old.begun }
-        ensures said { Answers Memory (component_line self.old name) (new_or_fault result self.new) }
+        ensures said { Answers Memory (component_line self.old name)
+            (new_or_fault result self.new) }
         ensures err { OnErr result (self.new ≡ self.old) }
     {
         if self.system.component_names.contains(&name) {
@@ -258,7 +267,8 @@ impl Draft {
     /// `loc NAME`
     pub(crate) fn loc(&mut self, name: Name) -> Result<(), BuildFault>
         requires { IsSome self.old.begun }
-        ensures said { Answers Memory (inside (loc_line name) self.old) (new_or_fault result self.new) }
+        ensures said { Answers Memory (inside (loc_line name) self.old)
+            (new_or_fault result self.new) }
         ensures err { OnErr result (self.new ≡ self.old) }
     {
         match &mut self.begun {
@@ -270,7 +280,8 @@ impl Draft {
     /// `port NAME`
     pub(crate) fn port(&mut self, name: Name) -> Result<(), BuildFault>
         requires { IsSome self.old.begun }
-        ensures said { Answers Memory (inside (port_line name) self.old) (new_or_fault result self.new) }
+        ensures said { Answers Memory (inside (port_line name) self.old)
+            (new_or_fault result self.new) }
         ensures err { OnErr result (self.new ≡ self.old) }
     {
         match &mut self.begun {
@@ -287,7 +298,8 @@ impl Draft {
         target: &Name,
     ) -> Result<(), BuildFault>
         requires { IsSomeAnd self.old.begun IsComponentSoFar }
-        ensures said { Answers Memory (inside (trans_line port.now source.now target.now) self.old) (new_or_fault result self.new) }
+        ensures said { Answers Memory (inside (trans_line port.now source.now target.now) self.old)
+            (new_or_fault result self.new) }
         ensures err { OnErr result (self.new ≡ self.old) }
     {
         match &mut self.begun {
@@ -328,7 +340,8 @@ impl Draft {
         words: &[(Name, Name)],
     ) -> Result<(), BuildFault>
         requires { IsSystemSoFar self.old.system }
-        ensures said { Answers Memory (interaction_line self.old name words.now) (new_or_fault result self.new) }
+        ensures said { Answers Memory (interaction_line self.old name words.now)
+            (new_or_fault result self.new) }
         ensures err { OnErr result (self.new ≡ self.old) }
     {
         if self.system.interaction_names.contains(&name) {

@@ -1,6 +1,7 @@
 //! Why a call of this crate refuses.
 ghost use Rattle.std.specs.Prelude.{◌≡◌, Some};
-ghost use Rattle.bip_model.specs.Faults.{number_of_not_now, text_of_not_now, number_of_build, text_of_build, number_of_class, text_of_class};
+ghost use Rattle.bip_model.specs.Faults.{number_of_not_now, text_of_not_now, number_of_build};
+ghost use Rattle.bip_model.specs.Faults.{text_of_build, number_of_class, text_of_class};
 
 use crate::InterId;
 use std::fmt;
@@ -93,8 +94,8 @@ impl BuildFault {
 /// Why lists of interactions are no classes of a model.
 #[derive(Debug, Drop, Error)]
 pub enum ClassFault {
-    /// An interaction in no class, in two or twice in one, one that the model lacks, an empty class, two classes
-    /// of one name, or more than 32.
+    /// An interaction in no class, in two or twice in one, one that the model lacks, an empty
+    /// class, two classes of one name, or more than 32.
     NotAPartition,
     /// Want of memory.
     Memory,

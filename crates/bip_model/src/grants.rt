@@ -1,5 +1,6 @@
 //! Wants and grants: which components an interaction moves or looks at, and with which numbers.
-ghost use Rattle.std.specs.Prelude.{◌≡◌, ◌≤◌, ◌<◌, ◌↔◌, length, slice_index, All, IsTrue, IsSome, IfSome};
+ghost use Rattle.std.specs.Prelude.{◌≡◌, ◌≤◌, ◌<◌, ◌↔◌, length, slice_index, All, IsTrue, IsSome};
+ghost use Rattle.std.specs.Prelude.{IfSome};
 ghost use Rattle.std.specs.List.Sorted.{IsStrictlyIncreasing};
 ghost use Rattle.std.specs.List.{list_any};
 ghost use Rattle.bip_model.specs.declared.grants.Want.{Want};
@@ -29,8 +30,8 @@ pub struct Want {
     pub role: Role,
 }
 
-/// One to 32 wants, kept in place: components strictly rise, numbers are at least 1, and one want or more
-/// moves its component (docs/DEFINITIONS.md, "Wants"). Contracts see them as the list.
+/// One to 32 wants, kept in place: components strictly rise, numbers are at least 1, and one want
+/// or more moves its component (docs/DEFINITIONS.md, "Wants"). Contracts see them as the list.
 #[derive(Drop)]
 pub struct Wants {
     wants: SmallVec<Want, 32>,

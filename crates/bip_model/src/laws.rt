@@ -1,10 +1,13 @@
 //! The laws above the definitions: what a reviewer reads to know what they mean. Each call does
 //! nothing, and has the laws for its contract.
 ghost use Rattle.std.specs.Prelude.{◌≡◌, ℕ, ◌↔◌, List, [], ◌∷◌, ◌++◌, Ok, IsNone};
-ghost use Rattle.bip_model.specs.Drafts.{component_line, end_line, inside, interaction_line, loc_line, port_line, trans_line};
+ghost use Rattle.bip_model.specs.Drafts.{component_line, end_line, inside, interaction_line};
+ghost use Rattle.bip_model.specs.Drafts.{loc_line, port_line, trans_line};
 ghost use Rattle.bip_model.specs.Growth.{KeepsDraft};
 ghost use Rattle.bip_model.specs.Histories.{IsGreatestUsed, IsHistory, MovesOnceEach, used_by};
-ghost use Rattle.bip_model.specs.Laws.{Commute, EnabledWhereAllCanGo, EndsAfterItsLast, GoesOnByWhatMayRun, IsLocal, OneTransition, OthersStay, ParticipantsGo, StatesLeadToStates};
+ghost use Rattle.bip_model.specs.Laws.{Commute, EnabledWhereAllCanGo, EndsAfterItsLast};
+ghost use Rattle.bip_model.specs.Laws.{GoesOnByWhatMayRun, IsLocal, OneTransition, OthersStay};
+ghost use Rattle.bip_model.specs.Laws.{ParticipantsGo, StatesLeadToStates};
 ghost use Rattle.bip_model.specs.Parts.{IsSystem};
 ghost use Rattle.bip_model.specs.Wants.{IsFresh, raised};
 ghost use Rattle.bip_model.specs.declared.drafts.Draft.{Draft};
@@ -24,23 +27,31 @@ pub fn step_laws()
     ensures run { (m : System) → GoesOnByWhatMayRun m }
 {}
 
-/// A line that is taken keeps all that earlier lines said: names, components, interactions, and what the component that is
-/// begun has declared (docs/DEFINITIONS.md, "Model lines").
+/// A line that is taken keeps all that earlier lines said: names, components, interactions, and
+/// what the component that is begun has declared (docs/DEFINITIONS.md, "Model lines").
 pub fn builder_laws()
-    ensures component { (d e : Draft) (name : List ℕ) → IsNone d.begun → component_line d name ≡ Ok e → KeepsDraft d e }
+    ensures component { (d e : Draft) (name : List ℕ) → IsNone d.begun
+        → component_line d name ≡ Ok e → KeepsDraft d e }
     ensures loc { (d e : Draft) (name : List ℕ) → inside (loc_line name) d ≡ Ok e → KeepsDraft d e }
-    ensures port { (d e : Draft) (name : List ℕ) → inside (port_line name) d ≡ Ok e → KeepsDraft d e }
-    ensures trans { (d e : Draft) (port source target : List ℕ) → inside (trans_line port source target) d ≡ Ok e → KeepsDraft d e }
+    ensures port { (d e : Draft) (name : List ℕ) → inside (port_line name) d ≡ Ok e
+        → KeepsDraft d e }
+    ensures trans { (d e : Draft) (port source target : List ℕ)
+        → inside (trans_line port source target) d ≡ Ok e → KeepsDraft d e }
     ensures end { (d e : Draft) → end_line d ≡ Ok e → KeepsDraft d e }
-    ensures interaction { (d e : Draft) (name : List ℕ) (words : List (List ℕ × List ℕ)) → IsNone d.begun
+    ensures interaction { (d e : Draft) (name : List ℕ) (words : List (List ℕ × List ℕ))
+        → IsNone d.begun
         → interaction_line d name words ≡ Ok e → KeepsDraft d e }
 {}
 
-/// What one more grant does to the used numbers and to a history, that a used number is the greatest that was granted,
-/// and that a history moves no component twice with one number (docs/DEFINITIONS.md, "Used numbers and histories").
+/// What one more grant does to the used numbers and to a history, that a used number is the
+/// greatest that was granted, and that a history moves no component twice with one number
+/// (docs/DEFINITIONS.md, "Used numbers and histories").
 pub fn history_laws()
-    ensures used { (floor : ℕ → ℕ) (gs : List Grant) (g : Grant) → used_by floor (gs ++ g ∷ []) ≡ raised (used_by floor gs) g.wants }
-    ensures greatest { (floor : ℕ → ℕ) (gs : List Grant) (c : ℕ) → IsGreatestUsed floor gs c (used_by floor gs c) }
-    ensures history { (floor : ℕ → ℕ) (gs : List Grant) (g : Grant) → IsHistory floor (gs ++ g ∷ []) ↔ (IsHistory floor gs × IsFresh (used_by floor gs) g.wants) }
+    ensures used { (floor : ℕ → ℕ) (gs : List Grant) (g : Grant)
+        → used_by floor (gs ++ g ∷ []) ≡ raised (used_by floor gs) g.wants }
+    ensures greatest { (floor : ℕ → ℕ) (gs : List Grant) (c : ℕ)
+        → IsGreatestUsed floor gs c (used_by floor gs c) }
+    ensures history { (floor : ℕ → ℕ) (gs : List Grant) (g : Grant) → IsHistory floor (gs ++ g ∷ [])
+        ↔ (IsHistory floor gs × IsFresh (used_by floor gs) g.wants) }
     ensures once { (floor : ℕ → ℕ) (gs : List Grant) → IsHistory floor gs → MovesOnceEach gs }
 {}

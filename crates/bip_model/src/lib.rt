@@ -1,4 +1,5 @@
-//! Flat models of components that move together: their declared parts, their states and the joint step.
+//! Flat models of components that move together: their declared parts, their states and the joint
+//! step.
 #![tactic(auto)]
 
 mod building;

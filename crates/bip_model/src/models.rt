@@ -72,7 +72,8 @@ impl Model {
 
     /// The number of the component with this name, if the model has one.
     pub fn component(&self, name: &Name) -> Option<CompId>
-        ensures { option_map (λ c. c.0) result ≡ position (same_text name.now) self.now.component_names }
+        ensures { option_map (λ c. c.0) result
+            ≡ position (same_text name.now) self.now.component_names }
     {
         let number = self.system.component_names.number_of(name)?;
         Some(CompId(number as u16))
@@ -80,7 +81,8 @@ impl Model {
 
     /// The number of the interaction with this name, if the model has one.
     pub fn interaction(&self, name: &Name) -> Option<InterId>
-        ensures { option_map (λ a. a.0) result ≡ position (same_text name.now) self.now.interaction_names }
+        ensures { option_map (λ a. a.0) result
+            ≡ position (same_text name.now) self.now.interaction_names }
     {
         let number = self.system.interaction_names.number_of(name)?;
         Some(InterId(number as u16))

@@ -1,7 +1,10 @@
 //! Names, and lists of names that are numbered in order of first sight.
-ghost use Rattle.std.specs.Prelude.{◌≡◌, ◌↔◌, [], ◌∷◌, ◌++◌, false, length, position, IsSome, IfSome, OnOk, OnErr};
+ghost use Rattle.std.specs.Prelude.{◌≡◌, ◌↔◌, [], ◌∷◌, ◌++◌, false, length, position, IsSome};
+ghost use Rattle.std.specs.Prelude.{IfSome, OnOk, OnErr};
 ghost use Rattle.std.specs.List.{list_all};
-ghost use Rattle.bip_model.specs.Naming.{IsName, AreApart, is_known, is_reserved, is_spelled_as_name, is_name_start, is_name_byte, same_text};
+ghost use Rattle.bip_model.specs.Naming.{IsName, AreApart, is_known, is_reserved};
+ghost use Rattle.bip_model.specs.Naming.{is_spelled_as_name, is_name_start, is_name_byte};
+ghost use Rattle.bip_model.specs.Naming.{same_text};
 
 use indexmap::IndexSet;
 use std::alloc::{AllocError, Global};
@@ -29,7 +32,8 @@ impl Model for Name {
 
     ghost inverse = { λ v. record { bytes = padded 32 v; len = length v } };
 
-    ghost inverse_ok = { λ n h. remade (λ b l. record { bytes = b; len = l }) 32 n.len n.bytes h.0 };
+    ghost inverse_ok = { λ n h. remade
+        (λ b l. record { bytes = b; len = l }) 32 n.len n.bytes h.0 };
 }
 
 impl PartialEq for Name {

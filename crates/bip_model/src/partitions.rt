@@ -1,5 +1,6 @@
 //! Partitions: the classes into which a model's interactions are parted.
-ghost use Rattle.std.specs.Prelude.{◌≡◌, ◌<◌, ◌≤◌, ◌-◌, ◌^◌, ◌==◌, ◌↔◌, ℕ, IfOk, IsTrue, OnOk, Err, All, length, map, position, slice_get, min, sum_by, Some};
+ghost use Rattle.std.specs.Prelude.{◌≡◌, ◌<◌, ◌≤◌, ◌-◌, ◌^◌, ◌==◌, ◌↔◌, ℕ, IfOk, IsTrue, OnOk, Err};
+ghost use Rattle.std.specs.Prelude.{All, length, map, position, slice_get, min, sum_by, Some};
 ghost use Rattle.std.specs.List.{list_any};
 ghost use Rattle.std.specs.Option.{option_map};
 ghost use Rattle.bip_model.specs.Naming.{AreApart, same_text};
@@ -14,8 +15,8 @@ use std::marker;
 /// How many classes a partition has at most.
 pub const MOST_CLASSES: usize = 32;
 
-/// How many interactions are parted, the names of the classes, and the interactions of each; a name's
-/// place is the number of its class.
+/// How many interactions are parted, the names of the classes, and the interactions of each; a
+/// name's place is the number of its class.
 #[derive(Drop)]
 pub struct Partition {
     pub count: u16,
@@ -45,19 +46,25 @@ impl marker::Model for Classes {
 impl Classes {
     ghost use Rattle.bip_model.specs.Partitions.{AreClassesOf, IsClasses};
 
-    /// The classes of a model, each a name with its interactions. NotAPartition: they are no partition
-    /// (docs/DEFINITIONS.md, "Partitions"); Memory only where they are one.
+    /// The classes of a model, each a name with its interactions. NotAPartition: they are no
+    /// partition (docs/DEFINITIONS.md, "Partitions"); Memory only where they are one.
     pub fn of(
         alloc: Global,
         model: &Model,
         classes: Vec<(Name, Vec<InterId>)>,
     ) -> Result<Classes, ClassFault>
-        ensures partition { OnOk result (IsPartition (λ c. c.0) (λ c. c.1.items) (length model.now.interactions) classes.items) }
+        ensures partition { OnOk result (IsPartition (λ c. c.0) (λ c. c.1.items)
+            (length model.now.interactions) classes.items) }
         ensures names { IfOk result (λ made. made.names ≡ map (λ c. c.0) classes.items) }
-        ensures members { IfOk result (λ made. made.members ≡ map (λ c. in_order (length model.now.interactions) c.1.items) classes.items) }
+        ensures members { IfOk result (λ made. made.members
+            ≡ map (λ c. in_order (length model.now.interactions) c.1.items) classes.items) }
         ensures of_model { IfOk result (AreClassesOf model.now) }
-        ensures refused { result ≡ Err NotAPartition → ¬ IsPartition (λ c. c.0) (λ c. c.1.items) (length model.now.interactions) classes.items }
-        ensures memory { result ≡ Err Memory → IsPartition (λ c. c.0) (λ c. c.1.items) (length model.now.interactions) classes.items }
+        ensures refused { result ≡ Err NotAPartition
+            → ¬ IsPartition (λ c. c.0) (λ c. c.1.items)
+            (length model.now.interactions) classes.items }
+        ensures memory { result ≡ Err Memory
+            → IsPartition (λ c. c.0) (λ c. c.1.items)
+            (length model.now.interactions) classes.items }
     {
         let count = model.interactions().len() as u16;
         if !are_partition(classes.as_slice(), count) {
@@ -165,7 +172,8 @@ fn are_below(class: &[InterId], count: u16) -> bool
 }
 
 fn stand_once(classes: &[(Name, Vec<InterId>)], count: u16) -> bool
-    ensures { IsTrue result ↔ ((a : ℕ) → a < count → sum_by (λ c. times_in c.1.items a) classes.now ≡ 1) }
+    ensures { IsTrue result ↔ ((a : ℕ) → a < count
+        → sum_by (λ c. times_in c.1.items a) classes.now ≡ 1) }
 {
     for number in 0..count {
         if times(classes, InterId(number)) != 1 {

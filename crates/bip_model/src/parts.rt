@@ -1,4 +1,5 @@
-//! The declared parts of a model: components with their locations, ports and transitions, and interactions.
+//! The declared parts of a model: components with their locations, ports and transitions, and
+//! interactions.
 use crate::{CompId, LocId, Names, PortId, Seq};
 
 /// How many components a model has at most.
@@ -22,8 +23,8 @@ pub struct Transition {
     pub target: LocId,
 }
 
-/// What a model declares of one component. Its locations and ports share one space of names, and the first
-/// location is the start.
+/// What a model declares of one component. Its locations and ports share one space of names, and
+/// the first location is the start.
 #[derive(Drop)]
 pub struct Component {
     pub locations: Names,
@@ -31,13 +32,15 @@ pub struct Component {
     pub transitions: Seq<Transition>,
 }
 
-/// What a model declares of one interaction: the port of each component that takes part, by component.
+/// What a model declares of one interaction: the port of each component that takes part, by
+/// component.
 #[derive(Drop)]
 pub struct Interaction {
     pub participants: Seq<(CompId, PortId)>,
 }
 
-/// All that a model declares. A name's place in its list is the number of the component or interaction.
+/// All that a model declares. A name's place in its list is the number of the component or
+/// interaction.
 #[derive(Drop)]
 pub struct System {
     pub component_names: Names,

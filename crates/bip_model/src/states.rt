@@ -4,8 +4,8 @@ ghost use Rattle.std.specs.Prelude.{◌≡◌, ◌↔◌, ◌≤◌, ℕ, [], le
 use crate::{CompId, LocId, Seq};
 use std::marker::Model;
 
-/// The values of a component's variables, at most eight, in order of their numbers. Contracts see them as
-/// the list.
+/// The values of a component's variables, at most eight, in order of their numbers. Contracts see
+/// them as the list.
 #[derive(Clone, Copy, Debug)]
 pub struct Values {
     values: [u32; 8],
@@ -24,7 +24,8 @@ impl Model for Values {
 
     ghost inverse = { λ l. record { values = padded 8 l; len = length l } };
 
-    ghost inverse_ok = { λ v h. remade (λ xs n. record { values = xs; len = n }) 8 v.len v.values h };
+    ghost inverse_ok = { λ v h. remade
+        (λ xs n. record { values = xs; len = n }) 8 v.len v.values h };
 }
 
 impl Values {

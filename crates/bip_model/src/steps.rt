@@ -1,10 +1,12 @@
 //! The steps of a model: what is enabled in a state, and where an interaction leads.
-ghost use Rattle.std.specs.Prelude.{◌≡◌, ◌<◌, ◌↔◌, ℕ, IsTrue, length, slice_get, IfOk, IfSome, OnOk, OnErr, IfErr};
+ghost use Rattle.std.specs.Prelude.{◌≡◌, ◌<◌, ◌↔◌, ℕ, IsTrue, length, slice_get, IfOk, IfSome};
+ghost use Rattle.std.specs.Prelude.{OnOk, OnErr, IfErr};
 ghost use Rattle.std.specs.Option.{option_map};
 ghost use Rattle.bip_model.specs.Moves.{AreOffered, moved};
 ghost use Rattle.bip_model.specs.Parts.{Participant};
 ghost use Rattle.bip_model.specs.States.{IsLocalStateOf, IsStateOf, local_of, state_of};
-ghost use Rattle.bip_model.specs.Steps.{IsEnabled, IsHeldBack, MayRun, after, led, led_all, offered, start_of};
+ghost use Rattle.bip_model.specs.Steps.{IsEnabled, IsHeldBack, MayRun, after, led, led_all};
+ghost use Rattle.bip_model.specs.Steps.{offered, start_of};
 
 use crate::{CompId, InterId, LocId, LocalState, Model, NotNow, PortId, State, Values};
 use std::alloc::{AllocError, Global};
@@ -27,8 +29,8 @@ impl Model {
         Ok(State::of(locals))
     }
 
-    /// Whether an interaction is enabled in a state: each participant's port is offered there. It is not where
-    /// the model has no such interaction, or the state has no such component.
+    /// Whether an interaction is enabled in a state: each participant's port is offered there. It
+    /// is not where the model has no such interaction, or the state has no such component.
     pub fn enabled(&self, state: &State, inter: InterId) -> bool
         ensures { IsTrue result ↔ IsEnabled self.now (state_of state.now) inter.0 }
     {

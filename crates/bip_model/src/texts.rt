@@ -1,10 +1,12 @@
 //! What all texts have in common: lines, words and numbers (docs/DEFINITIONS.md, "Texts").
-ghost use Rattle.std.specs.Prelude.{◌≡◌, ◌⊎◌, ◌<◌, ◌≤◌, ◌∷◌, ◌++◌, [], ◌==◌, not, position, true, false, length, slice_index, IfNone, IfSome, IsTrue};
+ghost use Rattle.std.specs.Prelude.{◌≡◌, ◌⊎◌, ◌<◌, ◌≤◌, ◌∷◌, ◌++◌, [], ◌==◌, not, position, true};
+ghost use Rattle.std.specs.Prelude.{false, length, slice_index, IfNone, IfSome, IsTrue};
 ghost use Rattle.std.specs.Char.{is_ascii_digit};
 ghost use Rattle.std.specs.List.{list_all};
 ghost use Rattle.std.specs.Option.{option_map};
 ghost use Rattle.std.specs.Str.Parse.{digits_value};
-ghost use Rattle.bip_model.specs.Texts.{IsLineAndRest, IsWordAndRest, is_blank, is_line_feed, is_numeral, is_plain, lines, number_of, pair_of, words};
+ghost use Rattle.bip_model.specs.Texts.{IsLineAndRest, IsWordAndRest, is_blank, is_line_feed};
+ghost use Rattle.bip_model.specs.Texts.{is_numeral, is_plain, lines, number_of, pair_of, words};
 
 /// The most digits that a participation number is written with.
 const NUMBER_DIGITS: usize = 20;
@@ -22,7 +24,8 @@ pub fn split_line(text: &[u8]) -> (&[u8], &[u8])
     }
 }
 
-/// Whether each byte of a line can stand in a text: words are of the bytes 21 to 7E, and spaces and tabs part them.
+/// Whether each byte of a line can stand in a text: words are of the bytes 21 to 7E, and spaces and
+/// tabs part them.
 pub fn is_plain(line: &[u8]) -> bool
     ensures { result ≡ is_plain line.now }
 {
