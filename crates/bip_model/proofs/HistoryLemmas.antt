@@ -1,12 +1,19 @@
 -- Histories: one grant more, the greatest number used, and no component moved twice with one number.
-use Rattle.std.proofs.Common.{◌≡◌, ℕ, zero, suc, ◌<◌, ◌≤◌, Bool, true, false, cond, ◌&&◌, eqb, max, List, [], ◌∷◌, ◌++◌, length, Some, refl, ap, subst, eqb-true, inl, inr, arith}
+use Rattle.std.proofs.Common.{◌≡◌, ℕ, zero, suc, ◌<◌, ◌≤◌, Bool, true, false, cond, ◌&&◌, eqb, max, List, [], ◌∷◌, ◌++◌, length, Some, refl, ap, ◌∙◌, get_or, eq-eqb, subst, eqb-true, inl, inr, arith}
 use Rattle.std.specs.Prelude.{slice_get}
 use Rattle.std.proofs.lemmas.Bool.{cases_lt}
 use Rattle.std.proofs.lemmas.List.Elements.{All-cons, All-head, All-nil, All-tail}
 use Rattle.bip_model.specs.declared.grants.Grant.{Grant}
-use Rattle.bip_model.specs.declared.grants.Want.{Want}
-use Rattle.bip_model.specs.Histories.{IsGreatestUsed, IsHistory, MovesOnceEach, used_by}
-use Rattle.bip_model.specs.Wants.{IsFresh, is_moved, moved_in, raised}
+use Rattle.bip_model.specs.declared.wants.Want.{Want}
+use Rattle.bip_model.specs.declared.wants.Role.{Role}
+use Rattle.bip_model.specs.declared.wants.Role.TheVariants.{Moved, Seen}
+use Rattle.bip_model.specs.Laws.{HistoryGoesOn, MovedIsWanted, MovesBy, UsedGoesOn}
+use Rattle.bip_model.proofs.ListLemmas.{below_later, neq_eqb}
+use Rattle.bip_model.proofs.ParticipantLemmas.{increasing_tail}
+use Rattle.std.specs.List.Sorted.{IsStrictlyIncreasing}
+use Rattle.std.proofs.lemmas.Bool.Decides.{eqb_tells}
+use Rattle.bip_model.specs.Grants.{IsGreatestUsed, IsHistory, MovesOnceEach, used_by}
+use Rattle.bip_model.specs.Wants.{IsFresh, components_of, is_moved, moved_in, raised}
 
 pub used_by-push : (floor : ℕ → ℕ) (gs : List Grant) (g : Grant) → used_by floor (gs ++ g ∷ []) ≡ raised (used_by floor gs) g.wants
 used_by-push floor [] g = refl
@@ -94,3 +101,52 @@ moves_once floor (x ∷ xs) history (suc i) zero c g h at_i at_j moves same =
     absurd (omega arith)
 moves_once floor (x ∷ xs) history (suc i) (suc j) c g h at_i at_j moves same =
     ap suc (moves_once (raised floor x.wants) xs history.1 i j c g h at_i at_j moves same)
+
+pub used_by-append : UsedGoesOn
+used_by-append floor [] hs = refl
+used_by-append floor (g ∷ gs) hs = used_by-append (raised floor g.wants) gs hs
+
+pub IsHistory-append : HistoryGoesOn
+IsHistory-append floor [] hs = (λ history. (tt, history), λ both. both.1)
+IsHistory-append floor (g ∷ gs) hs =
+    let rest = IsHistory-append (raised floor g.wants) gs hs in (
+      λ history. ((history.0, (rest.0 history.1).0), (rest.0 history.1).1),
+      λ both. (both.0.0, rest.1 (both.0.1, both.1)),
+    )
+
+-- a want behind the first
+later : (w : Want) (ws : List Want) (c n : ℕ) → MovesBy ws c n → MovesBy (w ∷ ws) c n
+later w ws c n by =
+    let within : by.0 < length ws = by.2 in
+    (suc by.0, by.1, omega arith, by.3, by.4)
+
+moves_by : (ws : List Want) (c n : ℕ) → 0 < n → moved_in ws c ≡ n → MovesBy ws c n
+moves_by [] c n some is = absurd (omega arith)
+moves_by (w ∷ ws) c n some is = elim (eqb_tells w.comp.0 c) [
+  | inl here ↦
+      let at : cond (is_moved w.role) w.number (moved_in ws c) ≡ n = rw here.0 at is in
+      by_role (moves_by ws c n some) w.role refl here.1 at
+  | inr other ↦
+      let at : moved_in ws c ≡ n = rw other.0 at is in
+      later w ws c n (moves_by ws c n some at)
+]
+  where
+    by_role : (moved_in ws c ≡ n → MovesBy ws c n) → (role : Role) → w.role ≡ role → w.comp.0 ≡ c → cond (is_moved role) w.number (moved_in ws c) ≡ n → MovesBy (w ∷ ws) c n
+    by_role deep Moved has same at = (0, w, omega arith, refl, (same, has, at))
+    by_role deep Seen has same at = later w ws c n (deep at)
+
+moved_at : (ws : List Want) (k : ℕ) (w : Want) (c n : ℕ) → IsStrictlyIncreasing (components_of ws) → k < length ws → get_or ws k w ≡ w
+    → w.comp.0 ≡ c → w.role ≡ Moved → w.number ≡ n → moved_in ws c ≡ n
+moved_at [] k w c n rising within is same moved number = absurd (omega arith)
+moved_at (v ∷ ws) zero w c n rising within is same moved number =
+    rw (is, eq-eqb w.comp.0 c same, moved) number
+moved_at (v ∷ ws) (suc k) w c n rising within is same moved number =
+    let less : v.comp.0 < (get_or (v ∷ ws) (suc k) w).comp.0 = below_later (λ (u : Want). u.comp.0) (v ∷ ws) rising 0 (suc k) w (omega arith) within in
+    let at : (get_or ws k w).comp.0 ≡ c = ap (λ (u : Want). u.comp.0) is ∙ same in
+    rw (neq_eqb v.comp.0 c (λ e. omega arith)) (moved_at ws k w c n (increasing_tail v.comp.0 (components_of ws) rising) (omega arith) is same moved number)
+
+pub moved_is_wanted : MovedIsWanted
+moved_is_wanted ws c n wants some = (
+  moves_by ws c n some,
+  λ by. moved_at ws by.0 by.1 c n wants.rising by.2 by.3 by.4.0 by.4.1 by.4.2,
+)

@@ -1,6 +1,6 @@
 -- Participants put by component: what stays true of them, and that they are few.
-use Rattle.std.proofs.Common.{◌≡◌, ℕ, zero, suc, ◌+◌, ◌<◌, ◌≤◌, Bool, true, false, cond, eqb, ltb, List, [], ◌∷◌, ◌++◌, length, get_or, drop, Option, None, Some, Ok, Err, refl, sym, ap, ◌∙◌, ◌≢◌, ◌⊎◌, subst, add-one, drop-cons, inl, inr, arith}
-use Rattle.std.specs.Prelude.{All, Result, position, slice_get, insert}
+use Rattle.std.proofs.Common.{◌≡◌, ℕ, zero, suc, ◌+◌, ◌<◌, ◌≤◌, Bool, true, false, cond, eqb, ltb, List, [], ◌∷◌, ◌++◌, length, get_or, drop, Option, None, Some, Ok, Err, refl, sym, ap, ◌∙◌, ◌≢◌, ◌⊎◌, subst, add-one, add-zero, zero-add, drop-cons, inl, inr, arith}
+use Rattle.std.specs.Prelude.{All, Contains, Result, position, slice_get, insert}
 use Rattle.std.specs.List.{AllByRecursion, list_any, position_or_len}
 use Rattle.std.specs.List.Sorted.{IsStrictlyIncreasing}
 use Rattle.std.proofs.lemmas.Bool.{cases_Bool, cases_lt, false≢true, le-ltb, lt-ltb}
@@ -13,6 +13,7 @@ use Rattle.std.proofs.lemmas.Option.{none-some, slice_get_within}
 use Rattle.std.specs.Option.{ok_or}
 use Rattle.std.proofs.lemmas.List.Quantifiers.{position-Some}
 use Rattle.bip_model.specs.Drafts.{number_in, participant_named, participants_named, put_by_component}
+use Rattle.bip_model.specs.Laws.{AreNamed, NamesParticipants}
 use Rattle.bip_model.specs.Naming.{same_text}
 use Rattle.bip_model.specs.Outcomes.{◌>>=◌}
 use Rattle.bip_model.specs.declared.faults.BuildFault.{BuildFault}
@@ -35,7 +36,7 @@ increasing_from_rises (x ∷ y ∷ ys) rises (suc k) within =
     let next : suc k + 1 ≡ suc (k + 1) = omega arith in
     rw next (increasing_from_rises (y ∷ ys) rises.1 k (omega arith))
 
-increasing_tail : (x : ℕ) (xs : List ℕ) → IsStrictlyIncreasing (x ∷ xs) → IsStrictlyIncreasing xs
+pub increasing_tail : (x : ℕ) (xs : List ℕ) → IsStrictlyIncreasing (x ∷ xs) → IsStrictlyIncreasing xs
 increasing_tail x xs increasing k within =
     let next : suc k + 1 ≡ suc (k + 1) = omega arith in
     rw next at (increasing (suc k) (omega arith))
@@ -215,3 +216,64 @@ participants_named-valid m before (word ∷ words) qs valid is =
     go : (q : Participant) → IsPortIn m.components q → (list_any (λ (r : Participant). eqb r.0.0 q.0.0) before ≡ true) ⊎ (list_any (λ (r : Participant). eqb r.0.0 q.0.0) before ≡ false) → cond (list_any (λ (r : Participant). eqb r.0.0 q.0.0) before) (Err Twice) (participants_named m (put_by_component q before) words) ≡ Ok qs → ((p : Participant) → AreParticipants m.components (put_by_component p before) → participants_named m (put_by_component p before) words ≡ Ok qs → AreParticipants m.components qs) → AreParticipants m.components qs
     go q port (inl twice) is' rest = let bad = rw twice at is' in cc
     go q port (inr new) is' rest = rest q (put_valid m.components q before valid port new) (rw new at is')
+
+-- a participant stands among those with one more
+contains-put : (q r : Participant) (qs : List Participant) → Contains qs r → Contains (put_by_component q qs) r
+contains-put q r [] member = absurd (omega (arith, member.1))
+contains-put q r (p ∷ ps) member = elim (ltb q.0.0 p.0.0) as (λ b. Contains (cond b (q ∷ p ∷ ps) (p ∷ put_by_component q ps)) r) [
+  | true ↦ later_member q r (p ∷ ps) member
+  | false ↦ behind (contains-put q r ps) member.0 member.1 member.2
+]
+  where
+    later_member : (a b : Participant) (rs : List Participant) → Contains rs b → Contains (a ∷ rs) b
+    later_member a b rs in' = let within : in'.0 < length rs = in'.1 in (suc in'.0, omega arith, in'.2)
+
+    behind : (Contains ps r → Contains (put_by_component q ps) r) → (k : ℕ) → k < length (p ∷ ps) → get_or (p ∷ ps) k r ≡ r → Contains (p ∷ put_by_component q ps) r
+    behind deep zero within is = (0, omega arith, is)
+    behind deep (suc k) within is = later_member p r (put_by_component q ps) (deep (k, omega arith, is))
+
+-- the one that was put stands there
+pub put-member : (q : Participant) (qs : List Participant) → Contains (put_by_component q qs) q
+put-member q [] = (0, omega arith, refl)
+put-member q (p ∷ ps) = elim (ltb q.0.0 p.0.0) as (λ b. Contains (cond b (q ∷ p ∷ ps) (p ∷ put_by_component q ps)) q) [
+  | true ↦ (0, omega arith, refl)
+  | false ↦
+      let deep = put-member q ps in
+      let within : deep.0 < length (put_by_component q ps) = deep.1 in
+      (suc deep.0, omega arith, deep.2)
+]
+
+-- what stood before the words stands behind them, and so does what each of them names
+named_all : (m : System) (before : List Participant) (words : List (List ℕ × List ℕ)) (qs : List Participant) → participants_named m before words ≡ Ok qs
+    → (length qs ≡ length before + length words) × ((r : Participant) → Contains before r → Contains qs r)
+    × All (λ word. (q : Participant) × (participant_named m word ≡ Ok q) × Contains qs q) words
+named_all m before [] qs is =
+    let e : before ≡ qs = cc in
+    (rw (← e) (sym (add-zero (length before))), λ r member. subst (λ (xs : List Participant). Contains xs r) e member, λ k d within. absurd (omega arith))
+named_all m before (word ∷ words) qs is =
+    let first = bind_ok (participant_named m word) _ qs is in
+    let q : Participant = first.0 in
+    let new = guard (list_any (λ (r : Participant). eqb r.0.0 q.0.0) before) (participants_named m (put_by_component q before) words) qs first.2 in
+    let rest = named_all m (put_by_component q before) words qs new in
+    let longer = length-put q before in
+    let count : length qs ≡ length (put_by_component q before) + length words = rest.0 in
+    (
+      omega arith,
+      λ r member. rest.1 r (contains-put q r before member),
+      All-cons (λ w. (p : Participant) × (participant_named m w ≡ Ok p) × Contains qs p) word words (q, first.1, rest.1 q (put-member q before)) rest.2,
+    )
+  where
+    guard : (b : Bool) (r : Result (List Participant) BuildFault) (y : List Participant) → cond b (Err Twice) r ≡ Ok y → r ≡ Ok y
+    guard true r y at = cc
+    guard false r y at = at
+
+pub names_participants : NamesParticipants
+names_participants m words qs is =
+    let all = named_all m [] words qs is in
+    let none : AreParticipants m.components [] = record { rises = tt; ports = λ k d within. absurd (omega arith) } in
+    let valid = participants_named-valid m [] words qs none is in
+    record {
+      rising = increasing_from_rises (components_in qs) valid.rises;
+      count = all.0 ∙ zero-add (length words);
+      each = all.2;
+    }

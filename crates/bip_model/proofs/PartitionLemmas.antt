@@ -10,6 +10,8 @@ use Rattle.std.proofs.lemmas.List.Elements.{All-cons, All-head, All-tail}
 use Rattle.std.proofs.lemmas.List.FromFn.{get_or-map-range_with_len, get_or-range_with_len, length-map-range_with_len, length-range_with_len}
 use Rattle.std.proofs.lemmas.List.Kept.{IsStrictlyIncreasing-filter}
 use Rattle.std.proofs.lemmas.List.Sums.{count_by-le-length, sum_by-cons}
+use Rattle.bip_model.specs.Laws.{IsInOrder, PartsOrMisplaces, times_parted}
+use Rattle.std.specs.Prelude.{◌⊎◌}
 use Rattle.bip_model.specs.Partitions.{IsClasses, IsPartition, in_order, numbers_in, times_in}
 use Rattle.bip_model.specs.declared.numbering.InterId.{InterId}
 use Rattle.bip_model.specs.declared.partitions.Partition.{Partition}
@@ -217,3 +219,31 @@ classes_of_partition {C} name members count classes kept valid is_count is_names
       (All-each (λ c. All (λ (a : InterId). a.0 < count) (in_order count (members c))) (λ c. known-in_order count (members c)) classes));
   once = λ a within. rw is_members (once-in_order members count a classes (rw is_count at within) (valid.once a (rw is_count at within)));
 }
+
+-- each below a count makes one, or one of them doesn't
+once_or_not : (f : ℕ → ℕ) (count : ℕ) → ((a : ℕ) → a < count → f a ≡ 1) ⊎ ((a : ℕ) × (a < count) × ((f a ≡ 0) ⊎ (1 < f a)))
+once_or_not f zero = inl (λ a within. absurd (omega arith))
+once_or_not f (suc n) = elim (once_or_not f n) [
+  | inr (a, within, times) ↦ inr (a, omega arith, times)
+  | inl each ↦ elim (cases_lt 1 (f n)) [
+      | inl more ↦ inr (n, omega arith, inr more)
+      | inr most ↦ elim (cases_lt 0 (f n)) [
+          | inr none ↦ inr (n, omega arith, inl (omega arith))
+          | inl some ↦ inl (λ a within. elim (cases_lt a n) [ inl before ↦ each a before | inr after' ↦ last a within after' some most ])
+        ]
+    ]
+]
+  where
+    last : (a : ℕ) → a < suc n → n ≤ a → 0 < f n → f n ≤ 1 → f a ≡ 1
+    last a within after' some most =
+        let same : a ≡ n = omega arith in
+        rw same (omega arith)
+
+pub parts_or_misplaces : PartsOrMisplaces
+parts_or_misplaces count classes few apart filled known = elim (once_or_not (times_parted (λ c. c.1) classes) count) [
+  | inl once ↦ inl (record { few = few; apart = apart; filled = filled; known = known; once = once })
+  | inr (a, within, times) ↦ inr (a, record { known = within; times = times })
+]
+
+pub is_in_order : (count : ℕ) (class : List InterId) → IsInOrder count class (in_order count class)
+is_in_order count class = record { rising = rising-in_order count class; members = λ a within. times-in_order count a class within }

@@ -83,7 +83,7 @@ trans_line port source target c =
     >>= λ p. number_in c.locations source
     >>= λ s. number_in c.locations target
     >>= λ t. with_transition
-        (record { port = record { 0 = p }; source = record { 0 = s }; target = record { 0 = t } }) c
+    (record { port = record { 0 = p }; source = record { 0 = s }; target = record { 0 = t } }) c
 
 -- `end` ends the component that is begun
 abbrev pub end_line : Draft → Result Draft BuildFault
@@ -115,13 +115,13 @@ participants_named m before [] = Ok before
 participants_named m before (word ∷ words) =
     participant_named m word
     >>= λ q. (if list_any (λ (r : Participant). r.0.0 == q.0.0) before then Err Twice
-        else participants_named m (put_by_component q before) words)
+    else participants_named m (put_by_component q before) words)
 
 -- an interaction joins those of a system
 abbrev pub with_interaction : List ℕ → List Participant → System → Result System BuildFault
 with_interaction name participants m =
     if nat_le MOST_INTERACTIONS (length m.interactions)
-        || nat_lt MOST_PARTICIPANTS (length participants) then Err TooMany
+    || nat_lt MOST_PARTICIPANTS (length participants) then Err TooMany
     else Ok (record m {
       interaction_names = m.interaction_names ++ name ∷ [];
       interactions = m.interactions ++ record { participants = participants } ∷ [];

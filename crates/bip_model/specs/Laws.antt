@@ -1,13 +1,26 @@
 -- What the definitions mean, in the subject's own words: laws that a reviewer reads.
+use Rattle.std.specs.Prelude.{◌≤◌, ◌⊎◌, Any, Ok, map, min, sum_by}
+use Rattle.std.specs.List.Sorted.{IsStrictlyIncreasing}
 use Rattle.std.specs.Prelude.{◌≡◌, ◌↔◌, ℕ, ◌<◌, false, true, [], ◌∷◌, ◌++◌, List, length, Some}
-use Rattle.std.specs.Prelude.{slice_get, All, Contains}
+use Rattle.std.specs.Prelude.{slice_get, All, Contains, ◌⊎◌, IfSome}
+use Rattle.bip_model.specs.Drafts.{participant_named, participants_named}
+use Rattle.bip_model.specs.Grants.{IsHistory, used_by}
+use Rattle.bip_model.specs.Wants.{IsWants, moved_in}
+use Rattle.bip_model.specs.Naming.{AreApart}
+use Rattle.bip_model.specs.Partitions.{IsPartition, numbers_in, times_in}
+use Rattle.bip_model.specs.Parts.{Participant, components_in}
+use Rattle.bip_model.specs.States.{IsStateOf, State}
+use Rattle.bip_model.specs.Steps.{IsEnabled, IsRun, MayRun, after, end_of, moves, participants_of}
+use Rattle.bip_model.specs.declared.drafts.Draft.{Draft}
+use Rattle.bip_model.specs.declared.grants.Grant.{Grant}
+use Rattle.bip_model.specs.declared.wants.Role.TheVariants.{Moved}
+use Rattle.bip_model.specs.declared.wants.Want.{Want}
+use Rattle.bip_model.specs.declared.numbering.InterId.{InterId}
+use Rattle.bip_model.specs.declared.partitions.TheConstants.{MOST_CLASSES}
 use Rattle.bip_model.specs.declared.parts.Component.{Component}
 use Rattle.bip_model.specs.declared.parts.System.{System}
 use Rattle.bip_model.specs.declared.parts.Transition.{Transition}
 use Rattle.bip_model.specs.declared.states.LocalState.{LocalState}
-use Rattle.bip_model.specs.Parts.{Participant}
-use Rattle.bip_model.specs.States.{IsStateOf, State}
-use Rattle.bip_model.specs.Steps.{IsEnabled, IsRun, MayRun, after, end_of, moves, participants_of}
 
 -- a component that takes no part stays where it is
 abbrev pub OthersStay : System → Type 0
@@ -76,9 +89,90 @@ Commute m =
 abbrev pub EndsAfterItsLast : System → Type 0
 EndsAfterItsLast m =
     (s : State) (before : List ℕ) (a : ℕ)
-        → end_of m s (before ++ a ∷ []) ≡ after m (end_of m s before) a
+    → end_of m s (before ++ a ∷ []) ≡ after m (end_of m s before) a
 
 abbrev pub GoesOnByWhatMayRun : System → Type 0
 GoesOnByWhatMayRun m =
     (s : State) (before : List ℕ) (a : ℕ)
     → IsRun m s (before ++ a ∷ []) ↔ (IsRun m s before × MayRun m (end_of m s before) a)
+
+-- a list with more behind it
+abbrev pub Begins : {X : Type 0} → List X → List X → Type 0
+Begins {X} old new = (more : List X) × (new ≡ old ++ more)
+
+-- a component that has all that it had
+pub record KeepsComponent (old new : Component) : Type 0 where
+  pub locations : Begins old.locations new.locations
+  pub ports : Begins old.ports new.ports
+  pub transitions : Begins old.transitions new.transitions
+
+-- a component that was begun is begun still, or it is ended, and stands behind those ended before
+abbrev pub GoesOn : Draft → Component → Draft → Type 0
+GoesOn old c new =
+    (now : Component) × KeepsComponent c now
+    × ((new.begun ≡ Some now) ⊎ (new.system.components ≡ old.system.components ++ now ∷ []))
+
+-- a draft that has all that it had
+pub record KeepsDraft (old new : Draft) : Type 0 where
+  pub component_names : Begins old.system.component_names new.system.component_names
+  pub components : Begins old.system.components new.system.components
+  pub interaction_names : Begins old.system.interaction_names new.system.interaction_names
+  pub interactions : Begins old.system.interactions new.system.interactions
+  pub begun : IfSome old.begun (λ c. GoesOn old c new)
+
+-- a want of a component with a number moves it
+abbrev pub MovesBy : List Want → ℕ → ℕ → Type 0
+MovesBy wants c n =
+    Any (λ (w : Want). (w.comp.0 ≡ c) × (w.role ≡ Moved) × (w.number ≡ n)) wants
+
+-- wants move a component with a number exactly where one of them says so
+abbrev pub MovedIsWanted : Type 0
+MovedIsWanted =
+    (wants : List Want) (c n : ℕ) → IsWants wants → 0 < n
+    → (moved_in wants c ≡ n) ↔ MovesBy wants c n
+
+-- used numbers and histories of grants in two parts: the second goes on where the first ends
+abbrev pub UsedGoesOn : Type 0
+UsedGoesOn =
+    (floor : ℕ → ℕ) (gs hs : List Grant) → used_by floor (gs ++ hs) ≡ used_by (used_by floor gs) hs
+
+abbrev pub HistoryGoesOn : Type 0
+HistoryGoesOn =
+    (floor : ℕ → ℕ) (gs hs : List Grant)
+    → IsHistory floor (gs ++ hs) ↔ (IsHistory floor gs × IsHistory (used_by floor gs) hs)
+
+-- how often an interaction stands in classes
+abbrev pub times_parted : {C : Type 0} → (C → List InterId) → List C → ℕ → ℕ
+times_parted members classes a = sum_by (λ c. times_in (members c) a) classes
+
+-- an interaction stands in no class, or in two, or twice in one
+pub record IsMisplaced {C : Type 0} (members : C → List InterId) (count : ℕ) (classes : List C) (a : ℕ)
+    : Type 0 where
+  pub known : a < count
+  pub times : (times_parted members classes a ≡ 0) ⊎ (1 < times_parted members classes a)
+
+-- a few named classes of known interactions are a partition, or an interaction is misplaced
+abbrev pub PartsOrMisplaces : Type 0
+PartsOrMisplaces =
+    (count : ℕ) (classes : List (List ℕ × List InterId)) → length classes ≤ MOST_CLASSES
+    → AreApart (map (λ c. c.0) classes) → All (λ c. 0 < length c.1) classes
+    → All (λ c. All (λ (a : InterId). a.0 < count) c.1) classes
+    → IsPartition (λ c. c.0) (λ c. c.1) count classes
+    ⊎ ((a : ℕ) × IsMisplaced (λ c. c.1) count classes a)
+
+-- in order, a class rises, and has each of its members below the count once
+pub record IsInOrder (count : ℕ) (class ordered : List InterId) : Type 0 where
+  pub rising : IsStrictlyIncreasing (numbers_in ordered)
+  pub members : (a : ℕ) → a < count → times_in ordered a ≡ min 1 (times_in class a)
+
+-- the participants that words name: they rise by component, are as many as the words, and have ports
+pub record AreNamed (m : System) (words : List (List ℕ × List ℕ)) (qs : List Participant)
+    : Type 0 where
+  pub rising : IsStrictlyIncreasing (components_in qs)
+  pub count : length qs ≡ length words
+  pub each : All (λ word. (q : Participant) × (participant_named m word ≡ Ok q) × Contains qs q) words
+
+abbrev pub NamesParticipants : Type 0
+NamesParticipants =
+    (m : System) (words : List (List ℕ × List ℕ)) (qs : List Participant)
+    → participants_named m [] words ≡ Ok qs → AreNamed m words qs

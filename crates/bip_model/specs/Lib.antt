@@ -1,7 +1,6 @@
 pub mod Drafts
 pub mod Faults
-pub mod Growth
-pub mod Histories
+pub mod Grants
 pub mod Laws
 pub mod Moves
 pub mod Naming

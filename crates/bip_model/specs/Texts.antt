@@ -49,7 +49,7 @@ words line = filter is_longer (slice_split is_blank line)
 unfoldable pub IsWordAndRest : List ℕ → List ℕ → List ℕ → Type 0
 IsWordAndRest line word rest =
     (blanks : List ℕ) × All (λ b. IsTrue (is_blank b)) blanks × (line ≡ blanks ++ word ++ rest)
-        × ((rest ≡ []) ⊎ IsTrue (is_blank (slice_index rest 0)))
+    × ((rest ≡ []) ⊎ IsTrue (is_blank (slice_index rest 0)))
 
 -- the first word begins with a number sign
 abbrev pub is_comment : List (List ℕ) → Bool
@@ -82,7 +82,7 @@ is_numeral most word = nat_lt 0 (length word) && nat_le (length word) most
 abbrev pub number_of : List ℕ → Option ℕ
 number_of word =
     if is_numeral 20 word && nat_lt 0 (digits_value 10 word)
-        && nat_lt (digits_value 10 word) (2 ^ 64) then Some (digits_value 10 word) else None
+    && nat_lt (digits_value 10 word) (2 ^ 64) then Some (digits_value 10 word) else None
 
 -- what stands before and after the first such byte of a word
 abbrev pub pair_of : ℕ → List ℕ → Option (List ℕ × List ℕ)

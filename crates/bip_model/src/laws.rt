@@ -3,15 +3,19 @@
 ghost use Rattle.std.specs.Prelude.{◌≡◌, ℕ, ◌↔◌, List, [], ◌∷◌, ◌++◌, Ok, IsNone};
 ghost use Rattle.bip_model.specs.Drafts.{component_line, end_line, inside, interaction_line};
 ghost use Rattle.bip_model.specs.Drafts.{loc_line, port_line, trans_line};
-ghost use Rattle.bip_model.specs.Growth.{KeepsDraft};
-ghost use Rattle.bip_model.specs.Histories.{IsGreatestUsed, IsHistory, MovesOnceEach, used_by};
+ghost use Rattle.bip_model.specs.Laws.{KeepsDraft};
+ghost use Rattle.bip_model.specs.Grants.{IsGreatestUsed, IsHistory, MovesOnceEach, used_by};
 ghost use Rattle.bip_model.specs.Laws.{Commute, EnabledWhereAllCanGo, EndsAfterItsLast};
 ghost use Rattle.bip_model.specs.Laws.{GoesOnByWhatMayRun, IsLocal, OneTransition, OthersStay};
 ghost use Rattle.bip_model.specs.Laws.{ParticipantsGo, StatesLeadToStates};
 ghost use Rattle.bip_model.specs.Parts.{IsSystem};
 ghost use Rattle.bip_model.specs.Wants.{IsFresh, raised};
 ghost use Rattle.bip_model.specs.declared.drafts.Draft.{Draft};
+ghost use Rattle.bip_model.specs.Laws.{HistoryGoesOn, IsInOrder, MovedIsWanted};
+ghost use Rattle.bip_model.specs.Laws.{NamesParticipants, PartsOrMisplaces, UsedGoesOn};
+ghost use Rattle.bip_model.specs.Partitions.{in_order};
 ghost use Rattle.bip_model.specs.declared.grants.Grant.{Grant};
+ghost use Rattle.bip_model.specs.declared.numbering.InterId.{InterId};
 ghost use Rattle.bip_model.specs.declared.parts.System.{System};
 
 /// What the joint step means (docs/DEFINITIONS.md, "The joint step").
@@ -28,7 +32,8 @@ pub fn step_laws()
 {}
 
 /// A line that is taken keeps all that earlier lines said: names, components, interactions, and
-/// what the component that is begun has declared (docs/DEFINITIONS.md, "Model lines").
+/// what the component that is begun has declared. The participants of an interaction are just what
+/// its words name, by component (docs/DEFINITIONS.md, "Model lines").
 pub fn builder_laws()
     ensures component { (d e : Draft) (name : List ℕ) → IsNone d.begun
         → component_line d name ≡ Ok e → KeepsDraft d e }
@@ -41,17 +46,30 @@ pub fn builder_laws()
     ensures interaction { (d e : Draft) (name : List ℕ) (words : List (List ℕ × List ℕ))
         → IsNone d.begun
         → interaction_line d name words ≡ Ok e → KeepsDraft d e }
+    ensures participants { NamesParticipants }
 {}
 
-/// What one more grant does to the used numbers and to a history, that a used number is the
-/// greatest that was granted, and that a history moves no component twice with one number
+/// What wants move; what grants use up, all that they do and one more; that a used number is the
+/// greatest that was granted; and that a history moves no component twice with one number
 /// (docs/DEFINITIONS.md, "Used numbers and histories").
 pub fn history_laws()
+    ensures moved { MovedIsWanted }
     ensures used { (floor : ℕ → ℕ) (gs : List Grant) (g : Grant)
         → used_by floor (gs ++ g ∷ []) ≡ raised (used_by floor gs) g.wants }
     ensures greatest { (floor : ℕ → ℕ) (gs : List Grant) (c : ℕ)
         → IsGreatestUsed floor gs c (used_by floor gs c) }
-    ensures history { (floor : ℕ → ℕ) (gs : List Grant) (g : Grant) → IsHistory floor (gs ++ g ∷ [])
+    ensures history { (floor : ℕ → ℕ) (gs : List Grant) (g : Grant)
+        → IsHistory floor (gs ++ g ∷ [])
         ↔ (IsHistory floor gs × IsFresh (used_by floor gs) g.wants) }
+    ensures used_on { UsedGoesOn }
+    ensures history_on { HistoryGoesOn }
     ensures once { (floor : ℕ → ℕ) (gs : List Grant) → IsHistory floor gs → MovesOnceEach gs }
+{}
+
+/// What it means that lists are no partition, and what stands in a class
+/// (docs/DEFINITIONS.md, "Partitions").
+pub fn partition_laws()
+    ensures parts { PartsOrMisplaces }
+    ensures order { (count : ℕ) (class : List InterId)
+        → IsInOrder count class (in_order count class) }
 {}

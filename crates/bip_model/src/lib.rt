@@ -17,12 +17,13 @@ mod sequence;
 mod states;
 mod steps;
 mod texts;
+mod wants;
 
 pub use building::Builder;
 pub use drafts::Draft;
 pub use faults::{BuildFault, ClassFault, NotNow};
-pub use grants::{Grant, MOST_WANTS, Role, Want, Wants};
-pub use laws::{builder_laws, history_laws, step_laws};
+pub use grants::Grant;
+pub use laws::{builder_laws, history_laws, partition_laws, step_laws};
 pub use models::Model;
 pub use naming::{Name, Names};
 pub use numbering::{ClassId, CompId, InterId, LocId, Number, PortId};
@@ -31,6 +32,7 @@ pub use parts::{Component, Interaction, System, Transition};
 pub use sequence::Seq;
 pub use states::{LocalState, State, Values};
 pub use texts::{is_plain, parse_number, split_line, split_pair, split_word};
+pub use wants::{MOST_WANTS, Role, Want, Wants};
 
 #[cfg(test)]
 mod tests;

@@ -111,7 +111,7 @@ impl State {
     pub(crate) fn put(&mut self, comp: CompId, local: LocalState)
         ensures { (c : ℕ) → state_of self.new c
             ≡ (if c == comp.0 then option_map (λ _. local) (state_of self.old c)
-                else state_of self.old c) }
+            else state_of self.old c) }
     {
         if (comp.0 as usize) < self.locals.len() {
             self.locals.set(comp.0 as usize, local);

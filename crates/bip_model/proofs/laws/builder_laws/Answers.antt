@@ -1,5 +1,6 @@
 use Rattle.bip_model.specs.Drafts.{loc_line, port_line, trans_line}
 use Rattle.bip_model.proofs.GrowthLemmas.{component_grows, end_grows, inside_grows, interaction_grows, loc_grows, port_grows, trans_grows}
+use Rattle.bip_model.proofs.ParticipantLemmas.{names_participants}
 use Rattle.bip_model.proofs.laws.builder_laws.Goals as goal
 
 pub returns-clause-component : goal.returns-clause-component
@@ -19,3 +20,6 @@ returns-clause-end c = end_grows
 
 pub returns-clause-interaction : goal.returns-clause-interaction
 returns-clause-interaction c = interaction_grows
+
+pub returns-clause-participants : goal.returns-clause-participants
+returns-clause-participants c = names_participants

@@ -1,4 +1,4 @@
-use Rattle.bip_model.proofs.HistoryLemmas.{used_by-push, greatest_used, IsHistory-push, IsHistory-pop, moves_once}
+use Rattle.bip_model.proofs.HistoryLemmas.{IsHistory-append, IsHistory-pop, IsHistory-push, greatest_used, moved_is_wanted, moves_once, used_by-append, used_by-push}
 use Rattle.bip_model.proofs.laws.history_laws.Goals as goal
 
 pub returns-clause-used : goal.returns-clause-used
@@ -12,3 +12,12 @@ returns-clause-history c = λ floor gs g. (IsHistory-pop floor gs g, λ both. Is
 
 pub returns-clause-once : goal.returns-clause-once
 returns-clause-once c = moves_once
+
+pub returns-clause-moved : goal.returns-clause-moved
+returns-clause-moved c = moved_is_wanted
+
+pub returns-clause-used_on : goal.returns-clause-used_on
+returns-clause-used_on c = used_by-append
+
+pub returns-clause-history_on : goal.returns-clause-history_on
+returns-clause-history_on c = IsHistory-append

@@ -1,6 +1,6 @@
 -- What a list of grants has used up.
-use Rattle.std.specs.Prelude.{◌≡◌, ◌⊎◌, ℕ, ◌<◌, ◌≤◌, List, [], ◌∷◌, Some, All, Contains, slice_get}
-use Rattle.std.specs.Prelude.{⊤}
+use Rattle.std.specs.Prelude.{◌≡◌, ◌⊎◌, ℕ, ◌<◌, ◌≤◌, List, [], ◌∷◌, Some, All, Contains}
+use Rattle.std.specs.Prelude.{slice_get, ⊤}
 use Rattle.bip_model.specs.declared.grants.Grant.{Grant}
 use Rattle.bip_model.specs.Wants.{IsFresh, moved_in, raised}
 
@@ -18,7 +18,7 @@ IsHistory floor (g ∷ gs) = IsFresh floor g.wants × IsHistory (raised floor g.
 abbrev pub MovesOnceEach : List Grant → Type 0
 MovesOnceEach gs =
     (i j c : ℕ) (g h : Grant) → slice_get gs i ≡ Some g → slice_get gs j ≡ Some h
-        → 0 < moved_in g.wants c → moved_in g.wants c ≡ moved_in h.wants c → i ≡ j
+    → 0 < moved_in g.wants c → moved_in g.wants c ≡ moved_in h.wants c → i ≡ j
 
 -- the greatest of a component's floor and the numbers with which grants move it
 pub record IsGreatestUsed (floor : ℕ → ℕ) (gs : List Grant) (c n : ℕ) : Type 0 where
