@@ -256,8 +256,7 @@ named_all m before (word ∷ words) qs is =
     let new = guard (list_any (λ (r : Participant). eqb r.0.0 q.0.0) before) (participants_named m (put_by_component q before) words) qs first.2 in
     let rest = named_all m (put_by_component q before) words qs new in
     let longer = length-put q before in
-    let count : length qs ≡ length (put_by_component q before) + length words = rest.0 in
-    (
+    let count : length qs ≡ length (put_by_component q before) + length words = rest.0 in (
       omega arith,
       λ r member. rest.1 r (contains-put q r before member),
       All-cons (λ w. (p : Participant) × (participant_named m w ≡ Ok p) × Contains qs p) word words (q, first.1, rest.1 q (put-member q before)) rest.2,

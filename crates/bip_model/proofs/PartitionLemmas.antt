@@ -226,12 +226,12 @@ once_or_not f zero = inl (λ a within. absurd (omega arith))
 once_or_not f (suc n) = elim (once_or_not f n) [
   | inr (a, within, times) ↦ inr (a, omega arith, times)
   | inl each ↦ elim (cases_lt 1 (f n)) [
-      | inl more ↦ inr (n, omega arith, inr more)
-      | inr most ↦ elim (cases_lt 0 (f n)) [
-          | inr none ↦ inr (n, omega arith, inl (omega arith))
-          | inl some ↦ inl (λ a within. elim (cases_lt a n) [ inl before ↦ each a before | inr after' ↦ last a within after' some most ])
-        ]
+    | inl more ↦ inr (n, omega arith, inr more)
+    | inr most ↦ elim (cases_lt 0 (f n)) [
+      | inr none ↦ inr (n, omega arith, inl (omega arith))
+      | inl some ↦ inl (λ a within. elim (cases_lt a n) [ inl before ↦ each a before | inr after' ↦ last a within after' some most ])
     ]
+  ]
 ]
   where
     last : (a : ℕ) → a < suc n → n ≤ a → 0 < f n → f n ≤ 1 → f a ≡ 1

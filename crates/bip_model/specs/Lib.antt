@@ -2,6 +2,7 @@ pub mod Drafts
 pub mod Faults
 pub mod Grants
 pub mod Laws
+pub mod Lines
 pub mod Moves
 pub mod Naming
 pub mod Outcomes

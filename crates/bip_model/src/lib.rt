@@ -31,7 +31,7 @@ pub use partitions::{Classes, MOST_CLASSES, Partition};
 pub use parts::{Component, Interaction, System, Transition};
 pub use sequence::Seq;
 pub use states::{LocalState, State, Values};
-pub use texts::{is_plain, parse_number, split_line, split_pair, split_word};
+pub use texts::{Line, is_plain, parse_number, read_words, split_line, split_pair, split_word};
 pub use wants::{MOST_WANTS, Role, Want, Wants};
 
 #[cfg(test)]

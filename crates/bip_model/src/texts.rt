@@ -5,6 +5,8 @@ ghost use Rattle.std.specs.Char.{is_ascii_digit};
 ghost use Rattle.std.specs.List.{list_all};
 ghost use Rattle.std.specs.Option.{option_map};
 ghost use Rattle.std.specs.Str.Parse.{digits_value};
+ghost use Rattle.bip_model.specs.Lines.{words_read};
+ghost use Rattle.bip_model.specs.Texts.{words_said};
 ghost use Rattle.bip_model.specs.Texts.{IsLineAndRest, IsWordAndRest, is_blank, is_line_feed};
 ghost use Rattle.bip_model.specs.Texts.{is_numeral, is_plain, lines, number_of, pair_of, words};
 
@@ -43,6 +45,30 @@ pub fn split_word(line: &[u8]) -> Option<(&[u8], &[u8])>
 {
     let start = word_start(line)?;
     Some(split_first_word(&line[start..]))
+}
+
+/// What a line says, before its words are read.
+pub enum Line<'a> {
+    /// A byte that can stand in no line.
+    BadByte,
+    /// No word, or a comment.
+    Nothing,
+    /// The first word, and what follows it.
+    Words(&'a [u8], &'a [u8]),
+}
+
+/// What a line says: it has a bad byte, also in a comment; it says nothing; or it has words.
+pub fn read_words(line: &[u8]) -> Line<'_>
+    ensures { words_read result ≡ words_said line.now }
+{
+    if !is_plain(line) {
+        return Line::BadByte;
+    }
+    match split_word(line) {
+        None => Line::Nothing,
+        Some((word, _)) if word[0] == b'#' => Line::Nothing,
+        Some((word, rest)) => Line::Words(word, rest),
+    }
 }
 
 // The word at the front of a line that begins with one.
