@@ -4,7 +4,7 @@ use Rattle.std.specs.Fmt.{decimal}
 use Rattle.bip_model.specs.declared.grants.Grant.{Grant}
 use Rattle.bip_model.specs.declared.grants.Want.{Want}
 use Rattle.bip_model.specs.declared.parts.System.{System}
-use Rattle.bip_model.specs.Steps.{State, MayRun}
+use Rattle.bip_model.specs.Steps.{State, IsEnabled, MayRun}
 use Rattle.bip_model.specs.System.{Participant}
 use Rattle.bip_model.specs.Wants.{is_moved}
 use Rattle.bip_replay.specs.declared.faults.BookFault.{BookFault}
@@ -39,9 +39,10 @@ pub record IsLowestWrong (m : System) (used : ℕ → ℕ) (wants : List Want) (
 abbrev pub KnownAreRight : System → (ℕ → ℕ) → List Want → Type 0
 KnownAreRight m used wants = All (λ (w : Want). w.comp.0 < length m.components → HasNextNumber used w) wants
 
--- the fault of a grant in a state, after the used numbers: the first of these that applies; nothing is below another in a plain model
+-- the fault of a grant in a state, after the used numbers: the first of these that applies; its
+-- interaction isn't enabled, or it is and may not run, or it may; a plain model has none below another
 abbrev pub IsFaultOf : System → State → (ℕ → ℕ) → Grant → StepFault → Type 0
-IsFaultOf m s used g NotEnabled = ¬ MayRun m s g.inter.0
+IsFaultOf m s used g NotEnabled = ¬ IsEnabled m s g.inter.0
 IsFaultOf m s used g (Below b) = ⊥
 IsFaultOf m s used g (Number c expected) =
     MayRun m s g.inter.0 × IsLowestWrong m used g.wants c.0 × (expected ≡ expected_after (used c.0))
