@@ -46,7 +46,7 @@ IsFaultOf m s used g NotEnabled = ¬ IsEnabled m s g.inter.0
 IsFaultOf m s used g (Below b) = ⊥
 IsFaultOf m s used g (Number c expected) =
     MayRun m s g.inter.0 × IsLowestWrong m used g.wants c.0 × (expected ≡ expected_after (used c.0))
-IsFaultOf m s used g Parties = MayRun m s g.inter.0 × KnownAreRight m used g.wants × ¬ HasItsParties m g
+IsFaultOf m s used g Parties = MayRun m s g.inter.0 × KnownAreRight m used g.wants × ¬ HasItsParties m s g
 
 -- the same fault, of a book
 abbrev pub of_step : StepFault → BookFault

@@ -1,12 +1,13 @@
 -- Runs of a model with exact numbers: which grant may come next, and what a list of grants leads to.
-use Rattle.std.specs.Prelude.{◌≡◌, ℕ, ◌+◌, ◌≤◌, not, List, [], ◌∷◌, map, filter, All, ⊤}
+use Rattle.std.specs.Prelude.{◌≡◌, ◌↔◌, ℕ, ◌+◌, ◌≤◌, List, [], ◌∷◌, map, All, Any, IsTrue, ⊤}
 use Rattle.bip_model.specs.declared.grants.Grant.{Grant}
+use Rattle.bip_model.specs.declared.grants.Role.{Role}
+use Rattle.bip_model.specs.declared.grants.Role.TheVariants.{Moved, Seen}
 use Rattle.bip_model.specs.declared.grants.Want.{Want}
 use Rattle.bip_model.specs.declared.parts.System.{System}
 use Rattle.bip_model.specs.Histories.{used_by}
-use Rattle.bip_model.specs.Steps.{State, MayRun, after, end_of, participants_of, start_of}
-use Rattle.bip_model.specs.System.{components_in}
-use Rattle.bip_model.specs.Wants.{components_of, is_moved, raised}
+use Rattle.bip_model.specs.Steps.{State, MayRun, after, end_of, moves, start_of}
+use Rattle.bip_model.specs.Wants.{raised}
 
 -- no number is above this one
 abbrev pub last_number : ℕ
@@ -17,24 +18,24 @@ pub record HasNextNumber (used : ℕ → ℕ) (w : Want) : Type 0 where
   pub next : w.number ≡ used w.comp.0 + 1
   pub fits : w.number ≤ last_number
 
--- the components that wants move, in the order of the wants
-abbrev pub components_moved : List Want → List ℕ
-components_moved wants = components_of (filter (λ (w : Want). is_moved w.role) wants)
+-- a component is wanted with a role
+abbrev pub IsWanted : Role → List Want → ℕ → Type 0
+IsWanted role wants c = Any (λ (w : Want). (w.comp.0 ≡ c) × (w.role ≡ role)) wants
 
--- the components that wants only look at, in the order of the wants
-abbrev pub components_seen : List Want → List ℕ
-components_seen wants = components_of (filter (λ (w : Want). not (is_moved w.role)) wants)
+-- an interaction looks at a component in a state; a plain model has no priorities, and looks at none
+abbrev pub IsLookedAt : System → State → ℕ → ℕ → Type 0
+IsLookedAt m s a c = ⊥
 
--- a grant moves the participants of its interaction, and looks at nothing: a plain model has no priorities
-pub record HasItsParties (m : System) (g : Grant) : Type 0 where
-  pub moved : components_moved g.wants ≡ components_in (participants_of m g.inter.0)
-  pub seen : components_seen g.wants ≡ []
+-- a grant moves just the components that its interaction moves, and sees just those that it looks at
+pub record HasItsParties (m : System) (s : State) (g : Grant) : Type 0 where
+  pub moved : (c : ℕ) → IsWanted Moved g.wants c ↔ IsTrue (moves m g.inter.0 c)
+  pub seen : (c : ℕ) → IsWanted Seen g.wants c ↔ IsLookedAt m s g.inter.0 c
 
 -- a grant may come next in a state, after the used numbers
 pub record IsNext (m : System) (s : State) (used : ℕ → ℕ) (g : Grant) : Type 0 where
   pub may : MayRun m s g.inter.0
   pub numbers : All (HasNextNumber used) g.wants
-  pub parties : HasItsParties m g
+  pub parties : HasItsParties m s g
 
 -- grants, each of which may come next where those before it lead
 abbrev pub IsRunFrom : System → State → (ℕ → ℕ) → List Grant → Type 0

@@ -15,7 +15,7 @@ pub returns-then-not-are_parties-clause-fault : goal.returns-then-not-are_partie
 returns-then-not-are_parties-clause-fault c = (
   c.if-not-enabled.ensures.0 refl,
   none_wrong c.args.model.now (used_in c.args.self.now) c.args.wants.now (rw (← c.components.ensures.components) (sym c.in_default.ensures)),
-  not_parties c.args.model.now (record { inter = c.args.inter; wants = c.args.wants.now }) c.participants.result.now c.participants.ensures.participants (sym c.if-not-are_parties.ensures),
+  not_parties c.args.model.now (place_in c.args.self.now.state) (record { inter = c.args.inter; wants = c.args.wants.now }) c.participants.result.now c.participants.ensures.participants c.requires.rising c.participants.ensures.rising (sym c.if-not-are_parties.ensures),
 )
 
 pub returns-clause-next : goal.returns-clause-next

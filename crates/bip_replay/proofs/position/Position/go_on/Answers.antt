@@ -1,14 +1,18 @@
 use Rattle.std.proofs.Common.{◌∙◌, arith}
+use Rattle.std.proofs.lemmas.List.Elements.{Contains-get_or}
+use Rattle.bip_model.specs.Steps.{place_in}
 use Rattle.bip_model.specs.declared.parts.System.{System}
 use Rattle.bip_replay.specs.Positions.{used_in}
 use Rattle.bip_replay.proofs.FaultLemmas.{moved_known}
+use Rattle.bip_replay.proofs.PartyLemmas.{moved_role}
 use Rattle.bip_replay.proofs.UsedLemmas.{raised_more}
 use Rattle.bip_replay.proofs.position.Position.go_on.Goals as goal
 
 pub use_up-requires : goal.use_up-requires
 use_up-requires c = λ moved.
     let m : System = c.args.model.now in
-    let known = moved_known m c.args.inter.0 c.args.wants.now c.components-valid.ensures.valid c.requires.next.parties.moved c.loop-want.want-index _ c.loop-want-test.true moved in
+    let known = moved_known m (place_in c.args.self.now.state) (record { inter = c.args.inter; wants = c.args.wants.now }) _ c.components-valid.ensures.valid c.requires.next.parties
+        (Contains-get_or c.args.wants.now c.loop-want.want-index _ c.loop-want-test.true) (moved_role _ moved) in
     omega (arith, known, c.loop-want.invariant.counted, c.requires.counted)
 
 pub loop-want-preserved : goal.loop-want-preserved
