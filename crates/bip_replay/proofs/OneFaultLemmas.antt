@@ -44,8 +44,8 @@ one_number m used ws c d n k one other is are =
     let expected : n ≡ k = is ∙ (ap (λ (a : ℕ). expected_after (used a)) same ∙ sym are) in
     cc
 
--- a grant has one fault
-one_step : (m : System) (s : State) (used : ℕ → ℕ) (g : Grant) (f h : StepFault) → IsFaultOf m s used g f → IsFaultOf m s used g h → f ≡ h
+-- a grant has one fault at most
+pub one_step : (m : System) (s : State) (used : ℕ → ℕ) (g : Grant) (f h : StepFault) → IsFaultOf m s used g f → IsFaultOf m s used g h → f ≡ h
 one_step m s used g NotEnabled NotEnabled one other = refl
 one_step m s used g NotEnabled (Below b) one other = absurd other
 one_step m s used g NotEnabled (Number c n) one other = absurd (one other.0)

@@ -8,7 +8,10 @@ use Rattle.bip_model.specs.Wants.{raised}
 use Rattle.bip_replay.specs.declared.position.Position.{Position}
 use Rattle.bip_replay.specs.Positions.{Leads, LeadsOn, used_in}
 use Rattle.bip_replay.specs.Runs.{IsModelRun, IsNext, state_after, used_after}
-use Rattle.bip_replay.proofs.RunLemmas.{IsRunFrom-push, end_of-push}
+use Rattle.bip_replay.specs.declared.faults.StepFault.{StepFault}
+use Rattle.bip_replay.specs.Faults.{IsFaultOf}
+use Rattle.bip_replay.proofs.ExactLemmas.{not_next}
+use Rattle.bip_replay.proofs.RunLemmas.{IsRunFrom-last, IsRunFrom-push, end_of-push}
 
 -- what can be next at a position can be next after the grants that lead there
 pub next_after : (m : System) (base : ℕ) (gs : List Grant) (p : Position) (g : Grant) → Leads m base gs p → IsNext m (place_in p.state) (used_in p) g → IsNext m (state_after m gs) (used_after base gs) g
@@ -33,3 +36,11 @@ leads_on m base gs p g q leads next on =
       counted = on.counted ∙ leads.counted;
       based = on.based ∙ leads.based;
     }
+
+-- a grant with a fault at a position doesn't go on from the grants that lead there
+pub stays_out : (m : System) (base : ℕ) (gs : List Grant) (p : Position) (g : Grant) (fault : StepFault) → Leads m base gs p → IsFaultOf m (place_in p.state) (used_in p) g fault → IsModelRun m base (gs ++ g ∷ []) → ⊥
+stays_out m base gs p g fault leads why run =
+    let next : IsNext m (state_after m gs) (used_after base gs) g = IsRunFrom-last m (start_of m) (λ _. base) gs g run in
+    let here : IsNext m (place_in p.state) (used_in p) g =
+    subst (λ (s : State). IsNext m s (used_in p) g) (sym leads.state) (subst (λ (u : ℕ → ℕ). IsNext m (state_after m gs) u g) (sym leads.used) next) in
+    not_next m (place_in p.state) (used_in p) g fault why here

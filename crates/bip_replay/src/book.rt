@@ -1,6 +1,7 @@
 //! The book of a run: its grants, with the position to which they lead.
 ghost use Rattle.std.specs.Prelude.{◌≡◌, ◌≤◌, [], ◌∷◌, ◌++◌, length, IfOk, IfErr, OnOk, OnErr};
 ghost use Rattle.bip_replay.specs.Ledgers.{GoesOn, IsAppendFault};
+ghost use Rattle.bip_replay.specs.declared.faults.BookFault.TheVariants.{Memory};
 ghost use Rattle.bip_replay.specs.Runs.{IsModelRun};
 
 use crate::{BookFault, Position};
@@ -53,11 +54,13 @@ impl<'m> Book<'m> {
     }
 
     /// Appends a grant that can be next, and says how many stood before. Any other grant is refused with its fault,
-    /// and the book stays as it was; so it does without memory, which is asked for last.
+    /// and the book stays as it was; so it does without memory, which is asked for last. Nothing else keeps a grant
+    /// out that can be next.
     pub fn append(&mut self, grant: Grant) -> Result<u64, BookFault>
         ensures count { IfOk result (λ before. before ≡ length self.old.grants) }
         ensures ok { OnOk result (self.new ≡ record self.old { grants = self.old.grants ++ grant ∷ [] }) }
         ensures run { OnOk result (GoesOn self.old grant) }
+        ensures only { GoesOn self.old grant → IfErr result (λ e. e ≡ Memory) }
         ensures fault { IfErr result (λ e. IsAppendFault self.old grant e) }
         ensures err { OnErr result (self.new ≡ self.old) }
     {

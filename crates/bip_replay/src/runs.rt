@@ -29,11 +29,12 @@ pub fn run_laws()
     history_laws();
 }
 
-/// Faults are exact: a grant with a fault can't be next, a trace with a first fault isn't the trace of a run, and a
+/// Faults are exact: a grant with a fault can't be next and has no other fault, a trace with a first fault isn't the trace of a run, and a
 /// trace has one first fault at most (docs/DEFINITIONS.md, "Why a grant can't be next" and "The first fault of a
 /// trace").
 pub fn fault_laws()
     ensures refused { (m : System) (s : State) (used : ℕ → ℕ) (g : Grant) (fault : StepFault) → IsFaultOf m s used g fault → ¬ IsNext m s used g }
+    ensures one_fault { (m : System) (s : State) (used : ℕ → ℕ) (g : Grant) (f h : StepFault) → IsFaultOf m s used g f → IsFaultOf m s used g h → f ≡ h }
     ensures first { (m : System) (base : ℕ) (text : List ℕ) (number : ℕ) (fault : ReplayFault) → IsFirstFault m base text number fault → (gs : List Grant) → grants_of m text ≡ Ok gs → ¬ IsModelRun m base gs }
     ensures one { (m : System) (base : ℕ) (text : List ℕ) (n k : ℕ) (f g : ReplayFault) → IsFirstFault m base text n f → IsFirstFault m base text k g → (n ≡ k) × (f ≡ g) }
 {}
