@@ -6,8 +6,8 @@ use Rattle.bip_replay.specs.declared.faults.BookFault.{BookFault}
 use Rattle.bip_replay.specs.declared.faults.BookFault.TheVariants.{NotEnabled, Below, Number, Parties, Memory}
 use Rattle.bip_replay.specs.declared.faults.StepFault.{StepFault}
 use Rattle.bip_replay.specs.declared.faults.StepFault.TheVariants as step
-use Rattle.bip_replay.specs.Faults.{IsFaultOf}
-use Rattle.bip_replay.specs.Runs.{IsModelRun, state_after, used_after}
+use Rattle.bip_replay.specs.Positions.{IsFaultAt, standing_after}
+use Rattle.bip_replay.specs.Runs.{IsModelRun}
 
 -- a model, a base of numbers, and grants
 pub record Ledger : Type 0 where
@@ -17,7 +17,7 @@ pub record Ledger : Type 0 where
 
 -- the fault of a grant after those of a ledger
 abbrev pub IsFaultAfter : Ledger → Grant → StepFault → Type 0
-IsFaultAfter b g fault = IsFaultOf b.model (state_after b.model b.grants) (used_after b.base b.grants) g fault
+IsFaultAfter b g fault = IsFaultAt (standing_after b.model b.base b.grants) g fault
 
 -- the ledger's grants and this one are a run
 abbrev pub GoesOn : Ledger → Grant → Type 0

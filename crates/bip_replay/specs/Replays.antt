@@ -4,17 +4,16 @@ use Rattle.bip_model.specs.declared.grants.Grant.{Grant}
 use Rattle.bip_model.specs.declared.grants.Want.{Want}
 use Rattle.bip_model.specs.declared.numbering.InterId.{InterId}
 use Rattle.bip_model.specs.declared.parts.System.{System}
-use Rattle.bip_model.specs.Steps.{State, place_in}
+use Rattle.bip_model.specs.Steps.{State}
 use Rattle.bip_model.specs.Texts.{lines}
 use Rattle.bip_replay.specs.declared.faults.LineFault.{LineFault}
 use Rattle.bip_replay.specs.declared.faults.LineFault.TheVariants as line_fault
 use Rattle.bip_replay.specs.declared.faults.ReplayFault.{ReplayFault}
 use Rattle.bip_replay.specs.declared.faults.ReplayFault.TheVariants.{Syntax, Unknown, NotARun, Memory}
 use Rattle.bip_replay.specs.declared.faults.StepFault.{StepFault}
-use Rattle.bip_replay.specs.declared.position.Position.{Position}
 use Rattle.bip_replay.specs.Faults.{IsFaultOf, of_step}
-use Rattle.bip_replay.specs.Positions.{LeadsOn, used_in}
-use Rattle.bip_replay.specs.Runs.{IsModelRun, IsNext, state_after, used_after}
+use Rattle.bip_replay.specs.Positions.{IsNextAt, Standing, standing_on}
+use Rattle.bip_replay.specs.Runs.{IsModelRun, state_after, used_after}
 use Rattle.bip_replay.specs.Traces.{grant_on, grants_from, grants_of}
 
 -- the line reads as a grant with this fault in a state, after the used numbers
@@ -56,18 +55,19 @@ pub record IsRunOf (m : System) (base : ℕ) (text : List ℕ) (count : ℕ) : T
   pub run : IsModelRun m base grants
   pub counted : length grants ≡ count
 
--- a line's grant takes a position on
-pub record TakesOn (m : System) (p : Position) (line : List ℕ) (q : Position) : Type 0 where
+-- a line's grant takes a run on
+pub record TakesOn (p : Standing) (line : List ℕ) (q : Standing) : Type 0 where
   pub grant : Grant
-  pub reads : grant_on m line ≡ Ok (Some grant)
-  pub next : IsNext m (place_in p.state) (used_in p) grant
-  pub on : LeadsOn m p grant q
+  pub reads : grant_on p.model line ≡ Ok (Some grant)
+  pub next : IsNextAt p grant
+  pub on : q ≡ standing_on p grant
 
--- what a line does to a position: its grant takes it on, a line that says nothing leaves it, or the line is at fault
-abbrev pub Takes : System → Position → List ℕ → Result Bool ReplayFault → Position → Type 0
-Takes m p line (Ok true) q = TakesOn m p line q
-Takes m p line (Ok false) q = (grant_on m line ≡ Ok None) × (q ≡ p)
-Takes m p line (Err fault) q = IsLineFault m (place_in p.state) (used_in p) line fault
+-- what a line does to a run: its grant takes it on, a line that says nothing leaves it, or the line
+-- is at fault
+abbrev pub Takes : Standing → List ℕ → Result Bool ReplayFault → Standing → Type 0
+Takes p line (Ok true) q = TakesOn p line q
+Takes p line (Ok false) q = (grant_on p.model line ≡ Ok None) × (q ≡ p)
+Takes p line (Err fault) q = IsLineFault p.model p.state p.used line fault
 
 -- the answer of a reader of one line, and the wants that it left, as what the line says
 abbrev pub as_grant : Result (Option InterId) LineFault → List Want → Result (Option Grant) LineFault

@@ -14,20 +14,19 @@ use std::marker;
 /// numbers and the grants.
 #[derive(Drop)]
 pub struct Book<'m> {
-    model: &'m Model,
-    position: Position,
+    position: Position<'m>,
     grants: Vec<Grant>,
 }
 
 impl<'m> marker::Model for Book<'m> {
     ghost use Rattle.bip_replay.specs.Ledgers.{Ledger};
-    ghost use Rattle.bip_replay.specs.Positions.{Leads};
+    ghost use Rattle.bip_replay.specs.Positions.{Leads, standing_of};
 
     ghost Value = { Ledger };
 
-    ghost view = { λ b. record { model = b.model.now; base = b.position.base; grants = b.grants.items } };
+    ghost view = { λ b. record { model = b.position.model; base = b.position.base; grants = b.grants.items } };
 
-    ghost invariant = { λ b. Leads b.model.now b.position.base b.grants.items b.position };
+    ghost invariant = { λ b. Leads b.position.model b.position.base b.grants.items (standing_of b.position) };
 }
 
 impl<'m> Book<'m> {
@@ -38,7 +37,6 @@ impl<'m> Book<'m> {
     {
         let position = Position::start(alloc, model, base)?;
         Ok(Book {
-            model,
             position,
             grants: Vec::new(alloc),
         })
@@ -66,14 +64,14 @@ impl<'m> Book<'m> {
     {
         let before = self.grants.len() as u64;
         let wants = grant.wants.as_slice();
-        if let Err(fault) = self.position.check(self.model, grant.inter, wants) {
+        if let Err(fault) = self.position.check(grant.inter, wants) {
             return Err(BookFault::of(fault));
         }
         if self.grants.reserve(1).is_err() {
             return Err(BookFault::Memory);
         }
         let wants = grant.wants.as_slice();
-        self.position.go_on(self.model, grant.inter, wants);
+        self.position.go_on(grant.inter, wants);
         let _pushed = self.grants.push(grant);
         Ok(before)
     }

@@ -1,39 +1,66 @@
 //! A position in a run: the state and the used numbers to which grants lead, without the grants.
-ghost use Rattle.std.specs.Prelude.{◌≡◌, ◌≤◌, ◌<◌, ◌+◌, ◌↔◌, ◌&&◌, ◌==◌, not, nat_lt, ℕ, [], length, find, max, IsTrue, if◌then◌else◌, IfOk, IfErr, OnOk, OnErr};
+ghost use Rattle.std.specs.Prelude.{◌≡◌, ◌≤◌, ◌<◌, ◌&&◌, ◌==◌, ℕ, [], All, length, slice_index_or, find, max, if◌then◌else◌, IsTrue, IfOk, IfErr, OnOk, OnErr};
 ghost use Rattle.std.specs.List.{list_all, zip};
 ghost use Rattle.std.specs.List.Sorted.{IsStrictlyIncreasing};
-ghost use Rattle.bip_model.specs.Steps.{place_in};
-ghost use Rattle.bip_model.specs.Wants.{components_of, is_moved};
-ghost use Rattle.bip_replay.specs.Faults.{IsFaultOf, expected_after, has_next_number, is_party};
-ghost use Rattle.bip_replay.specs.Positions.{Leads, LeadsOn, used_in};
-ghost use Rattle.bip_replay.specs.Runs.{HasItsParties, IsNext};
+ghost use Rattle.bip_model.specs.Wants.{components_of, is_moved, raised};
+ghost use Rattle.bip_model.specs.declared.grants.Want.{Want};
+ghost use Rattle.bip_replay.specs.Faults.{is_party};
+ghost use Rattle.bip_replay.specs.Positions.{Leads, standing_of};
 
 use crate::StepFault;
 use bip_model::{CompId, InterId, Model, Number, PortId, Role, Seq, State, Want};
 use std::alloc::{AllocError, Global};
+use std::marker;
 
 /// A position in a run of a model: the state, and for each component its used number. Its next move has one more,
-/// or it is spent. It keeps no grants (docs/DEFINITIONS.md, "Runs with exact numbers").
+/// or it is spent. It keeps no grants (docs/DEFINITIONS.md, "Runs with exact numbers"). Contracts see where the run
+/// stands.
 #[derive(Drop)]
-pub struct Position {
+pub struct Position<'m> {
+    model: &'m Model,
+    base: Number,
     state: State,
     used: Seq<Number>,
-    base: Number,
 }
 
-impl Position {
+impl<'m> marker::Model for Position<'m> {
+    ghost use Rattle.std.specs.Prelude.{◌≡◌, length};
+    ghost use Rattle.bip_replay.specs.Positions.{Kept};
+
+    ghost Value = { Kept };
+
+    ghost view = { λ p. record { model = p.model.now; base = p.base; places = p.state; used = p.used } };
+
+    ghost invariant = { λ p. length p.used ≡ length p.model.now.components };
+}
+
+impl<'m> Position<'m> {
+    ghost use Rattle.bip_replay.specs.Positions.{IsFaultAt, IsNextAt, standing_on};
+
     /// The position of the empty run above a base.
-    pub fn start(alloc: Global, model: &Model, base: Number) -> Result<Position, AllocError>
+    pub fn start(
+        alloc: Global,
+        model: &'m Model,
+        base: Number,
+    ) -> Result<Position<'m>, AllocError>
         requires { base ≤ 18446744073709551614 }
-        ensures { IfOk result (λ p. Leads model.now base [] p) }
+        ensures { IfOk result (λ p. Leads model.now base [] (standing_of p)) }
     {
         let state = model.start(alloc)?;
         let used = vec![in alloc; base; model.components().len()]?;
         Ok(Position {
+            model,
+            base,
             state,
             used: Seq::of(used),
-            base,
         })
+    }
+
+    /// The model that the run is of.
+    pub fn model(&self) -> &'m Model
+        ensures { result.now ≡ self.now.model }
+    {
+        self.model
     }
 
     /// The base of the numbers.
@@ -44,30 +71,25 @@ impl Position {
     }
 
     /// Goes on by a grant of this interaction with these wants, or stays and says why the grant can't be next.
-    pub fn step(&mut self, model: &Model, inter: InterId, wants: &[Want]) -> Result<(), StepFault>
-        requires counted { length self.old.used ≡ length model.now.components }
+    pub fn step(&mut self, inter: InterId, wants: &[Want]) -> Result<(), StepFault>
         requires rising { IsStrictlyIncreasing (components_of wants.now) }
-        ensures next { OnOk result (IsNext model.now (place_in self.old.state) (used_in self.old) (record { inter = inter; wants = wants.now })) }
-        ensures on { OnOk result (LeadsOn model.now self.old (record { inter = inter; wants = wants.now }) self.new) }
-        ensures fault { IfErr result (λ e. IsFaultOf model.now (place_in self.old.state) (used_in self.old) (record { inter = inter; wants = wants.now }) e) }
+        ensures next { OnOk result (IsNextAt (standing_of self.old) (record { inter = inter; wants = wants.now })) }
+        ensures on { OnOk result (standing_of self.new ≡ standing_on (standing_of self.old) (record { inter = inter; wants = wants.now })) }
+        ensures fault { IfErr result (λ e. IsFaultAt (standing_of self.old) (record { inter = inter; wants = wants.now }) e) }
         ensures err { OnErr result (self.new ≡ self.old) }
     {
-        self.check(model, inter, wants)?;
-        self.go_on(model, inter, wants);
+        self.check(inter, wants)?;
+        self.go_on(inter, wants);
         Ok(())
     }
 
     /// Whether a grant of this interaction with these wants can be next, or why not.
-    pub(crate) fn check(
-        &self,
-        model: &Model,
-        inter: InterId,
-        wants: &[Want],
-    ) -> Result<(), StepFault>
+    pub(crate) fn check(&self, inter: InterId, wants: &[Want]) -> Result<(), StepFault>
         requires rising { IsStrictlyIncreasing (components_of wants.now) }
-        ensures next { OnOk result (IsNext model.now (place_in self.now.state) (used_in self.now) (record { inter = inter; wants = wants.now })) }
-        ensures fault { IfErr result (λ e. IsFaultOf model.now (place_in self.now.state) (used_in self.now) (record { inter = inter; wants = wants.now }) e) }
+        ensures next { OnOk result (IsNextAt (standing_of self.now) (record { inter = inter; wants = wants.now })) }
+        ensures fault { IfErr result (λ e. IsFaultAt (standing_of self.now) (record { inter = inter; wants = wants.now }) e) }
     {
+        let model = self.model;
         if !model.enabled(&self.state, inter) {
             return Err(StepFault::NotEnabled);
         }
@@ -79,49 +101,46 @@ impl Position {
         }
         Ok(())
     }
-}
-
-impl Position {
-    ghost use Rattle.bip_replay.specs.Faults.{is_wrong};
 
     /// Makes the step of a grant that can be next.
-    pub(crate) fn go_on(&mut self, model: &Model, inter: InterId, wants: &[Want])
-        requires counted { length self.old.used ≡ length model.now.components }
+    pub(crate) fn go_on(&mut self, inter: InterId, wants: &[Want])
         requires rising { IsStrictlyIncreasing (components_of wants.now) }
-        requires next { IsNext model.now (place_in self.old.state) (used_in self.old) (record { inter = inter; wants = wants.now }) }
-        ensures { LeadsOn model.now self.old (record { inter = inter; wants = wants.now }) self.new }
+        requires next { IsNextAt (standing_of self.old) (record { inter = inter; wants = wants.now }) }
+        ensures { standing_of self.new ≡ standing_on (standing_of self.old) (record { inter = inter; wants = wants.now }) }
     {
-        let _valid = model.components();
-        let _fired = model.fire(&mut self.state, inter);
-        for want in wants {
-            self.use_up(*want);
-        }
+        let _valid = self.model.components();
+        let _fired = self.model.fire(&mut self.state, inter);
+        use_up(&mut self.used, wants);
     }
+}
+
+impl<'m> Position<'m> {
+    ghost use Rattle.bip_replay.specs.Faults.{expected_after, has_next_number, is_wrong};
 
     /// The first want of one of so many components whose number isn't the one that its next move has.
     fn first_wrong(&self, known: usize, wants: &[Want]) -> Option<Want>
-        ensures { result ≡ find (is_wrong known (used_in self.now)) wants.now }
+        ensures { result ≡ find (is_wrong known (standing_of self.now).used) wants.now }
     {
         wants.iter().copied().find(|want| (want.comp.0 as usize) < known
             && !self.has_next_number(*want))
     }
 
     fn has_next_number(&self, want: Want) -> bool
-        ensures { result ≡ has_next_number (used_in self.now) want }
+        ensures { result ≡ has_next_number (standing_of self.now).used want }
     {
         self.used(want.comp).checked_add(1) == Some(want.number)
     }
 
     /// The number that a component's next move has; 0 where it is spent.
     fn expected(&self, comp: CompId) -> Number
-        ensures { result ≡ expected_after (used_in self.now comp.0) }
+        ensures { result ≡ expected_after ((standing_of self.now).used comp.0) }
     {
         self.used(comp).checked_add(1).unwrap_or(0)
     }
 
     /// The used number of a component; the base where the model has no such component.
     pub fn used(&self, comp: CompId) -> Number
-        ensures { result ≡ used_in self.now comp.0 }
+        ensures { result ≡ (standing_of self.now).used comp.0 }
     {
         self.used
             .as_slice()
@@ -129,16 +148,29 @@ impl Position {
             .copied()
             .unwrap_or(self.base)
     }
+}
 
-    fn use_up(&mut self, want: Want)
-        requires { IsTrue (is_moved want.role) → want.comp.0 < length self.old.used }
-        ensures used { (c : ℕ) → used_in self.new c ≡ (if (want.comp.0 == c) && is_moved want.role then max (used_in self.old c) want.number else used_in self.old c) }
-        ensures rest { (self.new.state ≡ self.old.state) × (self.new.base ≡ self.old.base) × (length self.new.used ≡ length self.old.used) }
-    {
-        if want.role == Role::Moved {
-            let used = self.used(want.comp).max(want.number);
-            self.used.set(want.comp.0 as usize, used);
-        }
+/// Uses up the numbers of the wants that move their components.
+fn use_up(used: &mut Seq<Number>, wants: &[Want])
+    requires rising { IsStrictlyIncreasing (components_of wants.now) }
+    requires known { All (λ (w : Want). IsTrue (is_moved w.role) → w.comp.0 < length used.old) wants.now }
+    ensures used { (base c : ℕ) → slice_index_or used.new c base ≡ raised (λ d. slice_index_or used.old d base) wants.now c }
+    ensures counted { length used.new ≡ length used.old }
+{
+    for want in wants {
+        use_one(used, *want);
+    }
+}
+
+fn use_one(used: &mut Seq<Number>, want: Want)
+    requires { IsTrue (is_moved want.role) → want.comp.0 < length used.old }
+    ensures used { (base c : ℕ) → slice_index_or used.new c base ≡ (if (want.comp.0 == c) && is_moved want.role then max (slice_index_or used.old c base) want.number else slice_index_or used.old c base) }
+    ensures counted { length used.new ≡ length used.old }
+{
+    if want.role == Role::Moved {
+        let place = want.comp.0 as usize;
+        let before = used.as_slice()[place];
+        used.set(place, before.max(want.number));
     }
 }
 

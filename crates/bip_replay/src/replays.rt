@@ -1,5 +1,6 @@
 //! Replaying a trace: whether the grants of a text are a run of a model.
-ghost use Rattle.std.specs.Prelude.{◌≡◌, ◌≤◌, length, IfOk, IfErr};
+ghost use Rattle.std.specs.Prelude.{◌≤◌, IfOk, IfErr};
+ghost use Rattle.bip_replay.specs.Positions.{standing_of};
 ghost use Rattle.bip_replay.specs.Rooms.{IsRoomy};
 ghost use Rattle.bip_replay.specs.Replays.{IsReplayFault, IsRunOf, Takes};
 
@@ -33,7 +34,7 @@ pub fn replay(
     let mut rest = text;
     while !rest.is_empty() {
         let (line, after) = split_line(rest);
-        let found = match take_line(&mut position, &mut room, model, line) {
+        let found = match take_line(&mut position, &mut room, line) {
             Ok(found) => found,
             Err(fault) => return Err((number, fault)),
         };
@@ -48,21 +49,19 @@ pub fn replay(
 
 // Goes on by the grant of a line: whether it has one, or why the trace stops there.
 fn take_line(
-    position: &mut Position,
+    position: &mut Position<'_>,
     room: &mut Room,
-    model: &Model,
     line: &[u8],
 ) -> Result<bool, ReplayFault>
-    requires counted { length position.old.used ≡ length model.now.components }
     requires room { IsRoomy room.old }
-    ensures takes { Takes model.now position.old line.now result position.new }
+    ensures takes { Takes (standing_of position.old) line.now result (standing_of position.new) }
     ensures room { IsRoomy room.new }
 {
-    match room.read(model, line) {
+    match room.read(position.model(), line) {
         Err(LineFault::Syntax) => Err(ReplayFault::Syntax),
         Err(LineFault::Unknown) => Err(ReplayFault::Unknown),
         Ok(None) => Ok(false),
-        Ok(Some(inter)) => match position.step(model, inter, &room.wants) {
+        Ok(Some(inter)) => match position.step(inter, &room.wants) {
             Ok(()) => Ok(true),
             Err(fault) => Err(ReplayFault::NotARun(BookFault::of(fault))),
         },

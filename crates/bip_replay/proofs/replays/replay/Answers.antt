@@ -1,5 +1,6 @@
 use Rattle.std.proofs.Common.{arith}
 use Rattle.bip_model.specs.declared.parts.System.{System}
+use Rattle.bip_replay.specs.Positions.{standing_of}
 use Rattle.bip_replay.proofs.ReplayLemmas.{so_far-none, so_far-more, so_far-skip}
 use Rattle.bip_replay.proofs.replays.replay.Goals as goal
 use Rattle.bip_replay.proofs.replays.replay.Goals.{then-found, else-found}
@@ -7,7 +8,7 @@ use Rattle.bip_replay.proofs.replays.replay.Goals.{then-found, else-found}
 pub loop-rest-init : goal.loop-rest-init
 loop-rest-init c =
     record {
-      so_far = so_far-none c.args.model.now c.args.base c.args.text.now c.in-Ok.position c.in-Ok.ensures;
+      so_far = so_far-none c.args.model.now c.args.base c.args.text.now (standing_of c.in-Ok.position) c.in-Ok.ensures;
       room = c.in-Ok-new.ensures;
       fits = omega arith;
       below = omega arith;
@@ -21,7 +22,7 @@ loop-rest-preserved c =
     elim c.if-found.branch [
       | then-found w ↦
           let takes = rw w.if-found.true at c.in-Ok-take_line.ensures.takes in
-          let more = so_far-more m c.args.base c.args.text.now c.loop-rest.rest.now c.split_line.result.1.now c.split_line.result.0.now c.loop-rest.position c.take_line.new.position c.loop-rest.count c.loop-rest.number so_far next takes in
+          let more = so_far-more m c.args.base c.args.text.now c.loop-rest.rest.now c.split_line.result.1.now c.split_line.result.0.now (standing_of c.loop-rest.position) (standing_of c.take_line.new.position) c.loop-rest.count c.loop-rest.number so_far next takes in
           record {
             so_far = rw w.count-is more;
             room = c.take_line.ensures.room;
@@ -30,7 +31,7 @@ loop-rest-preserved c =
           }
       | else-found w ↦
           let takes = rw w.if-found.false at c.in-Ok-take_line.ensures.takes in
-          let skip = so_far-skip m c.args.base c.args.text.now c.loop-rest.rest.now c.split_line.result.1.now c.split_line.result.0.now c.loop-rest.position c.take_line.new.position c.loop-rest.count c.loop-rest.number so_far next takes in
+          let skip = so_far-skip m c.args.base c.args.text.now c.loop-rest.rest.now c.split_line.result.1.now c.split_line.result.0.now (standing_of c.loop-rest.position) (standing_of c.take_line.new.position) c.loop-rest.count c.loop-rest.number so_far next takes in
           record {
             so_far = rw w.count-is skip;
             room = c.take_line.ensures.room;

@@ -7,7 +7,7 @@ returns-in-Err-clause-takes c = (
   c.of.ensures,
   record {
     grant = record { inter = c.in-Ok-Some.inter; wants = c.read.new.self.wants.items };
-    reads = sym (rw c.in-Ok-Some.field-0-is at (rw c.in-Ok-Some.is at c.read.ensures.said));
+    reads = sym (rw c.in-Ok-Some.field-0-is at (rw c.in-Ok-Some.is at (rw c.model.ensures at c.read.ensures.said)));
     why = rw c.deref.ensures.value at c.in-Err.ensures.fault;
   },
 )
