@@ -1,39 +1,19 @@
 -- Replays: the lines read so far, and one line more.
-use Rattle.std.proofs.Common.{◌≡◌, ℕ, ◌+◌, true, false, List, [], ◌∷◌, ◌++◌, length, Option, None, Some, Result, Ok, Err, refl, sym, ap, ◌∙◌, subst, arith, append_assoc, length-append}
+use Rattle.std.proofs.Common.{◌≡◌, ℕ, ◌+◌, true, false, List, [], ◌∷◌, ◌++◌, length, Option, None, Some, Result, Ok, Err, refl, sym, ap, ◌∙◌, subst, arith, length-append}
 use Rattle.bip_model.specs.declared.grants.Grant.{Grant}
 use Rattle.bip_model.specs.declared.parts.System.{System}
 use Rattle.bip_model.specs.Texts.{lines}
 use Rattle.bip_replay.specs.declared.faults.LineFault.{LineFault}
+use Rattle.bip_replay.specs.declared.faults.LineFault.TheVariants as line_fault
 use Rattle.bip_replay.specs.declared.faults.ReplayFault.{ReplayFault}
 use Rattle.bip_replay.specs.declared.faults.ReplayFault.TheVariants.{Syntax, Unknown, NotARun, Memory}
+use Rattle.bip_replay.specs.FaultTexts.{replay_of_line}
 use Rattle.bip_replay.specs.Positions.{Leads, Standing}
-use Rattle.bip_replay.specs.Readings.{one_more}
 use Rattle.bip_replay.specs.Replays.{IsFirstFault, IsLineFault, IsReplayFault, IsRunOf, Takes}
 use Rattle.bip_replay.specs.Runs.{state_after, used_after}
-use Rattle.bip_replay.specs.Traces.{before_rest, grant_on, grants_from}
+use Rattle.bip_replay.specs.Traces.{grant_on, grants_from}
+use Rattle.bip_replay.proofs.ReadingLemmas.{grants_from-push, has_read-none, memory_at, moved_on, numbered_on}
 use Rattle.bip_replay.proofs.PositionLemmas.{leads_on}
-
--- the grants of one line more
-pub grants_from-push : (m : System) (n : ℕ) (front : List (List ℕ)) (line : List ℕ) (gs : List Grant) (o : Option Grant) → grants_from m n front ≡ Ok gs → grant_on m line ≡ Ok o → grants_from m n (front ++ line ∷ []) ≡ Ok (one_more gs o)
-grants_from-push m n [] line gs None reads says = rw says (let e : [] ≡ gs = cc in ap (λ (hs : List Grant). Ok hs) e)
-grants_from-push m n [] line gs (Some g) reads says = rw says (let e : [] ≡ gs = cc in ap (λ (hs : List Grant). Ok (hs ++ g ∷ [])) e)
-grants_from-push m n (first ∷ front) line gs o reads says =
-    by_first (λ hs e. grants_from-push m (n + 1) front line hs o e says) (grant_on m first) reads
-  where
-    by_rest : ((hs : List Grant) → grants_from m (n + 1) front ≡ Ok hs → grants_from m (n + 1) (front ++ line ∷ []) ≡ Ok (one_more hs o)) → (g : Grant) → (r : Result (List Grant) (ℕ × LineFault)) → grants_from m (n + 1) front ≡ r → before_rest n (Ok (Some g)) r ≡ Ok gs → before_rest n (Ok (Some g)) (grants_from m (n + 1) (front ++ line ∷ [])) ≡ Ok (one_more gs o)
-    by_rest later g (Err e) is s = cc
-    by_rest later g (Ok hs) is s =
-        let same : g ∷ hs ≡ gs = cc in
-        rw (later hs is) (grown o ∙ ap (λ (ks : List Grant). Ok (one_more ks o)) same)
-      where
-        grown : (p : Option Grant) → before_rest n (Ok (Some g)) (Ok (one_more hs p)) ≡ Ok (one_more (g ∷ hs) p)
-        grown None = refl
-        grown (Some h) = refl
-
-    by_first : ((hs : List Grant) → grants_from m (n + 1) front ≡ Ok hs → grants_from m (n + 1) (front ++ line ∷ []) ≡ Ok (one_more hs o)) → (r : Result (Option Grant) LineFault) → before_rest n r (grants_from m (n + 1) front) ≡ Ok gs → before_rest n r (grants_from m (n + 1) (front ++ line ∷ [])) ≡ Ok (one_more gs o)
-    by_first later (Err e) s = cc
-    by_first later (Ok None) s = later gs s
-    by_first later (Ok (Some g)) s = by_rest later g (grants_from m (n + 1) front) refl s
 
 -- what has been read of a text: the lines in front read as grants that lead here
 pub record SoFar (m : System) (base : ℕ) (text rest : List ℕ) (p : Standing) (count number : ℕ) : Type 0 where
@@ -48,13 +28,6 @@ pub record SoFar (m : System) (base : ℕ) (text rest : List ℕ) (p : Standing)
 pub so_far-none : (m : System) (base : ℕ) (text : List ℕ) (p : Standing) → Leads m base [] p → SoFar m base text text p 0 1
 so_far-none m base text p leads =
     record { front = []; grants = []; split = refl; reads = refl; leads = leads; counted = refl; numbered = refl }
-
-pub moved_on : (front : List (List ℕ)) (text rest after line : List ℕ) → lines text ≡ front ++ lines rest → lines rest ≡ line ∷ lines after → lines text ≡ (front ++ line ∷ []) ++ lines after
-moved_on front text rest after line split next =
-    split ∙ (ap (λ (ls : List (List ℕ)). front ++ ls) next ∙ sym (append_assoc front (line ∷ []) (lines after)))
-
-pub numbered_on : (front : List (List ℕ)) (line : List ℕ) (number : ℕ) → length front + 1 ≡ number → length (front ++ line ∷ []) + 1 ≡ number + 1
-numbered_on front line number e = omega (arith, length-append front (line ∷ []))
 
 -- what a line says to the model of the run
 on_model : (m : System) (base : ℕ) (gs : List Grant) (p : Standing) (line : List ℕ) (r : Result (Option Grant) LineFault) → Leads m base gs p → grant_on p.model line ≡ r → grant_on m line ≡ r
@@ -121,3 +94,23 @@ so_far-fault m base text rest after line p q count number fault so next takes = 
     by_fault Unknown why = first Unknown why
     by_fault (NotARun f) why = first (NotARun f) why
     by_fault Memory why = absurd why
+
+-- a first line that is at fault by itself is the first fault
+pub first_line-fault : (m : System) (base : ℕ) (text line rest : List ℕ) (fault : LineFault) → lines text ≡ line ∷ lines rest → grant_on m line ≡ Err fault → IsReplayFault m base text 1 (replay_of_line fault)
+first_line-fault m base text line rest fault split says = by_fault fault says
+  where
+    at : (f : ReplayFault) → IsLineFault m (state_after m []) (used_after base []) line f → IsFirstFault m base text 1 f
+    at f why = record { front = []; line = line; rest = lines rest; grants = []; split = split; numbered = refl; reads = refl; run = tt; why = why }
+
+    by_fault : (f : LineFault) → grant_on m line ≡ Err f → IsReplayFault m base text 1 (replay_of_line f)
+    by_fault line_fault.Syntax is = at Syntax is
+    by_fault line_fault.Unknown is = at Unknown is
+
+-- where the first line reads, want of memory can be told of it
+pub first_line-reads : (m : System) (base : ℕ) (text line rest : List ℕ) (said : Option Grant) → lines text ≡ line ∷ lines rest → grant_on m line ≡ Ok said → IsReplayFault m base text 1 Memory
+first_line-reads m base text line rest said split says = (refl, memory_at m text text rest line [] 1 said (has_read-none m text) split says)
+
+-- a text without a line has none at fault
+pub no_line-reads : (m : System) (base : ℕ) (text : List ℕ) → length text ≡ 0 → IsReplayFault m base text 1 Memory
+no_line-reads m base [] none = (refl, record { first = omega arith; last = omega arith; clear = refl })
+no_line-reads m base (b ∷ bs) none = absurd (omega arith)

@@ -4,7 +4,6 @@ pub mod Ledgers
 pub mod Positions
 pub mod Readings
 pub mod Replays
-pub mod Rooms
 pub mod Runs
 pub mod TraceLaws
 pub mod Traces

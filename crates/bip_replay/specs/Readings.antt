@@ -1,5 +1,5 @@
 -- Readings of traces: the grants of the lines read so far, and why a text is no trace.
-use Rattle.std.specs.Prelude.{◌≡◌, ℕ, ◌+◌, ◌≤◌, List, [], ◌∷◌, ◌++◌, length, Option, None, Some, Result, Ok, Err}
+use Rattle.std.specs.Prelude.{◌≡◌, ℕ, ◌≤◌, List, [], ◌∷◌, ◌++◌, Option, None, Some, Result, Ok, Err, IsOk, take}
 use Rattle.bip_model.specs.Texts.{last_line, lines}
 use Rattle.bip_model.specs.declared.grants.Grant.{Grant}
 use Rattle.bip_model.specs.declared.parts.System.{System}
@@ -13,15 +13,11 @@ abbrev pub one_more : List Grant → Option Grant → List Grant
 one_more gs None = gs
 one_more gs (Some g) = gs ++ g ∷ []
 
--- memory ran out at the line with this number, and no line before it is at fault
+-- memory is wanting at the line with this number: neither that line nor one before it is at fault
 pub record IsOutOfMemory (m : System) (text : List ℕ) (number : ℕ) : Type 0 where
-  pub front : List (List ℕ)
-  pub rest : List (List ℕ)
-  pub grants : List Grant
-  pub split : lines text ≡ front ++ rest
-  pub numbered : number ≡ length front + 1
+  pub first : 1 ≤ number
   pub last : number ≤ last_line text
-  pub reads : grants_from m 1 front ≡ Ok grants
+  pub clear : IsOk (grants_from m 1 (take number (lines text)))
 
 -- why a text isn't read as a trace
 abbrev pub IsTraceFault : System → List ℕ → ℕ → TraceFault → Type 0

@@ -1,18 +1,16 @@
 -- Replays: a trace as a run, or its first line at fault.
-use Rattle.std.specs.Prelude.{◌≡◌, ℕ, ◌+◌, Bool, true, false, List, ◌∷◌, ◌++◌, length, Option, None, Some, Result, Ok, Err}
+use Rattle.std.specs.Prelude.{◌≡◌, ℕ, ◌+◌, Bool, true, false, List, ◌∷◌, ◌++◌, length, None, Some, Result, Ok, Err}
 use Rattle.bip_model.specs.declared.grants.Grant.{Grant}
-use Rattle.bip_model.specs.declared.grants.Want.{Want}
-use Rattle.bip_model.specs.declared.numbering.InterId.{InterId}
 use Rattle.bip_model.specs.declared.parts.System.{System}
 use Rattle.bip_model.specs.Steps.{State}
 use Rattle.bip_model.specs.Texts.{lines}
-use Rattle.bip_replay.specs.declared.faults.LineFault.{LineFault}
 use Rattle.bip_replay.specs.declared.faults.LineFault.TheVariants as line_fault
 use Rattle.bip_replay.specs.declared.faults.ReplayFault.{ReplayFault}
 use Rattle.bip_replay.specs.declared.faults.ReplayFault.TheVariants.{Syntax, Unknown, NotARun, Memory}
 use Rattle.bip_replay.specs.declared.faults.StepFault.{StepFault}
 use Rattle.bip_replay.specs.Faults.{IsFaultOf, of_step}
 use Rattle.bip_replay.specs.Positions.{IsNextAt, Standing, standing_on}
+use Rattle.bip_replay.specs.Readings.{IsOutOfMemory}
 use Rattle.bip_replay.specs.Runs.{IsModelRun, state_after, used_after}
 use Rattle.bip_replay.specs.Traces.{grant_on, grants_from, grants_of}
 
@@ -41,9 +39,10 @@ pub record IsFirstFault (m : System) (base : ℕ) (text : List ℕ) (number : �
   pub run : IsModelRun m base grants
   pub why : IsLineFault m (state_after m grants) (used_after base grants) line fault
 
--- why a trace isn't replayed: its first fault, or want of memory, which is told of the first line
+-- why a trace isn't replayed: its first fault, or want of memory, which is told of the first line,
+-- where that reads
 abbrev pub IsReplayFault : System → ℕ → List ℕ → ℕ → ReplayFault → Type 0
-IsReplayFault m base text number Memory = number ≡ 1
+IsReplayFault m base text number Memory = (number ≡ 1) × IsOutOfMemory m text 1
 IsReplayFault m base text number Syntax = IsFirstFault m base text number Syntax
 IsReplayFault m base text number Unknown = IsFirstFault m base text number Unknown
 IsReplayFault m base text number (NotARun why) = IsFirstFault m base text number (NotARun why)
@@ -68,9 +67,3 @@ abbrev pub Takes : Standing → List ℕ → Result Bool ReplayFault → Standin
 Takes p line (Ok true) q = TakesOn p line q
 Takes p line (Ok false) q = (grant_on p.model line ≡ Ok None) × (q ≡ p)
 Takes p line (Err fault) q = IsLineFault p.model p.state p.used line fault
-
--- the answer of a reader of one line, and the wants that it left, as what the line says
-abbrev pub as_grant : Result (Option InterId) LineFault → List Want → Result (Option Grant) LineFault
-as_grant (Err fault) wants = Err fault
-as_grant (Ok None) wants = Ok None
-as_grant (Ok (Some inter)) wants = Ok (Some (record { inter = inter; wants = wants }))

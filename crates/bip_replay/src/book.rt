@@ -4,7 +4,7 @@ ghost use Rattle.bip_replay.specs.Ledgers.{GoesOn, IsAppendFault};
 ghost use Rattle.bip_replay.specs.declared.faults.BookFault.TheVariants.{Memory};
 ghost use Rattle.bip_replay.specs.Runs.{IsModelRun};
 
-use crate::{BookFault, Position};
+use crate::{BookFault, GrantRef, Position};
 use bip_model::{Grant, Model, Number};
 use std::alloc::{AllocError, Global};
 use std::marker;
@@ -63,15 +63,11 @@ impl<'m> Book<'m> {
         ensures err { OnErr result (self.new ≡ self.old) }
     {
         let before = self.grants.len() as u64;
-        let wants = grant.wants.as_slice();
-        if let Err(fault) = self.position.check(grant.inter, wants) {
-            return Err(BookFault::of(fault));
-        }
+        self.position.check(&GrantRef::of(&grant))?;
         if self.grants.reserve(1).is_err() {
             return Err(BookFault::Memory);
         }
-        let wants = grant.wants.as_slice();
-        self.position.go_on(grant.inter, wants);
+        self.position.go_on(&GrantRef::of(&grant));
         let _pushed = self.grants.push(grant);
         Ok(before)
     }

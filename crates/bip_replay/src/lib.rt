@@ -3,6 +3,7 @@
 
 mod book;
 mod faults;
+mod grants;
 mod lines;
 mod position;
 mod replays;
@@ -14,7 +15,8 @@ mod traces;
 mod writing;
 
 pub use book::Book;
-pub use faults::{BookFault, LineFault, ReplayFault, StepFault, TraceFault};
+pub use faults::{BookFault, ReplayFault, StepFault, TraceFault};
+pub use grants::GrantRef;
 pub use position::Position;
 pub use replays::replay;
 pub use runs::{fault_laws, run_laws};

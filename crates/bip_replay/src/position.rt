@@ -7,8 +7,8 @@ ghost use Rattle.bip_model.specs.declared.grants.Want.{Want};
 ghost use Rattle.bip_replay.specs.Faults.{is_party};
 ghost use Rattle.bip_replay.specs.Positions.{Leads, standing_of};
 
-use crate::StepFault;
-use bip_model::{CompId, InterId, Model, Number, PortId, Role, Seq, State, Want};
+use crate::{GrantRef, StepFault};
+use bip_model::{CompId, Model, Number, PortId, Role, Seq, State, Want};
 use std::alloc::{AllocError, Global};
 use std::marker;
 
@@ -70,26 +70,26 @@ impl<'m> Position<'m> {
         self.base
     }
 
-    /// Goes on by a grant of this interaction with these wants, or stays and says why the grant can't be next.
-    pub fn step(&mut self, inter: InterId, wants: &[Want]) -> Result<(), StepFault>
-        requires rising { IsStrictlyIncreasing (components_of wants.now) }
-        ensures next { OnOk result (IsNextAt (standing_of self.old) (record { inter = inter; wants = wants.now })) }
-        ensures on { OnOk result (standing_of self.new ≡ standing_on (standing_of self.old) (record { inter = inter; wants = wants.now })) }
-        ensures fault { IfErr result (λ e. IsFaultAt (standing_of self.old) (record { inter = inter; wants = wants.now }) e) }
+    /// Goes on by a grant that can be next; any other is refused with its fault, and the position stays.
+    pub fn step(&mut self, grant: &GrantRef<'_>) -> Result<(), StepFault>
+        ensures next { OnOk result (IsNextAt (standing_of self.old) grant.now) }
+        ensures on { OnOk result (standing_of self.new ≡ standing_on (standing_of self.old) grant.now) }
+        ensures fault { IfErr result (λ e. IsFaultAt (standing_of self.old) grant.now e) }
         ensures err { OnErr result (self.new ≡ self.old) }
     {
-        self.check(inter, wants)?;
-        self.go_on(inter, wants);
+        self.check(grant)?;
+        self.go_on(grant);
         Ok(())
     }
 
-    /// Whether a grant of this interaction with these wants can be next, or why not.
-    pub(crate) fn check(&self, inter: InterId, wants: &[Want]) -> Result<(), StepFault>
-        requires rising { IsStrictlyIncreasing (components_of wants.now) }
-        ensures next { OnOk result (IsNextAt (standing_of self.now) (record { inter = inter; wants = wants.now })) }
-        ensures fault { IfErr result (λ e. IsFaultAt (standing_of self.now) (record { inter = inter; wants = wants.now }) e) }
+    /// Whether a grant can be next, or why not.
+    pub(crate) fn check(&self, grant: &GrantRef<'_>) -> Result<(), StepFault>
+        ensures next { OnOk result (IsNextAt (standing_of self.now) grant.now) }
+        ensures fault { IfErr result (λ e. IsFaultAt (standing_of self.now) grant.now e) }
     {
         let model = self.model;
+        let inter = grant.inter();
+        let wants = grant.wants();
         if !model.enabled(&self.state, inter) {
             return Err(StepFault::NotEnabled);
         }
@@ -103,14 +103,13 @@ impl<'m> Position<'m> {
     }
 
     /// Makes the step of a grant that can be next.
-    pub(crate) fn go_on(&mut self, inter: InterId, wants: &[Want])
-        requires rising { IsStrictlyIncreasing (components_of wants.now) }
-        requires next { IsNextAt (standing_of self.old) (record { inter = inter; wants = wants.now }) }
-        ensures { standing_of self.new ≡ standing_on (standing_of self.old) (record { inter = inter; wants = wants.now }) }
+    pub(crate) fn go_on(&mut self, grant: &GrantRef<'_>)
+        requires { IsNextAt (standing_of self.old) grant.now }
+        ensures { standing_of self.new ≡ standing_on (standing_of self.old) grant.now }
     {
         let _valid = self.model.components();
-        let _fired = self.model.fire(&mut self.state, inter);
-        use_up(&mut self.used, wants);
+        let _fired = self.model.fire(&mut self.state, grant.inter());
+        use_up(&mut self.used, grant.wants());
     }
 }
 

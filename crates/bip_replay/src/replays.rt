@@ -1,18 +1,17 @@
 //! Replaying a trace: whether the grants of a text are a run of a model.
-ghost use Rattle.std.specs.Prelude.{◌≤◌, IfOk, IfErr};
+ghost use Rattle.std.specs.Prelude.{◌≤◌, ℕ, IfOk, IfErr};
 ghost use Rattle.bip_replay.specs.Positions.{standing_of};
-ghost use Rattle.bip_replay.specs.Rooms.{IsRoomy};
 ghost use Rattle.bip_replay.specs.Replays.{IsReplayFault, IsRunOf, Takes};
 
 use crate::rooms::Room;
-use crate::{BookFault, LineFault, Position, ReplayFault};
+use crate::{Position, ReplayFault};
 use bip_model::{Model, Number, split_line};
 use std::alloc::Global;
 
 /// Reads and checks a trace line by line: how many grants it has where they are a run of the model with exact
 /// numbers above a base, or else the number of the first line at fault with its fault; what follows that line doesn't
 /// count (docs/DEFINITIONS.md, "Traces"). Its memory doesn't grow with the trace: it takes some at the start, and
-/// want of it is told of line 1.
+/// want of it is told of line 1, unless that line has a fault of its own.
 pub fn replay(
     alloc: Global,
     model: &Model,
@@ -23,11 +22,9 @@ pub fn replay(
     ensures run { IfOk result (λ count. IsRunOf model.now base text.now count) }
     ensures fault { IfErr result (λ e. IsReplayFault model.now base text.now e.0 e.1) }
 {
+    let mut room = Room::new();
     let Ok(mut position) = Position::start(alloc, model, base) else {
-        return Err((1, ReplayFault::Memory));
-    };
-    let Ok(mut room) = Room::new(alloc) else {
-        return Err((1, ReplayFault::Memory));
+        return Err((1, told_without_memory(&mut room, model, text)));
     };
     let mut count = 0;
     let mut number = 1;
@@ -47,23 +44,31 @@ pub fn replay(
     Ok(count)
 }
 
+// What is told of line 1 where there is no memory to start with: its own fault, if the line has one.
+fn told_without_memory(room: &mut Room, model: &Model, text: &[u8]) -> ReplayFault
+    ensures { (base : ℕ) → IsReplayFault model.now base text.now 1 result }
+{
+    if text.is_empty() {
+        return ReplayFault::Memory;
+    }
+    let (line, _) = split_line(text);
+    match room.read(model, line) {
+        Err(fault) => ReplayFault::from(fault),
+        Ok(_) => ReplayFault::Memory,
+    }
+}
+
 // Goes on by the grant of a line: whether it has one, or why the trace stops there.
 fn take_line(
     position: &mut Position<'_>,
     room: &mut Room,
     line: &[u8],
 ) -> Result<bool, ReplayFault>
-    requires room { IsRoomy room.old }
-    ensures takes { Takes (standing_of position.old) line.now result (standing_of position.new) }
-    ensures room { IsRoomy room.new }
+    ensures { Takes (standing_of position.old) line.now result (standing_of position.new) }
 {
-    match room.read(position.model(), line) {
-        Err(LineFault::Syntax) => Err(ReplayFault::Syntax),
-        Err(LineFault::Unknown) => Err(ReplayFault::Unknown),
-        Ok(None) => Ok(false),
-        Ok(Some(inter)) => match position.step(inter, &room.wants) {
-            Ok(()) => Ok(true),
-            Err(fault) => Err(ReplayFault::NotARun(BookFault::of(fault))),
-        },
-    }
+    let Some(grant) = room.read(position.model(), line)? else {
+        return Ok(false);
+    };
+    position.step(&grant)?;
+    Ok(true)
 }

@@ -1,5 +1,5 @@
 use super::{OWN_WAYS, build, moved};
-use crate::Position;
+use crate::{GrantRef, Position};
 use bip_model::{CompId, InterId, Number, Wants};
 use std::process::Abort;
 use std::test::Fail;
@@ -16,7 +16,7 @@ fn has_used(rt: &impl Abort, position: &Position<'_>, used: (Number, Number, Num
 
 /// Steps by the first interaction: the fault's number, 0 where there is none.
 fn step(position: &mut Position<'_>, wants: &Wants) -> u8 {
-    match position.step(InterId(0), wants.as_slice()) {
+    match position.step(&GrantRef::new(InterId(0), wants.as_slice())) {
         Ok(()) => 0,
         Err(fault) => fault.number(),
     }

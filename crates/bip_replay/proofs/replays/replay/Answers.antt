@@ -9,7 +9,6 @@ pub loop-rest-init : goal.loop-rest-init
 loop-rest-init c =
     record {
       so_far = so_far-none c.args.model.now c.args.base c.args.text.now (standing_of c.in-Ok.position) c.in-Ok.ensures;
-      room = c.in-Ok-new.ensures;
       fits = omega arith;
       below = omega arith;
     }
@@ -21,21 +20,22 @@ loop-rest-preserved c =
     let next = c.split_line.ensures.lines in
     elim c.if-found.branch [
       | then-found w ↦
-          let takes = rw w.if-found.true at c.in-Ok-take_line.ensures.takes in
+          let takes = rw w.if-found.true at c.in-Ok-take_line.ensures in
           let more = so_far-more m c.args.base c.args.text.now c.loop-rest.rest.now c.split_line.result.1.now c.split_line.result.0.now (standing_of c.loop-rest.position) (standing_of c.take_line.new.position) c.loop-rest.count c.loop-rest.number so_far next takes in
           record {
             so_far = rw w.count-is more;
-            room = c.take_line.ensures.room;
             fits = omega arith;
             below = omega arith;
           }
       | else-found w ↦
-          let takes = rw w.if-found.false at c.in-Ok-take_line.ensures.takes in
+          let takes = rw w.if-found.false at c.in-Ok-take_line.ensures in
           let skip = so_far-skip m c.args.base c.args.text.now c.loop-rest.rest.now c.split_line.result.1.now c.split_line.result.0.now (standing_of c.loop-rest.position) (standing_of c.take_line.new.position) c.loop-rest.count c.loop-rest.number so_far next takes in
           record {
             so_far = rw w.count-is skip;
-            room = c.take_line.ensures.room;
             fits = omega arith;
             below = omega arith;
           }
     ]
+
+pub returns-in_default-clause-fault : goal.returns-in_default-clause-fault
+returns-in_default-clause-fault c = c.told_without_memory.ensures c.args.base

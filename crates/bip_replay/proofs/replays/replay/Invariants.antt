@@ -1,6 +1,5 @@
 use Rattle.std.proofs.Common.{◌+◌, ◌<◌, ◌≤◌, length}
 use Rattle.bip_replay.specs.Positions.{standing_of}
-use Rattle.bip_replay.specs.Rooms.{IsRoomy}
 use Rattle.bip_replay.proofs.ReplayLemmas.{SoFar}
 use Rattle.bip_replay.proofs.replays.replay.Given as goal
 
@@ -8,7 +7,6 @@ abbrev pub invariant-loop-rest : goal.invariant-loop-rest
 invariant-loop-rest l =
     record {
       so_far : SoFar l.model l.base l.text l.rest (standing_of l.position) l.count l.number;
-      room : IsRoomy l.room;
       fits : l.number + length l.rest ≤ length l.text + 1;
       below : l.count < l.number;
     }
