@@ -15,7 +15,8 @@ use Rattle.bip_replay.specs.declared.faults.StepFault.TheVariants.{NotEnabled, B
 use Rattle.bip_replay.specs.Faults.{IsFaultOf}
 use Rattle.bip_replay.specs.Replays.{IsFirstFault, IsLineFault}
 use Rattle.bip_replay.specs.Runs.{HasNextNumber, IsModelRun, IsNext, IsRunFrom, interactions_of}
-use Rattle.bip_replay.specs.Traces.{before_rest, grant_on, grants_from, grants_of}
+use Rattle.bip_replay.specs.Lines.{grant_on}
+use Rattle.bip_replay.specs.Traces.{before_rest, grants_from, grants_of}
 
 -- a grant with a fault isn't next
 pub not_next : (m : System) (s : State) (used : ℕ → ℕ) (g : Grant) (fault : StepFault) → IsFaultOf m s used g fault → IsNext m s used g → ⊥

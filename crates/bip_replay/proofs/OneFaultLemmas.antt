@@ -16,7 +16,7 @@ use Rattle.bip_replay.specs.declared.faults.StepFault.TheVariants.{NotEnabled, B
 use Rattle.bip_replay.specs.Faults.{IsFaultOf, IsLowestWrong, expected_after, of_step}
 use Rattle.bip_replay.specs.Replays.{IsFirstFault, IsLineFault}
 use Rattle.bip_replay.specs.Runs.{HasNextNumber}
-use Rattle.bip_replay.specs.Traces.{grant_on}
+use Rattle.bip_replay.specs.Lines.{grant_on}
 use Rattle.bip_replay.proofs.ExactLemmas.{LeadOn, LeadTo, leads-nowhere, leads-on, led, stays}
 
 -- no want of a component is wrong where those below a higher one are right

@@ -9,8 +9,9 @@ use Rattle.bip_replay.specs.declared.faults.TraceFault.{TraceFault}
 use Rattle.bip_replay.specs.declared.faults.TraceFault.TheVariants.{Syntax, Unknown, Memory}
 use Rattle.std.specs.Prelude.{IsOk, take}
 use Rattle.std.proofs.Math.Seq.{take-append_seam}
-use Rattle.bip_replay.specs.Readings.{IsOutOfMemory, IsTraceFault, Reads, one_more}
-use Rattle.bip_replay.specs.Traces.{before_rest, grant_on, grants_from, grants_of}
+use Rattle.bip_replay.specs.Private.{Reads, one_more}
+use Rattle.bip_replay.specs.Traces.{IsOutOfMemory, IsTraceFault, before_rest, grants_from, grants_of}
+use Rattle.bip_replay.specs.Lines.{grant_on}
 
 -- the grants of one line more
 pub grants_from-push : (m : System) (n : ℕ) (front : List (List ℕ)) (line : List ℕ) (gs : List Grant) (o : Option Grant) → grants_from m n front ≡ Ok gs → grant_on m line ≡ Ok o → grants_from m n (front ++ line ∷ []) ≡ Ok (one_more gs o)

@@ -7,11 +7,12 @@ use Rattle.bip_replay.specs.declared.faults.LineFault.{LineFault}
 use Rattle.bip_replay.specs.declared.faults.LineFault.TheVariants as line_fault
 use Rattle.bip_replay.specs.declared.faults.ReplayFault.{ReplayFault}
 use Rattle.bip_replay.specs.declared.faults.ReplayFault.TheVariants.{Syntax, Unknown, NotARun, Memory}
-use Rattle.bip_replay.specs.FaultTexts.{replay_of_line}
-use Rattle.bip_replay.specs.Positions.{Leads, Standing}
-use Rattle.bip_replay.specs.Replays.{IsFirstFault, IsLineFault, IsReplayFault, IsRunOf, Takes}
-use Rattle.bip_replay.specs.Runs.{state_after, used_after}
-use Rattle.bip_replay.specs.Traces.{grant_on, grants_from}
+use Rattle.bip_replay.specs.Faults.{replay_of_line}
+use Rattle.bip_replay.specs.Runs.{StandsAfter, Standing, state_after, used_after}
+use Rattle.bip_replay.specs.Private.{Takes}
+use Rattle.bip_replay.specs.Replays.{IsFirstFault, IsLineFault, IsReplayFault, IsRunOf}
+use Rattle.bip_replay.specs.Lines.{grant_on}
+use Rattle.bip_replay.specs.Traces.{grants_from}
 use Rattle.bip_replay.proofs.ReadingLemmas.{grants_from-push, has_read-none, memory_at, moved_on, numbered_on}
 use Rattle.bip_replay.proofs.PositionLemmas.{leads_on}
 
@@ -21,16 +22,16 @@ pub record SoFar (m : System) (base : ℕ) (text rest : List ℕ) (p : Standing)
   pub grants : List Grant
   pub split : lines text ≡ front ++ lines rest
   pub reads : grants_from m 1 front ≡ Ok grants
-  pub leads : Leads m base grants p
+  pub leads : StandsAfter m base grants p
   pub counted : length grants ≡ count
   pub numbered : length front + 1 ≡ number
 
-pub so_far-none : (m : System) (base : ℕ) (text : List ℕ) (p : Standing) → Leads m base [] p → SoFar m base text text p 0 1
+pub so_far-none : (m : System) (base : ℕ) (text : List ℕ) (p : Standing) → StandsAfter m base [] p → SoFar m base text text p 0 1
 so_far-none m base text p leads =
     record { front = []; grants = []; split = refl; reads = refl; leads = leads; counted = refl; numbered = refl }
 
 -- what a line says to the model of the run
-on_model : (m : System) (base : ℕ) (gs : List Grant) (p : Standing) (line : List ℕ) (r : Result (Option Grant) LineFault) → Leads m base gs p → grant_on p.model line ≡ r → grant_on m line ≡ r
+on_model : (m : System) (base : ℕ) (gs : List Grant) (p : Standing) (line : List ℕ) (r : Result (Option Grant) LineFault) → StandsAfter m base gs p → grant_on p.model line ≡ r → grant_on m line ≡ r
 on_model m base gs p line r leads says = subst (λ (q : Standing). grant_on q.model line ≡ r) leads.there says
 
 pub so_far-skip : (m : System) (base : ℕ) (text rest after line : List ℕ) (p q : Standing) (count number : ℕ) → SoFar m base text rest p count number → lines rest ≡ line ∷ lines after → Takes p line (Ok false) q → SoFar m base text after q count (number + 1)
@@ -40,7 +41,7 @@ so_far-skip m base text rest after line p q count number so next takes =
       grants = so.grants;
       split = moved_on so.front text rest after line so.split next;
       reads = grants_from-push m 1 so.front line so.grants None so.reads (on_model m base so.grants p line (Ok None) so.leads takes.0);
-      leads = subst (λ (r : Standing). Leads m base so.grants r) (sym takes.1) so.leads;
+      leads = subst (λ (r : Standing). StandsAfter m base so.grants r) (sym takes.1) so.leads;
       counted = so.counted;
       numbered = numbered_on so.front line number so.numbered;
     }

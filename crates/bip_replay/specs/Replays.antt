@@ -1,18 +1,17 @@
 -- Replays: a trace as a run, or its first line at fault.
-use Rattle.std.specs.Prelude.{◌≡◌, ℕ, ◌+◌, Bool, true, false, List, ◌∷◌, ◌++◌, length, None, Some, Result, Ok, Err}
-use Rattle.bip_model.specs.declared.grants.Grant.{Grant}
-use Rattle.bip_model.specs.declared.parts.System.{System}
+use Rattle.std.specs.Prelude.{Err, List, Ok, Some, length, ℕ, ◌++◌, ◌+◌, ◌∷◌, ◌≡◌}
 use Rattle.bip_model.specs.Steps.{State}
 use Rattle.bip_model.specs.Texts.{lines}
-use Rattle.bip_replay.specs.declared.faults.LineFault.TheVariants as line_fault
-use Rattle.bip_replay.specs.declared.faults.ReplayFault.{ReplayFault}
-use Rattle.bip_replay.specs.declared.faults.ReplayFault.TheVariants.{Syntax, Unknown, NotARun, Memory}
-use Rattle.bip_replay.specs.declared.faults.StepFault.{StepFault}
+use Rattle.bip_model.specs.declared.grants.Grant.{Grant}
+use Rattle.bip_model.specs.declared.parts.System.{System}
 use Rattle.bip_replay.specs.Faults.{IsFaultOf, of_step}
-use Rattle.bip_replay.specs.Positions.{IsNextAt, Standing, standing_on}
-use Rattle.bip_replay.specs.Readings.{IsOutOfMemory}
+use Rattle.bip_replay.specs.Lines.{grant_on}
 use Rattle.bip_replay.specs.Runs.{IsModelRun, state_after, used_after}
-use Rattle.bip_replay.specs.Traces.{grant_on, grants_from, grants_of}
+use Rattle.bip_replay.specs.Traces.{IsOutOfMemory, grants_from, grants_of}
+use Rattle.bip_replay.specs.declared.faults.LineFault.TheVariants as line_fault
+use Rattle.bip_replay.specs.declared.faults.ReplayFault.TheVariants.{Memory, NotARun, Syntax, Unknown}
+use Rattle.bip_replay.specs.declared.faults.ReplayFault.{ReplayFault}
+use Rattle.bip_replay.specs.declared.faults.StepFault.{StepFault}
 
 -- the line reads as a grant with this fault in a state, after the used numbers
 pub record IsRefused (m : System) (s : State) (used : ℕ → ℕ) (line : List ℕ) (fault : StepFault) : Type 0 where
@@ -53,17 +52,3 @@ pub record IsRunOf (m : System) (base : ℕ) (text : List ℕ) (count : ℕ) : T
   pub reads : grants_of m text ≡ Ok grants
   pub run : IsModelRun m base grants
   pub counted : length grants ≡ count
-
--- a line's grant takes a run on
-pub record TakesOn (p : Standing) (line : List ℕ) (q : Standing) : Type 0 where
-  pub grant : Grant
-  pub reads : grant_on p.model line ≡ Ok (Some grant)
-  pub next : IsNextAt p grant
-  pub on : q ≡ standing_on p grant
-
--- what a line does to a run: its grant takes it on, a line that says nothing leaves it, or the line
--- is at fault
-abbrev pub Takes : Standing → List ℕ → Result Bool ReplayFault → Standing → Type 0
-Takes p line (Ok true) q = TakesOn p line q
-Takes p line (Ok false) q = (grant_on p.model line ≡ Ok None) × (q ≡ p)
-Takes p line (Err fault) q = IsLineFault p.model p.state p.used line fault

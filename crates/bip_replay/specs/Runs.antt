@@ -1,13 +1,15 @@
--- Runs of a model with exact numbers: which grant may come next, and what a list of grants leads to.
-use Rattle.std.specs.Prelude.{◌≡◌, ◌↔◌, ℕ, ◌+◌, ◌≤◌, List, [], ◌∷◌, map, All, Any, IsTrue, ⊤}
+-- Runs of a model with exact numbers: which grant may come next, what a list of grants leads to, and
+-- where a run stands.
+use Rattle.std.specs.Prelude.{All, Any, IsTrue, List, [], map, slice_index_or, ℕ, ⊤, ◌+◌, ◌↔◌, ◌∷◌, ◌≡◌, ◌≤◌}
+use Rattle.bip_model.specs.Histories.{used_by}
+use Rattle.bip_model.specs.Steps.{MayRun, State, after, end_of, moves, place_in, start_of}
+use Rattle.bip_model.specs.Wants.{raised}
 use Rattle.bip_model.specs.declared.grants.Grant.{Grant}
-use Rattle.bip_model.specs.declared.grants.Role.{Role}
 use Rattle.bip_model.specs.declared.grants.Role.TheVariants.{Moved, Seen}
+use Rattle.bip_model.specs.declared.grants.Role.{Role}
 use Rattle.bip_model.specs.declared.grants.Want.{Want}
 use Rattle.bip_model.specs.declared.parts.System.{System}
-use Rattle.bip_model.specs.Histories.{used_by}
-use Rattle.bip_model.specs.Steps.{State, MayRun, after, end_of, moves, start_of}
-use Rattle.bip_model.specs.Wants.{raised}
+use Rattle.bip_model.specs.declared.states.Place.{Place}
 
 -- no number is above this one
 abbrev pub last_number : ℕ
@@ -57,3 +59,40 @@ state_after m gs = end_of m (start_of m) (interactions_of gs)
 -- the used numbers to which grants lead from a base
 abbrev pub used_after : ℕ → List Grant → ℕ → ℕ
 used_after base gs = used_by (λ _. base) gs
+
+-- where a run of a model stands, whose numbers are above a base
+pub record Standing : Type 0 where
+  pub model : System
+  pub base : ℕ
+  pub state : State
+  pub used : ℕ → ℕ
+
+-- what a position keeps of it, component by component
+pub record Kept : Type 0 where
+  pub model : System
+  pub base : ℕ
+  pub places : List Place
+  pub used : List ℕ
+
+-- where a run stands by what is kept; a component that isn't kept has used nothing above the base
+abbrev pub standing_of : Kept → Standing
+standing_of p =
+    record { model = p.model; base = p.base; state = place_in p.places; used = λ c. slice_index_or p.used c p.base }
+
+-- where grants lead from the model's start
+abbrev pub standing_after : System → ℕ → List Grant → Standing
+standing_after m base gs =
+    record { model = m; base = base; state = state_after m gs; used = used_after base gs }
+
+-- where a grant leads
+abbrev pub standing_on : Standing → Grant → Standing
+standing_on p g = record p { state = after p.model p.state g.inter.0; used = raised p.used g.wants }
+
+-- a grant may come next
+abbrev pub IsNextAt : Standing → Grant → Type 0
+IsNextAt p g = IsNext p.model p.state p.used g
+
+-- these grants are a run above the base, and lead here
+pub record StandsAfter (m : System) (base : ℕ) (gs : List Grant) (p : Standing) : Type 0 where
+  pub run : IsModelRun m base gs
+  pub there : p ≡ standing_after m base gs

@@ -1,6 +1,6 @@
 //! The book of a run: its grants, with the position to which they lead.
 ghost use Rattle.std.specs.Prelude.{◌≡◌, ◌≤◌, [], ◌∷◌, ◌++◌, length, IfOk, IfErr, OnOk, OnErr};
-ghost use Rattle.bip_replay.specs.Ledgers.{GoesOn, IsAppendFault};
+ghost use Rattle.bip_replay.specs.Book.{IsRunWith, IsAppendFault};
 ghost use Rattle.bip_replay.specs.declared.faults.BookFault.TheVariants.{Memory};
 ghost use Rattle.bip_replay.specs.Runs.{IsModelRun};
 
@@ -19,14 +19,14 @@ pub struct Book<'m> {
 }
 
 impl<'m> marker::Model for Book<'m> {
-    ghost use Rattle.bip_replay.specs.Ledgers.{Ledger};
-    ghost use Rattle.bip_replay.specs.Positions.{Leads, standing_of};
+    ghost use Rattle.bip_replay.specs.Book.{Content};
+    ghost use Rattle.bip_replay.specs.Runs.{StandsAfter, standing_of};
 
-    ghost Value = { Ledger };
+    ghost Value = { Content };
 
     ghost view = { λ b. record { model = b.position.model; base = b.position.base; grants = b.grants.items } };
 
-    ghost invariant = { λ b. Leads b.position.model b.position.base b.grants.items (standing_of b.position) };
+    ghost invariant = { λ b. StandsAfter b.position.model b.position.base b.grants.items (standing_of b.position) };
 }
 
 impl<'m> Book<'m> {
@@ -57,8 +57,8 @@ impl<'m> Book<'m> {
     pub fn append(&mut self, grant: Grant) -> Result<u64, BookFault>
         ensures count { IfOk result (λ before. before ≡ length self.old.grants) }
         ensures ok { OnOk result (self.new ≡ record self.old { grants = self.old.grants ++ grant ∷ [] }) }
-        ensures run { OnOk result (GoesOn self.old grant) }
-        ensures only { GoesOn self.old grant → IfErr result (λ e. e ≡ Memory) }
+        ensures run { OnOk result (IsRunWith self.old grant) }
+        ensures only { IsRunWith self.old grant → IfErr result (λ e. e ≡ Memory) }
         ensures fault { IfErr result (λ e. IsAppendFault self.old grant e) }
         ensures err { OnErr result (self.new ≡ self.old) }
     {

@@ -1,7 +1,6 @@
 //! Why a call of this crate refuses.
 ghost use Rattle.std.specs.Prelude.{◌≡◌, Some};
-ghost use Rattle.bip_replay.specs.FaultTexts.{number_of_replay, number_of_trace, text_of_replay, text_of_trace};
-ghost use Rattle.bip_replay.specs.Faults.{number_of_step, text_of_step, number_of_book, text_of_book};
+ghost use Rattle.bip_replay.specs.Faults.{number_of_book, number_of_replay, number_of_step, number_of_trace, text_of_book, text_of_replay, text_of_step, text_of_trace};
 
 use bip_model::{CompId, InterId, Number};
 use std::fmt;
@@ -160,7 +159,7 @@ impl TraceFault {
 }
 
 impl From<LineFault> for TraceFault {
-    ghost use Rattle.bip_replay.specs.FaultTexts.{trace_of_line};
+    ghost use Rattle.bip_replay.specs.Faults.{trace_of_line};
 
     ghost from_gives = { λ fault e. e ≡ trace_of_line fault };
 
@@ -213,7 +212,7 @@ impl ReplayFault {
 }
 
 impl From<LineFault> for ReplayFault {
-    ghost use Rattle.bip_replay.specs.FaultTexts.{replay_of_line};
+    ghost use Rattle.bip_replay.specs.Faults.{replay_of_line};
 
     ghost from_gives = { λ fault e. e ≡ replay_of_line fault };
 

@@ -6,7 +6,8 @@ ghost use Rattle.bip_model.specs.Naming.{is_name, same_text};
 ghost use Rattle.bip_model.specs.Texts.{words};
 ghost use Rattle.bip_model.specs.declared.grants.Role.TheVariants.{Moved};
 ghost use Rattle.bip_model.specs.declared.grants.TheConstants.{MOST_WANTS};
-ghost use Rattle.bip_replay.specs.Traces.{as_said, is_named, named_on, put_by_component, said, want_said, wants_known, wants_said, with_want};
+ghost use Rattle.bip_replay.specs.Lines.{is_named, named_on, put_in_order, said, want_said, wants_known, wants_said, with_want};
+ghost use Rattle.bip_replay.specs.Private.{as_said};
 
 use crate::faults::LineFault;
 use arrayvec::ArrayVec;
@@ -165,14 +166,14 @@ pub(crate) fn look_up(wants: &mut ArrayVec<Want, MOST_WANTS>, model: &Model, nam
             number: want.number,
             role: want.role,
         };
-        put_by_component(wants, known);
+        put_in_order(wants, known);
     }
     true
 }
 
-fn put_by_component(wants: &mut ArrayVec<Want, MOST_WANTS>, want: Want)
+fn put_in_order(wants: &mut ArrayVec<Want, MOST_WANTS>, want: Want)
     requires { array_vec_len wants.old < MOST_WANTS }
-    ensures put { wants.new.items ≡ put_by_component want wants.old.items }
+    ensures put { wants.new.items ≡ put_in_order want wants.old.items }
     ensures len { array_vec_len wants.new ≡ array_vec_len wants.old + 1 }
 {
     let end = wants.len();

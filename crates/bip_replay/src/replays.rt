@@ -1,7 +1,8 @@
 //! Replaying a trace: whether the grants of a text are a run of a model.
 ghost use Rattle.std.specs.Prelude.{◌≤◌, ℕ, IfOk, IfErr};
-ghost use Rattle.bip_replay.specs.Positions.{standing_of};
-ghost use Rattle.bip_replay.specs.Replays.{IsReplayFault, IsRunOf, Takes};
+ghost use Rattle.bip_replay.specs.Runs.{standing_of};
+ghost use Rattle.bip_replay.specs.Private.{Takes};
+ghost use Rattle.bip_replay.specs.Replays.{IsReplayFault, IsRunOf};
 
 use crate::rooms::Room;
 use crate::{Position, ReplayFault};

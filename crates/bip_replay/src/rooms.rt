@@ -1,6 +1,6 @@
 //! Room for what a line of a trace says, used again for each line.
 ghost use Rattle.std.specs.Prelude.{◌≡◌};
-ghost use Rattle.bip_replay.specs.Traces.{grant_on};
+ghost use Rattle.bip_replay.specs.Lines.{grant_on};
 
 use crate::GrantRef;
 use crate::faults::LineFault;

@@ -1,8 +1,8 @@
 //! Reading and writing traces.
 ghost use Rattle.std.specs.Prelude.{◌≡◌, Ok, IfOk, IfErr};
-ghost use Rattle.bip_replay.specs.Readings.{IsTraceFault, Reads};
-ghost use Rattle.bip_replay.specs.TraceLaws.{AreOfModel, NamesItsInteraction, SameGrants};
-ghost use Rattle.bip_replay.specs.Traces.{grants_of};
+ghost use Rattle.bip_replay.specs.Private.{Reads};
+ghost use Rattle.bip_replay.specs.Traces.{IsTraceFault, grants_of};
+ghost use Rattle.bip_replay.specs.Laws.{AreOfModel, NamesItsInteraction, SameGrants};
 
 use crate::rooms::Room;
 use crate::TraceFault;
@@ -56,12 +56,3 @@ fn read_one(
             .map_err(|_| TraceFault::Memory),
     }
 }
-
-/// Texts that say the same words, line by line, are the same grants, whatever blanks and skipped lines are between them; the
-/// second word of a grant's line is the name of its interaction; and what is read are grants of the model
-/// (docs/DEFINITIONS.md, "Traces").
-pub fn trace_laws()
-    ensures same { SameGrants }
-    ensures named { NamesItsInteraction }
-    ensures of_model { AreOfModel }
-{}

@@ -1,6 +1,6 @@
 use Rattle.std.proofs.Common.{◌≡◌, [], drop}
 use Rattle.arrayvec.specs.ArrayVec.{array_vec_len}
-use Rattle.bip_replay.specs.Traces.{wants_known}
+use Rattle.bip_replay.specs.Lines.{wants_known}
 use Rattle.bip_replay.proofs.lines.look_up.Given as goal
 
 abbrev pub invariant-loop-want : goal.invariant-loop-want

@@ -1,7 +1,7 @@
 use Rattle.std.proofs.Common.{◌≡◌, [], length}
 use Rattle.bip_model.specs.Texts.{words}
 use Rattle.bip_model.specs.declared.grants.Role.TheVariants.{Moved}
-use Rattle.bip_replay.specs.Traces.{wants_said}
+use Rattle.bip_replay.specs.Lines.{wants_said}
 use Rattle.bip_replay.proofs.lines.read_wants.Given as goal
 
 abbrev pub invariant-loop-word : goal.invariant-loop-word

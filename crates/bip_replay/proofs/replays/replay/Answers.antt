@@ -1,6 +1,6 @@
 use Rattle.std.proofs.Common.{arith}
 use Rattle.bip_model.specs.declared.parts.System.{System}
-use Rattle.bip_replay.specs.Positions.{standing_of}
+use Rattle.bip_replay.specs.Runs.{standing_of}
 use Rattle.bip_replay.proofs.ReplayLemmas.{so_far-none, so_far-more, so_far-skip}
 use Rattle.bip_replay.proofs.replays.replay.Goals as goal
 use Rattle.bip_replay.proofs.replays.replay.Goals.{then-found, else-found}

@@ -1,5 +1,5 @@
 use Rattle.std.proofs.Common.{◌+◌, ◌<◌, ◌≤◌, length}
-use Rattle.bip_replay.specs.Positions.{standing_of}
+use Rattle.bip_replay.specs.Runs.{standing_of}
 use Rattle.bip_replay.proofs.ReplayLemmas.{SoFar}
 use Rattle.bip_replay.proofs.replays.replay.Given as goal
 

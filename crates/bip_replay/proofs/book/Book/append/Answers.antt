@@ -1,5 +1,5 @@
 use Rattle.std.proofs.Common.{◌≡◌, [], ◌∷◌, ◌++◌, refl, rules, subst, sym}
-use Rattle.bip_replay.specs.Positions.{Leads, Standing, standing_of, standing_on}
+use Rattle.bip_replay.specs.Runs.{StandsAfter, Standing, standing_of, standing_on}
 use Rattle.bip_replay.proofs.PositionLemmas.{run_on, leads_on, stays_out}
 use Rattle.bip_replay.proofs.book.Book.append.Goals as goal
 
@@ -14,7 +14,7 @@ invariant_of-self-2 c =
     let next = rw c.of.ensures at c.in_ok-check.ensures.next in
     let on = rw c.of-2.ensures at c.go_on.ensures in
     rw items
-    (subst (λ (q : Standing). Leads q.model q.base (c.self.inside.grants.items ++ c.args.grant ∷ []) q) (sym on)
+    (subst (λ (q : Standing). StandsAfter q.model q.base (c.self.inside.grants.items ++ c.args.grant ∷ []) q) (sym on)
     (leads_on c.self.inside.position.model c.self.inside.position.base c.self.inside.grants.items (standing_of c.self.inside.position) (standing_on (standing_of c.self.inside.position) c.args.grant) c.args.grant c.self.invariant next refl))
 
 pub returns-clause-run : goal.returns-clause-run

@@ -1,5 +1,5 @@
 use Rattle.std.proofs.Common.{sym}
-use Rattle.bip_replay.specs.Traces.{NamedGrant}
+use Rattle.bip_replay.specs.Lines.{NamedGrant}
 use Rattle.bip_replay.proofs.KnownLemmas.{known-IsWants}
 use Rattle.bip_replay.proofs.NamedLemmas.{named_on-stand}
 use Rattle.bip_replay.proofs.rooms.Room.read.Goals as goal

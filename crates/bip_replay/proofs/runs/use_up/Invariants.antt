@@ -1,7 +1,7 @@
 use Rattle.std.proofs.Common.{◌≡◌, ℕ, length, max, take}
 use Rattle.std.specs.Prelude.{slice_index_or}
 use Rattle.bip_model.specs.Wants.{moved_in}
-use Rattle.bip_replay.proofs.position.use_up.Given as goal
+use Rattle.bip_replay.proofs.runs.use_up.Given as goal
 
 abbrev pub invariant-loop-want : goal.invariant-loop-want
 invariant-loop-want l =

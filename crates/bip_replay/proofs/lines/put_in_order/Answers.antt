@@ -1,7 +1,7 @@
 use Rattle.std.proofs.Common.{◌≡◌, ◌∙◌, length, insert, rules}
 use Rattle.std.specs.List.{position_or_len}
 use Rattle.bip_replay.proofs.LineLemmas.{put-insert, place_or_end, is_above}
-use Rattle.bip_replay.proofs.lines.put_by_component.Goals as goal
+use Rattle.bip_replay.proofs.lines.put_in_order.Goals as goal
 
 pub returns-clause-put : goal.returns-clause-put
 returns-clause-put c =

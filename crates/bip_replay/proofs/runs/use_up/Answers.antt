@@ -1,7 +1,7 @@
 use Rattle.std.proofs.Common.{◌∙◌}
 use Rattle.std.specs.Prelude.{slice_index_or}
 use Rattle.bip_replay.proofs.UsedLemmas.{raised_more}
-use Rattle.bip_replay.proofs.position.use_up.Goals as goal
+use Rattle.bip_replay.proofs.runs.use_up.Goals as goal
 
 pub loop-want-preserved : goal.loop-want-preserved
 loop-want-preserved c =

@@ -2,7 +2,7 @@ use Rattle.std.proofs.Common.{sym, refl}
 use Rattle.std.specs.Prelude.{slice_index_or}
 use Rattle.bip_model.specs.Steps.{place_in}
 use Rattle.bip_replay.proofs.FaultLemmas.{lowest_wrong, none_wrong, not_parties, next_from_tests}
-use Rattle.bip_replay.proofs.position.Position.check.Goals as goal
+use Rattle.bip_replay.proofs.runs.Position.check.Goals as goal
 
 pub returns-in-Some-clause-fault : goal.returns-in-Some-clause-fault
 returns-in-Some-clause-fault c =

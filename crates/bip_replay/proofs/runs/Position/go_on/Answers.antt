@@ -3,7 +3,7 @@ use Rattle.std.proofs.lemmas.List.Elements.{Contains-get_or}
 use Rattle.bip_model.specs.Steps.{place_in}
 use Rattle.bip_replay.proofs.FaultLemmas.{moved_known}
 use Rattle.bip_replay.proofs.PartyLemmas.{moved_role}
-use Rattle.bip_replay.proofs.position.Position.go_on.Goals as goal
+use Rattle.bip_replay.proofs.runs.Position.go_on.Goals as goal
 
 pub use_up-requires-clause-known : goal.use_up-requires-clause-known
 use_up-requires-clause-known c =

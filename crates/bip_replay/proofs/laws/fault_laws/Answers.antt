@@ -1,6 +1,6 @@
 use Rattle.bip_replay.proofs.ExactLemmas.{not_next, no_run}
 use Rattle.bip_replay.proofs.OneFaultLemmas.{one_first, one_step}
-use Rattle.bip_replay.proofs.runs.fault_laws.Goals as goal
+use Rattle.bip_replay.proofs.laws.fault_laws.Goals as goal
 
 pub returns-clause-refused : goal.returns-clause-refused
 returns-clause-refused c = not_next

@@ -1,9 +1,10 @@
--- What texts of grants have in common.
-use Rattle.std.specs.Prelude.{◌≡◌, ℕ, List, [], Some, Ok, All, slice_index_or}
+-- What runs, faults and texts of grants mean, in the subject's own words.
+use Rattle.std.specs.Prelude.{All, List, Ok, Some, [], slice_index_or, ℕ, ◌≡◌}
 use Rattle.bip_model.specs.Texts.{said_in, words}
 use Rattle.bip_model.specs.declared.grants.Grant.{Grant}
 use Rattle.bip_model.specs.declared.parts.System.{System}
-use Rattle.bip_replay.specs.Traces.{grant_on, grants_of}
+use Rattle.bip_replay.specs.Lines.{grant_on}
+use Rattle.bip_replay.specs.Traces.{grants_of}
 use Rattle.bip_replay.specs.Writing.{IsGrantOf, name_in}
 
 -- texts that say the same words in as many lines are the same grants

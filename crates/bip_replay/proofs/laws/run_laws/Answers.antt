@@ -1,6 +1,6 @@
 use Rattle.bip_model.specs.Steps.{start_of}
 use Rattle.bip_replay.proofs.RunLemmas.{IsRunFrom-push, IsRunFrom-last, IsRunFrom-beginning, end_of-push, IsRun-from_grants, IsHistory-from_run}
-use Rattle.bip_replay.proofs.runs.run_laws.Goals as goal
+use Rattle.bip_replay.proofs.laws.run_laws.Goals as goal
 
 pub returns-clause-goes_on : goal.returns-clause-goes_on
 returns-clause-goes_on c = λ m base. IsRunFrom-push m (start_of m) (λ _. base)
