@@ -2,10 +2,11 @@
 use Rattle.std.proofs.Common.{◌≡◌, ℕ, ◌+◌, List, [], ◌∷◌, ◌++◌, Option, None, Some, Result, Ok, Err, refl, sym, subst}
 use Rattle.std.specs.Prelude.{⊤}
 use Rattle.bip_model.specs.declared.grants.Grant.{Grant}
-use Rattle.bip_model.specs.declared.grants.Want.{Want}
+use Rattle.bip_model.specs.declared.wants.Want.{Want}
 use Rattle.bip_model.specs.declared.parts.System.{System}
-use Rattle.bip_model.specs.Histories.{used_by}
-use Rattle.bip_model.specs.Steps.{State, after, end_of, start_of}
+use Rattle.bip_model.specs.Grants.{used_by}
+use Rattle.bip_model.specs.States.{State}
+use Rattle.bip_model.specs.Steps.{after, end_of, start_of}
 use Rattle.bip_model.specs.Wants.{raised}
 use Rattle.bip_replay.specs.declared.faults.LineFault.{LineFault}
 use Rattle.bip_replay.specs.declared.faults.ReplayFault.{ReplayFault}
@@ -15,12 +16,13 @@ use Rattle.bip_replay.specs.declared.faults.StepFault.TheVariants.{NotEnabled, B
 use Rattle.bip_replay.specs.Faults.{IsFaultOf}
 use Rattle.bip_replay.specs.Replays.{IsFirstFault, IsLineFault}
 use Rattle.bip_replay.specs.Runs.{HasNextNumber, IsModelRun, IsNext, IsRunFrom, interactions_of}
-use Rattle.bip_replay.specs.Traces.{before_rest, grant_on, grants_from, grants_of}
+use Rattle.bip_replay.specs.Lines.{grant_on}
+use Rattle.bip_replay.specs.Traces.{before_rest, grants_from, grants_of}
 
 -- a grant with a fault isn't next
 pub not_next : (m : System) (s : State) (used : ℕ → ℕ) (g : Grant) (fault : StepFault) → IsFaultOf m s used g fault → IsNext m s used g → ⊥
-not_next m s used g NotEnabled why next = why next.may
-not_next m s used g (Below b) why next = why
+not_next m s used g NotEnabled why next = why next.may.enabled
+not_next m s used g (Below b) why next = next.may.clear b.0 why.1.above why.1.enabled
 not_next m s used g (Number c expected) why next =
     let at = why.1.wrong in
     at.4.1 (subst (λ (w : Want). HasNextNumber used w) at.3 (next.numbers at.0 at.1 at.2))

@@ -1,24 +1,29 @@
 -- Faults: the first want that is wrong, and what it means that none is.
-use Rattle.std.proofs.Common.{◌≡◌, ℕ, suc, ◌+◌, ◌<◌, ◌≤◌, Bool, true, false, not, ◌&&◌, eqb, List, [], ◌∷◌, length, get_or, Option, None, Some, find, refl, sym, ap, ◌∙◌, subst, arith, eqb-true, eq-eqb}
-use Rattle.std.specs.Prelude.{All, slice_get, nat_lt}
+use Rattle.std.proofs.Common.{◌≡◌, ℕ, suc, ◌+◌, ◌<◌, ◌≤◌, Bool, true, false, not, ◌&&◌, eqb, List, [], ◌∷◌, length, get_or, Option, None, Some, find, refl, sym, subst, arith, eqb-true, eq-eqb}
+use Rattle.std.specs.Prelude.{All, Contains, slice_get, nat_lt}
 use Rattle.std.specs.Option.{option_map_or}
 use Rattle.std.specs.List.{list_all, zip}
 use Rattle.std.specs.List.Sorted.{IsStrictlyIncreasing}
 use Rattle.std.proofs.lemmas.Bool.{and_parts, and_from, ltb-true, lt-ltb, both_ways, not-true}
 use Rattle.std.proofs.lemmas.List.{get_or-map, length-map}
-use Rattle.std.proofs.lemmas.List.Elements.{All-nil, All-cons, All-weaker, All-map, All-get_or, All-from_get_or}
+use Rattle.std.proofs.lemmas.List.Elements.{All-nil, All-cons, All-weaker, All-from_get_or, Contains-get_or}
+use Rattle.std.proofs.lemmas.List.Folds.{Any-from_list_any}
 use Rattle.std.proofs.lemmas.List.Kept.{AllPairs-from_increasing}
-use Rattle.std.proofs.lemmas.Option.{slice_get_within, get_or_from_slice_get}
+use Rattle.bip_model.proofs.ListLemmas.{All-slice_get}
 use Rattle.bip_model.specs.declared.grants.Grant.{Grant}
-use Rattle.bip_model.specs.declared.grants.Want.{Want}
+use Rattle.bip_model.specs.declared.wants.Role.{Role}
+use Rattle.bip_model.specs.declared.wants.Role.TheVariants.{Moved, Seen}
+use Rattle.bip_model.specs.declared.wants.Want.{Want}
 use Rattle.bip_model.specs.declared.parts.Interaction.{Interaction}
 use Rattle.bip_model.specs.declared.parts.System.{System}
-use Rattle.bip_model.specs.Steps.{State, MayRun, participants_of}
-use Rattle.bip_model.specs.System.{IsInteraction, IsPortIn, IsSystem, Participant, components_in}
-use Rattle.bip_model.specs.Wants.{components_of, is_moved}
-use Rattle.bip_replay.specs.Faults.{IsLowestWrong, KnownAreRight, has_next_number, is_party, is_wrong}
-use Rattle.bip_replay.specs.Runs.{HasItsParties, HasNextNumber, IsNext, components_moved, components_seen, last_number}
-use Rattle.bip_replay.proofs.PartyLemmas.{all_moved, moved-from_test, moved_components, seen-from_test, test-from_parties}
+use Rattle.bip_model.specs.States.{State}
+use Rattle.bip_model.specs.Steps.{IsEnabled, MayRun, participants_of}
+use Rattle.bip_model.specs.Parts.{IsInteraction, IsPortIn, IsSystem, Participant, components_in}
+use Rattle.bip_model.specs.Wants.{components_of}
+use Rattle.bip_replay.specs.Faults.{IsLowestWrong, KnownAreRight}
+use Rattle.bip_replay.specs.Private.{has_next_number, is_party, is_wrong}
+use Rattle.bip_replay.specs.Runs.{HasItsParties, HasNextNumber, IsNext, last_number}
+use Rattle.bip_replay.proofs.PartyLemmas.{AreParties, parties-from_test, test-from_parties}
 
 pub has_next-true : (used : ℕ → ℕ) (w : Want) → has_next_number used w ≡ true → HasNextNumber used w
 has_next-true used w test =
@@ -103,46 +108,64 @@ none_wrong m used (x ∷ xs) found = by_test (none_wrong m used xs) (is_wrong (l
     by_test rest true e = let f : Some x ≡ None = rw e at found in cc
     by_test rest false e = All-cons (RightWhereKnown m used) x xs (right m used x e) (rest (rw e at found))
 
--- a component of the model
-abbrev KnownIn : System → ℕ → Type 0
-KnownIn m c = c < length m.components
+-- the component of a participant is one of the model
+abbrev KnownIn : System → Participant → Type 0
+KnownIn m q = q.0.0 < length m.components
 
 -- the participants of an interaction are components of the model
-pub participants_known : (m : System) (a : ℕ) → IsSystem m → All (λ c. c < length m.components) (components_in (participants_of m a))
+participants_known : (m : System) (a : ℕ) → IsSystem m → All (λ (q : Participant). q.0.0 < length m.components) (participants_of m a)
 participants_known m a valid = by_look (slice_get m.interactions a) refl
   where
-    by_look : (o : Option Interaction) → slice_get m.interactions a ≡ o → All (KnownIn m) (components_in (option_map_or (λ (i : Interaction). i.participants) o []))
+    by_look : (o : Option Interaction) → slice_get m.interactions a ≡ o → All (KnownIn m) (option_map_or (λ (i : Interaction). i.participants) o [])
     by_look None e = All-nil (KnownIn m)
     by_look (Some i) e =
-        let there : IsInteraction m.components i =
-        subst (λ (j : Interaction). IsInteraction m.components j) (get_or_from_slice_get m.interactions a i i e) (All-get_or (IsInteraction m.components) m.interactions a i (slice_get_within m.interactions a i e) valid.so_far.interactions) in
-        All-map (KnownIn m) (λ (q : Participant). q.0.0) i.participants (All-weaker (IsPortIn m.components) (λ (q : Participant). q.0.0 < length m.components) (λ q port. port.component) i.participants there.ports)
+        let there : IsInteraction m.components i = All-slice_get (IsInteraction m.components) m.interactions a i valid.so_far.interactions e in
+        All-weaker (IsPortIn m.components) (KnownIn m) (λ q port. port.component) i.participants there.ports
 
--- wants that move the participants are of components of the model
-pub moved_known : (m : System) (a : ℕ) (ws : List Want) → IsSystem m → components_moved ws ≡ components_in (participants_of m a) → All (λ (w : Want). is_moved w.role ≡ true → w.comp.0 < length m.components) ws
-moved_known m a ws valid moved =
-    moved_components (λ c. c < length m.components) ws (subst (λ (cs : List ℕ). All (λ c. c < length m.components) cs) (sym moved) (participants_known m a valid))
+-- what a grant's interaction moves is a component of the model
+pub moved_known : (m : System) (s : State) (g : Grant) (w : Want) → IsSystem m → HasItsParties m s g → Contains g.wants w → w.role ≡ Moved → w.comp.0 < length m.components
+moved_known m s g w valid has at moves =
+    let found = Any-from_list_any (λ (q : Participant). eqb q.0.0 w.comp.0) (participants_of m g.inter.0) ((has.moved w.comp.0).0 (at.0, w, at.1, at.2, (refl, moves))) in
+    let mapped : All (λ (q : Participant). q.0.0 < length m.components) (participants_of m g.inter.0) = participants_known m g.inter.0 valid in
+    let there : found.1.0.0 < length m.components = subst (λ (q : Participant). q.0.0 < length m.components) found.3 (mapped found.0 found.1 found.2) in
+    subst (λ (c : ℕ). c < length m.components) (eqb-true found.1.0.0 w.comp.0 found.4) there
 
 -- where no want is wrong and the wants are of the parties, each is right
-pub all_right : (m : System) (used : ℕ → ℕ) (a : ℕ) (ws : List Want) → IsSystem m → KnownAreRight m used ws → components_moved ws ≡ components_in (participants_of m a) → components_seen ws ≡ [] → All (HasNextNumber used) ws
-all_right m used a ws valid known moved seen = λ k d within. known k d within (moved_known m a ws valid moved k d within (all_moved ws seen k d within))
+pub all_right : (m : System) (s : State) (used : ℕ → ℕ) (g : Grant) → IsSystem m → KnownAreRight m used g.wants → HasItsParties m s g → All (HasNextNumber used) g.wants
+all_right m s used g valid known has = λ k d within. known k d within (by_role k d within (get_or g.wants k d).role refl)
+  where
+    here : (k : ℕ) (d : Want) → k < length g.wants → Contains g.wants (get_or g.wants k d)
+    here k d within = Contains-get_or g.wants k d within
+
+    by_role : (k : ℕ) (d : Want) → k < length g.wants → (r : Role) → (get_or g.wants k d).role ≡ r → (get_or g.wants k d).comp.0 < length m.components
+    by_role k d within Moved is = moved_known m s g (get_or g.wants k d) valid has (here k d within) is
+    by_role k d within Seen is =
+        let at = here k d within in
+        absurd ((has.seen (get_or g.wants k d).comp.0).0 (at.0, get_or g.wants k d, at.1, at.2, (refl, is)))
+
+-- the parties of a plain model: what is moved, and nothing that is seen
+parties-from : (m : System) (s : State) (g : Grant) (qs : List Participant) → qs ≡ participants_of m g.inter.0 → AreParties g.wants qs → HasItsParties m s g
+parties-from m s g qs e are =
+    let there = subst (AreParties g.wants) e are in
+    record { moved = there.moved; seen = λ c. (there.seen c, λ none. absurd none) }
+
+parties-of : (m : System) (s : State) (g : Grant) (qs : List Participant) → qs ≡ participants_of m g.inter.0 → HasItsParties m s g → AreParties g.wants qs
+parties-of m s g qs e has = subst (AreParties g.wants) (sym e) (record { moved = has.moved; seen = λ c. (has.seen c).0 })
 
 -- wants that fail the test aren't of the parties
-pub not_parties : (m : System) (g : Grant) (qs : List Participant) → qs ≡ participants_of m g.inter.0 → (eqb (length g.wants) (length qs) && list_all is_party (zip g.wants qs)) ≡ false → ¬ HasItsParties m g
-not_parties m g qs e test has =
-    let passes = test-from_parties g.wants qs (has.moved ∙ ap components_in (sym e)) has.seen in
+pub not_parties : (m : System) (s : State) (g : Grant) (qs : List Participant) → qs ≡ participants_of m g.inter.0 → IsStrictlyIncreasing (components_of g.wants) → IsStrictlyIncreasing (components_in qs) → (eqb (length g.wants) (length qs) && list_all is_party (zip g.wants qs)) ≡ false → ¬ HasItsParties m s g
+not_parties m s g qs e rising climbing test has =
+    let passes = test-from_parties g.wants qs rising climbing (parties-of m s g qs e has) in
     both_ways (eqb (length g.wants) (length qs) && list_all is_party (zip g.wants qs)) test
     (and_from (eqb (length g.wants) (length qs)) (list_all is_party (zip g.wants qs)) (eq-eqb (length g.wants) (length qs) passes.0) passes.1)
+
+-- what is enabled may run in a plain model, in which nothing stands above another
+pub may_run : (m : System) (s : State) (a : ℕ) → IsEnabled m s a → MayRun m s a
+may_run m s a enabled = record { enabled = enabled; clear = λ b above. absurd above }
 
 -- a grant of an enabled interaction, no want of which is wrong and whose wants pass the test, is next
 pub next_from_tests : (m : System) (s : State) (used : ℕ → ℕ) (g : Grant) (qs : List Participant) → IsSystem m → qs ≡ participants_of m g.inter.0 → MayRun m s g.inter.0 → find (is_wrong (length m.components) used) g.wants ≡ None → (eqb (length g.wants) (length qs) && list_all is_party (zip g.wants qs)) ≡ true → IsNext m s used g
 next_from_tests m s used g qs valid e may found test =
     let parts = and_parts (eqb (length g.wants) (length qs)) (list_all is_party (zip g.wants qs)) test in
-    let same : length g.wants ≡ length qs = eqb-true (length g.wants) (length qs) parts.0 in
-    let moved : components_moved g.wants ≡ components_in (participants_of m g.inter.0) = moved-from_test g.wants qs same parts.1 ∙ ap components_in e in
-    let seen : components_seen g.wants ≡ [] = seen-from_test g.wants qs same parts.1 in
-    record {
-      may = may;
-      numbers = all_right m used g.inter.0 g.wants valid (none_wrong m used g.wants found) moved seen;
-      parties = record { moved = moved; seen = seen };
-    }
+    let has = parties-from m s g qs e (parties-from_test g.wants qs (eqb-true (length g.wants) (length qs) parts.0, parts.1)) in
+    record { may = may; numbers = all_right m s used g valid (none_wrong m used g.wants found) has; parties = has }

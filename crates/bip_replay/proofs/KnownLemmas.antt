@@ -10,8 +10,8 @@ use Rattle.std.proofs.lemmas.List.Elements.{All-nil, All-cons, All-head, All-tai
 use Rattle.std.proofs.lemmas.List.Quantifiers.{position-Some}
 use Rattle.bip_model.specs.Naming.{same_text}
 use Rattle.bip_model.specs.Wants.{IsWants, components_of, is_moved}
-use Rattle.bip_model.specs.declared.grants.Want.{Want}
-use Rattle.bip_replay.specs.Traces.{put_by_component, wants_known}
+use Rattle.bip_model.specs.declared.wants.Want.{Want}
+use Rattle.bip_replay.specs.Lines.{put_in_order, wants_known}
 use Rattle.bip_replay.specs.declared.lines.NamedWant.{NamedWant}
 use Rattle.bip_replay.proofs.NamedLemmas.{Apart, Numbered, Stand, Unlike, some_moved}
 
@@ -28,19 +28,19 @@ Rises (w ∷ ws) = All (Above w.comp.0) ws × Rises ws
 abbrev pub IsElse : ℕ → Want → Type 0
 IsElse c v = v.comp.0 ≢ c
 
-pub All-put : (P : Want → Type 0) (w : Want) (ws : List Want) → P w → All P ws → All P (put_by_component w ws)
+pub All-put : (P : Want → Type 0) (w : Want) (ws : List Want) → P w → All P ws → All P (put_in_order w ws)
 All-put P w [] here all = All-cons P w [] here all
 All-put P w (v ∷ vs) here all = by_test (All-put P w vs here (All-tail P v vs all)) (nat_lt w.comp.0 v.comp.0)
   where
-    by_test : All P (put_by_component w vs) → (b : Bool) → All P (cond b (w ∷ v ∷ vs) (v ∷ put_by_component w vs))
+    by_test : All P (put_in_order w vs) → (b : Bool) → All P (cond b (w ∷ v ∷ vs) (v ∷ put_in_order w vs))
     by_test rest true = All-cons P w (v ∷ vs) here all
-    by_test rest false = All-cons P v (put_by_component w vs) (All-head P v vs all) rest
+    by_test rest false = All-cons P v (put_in_order w vs) (All-head P v vs all) rest
 
-Rises-put : (w : Want) (ws : List Want) → Rises ws → All (IsElse w.comp.0) ws → Rises (put_by_component w ws)
+Rises-put : (w : Want) (ws : List Want) → Rises ws → All (IsElse w.comp.0) ws → Rises (put_in_order w ws)
 Rises-put w [] rises other = (All-nil (Above w.comp.0), tt)
 Rises-put w (v ∷ vs) rises other = by_test (Rises-put w vs rises.1 (All-tail (IsElse w.comp.0) v vs other)) (nat_lt w.comp.0 v.comp.0) refl
   where
-    by_test : Rises (put_by_component w vs) → (b : Bool) → nat_lt w.comp.0 v.comp.0 ≡ b → Rises (cond b (w ∷ v ∷ vs) (v ∷ put_by_component w vs))
+    by_test : Rises (put_in_order w vs) → (b : Bool) → nat_lt w.comp.0 v.comp.0 ≡ b → Rises (cond b (w ∷ v ∷ vs) (v ∷ put_in_order w vs))
     by_test rest true e =
         let below : w.comp.0 < v.comp.0 = ltb-true w.comp.0 v.comp.0 e in
         (All-cons (Above w.comp.0) v vs below (All-weaker (Above v.comp.0) (Above w.comp.0) (λ u above. omega arith) vs rises.0), rises)
@@ -79,11 +79,11 @@ wants_known-rise names before (w ∷ ws) wants rises apart new is =
     later : (c : ℕ) → position (same_text w.name) names ≡ Some c → (u : NamedWant) → Unlike w u → (x : Want) → x.comp.0 ≡ c → IsNew names u x
     later c at u unlike x same place = both_ways (same_text u.name w.name) unlike (same_place names u.name w.name c (place ∙ ap (λ (k : ℕ). Some k) same) at)
 
-    by_place : ((b : List Want) → Rises b → Apart ws → All (AreNew names b) ws → wants_known names b ws ≡ Some wants → Rises wants) → (o : Option ℕ) → position (same_text w.name) names ≡ o → option_and_then (λ c. wants_known names (put_by_component (record { comp = record { 0 = c }; number = w.number; role = w.role }) before) ws) o ≡ Some wants → Rises wants
+    by_place : ((b : List Want) → Rises b → Apart ws → All (AreNew names b) ws → wants_known names b ws ≡ Some wants → Rises wants) → (o : Option ℕ) → position (same_text w.name) names ≡ o → option_and_then (λ c. wants_known names (put_in_order (record { comp = record { 0 = c }; number = w.number; role = w.role }) before) ws) o ≡ Some wants → Rises wants
     by_place rest None at s = cc
     by_place rest (Some c) at s =
         let x : Want = record { comp = record { 0 = c }; number = w.number; role = w.role } in
-        rest (put_by_component x before)
+        rest (put_in_order x before)
         (Rises-put x before rises (All-weaker (IsNew names w) (IsElse c) (fresh c at) before (All-head (AreNew names before) w ws new)))
         apart.1
         (λ k d within. All-put (IsNew names (get_or ws k d)) x before (later c at (get_or ws k d) (apart.0 k d within) x refl) (All-tail (AreNew names before) w ws new k d within))
@@ -106,11 +106,11 @@ one_moves wants = list_any (λ (w : Want). is_moved w.role) wants
 abbrev pub HasNumber : Want → Type 0
 HasNumber w = 1 ≤ w.number
 
-length-put : (w : Want) (ws : List Want) → length (put_by_component w ws) ≡ length ws + 1
+length-put : (w : Want) (ws : List Want) → length (put_in_order w ws) ≡ length ws + 1
 length-put w [] = refl
 length-put w (v ∷ vs) = by_test (length-put w vs) (nat_lt w.comp.0 v.comp.0)
   where
-    by_test : length (put_by_component w vs) ≡ length vs + 1 → (b : Bool) → length (cond b (w ∷ v ∷ vs) (v ∷ put_by_component w vs)) ≡ length (v ∷ vs) + 1
+    by_test : length (put_in_order w vs) ≡ length vs + 1 → (b : Bool) → length (cond b (w ∷ v ∷ vs) (v ∷ put_in_order w vs)) ≡ length (v ∷ vs) + 1
     by_test rest true = omega arith
     by_test rest false = omega arith
 
@@ -119,16 +119,16 @@ or_true true = refl
 or_true false = refl
 
 -- a want that is put, or one of those before, moves its component
-one_moves-put : (w : Want) (ws : List Want) → (is_moved w.role || one_moves ws) ≡ true → one_moves (put_by_component w ws) ≡ true
+one_moves-put : (w : Want) (ws : List Want) → (is_moved w.role || one_moves ws) ≡ true → one_moves (put_in_order w ws) ≡ true
 one_moves-put w [] moves = moves
 one_moves-put w (v ∷ vs) moves = by_test (one_moves-put w vs) (nat_lt w.comp.0 v.comp.0)
   where
-    later : ((is_moved w.role || one_moves vs) ≡ true → one_moves (put_by_component w vs) ≡ true) → (a b : Bool) → is_moved w.role ≡ a → is_moved v.role ≡ b → (a || (b || one_moves vs)) ≡ true → (b || one_moves (put_by_component w vs)) ≡ true
+    later : ((is_moved w.role || one_moves vs) ≡ true → one_moves (put_in_order w vs) ≡ true) → (a b : Bool) → is_moved w.role ≡ a → is_moved v.role ≡ b → (a || (b || one_moves vs)) ≡ true → (b || one_moves (put_in_order w vs)) ≡ true
     later rest a true e f m = refl
     later rest true false e f m = rest (rw e refl)
     later rest false false e f m = rest (rw e m)
 
-    by_test : ((is_moved w.role || one_moves vs) ≡ true → one_moves (put_by_component w vs) ≡ true) → (b : Bool) → one_moves (cond b (w ∷ v ∷ vs) (v ∷ put_by_component w vs)) ≡ true
+    by_test : ((is_moved w.role || one_moves vs) ≡ true → one_moves (put_in_order w vs) ≡ true) → (b : Bool) → one_moves (cond b (w ∷ v ∷ vs) (v ∷ put_in_order w vs)) ≡ true
     by_test rest true = moves
     by_test rest false = later rest (is_moved w.role) (is_moved v.role) refl refl moves
 
@@ -157,22 +157,22 @@ wants_known-kept names before [] wants is =
     or_end false e = e
 wants_known-kept names before (w ∷ ws) wants is = by_place (λ b. wants_known-kept names b ws wants) (position (same_text w.name) names) is
   where
-    moving_on : (x : Want) → is_moved x.role ≡ is_moved w.role → AreKept (put_by_component x before) ws wants → (one_moves before || (is_moved w.role || some_moved ws)) ≡ true → one_moves wants ≡ true
+    moving_on : (x : Want) → is_moved x.role ≡ is_moved w.role → AreKept (put_in_order x before) ws wants → (one_moves before || (is_moved w.role || some_moved ws)) ≡ true → one_moves wants ≡ true
     moving_on x same kept m = by_moves (is_moved w.role || one_moves before) refl
       where
         by_moves : (b : Bool) → (is_moved w.role || one_moves before) ≡ b → one_moves wants ≡ true
-        by_moves true e = kept.moving (or_left (one_moves (put_by_component x before)) (some_moved ws) (one_moves-put x before (rw same e)))
+        by_moves true e = kept.moving (or_left (one_moves (put_in_order x before)) (some_moved ws) (one_moves-put x before (rw same e)))
         by_moves false e =
             let rest : some_moved ws ≡ true = rw e at (or_swap (one_moves before) (is_moved w.role) (some_moved ws) m) in
-            kept.moving (rw rest (or_true (one_moves (put_by_component x before))))
+            kept.moving (rw rest (or_true (one_moves (put_in_order x before))))
 
-    by_place : ((b : List Want) → wants_known names b ws ≡ Some wants → AreKept b ws wants) → (o : Option ℕ) → option_and_then (λ c. wants_known names (put_by_component (record { comp = record { 0 = c }; number = w.number; role = w.role }) before) ws) o ≡ Some wants → AreKept before (w ∷ ws) wants
+    by_place : ((b : List Want) → wants_known names b ws ≡ Some wants → AreKept b ws wants) → (o : Option ℕ) → option_and_then (λ c. wants_known names (put_in_order (record { comp = record { 0 = c }; number = w.number; role = w.role }) before) ws) o ≡ Some wants → AreKept before (w ∷ ws) wants
     by_place rest None s = cc
     by_place rest (Some c) s =
         let x : Want = record { comp = record { 0 = c }; number = w.number; role = w.role } in
-        let kept = rest (put_by_component x before) s in
-        let many : length wants ≡ length (put_by_component x before) + length ws = kept.many in
-        let put : length (put_by_component x before) ≡ length before + 1 = length-put x before in
+        let kept = rest (put_in_order x before) s in
+        let many : length wants ≡ length (put_in_order x before) + length ws = kept.many in
+        let put : length (put_in_order x before) ≡ length before + 1 = length-put x before in
         record {
           many = omega arith;
           numbered = λ all numbers. kept.numbered (All-put HasNumber x before (All-head Numbered w ws numbers) all) (All-tail Numbered w ws numbers);

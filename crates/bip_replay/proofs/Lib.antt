@@ -1,6 +1,8 @@
+pub mod AnswerLemmas
 pub mod ExactLemmas
 pub mod FaultLemmas
 pub mod KnownLemmas
+pub mod LawLemmas
 pub mod LineLemmas
 pub mod NamedLemmas
 pub mod OneFaultLemmas

@@ -6,9 +6,9 @@ use Rattle.std.specs.Option.{option_and_then, option_map}
 use Rattle.std.proofs.lemmas.Bool.{ltb-false}
 use Rattle.bip_model.specs.Naming.{is_name}
 use Rattle.bip_model.specs.Texts.{number_of, pair_of}
-use Rattle.bip_model.specs.declared.grants.Role.{Role}
-use Rattle.bip_model.specs.declared.grants.Want.{Want}
-use Rattle.bip_replay.specs.Traces.{put_by_component, want_said}
+use Rattle.bip_model.specs.declared.wants.Role.{Role}
+use Rattle.bip_model.specs.declared.wants.Want.{Want}
+use Rattle.bip_replay.specs.Lines.{put_in_order, want_said}
 use Rattle.bip_replay.specs.declared.lines.NamedWant.{NamedWant}
 
 -- a want of the parts of a word
@@ -32,11 +32,11 @@ is_above c v = nat_lt c v.comp.0
 insert_later : (v : Want) (vs : List Want) (n : ℕ) (w : Want) → insert (v ∷ vs) (1 + n) w ≡ v ∷ insert vs n w
 insert_later v vs n w = let one : 1 + n ≡ suc n = omega arith in rw one refl
 
-pub put-insert : (w : Want) (ws : List Want) → insert ws (position_or_len (is_above w.comp.0) ws) w ≡ put_by_component w ws
+pub put-insert : (w : Want) (ws : List Want) → insert ws (position_or_len (is_above w.comp.0) ws) w ≡ put_in_order w ws
 put-insert w [] = refl
 put-insert w (v ∷ vs) = by_test (put-insert w vs) (is_above w.comp.0 v) refl
   where
-    by_test : insert vs (position_or_len (is_above w.comp.0) vs) w ≡ put_by_component w vs → (b : Bool) → is_above w.comp.0 v ≡ b → insert (v ∷ vs) (position_or_len (is_above w.comp.0) (v ∷ vs)) w ≡ put_by_component w (v ∷ vs)
+    by_test : insert vs (position_or_len (is_above w.comp.0) vs) w ≡ put_in_order w vs → (b : Bool) → is_above w.comp.0 v ≡ b → insert (v ∷ vs) (position_or_len (is_above w.comp.0) (v ∷ vs)) w ≡ put_in_order w (v ∷ vs)
     by_test rest true e = rw e refl
     by_test rest false e = rw e (insert_later v vs (position_or_len (is_above w.comp.0) vs) w ∙ ap (λ (us : List Want). v ∷ us) rest)
 

@@ -10,10 +10,10 @@ use Rattle.std.proofs.lemmas.List.Folds.{list_any-append}
 use Rattle.bip_model.specs.Naming.{is_name, same_text}
 use Rattle.bip_model.specs.Texts.{is_numeral, number_of, pair_of, words_said}
 use Rattle.bip_model.specs.Wants.{is_moved}
-use Rattle.bip_model.specs.declared.grants.Role.{Role}
-use Rattle.bip_model.specs.declared.grants.Role.TheVariants.{Moved, Seen}
+use Rattle.bip_model.specs.declared.wants.Role.{Role}
+use Rattle.bip_model.specs.declared.wants.Role.TheVariants.{Moved, Seen}
 use Rattle.bip_replay.specs.declared.faults.LineFault.TheVariants.{Syntax}
-use Rattle.bip_replay.specs.Traces.{NamedGrant, is_named, named_on, said, want_said, wants_said, with_want}
+use Rattle.bip_replay.specs.Lines.{NamedGrant, is_named, named_on, said, want_said, wants_said, with_want}
 use Rattle.bip_replay.specs.declared.lines.NamedWant.{NamedWant}
 
 -- a later want is of another component

@@ -3,10 +3,12 @@ use Rattle.std.proofs.Common.{◌≡◌, ℕ, suc, ◌+◌, ◌<◌, List, [], �
 use Rattle.std.proofs.lemmas.Bool.{cases_order}
 use Rattle.std.specs.Prelude.{All, Any}
 use Rattle.bip_model.specs.declared.grants.Grant.{Grant}
-use Rattle.bip_model.specs.declared.grants.Want.{Want}
+use Rattle.bip_model.specs.declared.wants.Want.{Want}
 use Rattle.bip_model.specs.declared.numbering.CompId.{CompId}
+use Rattle.bip_model.specs.declared.numbering.InterId.{InterId}
 use Rattle.bip_model.specs.declared.parts.System.{System}
-use Rattle.bip_model.specs.Steps.{State, after, start_of}
+use Rattle.bip_model.specs.States.{State}
+use Rattle.bip_model.specs.Steps.{IsLowestAbove, MayRun, after, start_of}
 use Rattle.bip_model.specs.Wants.{raised}
 use Rattle.bip_replay.specs.declared.faults.LineFault.{LineFault}
 use Rattle.bip_replay.specs.declared.faults.ReplayFault.{ReplayFault}
@@ -16,7 +18,7 @@ use Rattle.bip_replay.specs.declared.faults.StepFault.TheVariants.{NotEnabled, B
 use Rattle.bip_replay.specs.Faults.{IsFaultOf, IsLowestWrong, expected_after, of_step}
 use Rattle.bip_replay.specs.Replays.{IsFirstFault, IsLineFault}
 use Rattle.bip_replay.specs.Runs.{HasNextNumber}
-use Rattle.bip_replay.specs.Traces.{grant_on}
+use Rattle.bip_replay.specs.Lines.{grant_on}
 use Rattle.bip_replay.proofs.ExactLemmas.{LeadOn, LeadTo, leads-nowhere, leads-on, led, stays}
 
 -- no want of a component is wrong where those below a higher one are right
@@ -44,19 +46,35 @@ one_number m used ws c d n k one other is are =
     let expected : n ≡ k = is ∙ (ap (λ (a : ℕ). expected_after (used a)) same ∙ sym are) in
     cc
 
--- a grant has one fault
-one_step : (m : System) (s : State) (used : ℕ → ℕ) (g : Grant) (f h : StepFault) → IsFaultOf m s used g f → IsFaultOf m s used g h → f ≡ h
+-- what may run isn't below anything that is enabled
+held_back : (m : System) (s : State) (a b : ℕ) → IsLowestAbove m s a b → MayRun m s a → ⊥
+held_back m s a b lowest may = may.clear b lowest.above lowest.enabled
+
+-- one interaction is the lowest of those above that are enabled
+one_above : (m : System) (s : State) (a : ℕ) (b d : InterId) → IsLowestAbove m s a b.0 → IsLowestAbove m s a d.0 → Below b ≡ Below d
+one_above m s a b d one other = by_order (cases_order b.0 d.0)
+  where
+    by_order : (b.0 ≡ d.0) ⊎ ((b.0 < d.0) ⊎ (d.0 < b.0)) → Below b ≡ Below d
+    by_order (inl same) = let inter : b ≡ d = ap (λ (k : ℕ). record { 0 = k }) same in cc
+    by_order (inr (inl below)) = absurd (other.lower b.0 below one.above one.enabled)
+    by_order (inr (inr above)) = absurd (one.lower d.0 above other.above other.enabled)
+
+-- a grant has one fault at most
+pub one_step : (m : System) (s : State) (used : ℕ → ℕ) (g : Grant) (f h : StepFault) → IsFaultOf m s used g f → IsFaultOf m s used g h → f ≡ h
 one_step m s used g NotEnabled NotEnabled one other = refl
-one_step m s used g NotEnabled (Below b) one other = absurd other
-one_step m s used g NotEnabled (Number c n) one other = absurd (one other.0)
-one_step m s used g NotEnabled Parties one other = absurd (one other.0)
-one_step m s used g (Below b) h one other = absurd one
-one_step m s used g (Number c n) NotEnabled one other = absurd (other one.0)
-one_step m s used g (Number c n) (Below b) one other = absurd other
+one_step m s used g NotEnabled (Below b) one other = absurd (one other.0)
+one_step m s used g NotEnabled (Number c n) one other = absurd (one other.0.enabled)
+one_step m s used g NotEnabled Parties one other = absurd (one other.0.enabled)
+one_step m s used g (Below b) NotEnabled one other = absurd (other one.0)
+one_step m s used g (Below b) (Below d) one other = one_above m s g.inter.0 b d one.1 other.1
+one_step m s used g (Below b) (Number c n) one other = absurd (held_back m s g.inter.0 b.0 one.1 other.0)
+one_step m s used g (Below b) Parties one other = absurd (held_back m s g.inter.0 b.0 one.1 other.0)
+one_step m s used g (Number c n) NotEnabled one other = absurd (other one.0.enabled)
+one_step m s used g (Number c n) (Below b) one other = absurd (held_back m s g.inter.0 b.0 other.1 one.0)
 one_step m s used g (Number c n) (Number d k) one other = one_number m used g.wants c d n k one.1 other.1 one.2 other.2
 one_step m s used g (Number c n) Parties one other = absurd (not_wrong used g.wants c.0 (length m.components) one.1.wrong other.1 one.1.known)
-one_step m s used g Parties NotEnabled one other = absurd (other one.0)
-one_step m s used g Parties (Below b) one other = absurd other
+one_step m s used g Parties NotEnabled one other = absurd (other one.0.enabled)
+one_step m s used g Parties (Below b) one other = absurd (held_back m s g.inter.0 b.0 other.1 one.0)
 one_step m s used g Parties (Number d k) one other = absurd (not_wrong used g.wants d.0 (length m.components) other.1.wrong one.1 other.1.known)
 one_step m s used g Parties Parties one other = refl
 

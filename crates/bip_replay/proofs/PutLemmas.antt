@@ -7,10 +7,10 @@ use Rattle.std.proofs.lemmas.Bool.{false≢true, le-ltb, lt-ltb}
 use Rattle.std.proofs.lemmas.List.Elements.{All-append, All-cons, All-filter, All-head, All-nil, All-tail, All-weaker}
 use Rattle.bip_model.proofs.ListLemmas.{below_later, neither}
 use Rattle.bip_model.specs.Wants.{components_of, is_moved}
-use Rattle.bip_model.specs.declared.grants.Role.{Role}
-use Rattle.bip_model.specs.declared.grants.Role.TheVariants.{Moved, Seen}
-use Rattle.bip_model.specs.declared.grants.Want.{Want}
-use Rattle.bip_replay.specs.Traces.{put_by_component}
+use Rattle.bip_model.specs.declared.wants.Role.{Role}
+use Rattle.bip_model.specs.declared.wants.Role.TheVariants.{Moved, Seen}
+use Rattle.bip_model.specs.declared.wants.Want.{Want}
+use Rattle.bip_replay.specs.Lines.{put_in_order}
 use Rattle.bip_replay.specs.Writing.{has_role}
 use Rattle.bip_replay.proofs.KnownLemmas.{Above, All-put, IsElse, Rises}
 
@@ -60,29 +60,29 @@ seen_alone (w ∷ ws) rises = by_role (is_moved w.role) (seen_alone ws rises.1)
 -- wants that are put among others, one after another
 abbrev pub put_all : List Want → List Want → List Want
 put_all before [] = before
-put_all before (w ∷ ws) = put_all (put_by_component w before) ws
+put_all before (w ∷ ws) = put_all (put_in_order w before) ws
 
 -- wants that are put after others were put
 put_all-append : (before us vs : List Want) → put_all before (us ++ vs) ≡ put_all (put_all before us) vs
 put_all-append before [] vs = refl
-put_all-append before (u ∷ us) vs = put_all-append (put_by_component u before) us vs
+put_all-append before (u ∷ us) vs = put_all-append (put_in_order u before) us vs
 
 -- what is above a want stays behind it
 put_all-behind : (w : Want) (before us : List Want) → All (Above w.comp.0) us → put_all (w ∷ before) us ≡ w ∷ put_all before us
 put_all-behind w before [] above = refl
 put_all-behind w before (u ∷ us) above =
     let below : w.comp.0 < u.comp.0 = All-head (Above w.comp.0) u us above in
-    rw (le-ltb u.comp.0 w.comp.0 (omega arith)) (put_all-behind w (put_by_component u before) us (All-tail (Above w.comp.0) u us above))
+    rw (le-ltb u.comp.0 w.comp.0 (omega arith)) (put_all-behind w (put_in_order u before) us (All-tail (Above w.comp.0) u us above))
 
 -- a want below all others is put first
-put-first : (w : Want) (ws : List Want) → All (Above w.comp.0) ws → put_by_component w ws ≡ w ∷ ws
+put-first : (w : Want) (ws : List Want) → All (Above w.comp.0) ws → put_in_order w ws ≡ w ∷ ws
 put-first w [] above = refl
 put-first w (v ∷ vs) above = rw (lt-ltb w.comp.0 v.comp.0 (All-head (Above w.comp.0) v vs above)) refl
 
 -- what holds of all wants holds where they are put
 All-put_all : (P : Want → Type 0) (before us : List Want) → All P before → All P us → All P (put_all before us)
 All-put_all P before [] here all = here
-All-put_all P before (u ∷ us) here all = All-put_all P (put_by_component u before) us (All-put P u before (All-head P u us all) here) (All-tail P u us all)
+All-put_all P before (u ∷ us) here all = All-put_all P (put_in_order u before) us (All-put P u before (All-head P u us all) here) (All-tail P u us all)
 
 -- moved wants and then seen ones, put by component, are the wants by component
 pub put_all-roles : (ws : List Want) → Rises ws → put_all [] (moved_of ws ++ seen_of ws) ≡ ws
@@ -98,7 +98,7 @@ put_all-roles (w ∷ ws) rises = by_role (ap (λ (vs : List Want). w ∷ vs) (pu
     by_role : w ∷ put_all [] (moved_of ws ++ seen_of ws) ≡ w ∷ ws → (b : Bool) → put_all [] (cond b (w ∷ moved_of ws) (moved_of ws) ++ cond (not b) (w ∷ seen_of ws) (seen_of ws)) ≡ w ∷ ws
     by_role later true = put_all-behind w [] (moved_of ws ++ seen_of ws) (All-append (Above w.comp.0) (moved_of ws) (seen_of ws) above_moved above_seen) ∙ later
     by_role later false =
-        let first : put_by_component w (put_all [] (moved_of ws)) ≡ w ∷ put_all [] (moved_of ws) = put-first w (put_all [] (moved_of ws)) (All-put_all (Above w.comp.0) [] (moved_of ws) (All-nil (Above w.comp.0)) above_moved) in
+        let first : put_in_order w (put_all [] (moved_of ws)) ≡ w ∷ put_all [] (moved_of ws) = put-first w (put_all [] (moved_of ws)) (All-put_all (Above w.comp.0) [] (moved_of ws) (All-nil (Above w.comp.0)) above_moved) in
         put_all-append [] (moved_of ws) (w ∷ seen_of ws) ∙ (ap (λ (vs : List Want). put_all vs (seen_of ws)) first
         ∙ (put_all-behind w (put_all [] (moved_of ws)) (seen_of ws) above_seen ∙ (ap (λ (vs : List Want). w ∷ vs) (sym (put_all-append [] (moved_of ws) (seen_of ws))) ∙ later)))
 

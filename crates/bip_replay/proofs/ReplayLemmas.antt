@@ -1,90 +1,66 @@
 -- Replays: the lines read so far, and one line more.
-use Rattle.std.proofs.Common.{◌≡◌, ℕ, ◌+◌, true, false, List, [], ◌∷◌, ◌++◌, length, Option, None, Some, Result, Ok, Err, refl, sym, ap, ◌∙◌, subst, arith, append_assoc, length-append}
+use Rattle.std.proofs.Common.{◌≡◌, ℕ, ◌+◌, true, false, List, [], ◌∷◌, ◌++◌, length, Option, None, Some, Result, Ok, Err, refl, sym, ap, ◌∙◌, subst, arith, length-append}
 use Rattle.bip_model.specs.declared.grants.Grant.{Grant}
 use Rattle.bip_model.specs.declared.parts.System.{System}
-use Rattle.bip_model.specs.Steps.{State, place_in}
 use Rattle.bip_model.specs.Texts.{lines}
 use Rattle.bip_replay.specs.declared.faults.LineFault.{LineFault}
+use Rattle.bip_replay.specs.declared.faults.LineFault.TheVariants as line_fault
 use Rattle.bip_replay.specs.declared.faults.ReplayFault.{ReplayFault}
 use Rattle.bip_replay.specs.declared.faults.ReplayFault.TheVariants.{Syntax, Unknown, NotARun, Memory}
-use Rattle.bip_replay.specs.declared.position.Position.{Position}
-use Rattle.bip_replay.specs.Positions.{Leads, used_in}
-use Rattle.bip_replay.specs.Readings.{one_more}
-use Rattle.bip_replay.specs.Replays.{IsFirstFault, IsLineFault, IsReplayFault, IsRunOf, Takes}
-use Rattle.bip_replay.specs.Runs.{state_after, used_after}
-use Rattle.bip_replay.specs.Traces.{before_rest, grant_on, grants_from}
+use Rattle.bip_replay.specs.Faults.{replay_of_line}
+use Rattle.bip_replay.specs.Runs.{StandsAfter, Standing, state_after, used_after}
+use Rattle.bip_replay.specs.Private.{Takes}
+use Rattle.bip_replay.specs.Replays.{IsFirstFault, IsLineFault, IsReplayFault, IsRunOf}
+use Rattle.bip_replay.specs.Lines.{grant_on}
+use Rattle.bip_replay.specs.Traces.{grants_from}
+use Rattle.bip_replay.proofs.ReadingLemmas.{grants_from-push, has_read-none, memory_at, moved_on, numbered_on}
 use Rattle.bip_replay.proofs.PositionLemmas.{leads_on}
 
--- the grants of one line more
-pub grants_from-push : (m : System) (n : ℕ) (front : List (List ℕ)) (line : List ℕ) (gs : List Grant) (o : Option Grant) → grants_from m n front ≡ Ok gs → grant_on m line ≡ Ok o → grants_from m n (front ++ line ∷ []) ≡ Ok (one_more gs o)
-grants_from-push m n [] line gs None reads says = rw says (let e : [] ≡ gs = cc in ap (λ (hs : List Grant). Ok hs) e)
-grants_from-push m n [] line gs (Some g) reads says = rw says (let e : [] ≡ gs = cc in ap (λ (hs : List Grant). Ok (hs ++ g ∷ [])) e)
-grants_from-push m n (first ∷ front) line gs o reads says =
-    by_first (λ hs e. grants_from-push m (n + 1) front line hs o e says) (grant_on m first) reads
-  where
-    by_rest : ((hs : List Grant) → grants_from m (n + 1) front ≡ Ok hs → grants_from m (n + 1) (front ++ line ∷ []) ≡ Ok (one_more hs o)) → (g : Grant) → (r : Result (List Grant) (ℕ × LineFault)) → grants_from m (n + 1) front ≡ r → before_rest n (Ok (Some g)) r ≡ Ok gs → before_rest n (Ok (Some g)) (grants_from m (n + 1) (front ++ line ∷ [])) ≡ Ok (one_more gs o)
-    by_rest later g (Err e) is s = cc
-    by_rest later g (Ok hs) is s =
-        let same : g ∷ hs ≡ gs = cc in
-        rw (later hs is) (grown o ∙ ap (λ (ks : List Grant). Ok (one_more ks o)) same)
-      where
-        grown : (p : Option Grant) → before_rest n (Ok (Some g)) (Ok (one_more hs p)) ≡ Ok (one_more (g ∷ hs) p)
-        grown None = refl
-        grown (Some h) = refl
-
-    by_first : ((hs : List Grant) → grants_from m (n + 1) front ≡ Ok hs → grants_from m (n + 1) (front ++ line ∷ []) ≡ Ok (one_more hs o)) → (r : Result (Option Grant) LineFault) → before_rest n r (grants_from m (n + 1) front) ≡ Ok gs → before_rest n r (grants_from m (n + 1) (front ++ line ∷ [])) ≡ Ok (one_more gs o)
-    by_first later (Err e) s = cc
-    by_first later (Ok None) s = later gs s
-    by_first later (Ok (Some g)) s = by_rest later g (grants_from m (n + 1) front) refl s
-
 -- what has been read of a text: the lines in front read as grants that lead here
-pub record SoFar (m : System) (base : ℕ) (text rest : List ℕ) (p : Position) (count number : ℕ) : Type 0 where
+pub record SoFar (m : System) (base : ℕ) (text rest : List ℕ) (p : Standing) (count number : ℕ) : Type 0 where
   pub front : List (List ℕ)
   pub grants : List Grant
   pub split : lines text ≡ front ++ lines rest
   pub reads : grants_from m 1 front ≡ Ok grants
-  pub leads : Leads m base grants p
+  pub leads : StandsAfter m base grants p
   pub counted : length grants ≡ count
   pub numbered : length front + 1 ≡ number
 
-pub so_far-none : (m : System) (base : ℕ) (text : List ℕ) (p : Position) → Leads m base [] p → SoFar m base text text p 0 1
+pub so_far-none : (m : System) (base : ℕ) (text : List ℕ) (p : Standing) → StandsAfter m base [] p → SoFar m base text text p 0 1
 so_far-none m base text p leads =
     record { front = []; grants = []; split = refl; reads = refl; leads = leads; counted = refl; numbered = refl }
 
-pub moved_on : (front : List (List ℕ)) (text rest after line : List ℕ) → lines text ≡ front ++ lines rest → lines rest ≡ line ∷ lines after → lines text ≡ (front ++ line ∷ []) ++ lines after
-moved_on front text rest after line split next =
-    split ∙ (ap (λ (ls : List (List ℕ)). front ++ ls) next ∙ sym (append_assoc front (line ∷ []) (lines after)))
+-- what a line says to the model of the run
+on_model : (m : System) (base : ℕ) (gs : List Grant) (p : Standing) (line : List ℕ) (r : Result (Option Grant) LineFault) → StandsAfter m base gs p → grant_on p.model line ≡ r → grant_on m line ≡ r
+on_model m base gs p line r leads says = subst (λ (q : Standing). grant_on q.model line ≡ r) leads.there says
 
-pub numbered_on : (front : List (List ℕ)) (line : List ℕ) (number : ℕ) → length front + 1 ≡ number → length (front ++ line ∷ []) + 1 ≡ number + 1
-numbered_on front line number e = omega (arith, length-append front (line ∷ []))
-
-pub so_far-skip : (m : System) (base : ℕ) (text rest after line : List ℕ) (p q : Position) (count number : ℕ) → SoFar m base text rest p count number → lines rest ≡ line ∷ lines after → Takes m p line (Ok false) q → SoFar m base text after q count (number + 1)
+pub so_far-skip : (m : System) (base : ℕ) (text rest after line : List ℕ) (p q : Standing) (count number : ℕ) → SoFar m base text rest p count number → lines rest ≡ line ∷ lines after → Takes p line (Ok false) q → SoFar m base text after q count (number + 1)
 so_far-skip m base text rest after line p q count number so next takes =
     record {
       front = so.front ++ line ∷ [];
       grants = so.grants;
       split = moved_on so.front text rest after line so.split next;
-      reads = grants_from-push m 1 so.front line so.grants None so.reads takes.0;
-      leads = subst (λ (r : Position). Leads m base so.grants r) (sym takes.1) so.leads;
+      reads = grants_from-push m 1 so.front line so.grants None so.reads (on_model m base so.grants p line (Ok None) so.leads takes.0);
+      leads = subst (λ (r : Standing). StandsAfter m base so.grants r) (sym takes.1) so.leads;
       counted = so.counted;
       numbered = numbered_on so.front line number so.numbered;
     }
 
-pub so_far-more : (m : System) (base : ℕ) (text rest after line : List ℕ) (p q : Position) (count number : ℕ) → SoFar m base text rest p count number → lines rest ≡ line ∷ lines after → Takes m p line (Ok true) q → SoFar m base text after q (count + 1) (number + 1)
+pub so_far-more : (m : System) (base : ℕ) (text rest after line : List ℕ) (p q : Standing) (count number : ℕ) → SoFar m base text rest p count number → lines rest ≡ line ∷ lines after → Takes p line (Ok true) q → SoFar m base text after q (count + 1) (number + 1)
 so_far-more m base text rest after line p q count number so next takes =
     let counted : length so.grants ≡ count = so.counted in
     record {
       front = so.front ++ line ∷ [];
       grants = so.grants ++ takes.grant ∷ [];
       split = moved_on so.front text rest after line so.split next;
-      reads = grants_from-push m 1 so.front line so.grants (Some takes.grant) so.reads takes.reads;
-      leads = leads_on m base so.grants p takes.grant q so.leads takes.next takes.on;
+      reads = grants_from-push m 1 so.front line so.grants (Some takes.grant) so.reads (on_model m base so.grants p line (Ok (Some takes.grant)) so.leads takes.reads);
+      leads = leads_on m base so.grants p q takes.grant so.leads takes.next takes.on;
       counted = omega (arith, length-append so.grants (takes.grant ∷ []));
       numbered = numbered_on so.front line number so.numbered;
     }
 
 -- the end of the text: what was read is the run
-pub so_far-end : (m : System) (base : ℕ) (text rest : List ℕ) (p : Position) (count number : ℕ) → SoFar m base text rest p count number → rest ≡ [] → IsRunOf m base text count
+pub so_far-end : (m : System) (base : ℕ) (text rest : List ℕ) (p : Standing) (count number : ℕ) → SoFar m base text rest p count number → rest ≡ [] → IsRunOf m base text count
 so_far-end m base text rest p count number so empty =
     let whole : lines text ≡ so.front = so.split ∙ (ap (λ (r : List ℕ). so.front ++ lines r) empty ∙ append_nil so.front) in
     record { grants = so.grants; reads = rw whole so.reads; run = so.leads.run; counted = so.counted }
@@ -94,12 +70,11 @@ so_far-end m base text rest p count number so empty =
     append_nil (l ∷ ls) = ap (λ (ks : List (List ℕ)). l ∷ ks) (append_nil ls)
 
 -- a line at fault is the first one
-pub so_far-fault : (m : System) (base : ℕ) (text rest after line : List ℕ) (p q : Position) (count number : ℕ) (fault : ReplayFault) → SoFar m base text rest p count number → lines rest ≡ line ∷ lines after → Takes m p line (Err fault) q → IsReplayFault m base text number fault
+pub so_far-fault : (m : System) (base : ℕ) (text rest after line : List ℕ) (p q : Standing) (count number : ℕ) (fault : ReplayFault) → SoFar m base text rest p count number → lines rest ≡ line ∷ lines after → Takes p line (Err fault) q → IsReplayFault m base text number fault
 so_far-fault m base text rest after line p q count number fault so next takes = by_fault fault (at fault takes)
   where
-    at : (f : ReplayFault) → IsLineFault m (place_in p.state) (used_in p) line f → IsLineFault m (state_after m so.grants) (used_after base so.grants) line f
-    at f why =
-        subst (λ (s : State). IsLineFault m s (used_after base so.grants) line f) so.leads.state (subst (λ (u : ℕ → ℕ). IsLineFault m (place_in p.state) u line f) so.leads.used why)
+    at : (f : ReplayFault) → IsLineFault p.model p.state p.used line f → IsLineFault m (state_after m so.grants) (used_after base so.grants) line f
+    at f why = subst (λ (r : Standing). IsLineFault r.model r.state r.used line f) so.leads.there why
 
     first : (f : ReplayFault) → IsLineFault m (state_after m so.grants) (used_after base so.grants) line f → IsFirstFault m base text number f
     first f why =
@@ -120,3 +95,23 @@ so_far-fault m base text rest after line p q count number fault so next takes = 
     by_fault Unknown why = first Unknown why
     by_fault (NotARun f) why = first (NotARun f) why
     by_fault Memory why = absurd why
+
+-- a first line that is at fault by itself is the first fault
+pub first_line-fault : (m : System) (base : ℕ) (text line rest : List ℕ) (fault : LineFault) → lines text ≡ line ∷ lines rest → grant_on m line ≡ Err fault → IsReplayFault m base text 1 (replay_of_line fault)
+first_line-fault m base text line rest fault split says = by_fault fault says
+  where
+    at : (f : ReplayFault) → IsLineFault m (state_after m []) (used_after base []) line f → IsFirstFault m base text 1 f
+    at f why = record { front = []; line = line; rest = lines rest; grants = []; split = split; numbered = refl; reads = refl; run = tt; why = why }
+
+    by_fault : (f : LineFault) → grant_on m line ≡ Err f → IsReplayFault m base text 1 (replay_of_line f)
+    by_fault line_fault.Syntax is = at Syntax is
+    by_fault line_fault.Unknown is = at Unknown is
+
+-- where the first line reads, want of memory can be told of it
+pub first_line-reads : (m : System) (base : ℕ) (text line rest : List ℕ) (said : Option Grant) → lines text ≡ line ∷ lines rest → grant_on m line ≡ Ok said → IsReplayFault m base text 1 Memory
+first_line-reads m base text line rest said split says = (refl, memory_at m text text rest line [] 1 said (has_read-none m text) split says)
+
+-- a text without a line has none at fault
+pub no_line-reads : (m : System) (base : ℕ) (text : List ℕ) → length text ≡ 0 → IsReplayFault m base text 1 Memory
+no_line-reads m base [] none = (refl, record { first = omega arith; last = omega arith; clear = refl })
+no_line-reads m base (b ∷ bs) none = absurd (omega arith)

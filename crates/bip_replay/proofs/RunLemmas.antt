@@ -2,10 +2,11 @@
 use Rattle.std.proofs.Common.{◌≡◌, ℕ, ◌+◌, ◌<◌, List, [], ◌∷◌, ◌++◌, refl, arith}
 use Rattle.std.proofs.lemmas.List.Elements.{All-weaker}
 use Rattle.bip_model.specs.declared.grants.Grant.{Grant}
-use Rattle.bip_model.specs.declared.grants.Want.{Want}
+use Rattle.bip_model.specs.declared.wants.Want.{Want}
 use Rattle.bip_model.specs.declared.parts.System.{System}
-use Rattle.bip_model.specs.Histories.{IsHistory, used_by}
-use Rattle.bip_model.specs.Steps.{State, IsRun, after, end_of}
+use Rattle.bip_model.specs.Grants.{IsHistory, used_by}
+use Rattle.bip_model.specs.States.{State}
+use Rattle.bip_model.specs.Steps.{IsRun, after, end_of}
 use Rattle.bip_model.specs.Wants.{raised}
 use Rattle.bip_replay.specs.Runs.{HasNextNumber, IsNext, IsRunFrom, interactions_of}
 

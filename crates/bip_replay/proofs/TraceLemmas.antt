@@ -9,11 +9,12 @@ use Rattle.std.proofs.lemmas.List.Quantifiers.{position-Some}
 use Rattle.bip_model.specs.Naming.{same_text}
 use Rattle.bip_model.specs.Texts.{is_comment, is_plain, lines, says_something, words, words_said}
 use Rattle.bip_model.specs.declared.grants.Grant.{Grant}
-use Rattle.bip_model.specs.declared.grants.Role.TheVariants.{Moved}
-use Rattle.bip_model.specs.declared.grants.Want.{Want}
+use Rattle.bip_model.specs.declared.wants.Role.TheVariants.{Moved}
+use Rattle.bip_model.specs.declared.wants.Want.{Want}
 use Rattle.bip_model.specs.declared.parts.System.{System}
-use Rattle.bip_replay.specs.TraceLaws.{AreOfModel, NamesItsInteraction, SameGrants}
-use Rattle.bip_replay.specs.Traces.{NamedGrant, before_rest, grant_on, grants_from, looked_up, named_on, put_by_component, said, wants_known, wants_said}
+use Rattle.bip_replay.specs.Laws.{AreOfModel, NamesItsInteraction, SameGrants}
+use Rattle.bip_replay.specs.Lines.{NamedGrant, grant_on, looked_up, named_on, put_in_order, said, wants_known, wants_said}
+use Rattle.bip_replay.specs.Traces.{before_rest, grants_from}
 use Rattle.bip_replay.specs.Writing.{IsGrantOf, name_in}
 use Rattle.bip_replay.specs.declared.faults.LineFault.{LineFault}
 use Rattle.bip_replay.specs.declared.faults.LineFault.TheVariants.{Syntax, Unknown}
@@ -118,12 +119,12 @@ wants_inside m before (w ∷ ws) wants inside is =
   where
     by_place : ((b : List Want) → All (Inside m) b → wants_known m.component_names b ws ≡ Some wants → All (Inside m) wants)
         → (found : Option ℕ) → position (same_text w.name) m.component_names ≡ found
-        → option_and_then (λ c. wants_known m.component_names (put_by_component (record { comp = record { 0 = c }; number = w.number; role = w.role }) before) ws) found ≡ Some wants
+        → option_and_then (λ c. wants_known m.component_names (put_in_order (record { comp = record { 0 = c }; number = w.number; role = w.role }) before) ws) found ≡ Some wants
         → All (Inside m) wants
     by_place more None at is' = absurd cc
     by_place more (Some c) at is' =
         let x : Want = record { comp = record { 0 = c }; number = w.number; role = w.role } in
-        more (put_by_component x before) (All-put (Inside m) x before (position-Some (same_text w.name) m.component_names c [] at).0 inside) is'
+        more (put_in_order x before) (All-put (Inside m) x before (position-Some (same_text w.name) m.component_names c [] at).0 inside) is'
 
 of_model : (m : System) (named : List NamedWant) (g : Grant) (inter : List ℕ) (found : Option ℕ) → position (same_text inter) m.interaction_names ≡ found
     → (these : Option (List Want)) → wants_known m.component_names [] named ≡ these

@@ -7,15 +7,16 @@ use Rattle.std.proofs.lemmas.List.{append-nil, append_assoc, length-append, leng
 use Rattle.std.proofs.lemmas.List.Elements.{All-append, All-cons, All-filter, All-head, All-map, All-nil, All-push, All-tail, All-weaker, filter_passes}
 use Rattle.std.proofs.lemmas.List.Filters.{length-filter_both}
 use Rattle.bip_model.specs.Naming.{AreApart, IsName, is_name, same_text}
-use Rattle.bip_model.specs.System.{IsSystem}
+use Rattle.bip_model.specs.Parts.{IsSystem}
 use Rattle.bip_model.specs.Texts.{is_plain, lines, words}
 use Rattle.bip_model.specs.Wants.{IsWants, is_moved}
 use Rattle.bip_model.specs.declared.grants.Grant.{Grant}
-use Rattle.bip_model.specs.declared.grants.Role.{Role}
-use Rattle.bip_model.specs.declared.grants.Role.TheVariants.{Moved, Seen}
-use Rattle.bip_model.specs.declared.grants.Want.{Want}
+use Rattle.bip_model.specs.declared.wants.Role.{Role}
+use Rattle.bip_model.specs.declared.wants.Role.TheVariants.{Moved, Seen}
+use Rattle.bip_model.specs.declared.wants.Want.{Want}
 use Rattle.bip_model.specs.declared.parts.System.{System}
-use Rattle.bip_replay.specs.Traces.{grant_on, grants_from, grants_of, is_named, known, put_by_component, want_said, wants_known, wants_said, with_want}
+use Rattle.bip_replay.specs.Lines.{grant_on, is_named, known, put_in_order, want_said, wants_known, wants_said, with_want}
+use Rattle.bip_replay.specs.Traces.{grants_from, grants_of}
 use Rattle.bip_replay.specs.Writing.{IsGrantOf, IsSpelled, ReadsBack, bare_line, has_role, line_of, name_in, seen_words, spaced, text_of, want_word, want_words, words_behind}
 use Rattle.bip_replay.specs.declared.lines.NamedWant.{NamedWant}
 use Rattle.bip_replay.proofs.KnownLemmas.{HasNumber, IsElse, Rises}
@@ -90,7 +91,7 @@ known-put : (m : System) (before us : List Want) → AreApart m.component_names 
 known-put m before [] apart inside = refl
 known-put m before (u ∷ us) apart inside =
     rw (position-name m.component_names u.comp.0 apart (All-head (Inside m) u us inside))
-    (known-put m (put_by_component u before) us apart (All-tail (Inside m) u us inside))
+    (known-put m (put_in_order u before) us apart (All-tail (Inside m) u us inside))
 
 -- what can be written as words, and is a list of wants
 record AreWritten (m : System) (ws : List Want) : Type 0 where

@@ -1,11 +1,9 @@
-pub mod FaultTexts
+pub mod Book
 pub mod Faults
-pub mod Ledgers
-pub mod Positions
-pub mod Readings
+pub mod Laws
+pub mod Lines
+pub mod Private
 pub mod Replays
-pub mod Rooms
 pub mod Runs
-pub mod TraceLaws
 pub mod Traces
 pub mod Writing

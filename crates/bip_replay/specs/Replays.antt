@@ -1,21 +1,17 @@
 -- Replays: a trace as a run, or its first line at fault.
-use Rattle.std.specs.Prelude.{◌≡◌, ℕ, ◌+◌, Bool, true, false, List, ◌∷◌, ◌++◌, length, Option, None, Some, Result, Ok, Err}
-use Rattle.bip_model.specs.declared.grants.Grant.{Grant}
-use Rattle.bip_model.specs.declared.grants.Want.{Want}
-use Rattle.bip_model.specs.declared.numbering.InterId.{InterId}
-use Rattle.bip_model.specs.declared.parts.System.{System}
-use Rattle.bip_model.specs.Steps.{State, place_in}
+use Rattle.std.specs.Prelude.{Err, List, Ok, Some, length, ℕ, ◌++◌, ◌+◌, ◌∷◌, ◌≡◌}
+use Rattle.bip_model.specs.States.{State}
 use Rattle.bip_model.specs.Texts.{lines}
-use Rattle.bip_replay.specs.declared.faults.LineFault.{LineFault}
-use Rattle.bip_replay.specs.declared.faults.LineFault.TheVariants as line_fault
-use Rattle.bip_replay.specs.declared.faults.ReplayFault.{ReplayFault}
-use Rattle.bip_replay.specs.declared.faults.ReplayFault.TheVariants.{Syntax, Unknown, NotARun, Memory}
-use Rattle.bip_replay.specs.declared.faults.StepFault.{StepFault}
-use Rattle.bip_replay.specs.declared.position.Position.{Position}
+use Rattle.bip_model.specs.declared.grants.Grant.{Grant}
+use Rattle.bip_model.specs.declared.parts.System.{System}
 use Rattle.bip_replay.specs.Faults.{IsFaultOf, of_step}
-use Rattle.bip_replay.specs.Positions.{LeadsOn, used_in}
-use Rattle.bip_replay.specs.Runs.{IsModelRun, IsNext, state_after, used_after}
-use Rattle.bip_replay.specs.Traces.{grant_on, grants_from, grants_of}
+use Rattle.bip_replay.specs.Lines.{grant_on}
+use Rattle.bip_replay.specs.Runs.{IsModelRun, state_after, used_after}
+use Rattle.bip_replay.specs.Traces.{IsOutOfMemory, grants_from, grants_of}
+use Rattle.bip_replay.specs.declared.faults.LineFault.TheVariants as line_fault
+use Rattle.bip_replay.specs.declared.faults.ReplayFault.TheVariants.{Memory, NotARun, Syntax, Unknown}
+use Rattle.bip_replay.specs.declared.faults.ReplayFault.{ReplayFault}
+use Rattle.bip_replay.specs.declared.faults.StepFault.{StepFault}
 
 -- the line reads as a grant with this fault in a state, after the used numbers
 pub record IsRefused (m : System) (s : State) (used : ℕ → ℕ) (line : List ℕ) (fault : StepFault) : Type 0 where
@@ -42,9 +38,10 @@ pub record IsFirstFault (m : System) (base : ℕ) (text : List ℕ) (number : �
   pub run : IsModelRun m base grants
   pub why : IsLineFault m (state_after m grants) (used_after base grants) line fault
 
--- why a trace isn't replayed: its first fault, or want of memory, which is told of the first line
+-- why a trace isn't replayed: its first fault, or want of memory, which is told of the first line,
+-- where that reads
 abbrev pub IsReplayFault : System → ℕ → List ℕ → ℕ → ReplayFault → Type 0
-IsReplayFault m base text number Memory = number ≡ 1
+IsReplayFault m base text number Memory = (number ≡ 1) × IsOutOfMemory m text 1
 IsReplayFault m base text number Syntax = IsFirstFault m base text number Syntax
 IsReplayFault m base text number Unknown = IsFirstFault m base text number Unknown
 IsReplayFault m base text number (NotARun why) = IsFirstFault m base text number (NotARun why)
@@ -55,22 +52,3 @@ pub record IsRunOf (m : System) (base : ℕ) (text : List ℕ) (count : ℕ) : T
   pub reads : grants_of m text ≡ Ok grants
   pub run : IsModelRun m base grants
   pub counted : length grants ≡ count
-
--- a line's grant takes a position on
-pub record TakesOn (m : System) (p : Position) (line : List ℕ) (q : Position) : Type 0 where
-  pub grant : Grant
-  pub reads : grant_on m line ≡ Ok (Some grant)
-  pub next : IsNext m (place_in p.state) (used_in p) grant
-  pub on : LeadsOn m p grant q
-
--- what a line does to a position: its grant takes it on, a line that says nothing leaves it, or the line is at fault
-abbrev pub Takes : System → Position → List ℕ → Result Bool ReplayFault → Position → Type 0
-Takes m p line (Ok true) q = TakesOn m p line q
-Takes m p line (Ok false) q = (grant_on m line ≡ Ok None) × (q ≡ p)
-Takes m p line (Err fault) q = IsLineFault m (place_in p.state) (used_in p) line fault
-
--- the answer of a reader of one line, and the wants that it left, as what the line says
-abbrev pub as_grant : Result (Option InterId) LineFault → List Want → Result (Option Grant) LineFault
-as_grant (Err fault) wants = Err fault
-as_grant (Ok None) wants = Ok None
-as_grant (Ok (Some inter)) wants = Ok (Some (record { inter = inter; wants = wants }))

@@ -1,12 +1,16 @@
--- Runs of a model with exact numbers: which grant may come next, and what a list of grants leads to.
-use Rattle.std.specs.Prelude.{◌≡◌, ℕ, ◌+◌, ◌≤◌, not, List, [], ◌∷◌, map, filter, All, ⊤}
+-- Runs of a model with exact numbers: which grant may come next, what a list of grants leads to, and
+-- where a run stands.
+use Rattle.std.specs.Prelude.{All, Any, IsTrue, List, [], map, slice_index_or, ℕ, ⊤, ◌+◌, ◌↔◌, ◌∷◌, ◌≡◌, ◌≤◌}
+use Rattle.bip_model.specs.Grants.{used_by}
+use Rattle.bip_model.specs.States.{State, state_of}
+use Rattle.bip_model.specs.Steps.{MayRun, after, end_of, moves, start_of}
+use Rattle.bip_model.specs.Wants.{raised}
 use Rattle.bip_model.specs.declared.grants.Grant.{Grant}
-use Rattle.bip_model.specs.declared.grants.Want.{Want}
+use Rattle.bip_model.specs.declared.wants.Role.TheVariants.{Moved, Seen}
+use Rattle.bip_model.specs.declared.wants.Role.{Role}
+use Rattle.bip_model.specs.declared.wants.Want.{Want}
 use Rattle.bip_model.specs.declared.parts.System.{System}
-use Rattle.bip_model.specs.Histories.{used_by}
-use Rattle.bip_model.specs.Steps.{State, MayRun, after, end_of, participants_of, start_of}
-use Rattle.bip_model.specs.System.{components_in}
-use Rattle.bip_model.specs.Wants.{components_of, is_moved, raised}
+use Rattle.bip_model.specs.declared.states.LocalState.{LocalState}
 
 -- no number is above this one
 abbrev pub last_number : ℕ
@@ -17,24 +21,24 @@ pub record HasNextNumber (used : ℕ → ℕ) (w : Want) : Type 0 where
   pub next : w.number ≡ used w.comp.0 + 1
   pub fits : w.number ≤ last_number
 
--- the components that wants move, in the order of the wants
-abbrev pub components_moved : List Want → List ℕ
-components_moved wants = components_of (filter (λ (w : Want). is_moved w.role) wants)
+-- a component is wanted with a role
+abbrev pub IsWanted : Role → List Want → ℕ → Type 0
+IsWanted role wants c = Any (λ (w : Want). (w.comp.0 ≡ c) × (w.role ≡ role)) wants
 
--- the components that wants only look at, in the order of the wants
-abbrev pub components_seen : List Want → List ℕ
-components_seen wants = components_of (filter (λ (w : Want). not (is_moved w.role)) wants)
+-- an interaction looks at a component in a state; a plain model has no priorities, and looks at none
+abbrev pub IsLookedAt : System → State → ℕ → ℕ → Type 0
+IsLookedAt m s a c = ⊥
 
--- a grant moves the participants of its interaction, and looks at nothing: a plain model has no priorities
-pub record HasItsParties (m : System) (g : Grant) : Type 0 where
-  pub moved : components_moved g.wants ≡ components_in (participants_of m g.inter.0)
-  pub seen : components_seen g.wants ≡ []
+-- a grant moves just the components that its interaction moves, and sees just those that it looks at
+pub record HasItsParties (m : System) (s : State) (g : Grant) : Type 0 where
+  pub moved : (c : ℕ) → IsWanted Moved g.wants c ↔ IsTrue (moves m g.inter.0 c)
+  pub seen : (c : ℕ) → IsWanted Seen g.wants c ↔ IsLookedAt m s g.inter.0 c
 
 -- a grant may come next in a state, after the used numbers
 pub record IsNext (m : System) (s : State) (used : ℕ → ℕ) (g : Grant) : Type 0 where
   pub may : MayRun m s g.inter.0
   pub numbers : All (HasNextNumber used) g.wants
-  pub parties : HasItsParties m g
+  pub parties : HasItsParties m s g
 
 -- grants, each of which may come next where those before it lead
 abbrev pub IsRunFrom : System → State → (ℕ → ℕ) → List Grant → Type 0
@@ -56,3 +60,40 @@ state_after m gs = end_of m (start_of m) (interactions_of gs)
 -- the used numbers to which grants lead from a base
 abbrev pub used_after : ℕ → List Grant → ℕ → ℕ
 used_after base gs = used_by (λ _. base) gs
+
+-- where a run of a model stands, whose numbers are above a base
+pub record Standing : Type 0 where
+  pub model : System
+  pub base : ℕ
+  pub state : State
+  pub used : ℕ → ℕ
+
+-- what a position keeps of it, component by component
+pub record Kept : Type 0 where
+  pub model : System
+  pub base : ℕ
+  pub places : List LocalState
+  pub used : List ℕ
+
+-- where a run stands by what is kept; a component that isn't kept has used nothing above the base
+abbrev pub standing_of : Kept → Standing
+standing_of p =
+    record { model = p.model; base = p.base; state = state_of p.places; used = λ c. slice_index_or p.used c p.base }
+
+-- where grants lead from the model's start
+abbrev pub standing_after : System → ℕ → List Grant → Standing
+standing_after m base gs =
+    record { model = m; base = base; state = state_after m gs; used = used_after base gs }
+
+-- where a grant leads
+abbrev pub standing_on : Standing → Grant → Standing
+standing_on p g = record p { state = after p.model p.state g.inter.0; used = raised p.used g.wants }
+
+-- a grant may come next
+abbrev pub IsNextAt : Standing → Grant → Type 0
+IsNextAt p g = IsNext p.model p.state p.used g
+
+-- these grants are a run above the base, and lead here
+pub record StandsAfter (m : System) (base : ℕ) (gs : List Grant) (p : Standing) : Type 0 where
+  pub run : IsModelRun m base gs
+  pub there : p ≡ standing_after m base gs

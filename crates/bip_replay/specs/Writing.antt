@@ -1,16 +1,16 @@
 -- The one spelling of traces: moved components, then the seen ones, each by component; one space between words, and a line feed after each line.
-use Rattle.std.specs.Prelude.{◌≡◌, ℕ, ◌<◌, ◌^◌, Bool, not, IsTrue, List, [], ◌∷◌, ◌++◌, length, map, filter, All, Ok, Some, codes, slice_index_or, if◌then◌else◌}
 use Rattle.std.specs.Fmt.{decimal}
 use Rattle.std.specs.List.{flat_map, list_any}
+use Rattle.std.specs.Prelude.{All, Bool, IsTrue, List, Ok, Some, [], codes, filter, if◌then◌else◌, length, map, not, slice_index_or, ℕ, ◌++◌, ◌<◌, ◌^◌, ◌∷◌, ◌≡◌}
 use Rattle.bip_model.specs.Naming.{IsName}
 use Rattle.bip_model.specs.Texts.{is_plain}
 use Rattle.bip_model.specs.Wants.{is_moved}
 use Rattle.bip_model.specs.declared.grants.Grant.{Grant}
-use Rattle.bip_model.specs.declared.grants.Role.{Role}
-use Rattle.bip_model.specs.declared.grants.Role.TheVariants.{Moved, Seen}
-use Rattle.bip_model.specs.declared.grants.Want.{Want}
+use Rattle.bip_model.specs.declared.wants.Role.TheVariants.{Moved, Seen}
+use Rattle.bip_model.specs.declared.wants.Role.{Role}
+use Rattle.bip_model.specs.declared.wants.Want.{Want}
 use Rattle.bip_model.specs.declared.parts.System.{System}
-use Rattle.bip_replay.specs.Traces.{grant_on}
+use Rattle.bip_replay.specs.Lines.{grant_on}
 
 -- a grant of a model: the model has its interaction and its components
 pub record IsGrantOf (m : System) (g : Grant) : Type 0 where

@@ -1,9 +1,10 @@
 //! The book of a run: its grants, with the position to which they lead.
 ghost use Rattle.std.specs.Prelude.{◌≡◌, ◌≤◌, [], ◌∷◌, ◌++◌, length, IfOk, IfErr, OnOk, OnErr};
-ghost use Rattle.bip_replay.specs.Ledgers.{GoesOn, IsAppendFault};
+ghost use Rattle.bip_replay.specs.Book.{IsRunWith, IsAppendFault};
+ghost use Rattle.bip_replay.specs.declared.faults.BookFault.TheVariants.{Memory};
 ghost use Rattle.bip_replay.specs.Runs.{IsModelRun};
 
-use crate::{BookFault, Position};
+use crate::{BookFault, GrantRef, Position};
 use bip_model::{Grant, Model, Number};
 use std::alloc::{AllocError, Global};
 use std::marker;
@@ -13,20 +14,19 @@ use std::marker;
 /// numbers and the grants.
 #[derive(Drop)]
 pub struct Book<'m> {
-    model: &'m Model,
-    position: Position,
+    position: Position<'m>,
     grants: Vec<Grant>,
 }
 
 impl<'m> marker::Model for Book<'m> {
-    ghost use Rattle.bip_replay.specs.Ledgers.{Ledger};
-    ghost use Rattle.bip_replay.specs.Positions.{Leads};
+    ghost use Rattle.bip_replay.specs.Book.{Content};
+    ghost use Rattle.bip_replay.specs.Runs.{StandsAfter, standing_of};
 
-    ghost Value = { Ledger };
+    ghost Value = { Content };
 
-    ghost view = { λ b. record { model = b.model.now; base = b.position.base; grants = b.grants.items } };
+    ghost view = { λ b. record { model = b.position.model; base = b.position.base; grants = b.grants.items } };
 
-    ghost invariant = { λ b. Leads b.model.now b.position.base b.grants.items b.position };
+    ghost invariant = { λ b. StandsAfter b.position.model b.position.base b.grants.items (standing_of b.position) };
 }
 
 impl<'m> Book<'m> {
@@ -37,7 +37,6 @@ impl<'m> Book<'m> {
     {
         let position = Position::start(alloc, model, base)?;
         Ok(Book {
-            model,
             position,
             grants: Vec::new(alloc),
         })
@@ -53,24 +52,22 @@ impl<'m> Book<'m> {
     }
 
     /// Appends a grant that can be next, and says how many stood before. Any other grant is refused with its fault,
-    /// and the book stays as it was; so it does without memory, which is asked for last.
+    /// and the book stays as it was; so it does without memory, which is asked for last. Nothing else keeps a grant
+    /// out that can be next.
     pub fn append(&mut self, grant: Grant) -> Result<u64, BookFault>
         ensures count { IfOk result (λ before. before ≡ length self.old.grants) }
         ensures ok { OnOk result (self.new ≡ record self.old { grants = self.old.grants ++ grant ∷ [] }) }
-        ensures run { OnOk result (GoesOn self.old grant) }
+        ensures run { OnOk result (IsRunWith self.old grant) }
+        ensures only { IsRunWith self.old grant → IfErr result (λ e. e ≡ Memory) }
         ensures fault { IfErr result (λ e. IsAppendFault self.old grant e) }
         ensures err { OnErr result (self.new ≡ self.old) }
     {
         let before = self.grants.len() as u64;
-        let wants = grant.wants.as_slice();
-        if let Err(fault) = self.position.check(self.model, grant.inter, wants) {
-            return Err(BookFault::of(fault));
-        }
+        self.position.check(&GrantRef::of(&grant))?;
         if self.grants.reserve(1).is_err() {
             return Err(BookFault::Memory);
         }
-        let wants = grant.wants.as_slice();
-        self.position.go_on(self.model, grant.inter, wants);
+        self.position.go_on(&GrantRef::of(&grant));
         let _pushed = self.grants.push(grant);
         Ok(before)
     }

@@ -1,7 +1,6 @@
 //! Why a call of this crate refuses.
 ghost use Rattle.std.specs.Prelude.{◌≡◌, Some};
-ghost use Rattle.bip_replay.specs.FaultTexts.{number_of_replay, number_of_trace, text_of_line, text_of_replay, text_of_trace};
-ghost use Rattle.bip_replay.specs.Faults.{number_of_step, text_of_step, number_of_book, text_of_book};
+ghost use Rattle.bip_replay.specs.Faults.{number_of_book, number_of_replay, number_of_step, number_of_trace, text_of_book, text_of_replay, text_of_step, text_of_trace};
 
 use bip_model::{CompId, InterId, Number};
 use std::fmt;
@@ -85,8 +84,6 @@ impl fmt::Display for BookFault {
 }
 
 impl BookFault {
-    ghost use Rattle.bip_replay.specs.Faults.{of_step};
-
     /// The fault's number.
     pub fn number(&self) -> u8
         ensures { result ≡ number_of_book self.now }
@@ -99,11 +96,14 @@ impl BookFault {
             BookFault::Memory => 5,
         }
     }
+}
 
-    /// The fault of a grant that can't be the next step, as a book's.
-    pub(crate) fn of(fault: StepFault) -> BookFault
-        ensures { result ≡ of_step fault }
-    {
+impl From<StepFault> for BookFault {
+    ghost use Rattle.bip_replay.specs.Faults.{of_step};
+
+    ghost from_gives = { λ fault e. e ≡ of_step fault };
+
+    fn from(fault: StepFault) -> BookFault {
         match fault {
             StepFault::NotEnabled => BookFault::NotEnabled,
             StepFault::Below(inter) => BookFault::Below(inter),
@@ -114,23 +114,12 @@ impl BookFault {
 }
 
 /// Why a line of a trace says no grant.
-#[derive(Debug, Drop, Error)]
-pub enum LineFault {
+#[derive(Debug, Drop)]
+pub(crate) enum LineFault {
     /// The line hasn't the form of a grant.
     Syntax,
     /// An interaction or a component that the model lacks.
     Unknown,
-}
-
-impl fmt::Display for LineFault {
-    ghost output = { λ fault. Some (text_of_line fault) };
-
-    fn fmt<W: fmt::Write>(&self, f: &mut fmt::Formatter<W>) -> fmt::Result {
-        match self {
-            LineFault::Syntax => write!(f, "syntax"),
-            LineFault::Unknown => write!(f, "unknown name"),
-        }
-    }
 }
 
 /// Why bytes are no trace of a model.
@@ -165,6 +154,19 @@ impl TraceFault {
             TraceFault::Syntax => 1,
             TraceFault::Unknown => 2,
             TraceFault::Memory => 3,
+        }
+    }
+}
+
+impl From<LineFault> for TraceFault {
+    ghost use Rattle.bip_replay.specs.Faults.{trace_of_line};
+
+    ghost from_gives = { λ fault e. e ≡ trace_of_line fault };
+
+    fn from(fault: LineFault) -> TraceFault {
+        match fault {
+            LineFault::Syntax => TraceFault::Syntax,
+            LineFault::Unknown => TraceFault::Unknown,
         }
     }
 }
@@ -206,5 +208,29 @@ impl ReplayFault {
             ReplayFault::NotARun(_) => 3,
             ReplayFault::Memory => 4,
         }
+    }
+}
+
+impl From<LineFault> for ReplayFault {
+    ghost use Rattle.bip_replay.specs.Faults.{replay_of_line};
+
+    ghost from_gives = { λ fault e. e ≡ replay_of_line fault };
+
+    fn from(fault: LineFault) -> ReplayFault {
+        match fault {
+            LineFault::Syntax => ReplayFault::Syntax,
+            LineFault::Unknown => ReplayFault::Unknown,
+        }
+    }
+}
+
+impl From<StepFault> for ReplayFault {
+    ghost use Rattle.bip_replay.specs.Faults.{of_step};
+    ghost use Rattle.bip_replay.specs.declared.faults.ReplayFault.TheVariants.{NotARun};
+
+    ghost from_gives = { λ fault e. e ≡ NotARun (of_step fault) };
+
+    fn from(fault: StepFault) -> ReplayFault {
+        ReplayFault::NotARun(BookFault::from(fault))
     }
 }

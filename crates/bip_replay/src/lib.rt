@@ -3,8 +3,9 @@
 
 mod book;
 mod faults;
+mod grants;
+mod laws;
 mod lines;
-mod position;
 mod replays;
 mod rooms;
 mod runs;
@@ -14,9 +15,10 @@ mod traces;
 mod writing;
 
 pub use book::Book;
-pub use faults::{BookFault, LineFault, ReplayFault, StepFault, TraceFault};
-pub use position::Position;
+pub use faults::{BookFault, ReplayFault, StepFault, TraceFault};
+pub use grants::GrantRef;
+pub use laws::{fault_laws, run_laws, trace_laws};
 pub use replays::replay;
-pub use runs::{fault_laws, run_laws};
-pub use traces::{read_trace, trace_laws};
+pub use runs::Position;
+pub use traces::read_trace;
 pub use writing::write_trace;

@@ -1,13 +1,16 @@
 //! What a line of a trace says: a grant by names, and the grant of a model.
-ghost use Rattle.std.specs.Prelude.{◌≡◌, ◌+◌, ◌<◌, ◌≤◌, [], ◌∷◌, None, Some, length, nat_le, nat_lt, not, ◌||◌, position, vec_capacity, vec_len, if◌then◌else◌};
+ghost use Rattle.std.specs.Prelude.{◌≡◌, ◌+◌, ◌<◌, ◌≤◌, [], ◌∷◌, None, Some, length, nat_le, nat_lt, not, ◌||◌, position, if◌then◌else◌};
 ghost use Rattle.std.specs.Option.{option_and_then};
+ghost use Rattle.arrayvec.specs.ArrayVec.{array_vec_len};
 ghost use Rattle.bip_model.specs.Naming.{is_name, same_text};
 ghost use Rattle.bip_model.specs.Texts.{words};
-ghost use Rattle.bip_model.specs.declared.grants.Role.TheVariants.{Moved};
-ghost use Rattle.bip_model.specs.declared.grants.TheConstants.{MOST_WANTS};
-ghost use Rattle.bip_replay.specs.Traces.{as_said, is_named, named_on, put_by_component, said, want_said, wants_known, wants_said, with_want};
+ghost use Rattle.bip_model.specs.declared.wants.Role.TheVariants.{Moved};
+ghost use Rattle.bip_model.specs.declared.wants.TheConstants.{MOST_WANTS};
+ghost use Rattle.bip_replay.specs.Lines.{is_named, named_on, put_in_order, said, want_said, wants_known, wants_said, with_want};
+ghost use Rattle.bip_replay.specs.Private.{as_said};
 
-use crate::LineFault;
+use crate::faults::LineFault;
+use arrayvec::ArrayVec;
 use bip_model::{
     CompId, MOST_WANTS, Model, Name, Number, Role, Want, is_plain, parse_number, split_pair,
     split_word,
@@ -21,11 +24,27 @@ pub(crate) struct NamedWant {
     pub role: Role,
 }
 
+impl Default for NamedWant {
+    /// What stands in a place that no want has taken.
+    fn default() -> NamedWant {
+        NamedWant {
+            name: blank(),
+            number: 0,
+            role: Role::Moved,
+        }
+    }
+}
+
+fn blank() -> Name {
+    match Name::of(b"_") {
+        Some(name) => name,
+        None => unreachable!(),
+    }
+}
+
 /// The interaction that a line names, with its wants in the room for them; none of a line that says nothing.
-pub(crate) fn read_line(named: &mut Vec<NamedWant>, line: &[u8]) -> Result<Option<Name>, LineFault>
-    requires { MOST_WANTS ≤ vec_capacity named.old }
+pub(crate) fn read_line(named: &mut ArrayVec<NamedWant, MOST_WANTS>, line: &[u8]) -> Result<Option<Name>, LineFault>
     ensures said { as_said result named.new.items ≡ named_on line.now }
-    ensures room { MOST_WANTS ≤ vec_capacity named.new }
 {
     if !is_plain(line) {
         return Err(LineFault::Syntax);
@@ -41,13 +60,11 @@ pub(crate) fn read_line(named: &mut Vec<NamedWant>, line: &[u8]) -> Result<Optio
 
 // The interaction of a line that begins with a word, with its wants in the room for them.
 fn read_grant(
-    named: &mut Vec<NamedWant>,
+    named: &mut ArrayVec<NamedWant, MOST_WANTS>,
     word: &[u8],
     line: &[u8],
 ) -> Result<Option<Name>, LineFault>
-    requires { MOST_WANTS ≤ vec_capacity named.old }
     ensures said { as_said result named.new.items ≡ said (word.now ∷ words line.now) }
-    ensures room { MOST_WANTS ≤ vec_capacity named.new }
 {
     let Some((inter, rest)) = split_word(line) else {
         return Err(LineFault::Syntax);
@@ -65,10 +82,8 @@ fn read_grant(
 }
 
 // The wants behind an interaction; where they haven't their form, the answer is no.
-fn read_wants(named: &mut Vec<NamedWant>, line: &[u8]) -> bool
-    requires { MOST_WANTS ≤ vec_capacity named.old }
+fn read_wants(named: &mut ArrayVec<NamedWant, MOST_WANTS>, line: &[u8]) -> bool
     ensures said { wants_said Moved [] (words line.now) ≡ (if result then Some named.new.items else None) }
-    ensures room { MOST_WANTS ≤ vec_capacity named.new }
 {
     named.clear();
     let mut role = Role::Moved;
@@ -88,10 +103,8 @@ fn read_wants(named: &mut Vec<NamedWant>, line: &[u8]) -> bool
 }
 
 // The want of a word, put last; where it hasn't its form or can't stand there, the answer is no.
-fn read_want(named: &mut Vec<NamedWant>, role: Role, word: &[u8]) -> bool
-    requires { MOST_WANTS ≤ vec_capacity named.old }
+fn read_want(named: &mut ArrayVec<NamedWant, MOST_WANTS>, role: Role, word: &[u8]) -> bool
     ensures said { option_and_then (with_want named.old.items) (want_said role word.now) ≡ (if result then Some named.new.items else None) }
-    ensures room { MOST_WANTS ≤ vec_capacity named.new }
 {
     match parse_want(role, word) {
         Some(want) => add_want(named, want),
@@ -99,15 +112,13 @@ fn read_want(named: &mut Vec<NamedWant>, role: Role, word: &[u8]) -> bool
     }
 }
 
-fn add_want(named: &mut Vec<NamedWant>, want: NamedWant) -> bool
-    requires { MOST_WANTS ≤ vec_capacity named.old }
+fn add_want(named: &mut ArrayVec<NamedWant, MOST_WANTS>, want: NamedWant) -> bool
     ensures said { with_want named.old.items want ≡ (if result then Some named.new.items else None) }
-    ensures room { MOST_WANTS ≤ vec_capacity named.new }
 {
-    if !has_room_for(named, &want.name) {
+    if !has_room_for(named.as_slice(), &want.name) {
         return false;
     }
-    let _pushed = named.push(want);
+    named.push(want);
     true
 }
 
@@ -141,11 +152,9 @@ fn name_of(text: &[u8]) -> Option<Name>
 
 /// The wants by the numbers of their components, by component, in the room for them; where the model lacks a
 /// component, the answer is no.
-pub(crate) fn look_up(wants: &mut Vec<Want>, model: &Model, named: &[NamedWant]) -> bool
-    requires room { MOST_WANTS ≤ vec_capacity wants.old }
-    requires few { length named.now ≤ MOST_WANTS }
+pub(crate) fn look_up(wants: &mut ArrayVec<Want, MOST_WANTS>, model: &Model, named: &[NamedWant]) -> bool
+    requires { length named.now ≤ MOST_WANTS }
     ensures known { wants_known model.now.component_names [] named.now ≡ (if result then Some wants.new.items else None) }
-    ensures room { MOST_WANTS ≤ vec_capacity wants.new }
 {
     wants.clear();
     for want in named {
@@ -157,21 +166,19 @@ pub(crate) fn look_up(wants: &mut Vec<Want>, model: &Model, named: &[NamedWant])
             number: want.number,
             role: want.role,
         };
-        put_by_component(wants, known);
+        put_in_order(wants, known);
     }
     true
 }
 
-fn put_by_component(wants: &mut Vec<Want>, want: Want)
-    requires room { MOST_WANTS ≤ vec_capacity wants.old }
-    requires few { vec_len wants.old < MOST_WANTS }
-    ensures put { wants.new.items ≡ put_by_component want wants.old.items }
-    ensures len { vec_len wants.new ≡ vec_len wants.old + 1 }
-    ensures room { MOST_WANTS ≤ vec_capacity wants.new }
+fn put_in_order(wants: &mut ArrayVec<Want, MOST_WANTS>, want: Want)
+    requires { array_vec_len wants.old < MOST_WANTS }
+    ensures put { wants.new.items ≡ put_in_order want wants.old.items }
+    ensures len { array_vec_len wants.new ≡ array_vec_len wants.old + 1 }
 {
     let end = wants.len();
-    let at = first_above(wants, want.comp).unwrap_or(end);
-    let _inserted = wants.insert(at, want);
+    let at = first_above(wants.as_slice(), want.comp).unwrap_or(end);
+    wants.insert(at, want);
 }
 
 fn first_above(wants: &[Want], comp: CompId) -> Option<usize>

@@ -1,17 +1,18 @@
 //! Replaying a trace: whether the grants of a text are a run of a model.
-ghost use Rattle.std.specs.Prelude.{◌≡◌, ◌≤◌, length, IfOk, IfErr};
-ghost use Rattle.bip_replay.specs.Rooms.{IsRoomy};
-ghost use Rattle.bip_replay.specs.Replays.{IsReplayFault, IsRunOf, Takes};
+ghost use Rattle.std.specs.Prelude.{◌≤◌, ℕ, IfOk, IfErr};
+ghost use Rattle.bip_replay.specs.Runs.{standing_of};
+ghost use Rattle.bip_replay.specs.Private.{Takes};
+ghost use Rattle.bip_replay.specs.Replays.{IsReplayFault, IsRunOf};
 
 use crate::rooms::Room;
-use crate::{BookFault, LineFault, Position, ReplayFault};
+use crate::{Position, ReplayFault};
 use bip_model::{Model, Number, split_line};
 use std::alloc::Global;
 
 /// Reads and checks a trace line by line: how many grants it has where they are a run of the model with exact
 /// numbers above a base, or else the number of the first line at fault with its fault; what follows that line doesn't
 /// count (docs/DEFINITIONS.md, "Traces"). Its memory doesn't grow with the trace: it takes some at the start, and
-/// want of it is told of line 1.
+/// want of it is told of line 1, unless that line has a fault of its own.
 pub fn replay(
     alloc: Global,
     model: &Model,
@@ -22,18 +23,16 @@ pub fn replay(
     ensures run { IfOk result (λ count. IsRunOf model.now base text.now count) }
     ensures fault { IfErr result (λ e. IsReplayFault model.now base text.now e.0 e.1) }
 {
+    let mut room = Room::new();
     let Ok(mut position) = Position::start(alloc, model, base) else {
-        return Err((1, ReplayFault::Memory));
-    };
-    let Ok(mut room) = Room::new(alloc) else {
-        return Err((1, ReplayFault::Memory));
+        return Err((1, told_without_memory(&mut room, model, text)));
     };
     let mut count = 0;
     let mut number = 1;
     let mut rest = text;
     while !rest.is_empty() {
         let (line, after) = split_line(rest);
-        let found = match take_line(&mut position, &mut room, model, line) {
+        let found = match take_line(&mut position, &mut room, line) {
             Ok(found) => found,
             Err(fault) => return Err((number, fault)),
         };
@@ -46,25 +45,31 @@ pub fn replay(
     Ok(count)
 }
 
+// What is told of line 1 where there is no memory to start with: its own fault, if the line has one.
+fn told_without_memory(room: &mut Room, model: &Model, text: &[u8]) -> ReplayFault
+    ensures { (base : ℕ) → IsReplayFault model.now base text.now 1 result }
+{
+    if text.is_empty() {
+        return ReplayFault::Memory;
+    }
+    let (line, _) = split_line(text);
+    match room.read(model, line) {
+        Err(fault) => ReplayFault::from(fault),
+        Ok(_) => ReplayFault::Memory,
+    }
+}
+
 // Goes on by the grant of a line: whether it has one, or why the trace stops there.
 fn take_line(
-    position: &mut Position,
+    position: &mut Position<'_>,
     room: &mut Room,
-    model: &Model,
     line: &[u8],
 ) -> Result<bool, ReplayFault>
-    requires counted { length position.old.used ≡ length model.now.components }
-    requires room { IsRoomy room.old }
-    ensures takes { Takes model.now position.old line.now result position.new }
-    ensures room { IsRoomy room.new }
+    ensures { Takes (standing_of position.old) line.now result (standing_of position.new) }
 {
-    match room.read(model, line) {
-        Err(LineFault::Syntax) => Err(ReplayFault::Syntax),
-        Err(LineFault::Unknown) => Err(ReplayFault::Unknown),
-        Ok(None) => Ok(false),
-        Ok(Some(inter)) => match position.step(model, inter, &room.wants) {
-            Ok(()) => Ok(true),
-            Err(fault) => Err(ReplayFault::NotARun(BookFault::of(fault))),
-        },
-    }
+    let Some(grant) = room.read(position.model(), line)? else {
+        return Ok(false);
+    };
+    position.step(&grant)?;
+    Ok(true)
 }

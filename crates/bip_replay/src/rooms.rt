@@ -1,39 +1,35 @@
 //! Room for what a line of a trace says, used again for each line.
-ghost use Rattle.std.specs.Prelude.{◌≡◌, IfOk, IfSome};
-ghost use Rattle.bip_model.specs.Wants.{IsWants};
-ghost use Rattle.bip_replay.specs.Replays.{as_grant};
-ghost use Rattle.bip_replay.specs.Rooms.{IsRoomy};
-ghost use Rattle.bip_replay.specs.Traces.{grant_on};
+ghost use Rattle.std.specs.Prelude.{◌≡◌};
+ghost use Rattle.bip_replay.specs.Lines.{grant_on};
 
-use crate::LineFault;
+use crate::GrantRef;
+use crate::faults::LineFault;
 use crate::lines::{NamedWant, look_up, read_line};
-use bip_model::{InterId, MOST_WANTS, Model, Want};
-use std::alloc::{AllocError, Global};
+use arrayvec::ArrayVec;
+use bip_model::{MOST_WANTS, Model, Want};
 
-/// Room for the wants of a line, used again for each line.
+/// Room for the wants of a line, used again for each line. It is kept in place, and takes no memory.
 #[derive(Drop)]
 pub(crate) struct Room {
-    named: Vec<NamedWant>,
-    pub wants: Vec<Want>,
+    named: ArrayVec<NamedWant, MOST_WANTS>,
+    wants: ArrayVec<Want, MOST_WANTS>,
 }
 
 impl Room {
-    pub fn new(alloc: Global) -> Result<Room, AllocError>
-        ensures { IfOk result IsRoomy }
-    {
-        Ok(Room {
-            named: Vec::with_capacity(alloc, MOST_WANTS)?,
-            wants: Vec::with_capacity(alloc, MOST_WANTS)?,
-        })
+    pub fn new() -> Room {
+        Room {
+            named: ArrayVec::new(),
+            wants: ArrayVec::new(),
+        }
     }
 
-    /// The interaction of a line's grant, with its wants by component in the room for them; none of a line that says
-    /// nothing.
-    pub fn read(&mut self, model: &Model, line: &[u8]) -> Result<Option<InterId>, LineFault>
-        requires { IsRoomy self.old }
-        ensures said { as_grant result self.new.wants.items ≡ grant_on model.now line.now }
-        ensures wants { IfOk result (λ found. IfSome found (λ _. IsWants self.new.wants.items)) }
-        ensures room { IsRoomy self.new }
+    /// The grant of a line, with its wants by component; none of a line that says nothing.
+    pub fn read<'r>(
+        &'r mut self,
+        model: &Model,
+        line: &[u8],
+    ) -> Result<Option<GrantRef<'r>>, LineFault>
+        ensures { result ≡ grant_on model.now line.now }
     {
         let Some(name) = read_line(&mut self.named, line)? else {
             return Ok(None);
@@ -41,9 +37,9 @@ impl Room {
         let Some(inter) = model.interaction(&name) else {
             return Err(LineFault::Unknown);
         };
-        if !look_up(&mut self.wants, model, &self.named) {
+        if !look_up(&mut self.wants, model, self.named.as_slice()) {
             return Err(LineFault::Unknown);
         }
-        Ok(Some(inter))
+        Ok(Some(GrantRef::new(inter, self.wants.as_slice())))
     }
 }

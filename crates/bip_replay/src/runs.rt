@@ -1,39 +1,198 @@
-//! What runs with exact numbers mean.
-ghost use Rattle.std.specs.Prelude.{◌≡◌, ℕ, List, [], ◌∷◌, ◌++◌};
-ghost use Rattle.bip_model.specs.declared.grants.Grant.{Grant};
-ghost use Rattle.bip_model.specs.declared.parts.System.{System};
-ghost use Rattle.bip_model.specs.Histories.{MovesOnceEach};
-ghost use Rattle.bip_model.specs.Steps.{IsRun, State, after, start_of};
-ghost use Rattle.bip_model.specs.Wants.{raised};
-ghost use Rattle.bip_replay.specs.declared.faults.ReplayFault.{ReplayFault};
-ghost use Rattle.bip_replay.specs.declared.faults.StepFault.{StepFault};
-ghost use Rattle.bip_replay.specs.Faults.{IsFaultOf};
-ghost use Rattle.bip_replay.specs.Replays.{IsFirstFault};
-ghost use Rattle.bip_replay.specs.Traces.{grants_of};
-ghost use Rattle.bip_replay.specs.Runs.{IsModelRun, IsNext, interactions_of, state_after, used_after};
+//! A position in a run: the state and the used numbers to which grants lead, without the grants.
+ghost use Rattle.std.specs.Prelude.{◌≡◌, ◌≤◌, ◌<◌, ◌&&◌, ◌==◌, ℕ, [], All, length, slice_index_or, find, max, if◌then◌else◌, IsTrue, IfOk, IfErr, OnOk, OnErr};
+ghost use Rattle.std.specs.List.{list_all, zip};
+ghost use Rattle.std.specs.List.Sorted.{IsStrictlyIncreasing};
+ghost use Rattle.bip_model.specs.Wants.{components_of, is_moved, raised};
+ghost use Rattle.bip_model.specs.declared.wants.Want.{Want};
+ghost use Rattle.bip_replay.specs.Private.{is_party};
+ghost use Rattle.bip_replay.specs.Runs.{StandsAfter, standing_of};
 
-use bip_model::history_laws;
+use crate::{GrantRef, StepFault};
+use bip_model::{CompId, Model, Number, PortId, Role, Seq, State, Want};
+use std::alloc::{AllocError, Global};
+use std::marker;
 
-/// A run goes on by each grant that can be next where it leads, and by no other; its beginning is a run; its
-/// interactions are a run of the model; and it moves no component twice with one number
-/// (docs/DEFINITIONS.md, "Runs with exact numbers").
-pub fn run_laws()
-    ensures goes_on { (m : System) (base : ℕ) (gs : List Grant) (g : Grant) → IsModelRun m base gs → IsNext m (state_after m gs) (used_after base gs) g → IsModelRun m base (gs ++ g ∷ []) }
-    ensures next { (m : System) (base : ℕ) (gs : List Grant) (g : Grant) → IsModelRun m base (gs ++ g ∷ []) → IsNext m (state_after m gs) (used_after base gs) g }
-    ensures state { (m : System) (gs : List Grant) (g : Grant) → state_after m (gs ++ g ∷ []) ≡ after m (state_after m gs) g.inter.0 }
-    ensures used { (base : ℕ) (gs : List Grant) (g : Grant) → used_after base (gs ++ g ∷ []) ≡ raised (used_after base gs) g.wants }
-    ensures beginning { (m : System) (base : ℕ) (gs hs : List Grant) → IsModelRun m base (gs ++ hs) → IsModelRun m base gs }
-    ensures steps { (m : System) (base : ℕ) (gs : List Grant) → IsModelRun m base gs → IsRun m (start_of m) (interactions_of gs) }
-    ensures once { (m : System) (base : ℕ) (gs : List Grant) → IsModelRun m base gs → MovesOnceEach gs }
-{
-    history_laws();
+/// A position in a run of a model: the state, and for each component its used number. Its next move has one more,
+/// or it is spent. It keeps no grants (docs/DEFINITIONS.md, "Runs with exact numbers"). Contracts see where the run
+/// stands.
+#[derive(Drop)]
+pub struct Position<'m> {
+    model: &'m Model,
+    base: Number,
+    state: State,
+    used: Seq<Number>,
 }
 
-/// Faults are exact: a grant with a fault can't be next, a trace with a first fault isn't the trace of a run, and a
-/// trace has one first fault at most (docs/DEFINITIONS.md, "Why a grant can't be next" and "The first fault of a
-/// trace").
-pub fn fault_laws()
-    ensures refused { (m : System) (s : State) (used : ℕ → ℕ) (g : Grant) (fault : StepFault) → IsFaultOf m s used g fault → ¬ IsNext m s used g }
-    ensures first { (m : System) (base : ℕ) (text : List ℕ) (number : ℕ) (fault : ReplayFault) → IsFirstFault m base text number fault → (gs : List Grant) → grants_of m text ≡ Ok gs → ¬ IsModelRun m base gs }
-    ensures one { (m : System) (base : ℕ) (text : List ℕ) (n k : ℕ) (f g : ReplayFault) → IsFirstFault m base text n f → IsFirstFault m base text k g → (n ≡ k) × (f ≡ g) }
-{}
+impl<'m> marker::Model for Position<'m> {
+    ghost use Rattle.std.specs.Prelude.{◌≡◌, length};
+    ghost use Rattle.bip_replay.specs.Runs.{Kept};
+
+    ghost Value = { Kept };
+
+    ghost view = { λ p. record { model = p.model.now; base = p.base; places = p.state; used = p.used } };
+
+    ghost invariant = { λ p. length p.used ≡ length p.model.now.components };
+}
+
+impl<'m> Position<'m> {
+    ghost use Rattle.bip_replay.specs.Faults.{IsFaultAt};
+    ghost use Rattle.bip_replay.specs.Runs.{IsNextAt, standing_on};
+
+    /// The position of the empty run above a base.
+    pub fn start(
+        alloc: Global,
+        model: &'m Model,
+        base: Number,
+    ) -> Result<Position<'m>, AllocError>
+        requires { base ≤ 18446744073709551614 }
+        ensures { IfOk result (λ p. StandsAfter model.now base [] (standing_of p)) }
+    {
+        let state = model.start(alloc)?;
+        let used = vec![in alloc; base; model.components().len()]?;
+        Ok(Position {
+            model,
+            base,
+            state,
+            used: Seq::of(used),
+        })
+    }
+
+    /// The model that the run is of.
+    pub fn model(&self) -> &'m Model
+        ensures { result.now ≡ self.now.model }
+    {
+        self.model
+    }
+
+    /// The base of the numbers.
+    pub fn base(&self) -> Number
+        ensures { result ≡ self.now.base }
+    {
+        self.base
+    }
+
+    /// Goes on by a grant that can be next; any other is refused with its fault, and the position stays.
+    pub fn step(&mut self, grant: &GrantRef<'_>) -> Result<(), StepFault>
+        ensures next { OnOk result (IsNextAt (standing_of self.old) grant.now) }
+        ensures on { OnOk result (standing_of self.new ≡ standing_on (standing_of self.old) grant.now) }
+        ensures fault { IfErr result (λ e. IsFaultAt (standing_of self.old) grant.now e) }
+        ensures err { OnErr result (self.new ≡ self.old) }
+    {
+        self.check(grant)?;
+        self.go_on(grant);
+        Ok(())
+    }
+
+    /// Whether a grant can be next, or why not.
+    pub(crate) fn check(&self, grant: &GrantRef<'_>) -> Result<(), StepFault>
+        ensures next { OnOk result (IsNextAt (standing_of self.now) grant.now) }
+        ensures fault { IfErr result (λ e. IsFaultAt (standing_of self.now) grant.now e) }
+    {
+        let model = self.model;
+        let inter = grant.inter();
+        let wants = grant.wants();
+        if !model.enabled(&self.state, inter) {
+            return Err(StepFault::NotEnabled);
+        }
+        if let Some(want) = self.first_wrong(model.components().len(), wants) {
+            return Err(StepFault::Number(want.comp, self.expected(want.comp)));
+        }
+        if !are_parties(wants, model.participants(inter)) {
+            return Err(StepFault::Parties);
+        }
+        Ok(())
+    }
+
+    /// Makes the step of a grant that can be next.
+    pub(crate) fn go_on(&mut self, grant: &GrantRef<'_>)
+        requires { IsNextAt (standing_of self.old) grant.now }
+        ensures { standing_of self.new ≡ standing_on (standing_of self.old) grant.now }
+    {
+        let _valid = self.model.components();
+        let _fired = self.model.fire(&mut self.state, grant.inter());
+        use_up(&mut self.used, grant.wants());
+    }
+}
+
+impl<'m> Position<'m> {
+    ghost use Rattle.bip_replay.specs.Faults.{expected_after};
+    ghost use Rattle.bip_replay.specs.Private.{has_next_number, is_wrong};
+
+    /// The first want of one of so many components whose number isn't the one that its next move has.
+    fn first_wrong(&self, known: usize, wants: &[Want]) -> Option<Want>
+        ensures { result ≡ find (is_wrong known (standing_of self.now).used) wants.now }
+    {
+        wants.iter().copied().find(|want| (want.comp.0 as usize) < known
+            && !self.has_next_number(*want))
+    }
+
+    fn has_next_number(&self, want: Want) -> bool
+        ensures { result ≡ has_next_number (standing_of self.now).used want }
+    {
+        self.used(want.comp).checked_add(1) == Some(want.number)
+    }
+
+    /// The number that a component's next move has; 0 where it is spent.
+    fn expected(&self, comp: CompId) -> Number
+        ensures { result ≡ expected_after ((standing_of self.now).used comp.0) }
+    {
+        self.used(comp).checked_add(1).unwrap_or(0)
+    }
+
+    /// The used number of a component; the base where the model has no such component.
+    pub fn used(&self, comp: CompId) -> Number
+        ensures { result ≡ (standing_of self.now).used comp.0 }
+    {
+        self.used
+            .as_slice()
+            .get(comp.0 as usize)
+            .copied()
+            .unwrap_or(self.base)
+    }
+}
+
+/// Uses up the numbers of the wants that move their components.
+fn use_up(used: &mut Seq<Number>, wants: &[Want])
+    requires rising { IsStrictlyIncreasing (components_of wants.now) }
+    requires known { All (λ (w : Want). IsTrue (is_moved w.role) → w.comp.0 < length used.old) wants.now }
+    ensures used { (base c : ℕ) → slice_index_or used.new c base ≡ raised (λ d. slice_index_or used.old d base) wants.now c }
+    ensures counted { length used.new ≡ length used.old }
+{
+    for want in wants {
+        use_one(used, *want);
+    }
+}
+
+fn use_one(used: &mut Seq<Number>, want: Want)
+    requires { IsTrue (is_moved want.role) → want.comp.0 < length used.old }
+    ensures used { (base c : ℕ) → slice_index_or used.new c base ≡ (if (want.comp.0 == c) && is_moved want.role then max (slice_index_or used.old c base) want.number else slice_index_or used.old c base) }
+    ensures counted { length used.new ≡ length used.old }
+{
+    if want.role == Role::Moved {
+        let place = want.comp.0 as usize;
+        let before = used.as_slice()[place];
+        used.set(place, before.max(want.number));
+    }
+}
+
+fn are_parties(wants: &[Want], participants: &[(CompId, PortId)]) -> bool
+    ensures { result ≡ ((length wants.now == length participants.now) && list_all is_party (zip wants.now participants.now)) }
+{
+    wants.len() == participants.len() && move_these(wants, participants)
+}
+
+fn move_these(wants: &[Want], participants: &[(CompId, PortId)]) -> bool
+    ensures { result ≡ list_all is_party (zip wants.now participants.now) }
+{
+    wants
+        .iter()
+        .copied()
+        .zip(participants.iter().copied())
+        .all(|(want, participant)| is_party(want, participant))
+}
+
+fn is_party(want: Want, participant: (CompId, PortId)) -> bool
+    ensures { result ≡ is_party (want, participant) }
+{
+    want.role == Role::Moved && want.comp == participant.0
+}

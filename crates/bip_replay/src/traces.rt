@@ -1,17 +1,17 @@
 //! Reading and writing traces.
 ghost use Rattle.std.specs.Prelude.{◌≡◌, Ok, IfOk, IfErr};
-ghost use Rattle.bip_replay.specs.Readings.{IsTraceFault, Reads};
-ghost use Rattle.bip_replay.specs.Rooms.{IsRoomy};
-ghost use Rattle.bip_replay.specs.TraceLaws.{AreOfModel, NamesItsInteraction, SameGrants};
-ghost use Rattle.bip_replay.specs.Traces.{grants_of};
+ghost use Rattle.bip_replay.specs.Private.{Reads};
+ghost use Rattle.bip_replay.specs.Traces.{IsTraceFault, grants_of};
+ghost use Rattle.bip_replay.specs.Laws.{AreOfModel, NamesItsInteraction, SameGrants};
 
 use crate::rooms::Room;
-use crate::{LineFault, TraceFault};
+use crate::TraceFault;
 use bip_model::{Grant, Model, Wants, split_line};
 use std::alloc::Global;
 
 /// The grants of a trace of a model, or the number of the first line at fault with its fault; what follows that line
-/// doesn't count. Want of memory comes only where no line before is at fault (docs/DEFINITIONS.md, "Traces").
+/// doesn't count. Want of memory names a line that isn't at fault, and none before it is (docs/DEFINITIONS.md,
+/// "Traces").
 pub fn read_trace(
     alloc: Global,
     model: &Model,
@@ -20,9 +20,7 @@ pub fn read_trace(
     ensures grants { IfOk result (λ grants. grants_of model.now text.now ≡ Ok grants.items) }
     ensures fault { IfErr result (λ e. IsTraceFault model.now text.now e.0 e.1) }
 {
-    let Ok(mut room) = Room::new(alloc) else {
-        return Err((1, TraceFault::Memory));
-    };
+    let mut room = Room::new();
     let mut grants = Vec::new(alloc);
     let mut number = 1;
     let mut rest = text;
@@ -45,28 +43,16 @@ fn read_one(
     model: &Model,
     line: &[u8],
 ) -> Result<(), TraceFault>
-    requires { IsRoomy room.old }
-    ensures reads { Reads model.now grants.old.items line.now result grants.new.items }
-    ensures room { IsRoomy room.new }
+    ensures { Reads model.now grants.old.items line.now result grants.new.items }
 {
-    match room.read(model, line) {
-        Err(LineFault::Syntax) => Err(TraceFault::Syntax),
-        Err(LineFault::Unknown) => Err(TraceFault::Unknown),
-        Ok(None) => Ok(()),
-        Ok(Some(inter)) => match Wants::of(alloc, &room.wants) {
-            None => unreachable!(),
-            Some(wants) => grants
-                .push(Grant { inter, wants })
-                .map_err(|_| TraceFault::Memory),
-        },
+    let Some(grant) = room.read(model, line)? else {
+        return Ok(());
+    };
+    let inter = grant.inter();
+    match Wants::of(alloc, grant.wants()) {
+        None => unreachable!(),
+        Some(wants) => grants
+            .push(Grant { inter, wants })
+            .map_err(|_| TraceFault::Memory),
     }
 }
-
-/// Texts that say the same words, line by line, are the same grants, whatever blanks and skipped lines are between them; the
-/// second word of a grant's line is the name of its interaction; and what is read are grants of the model
-/// (docs/DEFINITIONS.md, "Traces").
-pub fn trace_laws()
-    ensures same { SameGrants }
-    ensures named { NamesItsInteraction }
-    ensures of_model { AreOfModel }
-{}

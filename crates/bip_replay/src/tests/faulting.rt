@@ -1,6 +1,4 @@
-use crate::{
-    BookFault, LineFault, ReplayFault, StepFault, TraceFault, fault_laws, run_laws, trace_laws,
-};
+use crate::{BookFault, ReplayFault, StepFault, TraceFault, fault_laws, run_laws, trace_laws};
 use bip_model::{CompId, InterId};
 use std::alloc::Global;
 use std::process::Abort;
@@ -93,13 +91,7 @@ fn faults_of_a_trace_are_worded_and_numbered(rt: HostRuntime) -> Result<(), Fail
 }
 
 #[test]
-fn faults_of_a_line_are_worded(rt: HostRuntime) -> Result<(), Fail> {
-    let alloc = rt.alloc();
-    assert_eq!(rt; LineFault::Syntax.to_string(alloc)?.as_str(), "syntax");
-    assert_eq!(rt;
-        LineFault::Unknown.to_string(alloc)?.as_str(),
-        "unknown name"
-    );
+fn laws_can_be_called(_rt: HostRuntime) -> Result<(), Fail> {
     run_laws();
     fault_laws();
     trace_laws();

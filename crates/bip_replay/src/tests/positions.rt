@@ -1,13 +1,11 @@
-ghost use Rattle.std.specs.Prelude.{◌≡◌, length};
-
 use super::{OWN_WAYS, build, moved};
-use crate::Position;
-use bip_model::{CompId, InterId, Model, Number, Wants};
+use crate::{GrantRef, Position};
+use bip_model::{CompId, InterId, Number, Wants};
 use std::process::Abort;
 use std::test::Fail;
 
 /// Compares the used numbers of two components and of a third that the model lacks.
-fn has_used(rt: &impl Abort, position: &Position, used: (Number, Number, Number)) {
+fn has_used(rt: &impl Abort, position: &Position<'_>, used: (Number, Number, Number)) {
     let found = (
         position.used(CompId(0)),
         position.used(CompId(1)),
@@ -17,25 +15,20 @@ fn has_used(rt: &impl Abort, position: &Position, used: (Number, Number, Number)
 }
 
 /// Steps by the first interaction: the fault's number, 0 where there is none.
-fn step(position: &mut Position, model: &Model, wants: &Wants) -> u8
-    requires { length position.old.used ≡ length model.now.components }
-    ensures { length position.new.used ≡ length model.now.components }
-{
-    match position.step(model, InterId(0), wants.as_slice()) {
+fn step(position: &mut Position<'_>, wants: &Wants) -> u8 {
+    match position.step(&GrantRef::new(InterId(0), wants.as_slice())) {
         Ok(()) => 0,
         Err(fault) => fault.number(),
     }
 }
 
 /// The first component's next move, and the same again, which isn't enabled any more.
-fn move_first(rt: &impl Abort, position: &mut Position, model: &Model, wants: &Wants)
-    requires { length position.old.used ≡ length model.now.components }
-{
+fn move_first(rt: &impl Abort, position: &mut Position<'_>, wants: &Wants) {
     assert_eq!(rt; position.base(), 4);
     has_used(rt, position, (4, 4, 4));
-    assert_eq!(rt; step(position, model, wants), 0);
+    assert_eq!(rt; step(position, wants), 0);
     has_used(rt, position, (5, 4, 4));
-    assert_eq!(rt; step(position, model, wants), 1);
+    assert_eq!(rt; step(position, wants), 1);
     has_used(rt, position, (5, 4, 4));
 }
 
@@ -44,6 +37,6 @@ fn a_position_goes_on_by_a_grant(rt: HostRuntime) -> Result<(), Fail> {
     let model = build(&rt, rt.alloc(), OWN_WAYS)?;
     let wants = Wants::of(rt.alloc(), &[moved(0, 5)]).expect(&rt, "wants");
     let mut position = Position::start(rt.alloc(), &model, 4)?;
-    move_first(&rt, &mut position, &model, &wants);
+    move_first(&rt, &mut position, &wants);
     Ok(())
 }

@@ -1,5 +1,5 @@
 ghost use Rattle.std.specs.Prelude.{◌↔◌, ◌<◌, length, All, IsTrue};
-ghost use Rattle.bip_model.specs.declared.grants.Want.{Want};
+ghost use Rattle.bip_model.specs.declared.wants.Want.{Want};
 ghost use Rattle.bip_replay.specs.Writing.{IsGrantOf};
 
 use super::{SHARED, build, is_grant, moved, seen};

@@ -1,5 +1,6 @@
 use Rattle.std.proofs.Common.{arith}
 use Rattle.bip_model.specs.declared.parts.System.{System}
+use Rattle.bip_replay.specs.Runs.{standing_of}
 use Rattle.bip_replay.proofs.ReplayLemmas.{so_far-none, so_far-more, so_far-skip}
 use Rattle.bip_replay.proofs.replays.replay.Goals as goal
 use Rattle.bip_replay.proofs.replays.replay.Goals.{then-found, else-found}
@@ -7,8 +8,7 @@ use Rattle.bip_replay.proofs.replays.replay.Goals.{then-found, else-found}
 pub loop-rest-init : goal.loop-rest-init
 loop-rest-init c =
     record {
-      so_far = so_far-none c.args.model.now c.args.base c.args.text.now c.in-Ok.position c.in-Ok.ensures;
-      room = c.in-Ok-new.ensures;
+      so_far = so_far-none c.args.model.now c.args.base c.args.text.now (standing_of c.in-Ok.position) c.in-Ok.ensures;
       fits = omega arith;
       below = omega arith;
     }
@@ -20,21 +20,22 @@ loop-rest-preserved c =
     let next = c.split_line.ensures.lines in
     elim c.if-found.branch [
       | then-found w ↦
-          let takes = rw w.if-found.true at c.in-Ok-take_line.ensures.takes in
-          let more = so_far-more m c.args.base c.args.text.now c.loop-rest.rest.now c.split_line.result.1.now c.split_line.result.0.now c.loop-rest.position c.take_line.new.position c.loop-rest.count c.loop-rest.number so_far next takes in
+          let takes = rw w.if-found.true at c.in-Ok-take_line.ensures in
+          let more = so_far-more m c.args.base c.args.text.now c.loop-rest.rest.now c.split_line.result.1.now c.split_line.result.0.now (standing_of c.loop-rest.position) (standing_of c.take_line.new.position) c.loop-rest.count c.loop-rest.number so_far next takes in
           record {
             so_far = rw w.count-is more;
-            room = c.take_line.ensures.room;
             fits = omega arith;
             below = omega arith;
           }
       | else-found w ↦
-          let takes = rw w.if-found.false at c.in-Ok-take_line.ensures.takes in
-          let skip = so_far-skip m c.args.base c.args.text.now c.loop-rest.rest.now c.split_line.result.1.now c.split_line.result.0.now c.loop-rest.position c.take_line.new.position c.loop-rest.count c.loop-rest.number so_far next takes in
+          let takes = rw w.if-found.false at c.in-Ok-take_line.ensures in
+          let skip = so_far-skip m c.args.base c.args.text.now c.loop-rest.rest.now c.split_line.result.1.now c.split_line.result.0.now (standing_of c.loop-rest.position) (standing_of c.take_line.new.position) c.loop-rest.count c.loop-rest.number so_far next takes in
           record {
             so_far = rw w.count-is skip;
-            room = c.take_line.ensures.room;
             fits = omega arith;
             below = omega arith;
           }
     ]
+
+pub returns-in_default-clause-fault : goal.returns-in_default-clause-fault
+returns-in_default-clause-fault c = c.told_without_memory.ensures c.args.base

@@ -1,5 +1,4 @@
 use Rattle.std.proofs.Common.{◌+◌, ◌≤◌, length}
-use Rattle.bip_replay.specs.Rooms.{IsRoomy}
 use Rattle.bip_replay.proofs.ReadingLemmas.{HasRead}
 use Rattle.bip_replay.proofs.traces.read_trace.Given as goal
 
@@ -7,7 +6,6 @@ abbrev pub invariant-loop-rest : goal.invariant-loop-rest
 invariant-loop-rest l =
     record {
       has_read : HasRead l.model l.text l.rest l.grants.items l.number;
-      room : IsRoomy l.room;
       fits : l.number + length l.rest ≤ length l.text + 1;
     }
 

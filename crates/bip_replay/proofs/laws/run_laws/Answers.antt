@@ -1,0 +1,21 @@
+use Rattle.bip_model.specs.Steps.{start_of}
+use Rattle.bip_replay.proofs.LawLemmas.{by_steps, counts_moves, ends-back, grants-back, numbered, runs-back}
+use Rattle.bip_replay.proofs.RunLemmas.{IsHistory-from_run, IsRun-from_grants, IsRunFrom-beginning, end_of-push}
+use Rattle.bip_replay.proofs.laws.run_laws.Goals as goal
+
+pub returns : goal.returns
+returns c =
+    record {
+      ends = ends-back;
+      runs = runs-back;
+      states = λ m. end_of-push m (start_of m);
+      numbers = λ base. c.history_laws.ensures.used (λ _. base);
+      grants = grants-back;
+      beginnings = λ m base. IsRunFrom-beginning m (start_of m) (λ _. base);
+      by_steps = by_steps;
+      steps = λ m base. IsRun-from_grants m (start_of m) (λ _. base);
+      histories = λ m base. IsHistory-from_run m (start_of m) (λ _. base);
+      once = λ m base gs run. c.history_laws.ensures.once (λ _. base) gs (IsHistory-from_run m (start_of m) (λ _. base) gs run);
+      counts = counts_moves;
+      numbered = numbered;
+    }

@@ -1,0 +1,152 @@
+-- What runs, faults and texts of grants mean, in the subject's own words.
+use Rattle.std.specs.Prelude.{◌≡◌, ◌↔◌, ◌⊎◌, ℕ, ◌+◌, ◌<◌, nat_lt, List, [], ◌∷◌, ◌++◌, length, filter, Ok, Some, All, slice_index_or}
+use Rattle.std.specs.List.Sorted.{IsStrictlyIncreasing}
+use Rattle.bip_model.specs.Grants.{IsHistory, MovesOnceEach}
+use Rattle.bip_model.specs.States.{State}
+use Rattle.bip_model.specs.Steps.{IsRun, MayRun, after, end_of, start_of}
+use Rattle.bip_model.specs.Parts.{IsSystem}
+use Rattle.bip_model.specs.Texts.{said_in, words}
+use Rattle.bip_model.specs.Wants.{components_of, moved_in, raised}
+use Rattle.bip_model.specs.declared.grants.Grant.{Grant}
+use Rattle.bip_model.specs.declared.parts.System.{System}
+use Rattle.bip_replay.specs.Faults.{IsFaultOf}
+use Rattle.bip_replay.specs.Lines.{grant_on}
+use Rattle.bip_replay.specs.Replays.{IsFirstFault, IsRunOf}
+use Rattle.bip_replay.specs.Runs.{IsModelRun, IsNext, interactions_of, state_after, used_after}
+use Rattle.bip_replay.specs.Traces.{grants_of}
+use Rattle.bip_replay.specs.Writing.{IsGrantOf, name_in}
+use Rattle.bip_replay.specs.declared.faults.ReplayFault.{ReplayFault}
+use Rattle.bip_replay.specs.declared.faults.StepFault.{StepFault}
+
+-- one interaction more leads from where those before it lead
+abbrev pub EndsFromTheBack : Type 0
+EndsFromTheBack =
+    (m : System) (s : State) (front : List ℕ) (a : ℕ)
+    → end_of m s (front ++ a ∷ []) ≡ after m (end_of m s front) a
+
+-- interactions and one more are a run exactly where they are one and it may run at their end
+abbrev pub RunsFromTheBack : Type 0
+RunsFromTheBack =
+    (m : System) (s : State) (front : List ℕ) (a : ℕ)
+    → IsRun m s (front ++ a ∷ []) ↔ (IsRun m s front × MayRun m (end_of m s front) a)
+
+-- one grant more leads from the state to which those before it lead
+abbrev pub StatesFromTheBack : Type 0
+StatesFromTheBack =
+    (m : System) (gs : List Grant) (g : Grant)
+    → state_after m (gs ++ g ∷ []) ≡ after m (state_after m gs) g.inter.0
+
+-- one grant more raises the used numbers of those before it
+abbrev pub NumbersFromTheBack : Type 0
+NumbersFromTheBack =
+    (base : ℕ) (gs : List Grant) (g : Grant)
+    → used_after base (gs ++ g ∷ []) ≡ raised (used_after base gs) g.wants
+
+-- grants and one more are a run exactly where they are one and it can be next where they lead
+abbrev pub GrantsFromTheBack : Type 0
+GrantsFromTheBack =
+    (m : System) (base : ℕ) (gs : List Grant) (g : Grant)
+    → IsModelRun m base (gs ++ g ∷ [])
+      ↔ (IsModelRun m base gs × IsNext m (state_after m gs) (used_after base gs) g)
+
+-- the beginning of a run is a run
+abbrev pub BeginningsAreRuns : Type 0
+BeginningsAreRuns =
+    (m : System) (base : ℕ) (gs hs : List Grant) → IsModelRun m base (gs ++ hs) → IsModelRun m base gs
+
+-- each grant of a run is a next step after those before it, and where each is, the grants are a run
+abbrev pub RunsStepByStep : Type 0
+RunsStepByStep =
+    (m : System) (base : ℕ) (gs : List Grant)
+    → IsModelRun m base gs
+      ↔ ((front rest : List Grant) (g : Grant) → gs ≡ front ++ g ∷ rest
+         → IsNext m (state_after m front) (used_after base front) g)
+
+-- the interactions of a run of grants are a run of the model
+abbrev pub StepsAreARun : Type 0
+StepsAreARun =
+    (m : System) (base : ℕ) (gs : List Grant)
+    → IsModelRun m base gs → IsRun m (start_of m) (interactions_of gs)
+
+-- a run of grants is a history above its base
+abbrev pub RunsAreHistories : Type 0
+RunsAreHistories =
+    (m : System) (base : ℕ) (gs : List Grant) → IsModelRun m base gs → IsHistory (λ _. base) gs
+
+-- a run moves no component twice with one number
+abbrev pub RunsMoveOnceEach : Type 0
+RunsMoveOnceEach =
+    (m : System) (base : ℕ) (gs : List Grant) → IsModelRun m base gs → MovesOnceEach gs
+
+-- how often grants move a component
+abbrev pub times_moved : List Grant → ℕ → ℕ
+times_moved gs c = length (filter (λ (g : Grant). nat_lt 0 (moved_in g.wants c)) gs)
+
+-- the used number of a component after a run is the base and how often the run moved it
+abbrev pub NumbersCountMoves : Type 0
+NumbersCountMoves =
+    (m : System) (base : ℕ) (gs : List Grant) (c : ℕ)
+    → IsModelRun m base gs → used_after base gs c ≡ base + times_moved gs c
+
+-- the first move of a component has the number behind the base, and the k-th has the base and k
+abbrev pub MovesAreNumbered : Type 0
+MovesAreNumbered =
+    (m : System) (base : ℕ) (front rest : List Grant) (g : Grant) (c : ℕ)
+    → IsModelRun m base (front ++ g ∷ rest) → 0 < moved_in g.wants c
+    → moved_in g.wants c ≡ base + times_moved (front ++ g ∷ []) c
+
+-- a grant with a fault can't be next
+abbrev pub FaultsAreExact : Type 0
+FaultsAreExact =
+    (m : System) (s : State) (used : ℕ → ℕ) (g : Grant) (fault : StepFault)
+    → IsFaultOf m s used g fault → ¬ IsNext m s used g
+
+-- a grant has at most one fault
+abbrev pub AtMostOneFault : Type 0
+AtMostOneFault =
+    (m : System) (s : State) (used : ℕ → ℕ) (g : Grant) (one other : StepFault)
+    → IsFaultOf m s used g one → IsFaultOf m s used g other → one ≡ other
+
+-- a grant whose wants are by component can be next, or has a fault
+abbrev pub IsNextOrFaulty : Type 0
+IsNextOrFaulty =
+    (m : System) (s : State) (used : ℕ → ℕ) (g : Grant)
+    → IsSystem m → IsStrictlyIncreasing (components_of g.wants)
+    → IsNext m s used g ⊎ ((fault : StepFault) × IsFaultOf m s used g fault)
+
+-- a trace with a first fault isn't the trace of a run
+abbrev pub FirstFaultsAreExact : Type 0
+FirstFaultsAreExact =
+    (m : System) (base : ℕ) (text : List ℕ) (number : ℕ) (fault : ReplayFault)
+    → IsFirstFault m base text number fault
+    → (gs : List Grant) → grants_of m text ≡ Ok gs → ¬ IsModelRun m base gs
+
+-- a trace has at most one first fault
+abbrev pub AtMostOneFirstFault : Type 0
+AtMostOneFirstFault =
+    (m : System) (base : ℕ) (text : List ℕ) (n k : ℕ) (one other : ReplayFault)
+    → IsFirstFault m base text n one → IsFirstFault m base text k other → (n ≡ k) × (one ≡ other)
+
+-- every text is the trace of a run, or has a first fault
+abbrev pub IsRunOrFaulty : Type 0
+IsRunOrFaulty =
+    (m : System) (base : ℕ) (text : List ℕ) → IsSystem m
+    → ((count : ℕ) × IsRunOf m base text count)
+      ⊎ ((number : ℕ) × (fault : ReplayFault) × IsFirstFault m base text number fault)
+
+-- texts that say the same words in as many lines are the same grants
+abbrev pub SameGrants : Type 0
+SameGrants =
+    (m : System) (a b : List ℕ) → said_in a ≡ said_in b
+    → (gs : List Grant) → grants_of m a ≡ Ok gs → grants_of m b ≡ Ok gs
+
+-- the second word of a grant's line is the name of its interaction
+abbrev pub NamesItsInteraction : Type 0
+NamesItsInteraction =
+    (m : System) (line : List ℕ) (g : Grant) → grant_on m line ≡ Ok (Some g)
+    → slice_index_or (words line) 1 [] ≡ name_in m.interaction_names g.inter.0
+
+-- the grants that a text is are grants of the model
+abbrev pub AreOfModel : Type 0
+AreOfModel =
+    (m : System) (text : List ℕ) (gs : List Grant) → grants_of m text ≡ Ok gs → All (IsGrantOf m) gs

@@ -1,0 +1,47 @@
+//! What runs, faults and traces mean.
+ghost use Rattle.bip_replay.specs.Laws.{AreOfModel, AtMostOneFault, AtMostOneFirstFault, BeginningsAreRuns, EndsFromTheBack, FaultsAreExact, FirstFaultsAreExact, GrantsFromTheBack, IsNextOrFaulty, IsRunOrFaulty, MovesAreNumbered, NamesItsInteraction, NumbersCountMoves, NumbersFromTheBack, RunsAreHistories, RunsFromTheBack, RunsMoveOnceEach, RunsStepByStep, SameGrants, StatesFromTheBack, StepsAreARun};
+
+use bip_model::history_laws;
+
+/// Runs from the back: a run goes on by each grant that can be next where it leads, and by no other.
+/// Each grant of a run is a next step after those before it. The k-th move of a component has the
+/// base and k as its number. A run is a history, and moves no component twice with one number
+/// (docs/DEFINITIONS.md, "Runs with exact numbers").
+pub fn run_laws()
+    ensures ends { EndsFromTheBack }
+    ensures runs { RunsFromTheBack }
+    ensures states { StatesFromTheBack }
+    ensures numbers { NumbersFromTheBack }
+    ensures grants { GrantsFromTheBack }
+    ensures beginnings { BeginningsAreRuns }
+    ensures by_steps { RunsStepByStep }
+    ensures steps { StepsAreARun }
+    ensures histories { RunsAreHistories }
+    ensures once { RunsMoveOnceEach }
+    ensures counts { NumbersCountMoves }
+    ensures numbered { MovesAreNumbered }
+{
+    history_laws();
+}
+
+/// Faults are exact: a grant with a fault can't be next, and a trace with a first fault isn't the
+/// trace of a run. A grant has one fault at most, and a trace one first fault. And there is always an
+/// answer: a grant can be next or has a fault, a trace is that of a run or has a first fault
+/// (docs/DEFINITIONS.md, "Why a grant can't be next" and "The first fault of a trace").
+pub fn fault_laws()
+    ensures refused { FaultsAreExact }
+    ensures one_fault { AtMostOneFault }
+    ensures either { IsNextOrFaulty }
+    ensures first { FirstFaultsAreExact }
+    ensures one { AtMostOneFirstFault }
+    ensures answered { IsRunOrFaulty }
+{}
+
+/// Texts that say the same words, line by line, are the same grants, whatever blanks and skipped
+/// lines are between them; the second word of a grant's line is the name of its interaction; and
+/// what is read are grants of the model (docs/DEFINITIONS.md, "Traces").
+pub fn trace_laws()
+    ensures same { SameGrants }
+    ensures named { NamesItsInteraction }
+    ensures of_model { AreOfModel }
+{}
