@@ -10,16 +10,6 @@ use Rattle.bip_replay.specs.declared.faults.LineFault.{LineFault}
 use Rattle.bip_replay.specs.declared.faults.BookFault.{BookFault}
 use Rattle.bip_replay.specs.declared.faults.BookFault.TheVariants.{NotEnabled, Below, Number, Parties, Memory}
 use Rattle.bip_replay.specs.Writing.{name_in}
-use Rattle.bipr.specs.declared.answers.Status.{Status}
-use Rattle.bipr.specs.declared.answers.Status.TheVariants.{Done, Refused, BadCommandLine, NoMemory, NotARun}
-
--- the statuses with which the program ends
-abbrev pub code_of : Status → ℕ
-code_of Done = 0
-code_of Refused = 1
-code_of BadCommandLine = 2
-code_of NoMemory = 3
-code_of NotARun = 4
 
 -- `run N`
 abbrev pub run_text : ℕ → List ℕ
@@ -47,9 +37,9 @@ abbrev pub complaint_text : List ℕ → List ℕ
 complaint_text why = codes "bipr: " ++ (why ++ 10 ∷ [])
 
 -- a model's text is refused
-abbrev pub model_text : ReadFault → List ℕ
-model_text fault = complaint_text (codes "model " ++ text_of_fault fault)
+abbrev pub model_refusal : ReadFault → List ℕ
+model_refusal fault = complaint_text (codes "model " ++ text_of_fault fault)
 
 -- a trace's text is refused
-abbrev pub trace_text : ℕ → LineFault → List ℕ
-trace_text number fault = complaint_text (codes "trace line " ++ (decimal number ++ (codes ": " ++ text_of_line fault)))
+abbrev pub trace_refusal : ℕ → LineFault → List ℕ
+trace_refusal number fault = complaint_text (codes "trace line " ++ (decimal number ++ (codes ": " ++ text_of_line fault)))

@@ -1,6 +1,6 @@
 //! The command line.
 ghost use Rattle.std.specs.Prelude.{IfSome};
-ghost use Rattle.bipr.specs.Requests.{IsAsked, IsRequest};
+ghost use Rattle.bipr.specs.CommandLine.{IsAsked, IsRequest};
 
 use bip_model::Number;
 use clap::{Arg, ArgMatches, Command, value_parser};

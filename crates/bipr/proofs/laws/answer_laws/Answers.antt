@@ -1,6 +1,6 @@
 use Rattle.bipr.proofs.MarkLemmas.{are_parts}
 use Rattle.bipr.proofs.OneAnswerLemmas.{has_one_answer}
-use Rattle.bipr.proofs.answers.answer_laws.Goals as goal
+use Rattle.bipr.proofs.laws.answer_laws.Goals as goal
 
 pub returns : goal.returns
 returns c = record {
