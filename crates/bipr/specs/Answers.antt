@@ -14,7 +14,8 @@ use Rattle.bip_replay.specs.declared.faults.ReplayFault.TheVariants as replay_fa
 use Rattle.bipr.specs.Wording.{model_refusal, run_text, trace_refusal, verdict_text}
 use Rattle.bipr.specs.declared.answers.Answer.{Answer}
 use Rattle.bipr.specs.declared.answers.Status.{Status}
-use Rattle.bipr.specs.declared.answers.Status.TheVariants.{Done, Refused, BadCommandLine, NoMemory, NotARun}
+use Rattle.bipr.specs.declared.answers.Status.TheVariants.{Done, Refused, BadCommandLine}
+use Rattle.bipr.specs.declared.answers.Status.TheVariants.{NoMemory, NotARun}
 
 -- the statuses with which the program ends
 abbrev pub code_of : Status → ℕ

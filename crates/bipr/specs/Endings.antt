@@ -21,8 +21,10 @@ pub data IsEnd (says complains : List ℕ → Bool → Type 0) (answer : Answer)
       → IsEnd says complains answer Refused
 
 -- the end of a command with one of these answers
-abbrev pub Ends : (Answer → Type 0) → (List ℕ → Bool → Type 0) → (List ℕ → Bool → Type 0) → Status → Type 0
-Ends may_answer says complains status = (answer : Answer) × may_answer answer × IsEnd says complains answer status
+abbrev pub Ends : (Answer → Type 0) → (List ℕ → Bool → Type 0) → (List ℕ → Bool → Type 0)
+    → Status → Type 0
+Ends may_answer says complains status =
+    (answer : Answer) × may_answer answer × IsEnd says complains answer status
 
 -- what a command says that has an answer, or was stopped; what is complained of takes memory
 abbrev pub IsOutcome : Result Answer Stop → Answer → Type 0

@@ -1,5 +1,6 @@
 -- What reading a text may give, and what is known of the texts that paths name.
-use Rattle.std.specs.Prelude.{◌≡◌, ◌<◌, ◌≤◌, ℕ, List, length, ⊤, Option, None, Some, Result, Err, IfErr, IfOk, IfSome, IsErr}
+use Rattle.std.specs.Prelude.{◌≡◌, ◌<◌, ◌≤◌, ℕ, List, length, ⊤, Option, None, Some, IfSome}
+use Rattle.std.specs.Prelude.{Result, Err, IfErr, IfOk, IsErr}
 use Rattle.bipr.specs.declared.inputs.InputFault.{InputFault}
 use Rattle.bipr.specs.declared.inputs.InputFault.TheVariants.{Failed, TooLong}
 
@@ -8,7 +9,8 @@ abbrev pub most_bytes : ℕ
 most_bytes = 16777216
 
 -- what reading all bytes of a reader may give, with a limit; the bytes may be known
-pub record IsAll (known : Option (List ℕ)) (limit : ℕ) (result : Result (List ℕ) InputFault) : Type 0 where
+pub record IsAll (known : Option (List ℕ)) (limit : ℕ)
+    (result : Result (List ℕ) InputFault) : Type 0 where
   -- these bytes, and no others
   pub text : IfOk result (λ text. IfSome known (λ bytes. text ≡ bytes))
   pub fits : IfOk result (λ text. length text ≤ limit)

@@ -5,4 +5,5 @@ use Rattle.bipr.specs.declared.answers.Answer.{Answer}
 
 -- two texts and a base have one answer
 abbrev pub OneAnswer : Type 0
-OneAnswer = (base : ℕ) (model trace : List ℕ) (a b : Answer) → IsAnswer base model trace a → IsAnswer base model trace b → a ≡ b
+OneAnswer = (base : ℕ) (model trace : List ℕ) (a b : Answer)
+    → IsAnswer base model trace a → IsAnswer base model trace b → a ≡ b

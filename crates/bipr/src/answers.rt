@@ -1,4 +1,5 @@
-//! Answers: what the program writes for the texts that it is given, and the status with which it ends.
+//! Answers: what the program writes for the texts that it is given, and the status with which it
+//! ends.
 ghost use Rattle.std.specs.Prelude.{◌≡◌, ◌≢◌, ◌≤◌, ℕ, List, IfOk};
 ghost use Rattle.bip_model.specs.declared.partitions.Classes.{Classes};
 ghost use Rattle.bip_reader.specs.Meanings.{Means};
@@ -44,7 +45,8 @@ impl Status {
     }
 }
 
-/// The answer to a command: its status, and what it writes on standard output and on standard error.
+/// The answer to a command: its status, and what it writes on standard output and on standard
+/// error.
 #[derive(Drop)]
 pub struct Answer {
     pub status: Status,
@@ -52,9 +54,10 @@ pub struct Answer {
     pub complaint: Seq<u8>,
 }
 
-/// The answer to the replay of a trace's text on a model's text from a base: `run N` where the grants are a run of the model;
-/// else the verdict on the first line at fault where that line's grant can't be next; else the first fault of the model's
-/// text, or of the trace's (docs/DEFINITIONS.md, "Answers"). The only error is want of memory.
+/// The answer to the replay of a trace's text on a model's text from a base: `run N` where the
+/// grants are a run of the model; else the verdict on the first line at fault where that line's
+/// grant can't be next; else the first fault of the model's text, or of the trace's
+/// (docs/DEFINITIONS.md, "Answers"). The only error is want of memory.
 pub fn answer_replay(
     alloc: Global,
     model: &[u8],

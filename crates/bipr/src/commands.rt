@@ -20,8 +20,8 @@ use clap::ArgMatches;
 use replay::replay;
 use std::alloc::Global;
 
-/// Carries out what the words of a command line ask, or says why they ask for nothing, and says with which status the program
-/// ends (docs/DEFINITIONS.md, "Endings").
+/// Carries out what the words of a command line ask, or says why they ask for nothing, and says
+/// with which status the program ends (docs/DEFINITIONS.md, "Endings").
 pub fn carry_out<'a, I: Inputs, O: Stream, E: Stream>(
     alloc: Global,
     words: &'a [String],

@@ -12,8 +12,8 @@ use std::alloc::Global;
 /// The complaint where an answer can't be written.
 const CANNOT_WRITE: &[u8] = b"bipr: cannot write\n";
 
-/// Ends a command with its answer, or with what stopped it: the output stands on standard output, and then the complaint on
-/// standard error, each in one write (docs/DEFINITIONS.md, "Endings").
+/// Ends a command with its answer, or with what stopped it: the output stands on standard output,
+/// and then the complaint on standard error, each in one write (docs/DEFINITIONS.md, "Endings").
 pub fn end<O: Stream, E: Stream>(
     alloc: Global,
     output: &mut O,

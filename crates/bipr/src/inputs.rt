@@ -24,7 +24,8 @@ pub enum InputFault {
     NoMemory,
 }
 
-/// The texts that paths name. A command is proved for every such thing: of what a path gives it knows what `read` says.
+/// The texts that paths name. A command is proved for every such thing: of what a path gives it
+/// knows what `read` says.
 pub trait Inputs {
     /// Reading the text that a path names may give this.
     ghost gives: { Self → List ℕ → Result (List ℕ) InputFault → Type 0 };

@@ -6,8 +6,8 @@ ghost use Rattle.bipr.specs.Laws.{OneAnswer};
 use bip_reader::meaning_laws;
 use bip_replay::fault_laws;
 
-/// Two texts and a base have one answer, and two texts in one are parted by lines (docs/DEFINITIONS.md, "Answers" and "Two texts
-/// in one").
+/// Two texts and a base have one answer, and two texts in one are parted by lines
+/// (docs/DEFINITIONS.md, "Answers" and "Two texts in one").
 pub fn answer_laws()
     ensures parts { (text : List ℕ) → AreParts text (before_mark text) (after_mark text) }
     ensures one { OneAnswer }

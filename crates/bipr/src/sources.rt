@@ -24,8 +24,8 @@ impl<I: Read, F: Read> Read for Source<I, F> {
     }
 }
 
-/// Opens what paths name. Where standard input is closed, it can't be read: no file is open while it is, that could stand in
-/// its place.
+/// Opens what paths name. Where standard input is closed, it can't be read: no file is open while
+/// it is, that could stand in its place.
 #[derive(Drop)]
 pub struct Sources<'a, R> {
     rt: &'a R,

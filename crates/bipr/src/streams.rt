@@ -5,8 +5,8 @@ ghost use Rattle.bipr.specs.Streams.{Puts};
 
 use std::io::Write;
 
-/// What a command writes on, as standard output. A command is proved for every such thing: of what becomes of a text it knows
-/// what `write_text` says.
+/// What a command writes on, as standard output. A command is proved for every such thing: of what
+/// becomes of a text it knows what `write_text` says.
 pub trait Stream {
     /// Writing a text may lead from one state to another, and succeed or not.
     ghost writes: { Self → List ℕ → Bool → Self → Type 0 };
@@ -26,7 +26,8 @@ impl<W: Write> Stream for W {
     }
 }
 
-/// Puts a text on a stream, and says whether all of it is out. For an empty text nothing is written.
+/// Puts a text on a stream, and says whether all of it is out. For an empty text nothing is
+/// written.
 pub fn put<S: Stream>(stream: &mut S, text: &[u8]) -> bool
     ensures { Puts S.writes stream.old stream.new text.now result }
 {

@@ -14,8 +14,9 @@ use std::process::Abort;
 use std::test::Fail;
 
 /// Two components that go their own ways, each once.
-const OWN_WAYS: &str =
-    "bip 1\ncomponent A\nloc a0\nloc a1\nport s\ntrans s a0 a1\nend\ncomponent B\nloc b0\nloc b1\nport s\ntrans s b0 b1\nend\ninteraction x A.s\ninteraction y B.s\nclass P x\nclass Q y\n";
+const OWN_WAYS: &str = "bip 1\ncomponent A\nloc a0\nloc a1\nport s\ntrans s a0 a1\nend\n\
+    component B\nloc b0\nloc b1\nport s\ntrans s b0 b1\nend\n\
+    interaction x A.s\ninteraction y B.s\nclass P x\nclass Q y\n";
 
 /// A reader that gives one byte a call, and fails at one of its calls.
 #[derive(Drop)]
@@ -41,8 +42,8 @@ impl Read for Trickle<'_> {
     }
 }
 
-/// Two paths, `m` and `t`, and standard input: each text with the number of calls after which its reader fails. None can't be
-/// opened.
+/// Two paths, `m` and `t`, and standard input: each text with the number of calls after which its
+/// reader fails. None can't be opened.
 #[derive(Clone, Copy)]
 struct Paths<'a> {
     model: Option<(&'a str, u32)>,

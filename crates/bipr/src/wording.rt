@@ -2,7 +2,8 @@
 ghost use Rattle.std.specs.Prelude.{◌≡◌, ◌≤◌, ◌++◌, ◌-◌, [], IfOk, OnOk, slice_index_or};
 ghost use Rattle.bip_model.specs.Texts.{lines, words};
 ghost use Rattle.bip_replay.specs.Writing.{name_in};
-ghost use Rattle.bipr.specs.Wording.{interaction_on, model_refusal, run_text, step_text, trace_refusal, verdict_text};
+ghost use Rattle.bipr.specs.Wording.{interaction_on, model_refusal, run_text, step_text};
+ghost use Rattle.bipr.specs.Wording.{trace_refusal, verdict_text};
 
 use bip_model::{CompId, InterId, Model, split_line, split_word};
 use bip_reader::ReadFault;
@@ -54,7 +55,8 @@ fn write_step(
     inter: &[u8],
     fault: &BookFault,
 ) -> Result<(), AllocError>
-    ensures { OnOk result (text.new.items ≡ text.old.items ++ step_text model.now inter.now fault.now) }
+    ensures { OnOk result (text.new.items
+        ≡ text.old.items ++ step_text model.now inter.now fault.now) }
 {
     match fault {
         BookFault::NotEnabled => {

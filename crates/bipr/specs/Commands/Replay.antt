@@ -24,7 +24,8 @@ abbrev pub is_joined : Request → Bool
 is_joined asked = is_standard_input asked.model.now && is_standard_input asked.trace.now
 
 -- what the replay that is asked for may answer, where reading a path may give these texts
-pub data IsReplay (gives : List ℕ → Result (List ℕ) InputFault → Type 0) (asked : Request) : Answer → Type 0 where
+pub data IsReplay (gives : List ℕ → Result (List ℕ) InputFault → Type 0)
+    (asked : Request) : Answer → Type 0 where
   -- the text that the first path names means a model, and the second path names a trace
   of_two : (model trace : List ℕ) (answer : Answer) → is_joined asked ≡ false
       → gives asked.model.now (Ok model) → IsModelText model → gives asked.trace.now (Ok trace)
@@ -36,7 +37,8 @@ pub data IsReplay (gives : List ℕ → Result (List ℕ) InputFault → Type 0)
   -- one input has both texts
   of_one : (text : List ℕ) (answer : Answer) → is_joined asked ≡ true
       → gives asked.model.now (Ok text)
-      → IsAnswer asked.base (before_mark text) (after_mark text) answer → IsReplay gives asked answer
+      → IsAnswer asked.base (before_mark text) (after_mark text) answer
+      → IsReplay gives asked answer
   -- the text that the first path names isn't read
   first_unread : (fault : InputFault) → gives asked.model.now (Err fault)
       → IsReplay gives asked (unread asked.model.now fault)

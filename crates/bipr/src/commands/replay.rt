@@ -20,9 +20,10 @@ use bip_model::Model;
 use bip_reader::read_model;
 use std::alloc::Global;
 
-/// Replays the trace that a request's second path names on the model that its first path names, writes the answer, and says with
-/// which status the command ends. The trace is read only where the model's text is one; where both paths are standard
-/// input, that has both texts (docs/DEFINITIONS.md, "The replay that is asked for").
+/// Replays the trace that a request's second path names on the model that its first path names,
+/// writes the answer, and says with which status the command ends. The trace is read only where the
+/// model's text is one; where both paths are standard input, that has both texts
+/// (docs/DEFINITIONS.md, "The replay that is asked for").
 pub fn replay<I: Inputs, O: Stream, E: Stream>(
     alloc: Global,
     inputs: &I,
@@ -63,8 +64,8 @@ fn answer_one<'a, I: Inputs>(
     requires joined { is_joined asked.now ≡ true }
     ensures { AllOutcomes result (IsReplay (I.gives inputs.now) asked.now) }
 {
-    let text = read_input(alloc, inputs, asked.model)?;
-    let (model, trace) = divide(text.as_slice());
+    let both = read_input(alloc, inputs, asked.model)?;
+    let (model, trace) = divide(both.as_slice());
     Ok(answer_replay(alloc, model, trace, asked.base)?)
 }
 

@@ -1,6 +1,4 @@
-use Rattle.std.proofs.Common.{Bool, List, ℕ, subst}
 use Rattle.bipr.specs.Endings.{unwritten, written}
-use Rattle.bipr.specs.Streams.{Puts}
 use Rattle.bipr.proofs.endings.end_answered.Goals as goal
 
 pub returns-then-not-put : goal.returns-then-not-put
