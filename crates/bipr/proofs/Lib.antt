@@ -1,3 +1,6 @@
 pub mod AnswerLemmas
+pub mod EndingLemmas
 pub mod MarkLemmas
 pub mod OneAnswerLemmas
+pub mod ReplayLemmas
+pub mod StreamLemmas

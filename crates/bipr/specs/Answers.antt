@@ -11,9 +11,27 @@ use Rattle.bip_replay.specs.declared.faults.LineFault.{LineFault}
 use Rattle.bip_replay.specs.declared.faults.LineFault.TheVariants as line_fault
 use Rattle.bip_replay.specs.declared.faults.ReplayFault.{ReplayFault}
 use Rattle.bip_replay.specs.declared.faults.ReplayFault.TheVariants as replay_fault
-use Rattle.bipr.specs.Wording.{model_text, run_text, trace_text, verdict_text}
+use Rattle.bipr.specs.Wording.{model_refusal, run_text, trace_refusal, verdict_text}
 use Rattle.bipr.specs.declared.answers.Answer.{Answer}
-use Rattle.bipr.specs.declared.answers.Status.TheVariants.{Done, Refused, NotARun}
+use Rattle.bipr.specs.declared.answers.Status.{Status}
+use Rattle.bipr.specs.declared.answers.Status.TheVariants.{Done, Refused, BadCommandLine}
+use Rattle.bipr.specs.declared.answers.Status.TheVariants.{NoMemory, NotARun}
+
+-- the statuses with which the program ends
+abbrev pub code_of : Status → ℕ
+code_of Done = 0
+code_of Refused = 1
+code_of BadCommandLine = 2
+code_of NoMemory = 3
+code_of NotARun = 4
+
+-- an answer on standard output, and no complaint
+abbrev pub saying : Status → List ℕ → Answer
+saying status output = record { status = status; output = output; complaint = [] }
+
+-- a complaint, and nothing on standard output
+abbrev pub complaining : Status → List ℕ → Answer
+complaining status complaint = record { status = status; output = []; complaint = complaint }
 
 -- a line that says no grant, as a fault of a replay
 abbrev pub of_line : LineFault → ReplayFault
@@ -23,16 +41,16 @@ of_line line_fault.Unknown = replay_fault.Unknown
 -- the answer to the texts of a model and a trace, from a base
 pub data IsAnswer (base : ℕ) (model trace : List ℕ) : Answer → Type 0 where
   -- the grants of the trace are a run of the model
-  run : (m : System) (classes : Classes) (count : ℕ) → Means model m classes → IsRunOf m base trace count
-      → IsAnswer base model trace (record { status = Done; output = run_text count; complaint = [] })
+  run : (m : System) (classes : Classes) (count : ℕ) → Means model m classes
+      → IsRunOf m base trace count → IsAnswer base model trace (saying Done (run_text count))
   -- the first line at fault has a grant that can't be next after those before it
-  not_a_run : (m : System) (classes : Classes) (number : ℕ) (fault : BookFault) → Means model m classes
-      → IsFirstFault m base trace number (replay_fault.NotARun fault)
-      → IsAnswer base model trace (record { status = NotARun; output = verdict_text m trace number fault; complaint = [] })
+  not_a_run : (m : System) (classes : Classes) (number : ℕ) (fault : BookFault)
+      → Means model m classes → IsFirstFault m base trace number (replay_fault.NotARun fault)
+      → IsAnswer base model trace (saying NotARun (verdict_text m trace number fault))
   -- the first line at fault is no grant of the model
-  no_trace : (m : System) (classes : Classes) (number : ℕ) (fault : LineFault) → Means model m classes
-      → IsFirstFault m base trace number (of_line fault)
-      → IsAnswer base model trace (record { status = Refused; output = []; complaint = trace_text number fault })
+  no_trace : (m : System) (classes : Classes) (number : ℕ) (fault : LineFault)
+      → Means model m classes → IsFirstFault m base trace number (of_line fault)
+      → IsAnswer base model trace (complaining Refused (trace_refusal number fault))
   -- the model's text is none; the trace doesn't count
   no_model : (fault : ReadFault) → fault.why ≢ Memory → HasFault model fault
-      → IsAnswer base model trace (record { status = Refused; output = []; complaint = model_text fault })
+      → IsAnswer base model trace (complaining Refused (model_refusal fault))

@@ -1,42 +1,36 @@
--- How a command ends that got no answer out.
-use Rattle.std.specs.Prelude.{◌≡◌, ℕ, List, ◌++◌, ⊤, codes}
+-- How a command ends: what is written of its answer, and its status.
+use Rattle.std.specs.Prelude.{◌≡◌, ◌⊎◌, ℕ, Bool, false, true, List, Result, Ok, Err, codes}
+use Rattle.bipr.specs.Stops.{answer_of_stop, out_of_memory}
 use Rattle.bipr.specs.Wording.{complaint_text}
+use Rattle.bipr.specs.declared.answers.Answer.{Answer}
 use Rattle.bipr.specs.declared.answers.Status.{Status}
-use Rattle.bipr.specs.declared.answers.Status.TheVariants.{Refused, NoMemory}
-use Rattle.bipr.specs.declared.replaying.Stop.{Stop}
-use Rattle.bipr.specs.declared.replaying.Stop.TheVariants.{CannotRead, TooLong, CannotWrite, OutOfMemory}
-use Rattle.bipr.specs.declared.replaying.Text.{Text}
-use Rattle.bipr.specs.declared.replaying.Text.TheVariants.{Model, Trace}
+use Rattle.bipr.specs.declared.answers.Status.TheVariants.{Refused}
+use Rattle.bipr.specs.declared.stops.Stop.{Stop}
 
--- what stops the reading of a text: it can't be read, is too long, or memory is out
-abbrev pub IsAbout : Text → Stop → Type 0
-IsAbout which (CannotRead text) = text ≡ which
-IsAbout which (TooLong text) = text ≡ which
-IsAbout which CannotWrite = ⊥
-IsAbout which OutOfMemory = ⊤
+-- an answer can't be written
+abbrev pub unwritten_text : List ℕ
+unwritten_text = complaint_text (codes "cannot write")
 
--- the trace can't be read, or is too long
-abbrev pub IsAboutTrace : Stop → Type 0
-IsAboutTrace (CannotRead text) = text ≡ Trace
-IsAboutTrace (TooLong text) = text ≡ Trace
-IsAboutTrace CannotWrite = ⊥
-IsAboutTrace OutOfMemory = ⊥
+-- the end of a command that has an answer, by what was put on standard output and on standard error
+pub data IsEnd (says complains : List ℕ → Bool → Type 0) (answer : Answer) : Status → Type 0 where
+  -- the output is out, and then the complaint was put; where that isn't out, the status alone tells
+  written : (is_told : Bool) → says answer.output true → complains answer.complaint is_told
+      → IsEnd says complains answer answer.status
+  -- the output isn't out, and that is complained of
+  unwritten : (is_told : Bool) → says answer.output false → complains unwritten_text is_told
+      → IsEnd says complains answer Refused
 
--- the status of a command that got no answer out
-abbrev pub status_of_stop : Stop → Status
-status_of_stop (CannotRead text) = Refused
-status_of_stop (TooLong text) = Refused
-status_of_stop CannotWrite = Refused
-status_of_stop OutOfMemory = NoMemory
+-- the end of a command with one of these answers
+abbrev pub Ends : (Answer → Type 0) → (List ℕ → Bool → Type 0) → (List ℕ → Bool → Type 0)
+    → Status → Type 0
+Ends may_answer says complains status =
+    (answer : Answer) × may_answer answer × IsEnd says complains answer status
 
--- the path of a text
-abbrev pub path_of : List ℕ → List ℕ → Text → List ℕ
-path_of model trace Model = model
-path_of model trace Trace = trace
+-- what a command says that has an answer, or was stopped; what is complained of takes memory
+abbrev pub IsOutcome : Result Answer Stop → Answer → Type 0
+IsOutcome (Ok given) answer = answer ≡ given
+IsOutcome (Err why) answer = (answer ≡ answer_of_stop why) ⊎ (answer ≡ out_of_memory)
 
--- the complaint of a command that got no answer out, by the paths of the model and the trace
-abbrev pub complaint_of_stop : List ℕ → List ℕ → Stop → List ℕ
-complaint_of_stop model trace (CannotRead text) = complaint_text (codes "cannot read " ++ path_of model trace text)
-complaint_of_stop model trace (TooLong text) = complaint_text (codes "cannot read " ++ path_of model trace text)
-complaint_of_stop model trace CannotWrite = complaint_text (codes "cannot write")
-complaint_of_stop model trace OutOfMemory = complaint_text (codes "no memory")
+-- a fact of whatever a command says that has an answer, or was stopped
+abbrev pub AllOutcomes : Result Answer Stop → (Answer → Type 0) → Type 0
+AllOutcomes given holds = (answer : Answer) → IsOutcome given answer → holds answer

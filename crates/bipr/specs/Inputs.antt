@@ -1,49 +1,36 @@
--- What the program's inputs are known to give, and the answers to them.
-use Rattle.std.specs.Prelude.{◌≡◌, ◌≤◌, ℕ, List, length, ⊤, Option, None, Some, IfSome}
-use Rattle.bip_model.specs.declared.parts.System.{System}
-use Rattle.bip_model.specs.declared.partitions.Classes.{Classes}
-use Rattle.bip_reader.specs.Meanings.{Means}
-use Rattle.bipr.specs.Answers.{IsAnswer}
-use Rattle.bipr.specs.Dividing.{after_mark, before_mark}
-use Rattle.bipr.specs.declared.answers.Answer.{Answer}
+-- What reading a text may give, and what is known of the texts that paths name.
+use Rattle.std.specs.Prelude.{◌≡◌, ◌<◌, ◌≤◌, ℕ, List, length, ⊤, Option, None, Some, IfSome}
+use Rattle.std.specs.Prelude.{Result, Err, IfErr, IfOk, IsErr}
+use Rattle.bipr.specs.declared.inputs.InputFault.{InputFault}
+use Rattle.bipr.specs.declared.inputs.InputFault.TheVariants.{Failed, TooLong}
 
 -- how many bytes a text has at most
 abbrev pub most_bytes : ℕ
 most_bytes = 16777216
 
--- an input is known to give this text; of one that couldn't be opened any text can be said
-abbrev pub Holds : {R : Type 0} → (R → Option (List ℕ)) → Option R → List ℕ → Type 0
-Holds remaining None text = ⊤
-Holds remaining (Some reader) text = remaining reader ≡ Some text
+-- what reading all bytes of a reader may give, with a limit; the bytes may be known
+pub record IsAll (known : Option (List ℕ)) (limit : ℕ)
+    (result : Result (List ℕ) InputFault) : Type 0 where
+  -- these bytes, and no others
+  pub text : IfOk result (λ text. IfSome known (λ bytes. text ≡ bytes))
+  pub fits : IfOk result (λ text. length text ≤ limit)
+  -- none is told as too long that isn't
+  pub long : IfErr result (λ fault. fault ≡ TooLong → IfSome known (λ bytes. limit < length bytes))
 
--- an input that could be opened is known to give this text
-abbrev pub Gives : {R : Type 0} → (R → Option (List ℕ)) → Option R → List ℕ → Type 0
-Gives remaining None text = ⊥
-Gives remaining (Some reader) text = remaining reader ≡ Some text
+-- what is known of what a path names: nothing, that it can't be opened, or the bytes that it gives
+pub data Named : Type 0 where
+  unknown : Named
+  missing : Named
+  bytes : List ℕ → Named
 
--- a text means a model
-abbrev pub IsModelText : List ℕ → Type 0
-IsModelText text = (m : System) × (classes : Classes) × Means text m classes
+-- what opening a path may give
+abbrev pub Opens : {S E : Type 0} → (S → Option (List ℕ)) → Named → Result S E → Type 0
+Opens remaining unknown result = ⊤
+Opens remaining missing result = IsErr result
+Opens remaining (bytes text) result = IfOk result (λ source. remaining source ≡ Some text)
 
--- as far as is known, an input gives the text of a model, which isn't too long
-pub record IsModelInput {R : Type 0} (remaining : R → Option (List ℕ)) (input : Option R) : Type 0 where
-  pub means : (text : List ℕ) → Holds remaining input text → IsModelText text
-  pub fits : (text : List ℕ) → Gives remaining input text → length text ≤ most_bytes
-
--- the answer to the inputs of a model and a trace, as far as it is known what they give
-pub record IsAnswerTo {M T : Type 0} (of_model : M → Option (List ℕ)) (of_trace : T → Option (List ℕ)) (base : ℕ) (model : Option M) (trace : Option T)
-    (answer : Answer) : Type 0 where
-  pub both : (m t : List ℕ) → Holds of_model model m → Holds of_trace trace t → IsAnswer base m t answer
-  -- where the model's text is none, whatever the trace is
-  pub refused : (m t : List ℕ) → Holds of_model model m → (IsModelText m → ⊥) → IsAnswer base m t answer
-  pub fits : (m : List ℕ) → Gives of_model model m → length m ≤ most_bytes
-  pub trace_fits : (m t : List ℕ) → Holds of_model model m → IsModelText m → Gives of_trace trace t → length t ≤ most_bytes
-
--- the answer to a text of both
-pub record IsJoinedAnswer (base : ℕ) (text : List ℕ) (answer : Answer) : Type 0 where
-  pub both : IsAnswer base (before_mark text) (after_mark text) answer
-  pub fits : length text ≤ most_bytes
-
--- the answer to an input of both, as far as it is known what that gives
-abbrev pub IsAnswerToJoined : {R : Type 0} → (R → Option (List ℕ)) → ℕ → R → Answer → Type 0
-IsAnswerToJoined remaining base input answer = IfSome (remaining input) (λ text. IsJoinedAnswer base text answer)
+-- what reading the text that a path names may give
+abbrev pub IsReading : Named → Result (List ℕ) InputFault → Type 0
+IsReading unknown result = IsAll None most_bytes result
+IsReading missing result = result ≡ Err Failed
+IsReading (bytes text) result = IsAll (Some text) most_bytes result

@@ -1,6 +1,12 @@
 pub mod Answers
+pub mod CommandLine
+pub mod Commands
 pub mod Dividing
 pub mod Endings
 pub mod Inputs
-pub mod Requests
+pub mod Laws
+pub mod Refusals
+pub mod Sources
+pub mod Stops
+pub mod Streams
 pub mod Wording

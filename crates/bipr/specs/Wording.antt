@@ -8,18 +8,9 @@ use Rattle.bip_reader.specs.declared.faults.ReadFault.{ReadFault}
 use Rattle.bip_replay.specs.FaultTexts.{text_of_line}
 use Rattle.bip_replay.specs.declared.faults.LineFault.{LineFault}
 use Rattle.bip_replay.specs.declared.faults.BookFault.{BookFault}
-use Rattle.bip_replay.specs.declared.faults.BookFault.TheVariants.{NotEnabled, Below, Number, Parties, Memory}
+use Rattle.bip_replay.specs.declared.faults.BookFault.TheVariants.{NotEnabled, Below, Number}
+use Rattle.bip_replay.specs.declared.faults.BookFault.TheVariants.{Parties, Memory}
 use Rattle.bip_replay.specs.Writing.{name_in}
-use Rattle.bipr.specs.declared.answers.Status.{Status}
-use Rattle.bipr.specs.declared.answers.Status.TheVariants.{Done, Refused, BadCommandLine, NoMemory, NotARun}
-
--- the statuses with which the program ends
-abbrev pub code_of : Status → ℕ
-code_of Done = 0
-code_of Refused = 1
-code_of BadCommandLine = 2
-code_of NoMemory = 3
-code_of NotARun = 4
 
 -- `run N`
 abbrev pub run_text : ℕ → List ℕ
@@ -27,29 +18,33 @@ run_text count = codes "run " ++ (decimal count ++ 10 ∷ [])
 
 -- the word behind `grant` on the line of a trace with this number, which names the interaction
 abbrev pub interaction_on : List ℕ → ℕ → List ℕ
-interaction_on trace number = slice_index_or (words (slice_index_or (lines trace) (number - 1) [])) 1 []
+interaction_on trace number =
+    slice_index_or (words (slice_index_or (lines trace) (number - 1) [])) 1 []
 
 -- why a grant of an interaction can't be next, by names; a replay never says so for want of memory
 abbrev pub step_text : System → List ℕ → BookFault → List ℕ
 step_text m inter NotEnabled = inter ++ codes " not enabled"
 step_text m inter (Below above) = inter ++ (codes " below " ++ name_in m.interaction_names above.0)
-step_text m inter (Number comp expected) = name_in m.component_names comp.0 ++ (codes " expected " ++ decimal expected)
+step_text m inter (Number comp expected) =
+    name_in m.component_names comp.0 ++ (codes " expected " ++ decimal expected)
 step_text m inter Parties = inter ++ codes " parties"
 step_text m inter Memory = codes "no memory"
 
 -- `line N: ..`, the verdict on a trace that is no run
 abbrev pub verdict_text : System → List ℕ → ℕ → BookFault → List ℕ
 verdict_text m trace number fault =
-    codes "line " ++ (decimal number ++ (codes ": " ++ (step_text m (interaction_on trace number) fault ++ 10 ∷ [])))
+    codes "line " ++ (decimal number
+    ++ (codes ": " ++ (step_text m (interaction_on trace number) fault ++ 10 ∷ [])))
 
 -- `bipr: ..`
 abbrev pub complaint_text : List ℕ → List ℕ
 complaint_text why = codes "bipr: " ++ (why ++ 10 ∷ [])
 
 -- a model's text is refused
-abbrev pub model_text : ReadFault → List ℕ
-model_text fault = complaint_text (codes "model " ++ text_of_fault fault)
+abbrev pub model_refusal : ReadFault → List ℕ
+model_refusal fault = complaint_text (codes "model " ++ text_of_fault fault)
 
 -- a trace's text is refused
-abbrev pub trace_text : ℕ → LineFault → List ℕ
-trace_text number fault = complaint_text (codes "trace line " ++ (decimal number ++ (codes ": " ++ text_of_line fault)))
+abbrev pub trace_refusal : ℕ → LineFault → List ℕ
+trace_refusal number fault =
+    complaint_text (codes "trace line " ++ (decimal number ++ (codes ": " ++ text_of_line fault)))

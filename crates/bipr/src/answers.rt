@@ -1,18 +1,18 @@
-//! Answers: what the program writes for the texts that it is given, and the status with which it ends.
-ghost use Rattle.std.specs.Prelude.{◌≡◌, ◌≢◌, ◌≤◌, ℕ, List, [], IfOk};
+//! Answers: what the program writes for the texts that it is given, and the status with which it
+//! ends.
+ghost use Rattle.std.specs.Prelude.{◌≡◌, ◌≢◌, ◌≤◌, ℕ, List, IfOk};
 ghost use Rattle.bip_model.specs.declared.partitions.Classes.{Classes};
 ghost use Rattle.bip_reader.specs.Meanings.{Means};
 ghost use Rattle.bip_reader.specs.declared.faults.Why.TheVariants.{Memory};
-ghost use Rattle.bipr.specs.Answers.{IsAnswer};
-ghost use Rattle.bipr.specs.Dividing.{AreParts, after_mark, before_mark};
-ghost use Rattle.bipr.specs.declared.answers.Answer.{Answer};
+ghost use Rattle.bipr.specs.Answers.{IsAnswer, code_of, complaining, saying};
+ghost use Rattle.bipr.specs.CommandLine.{greatest_base};
 ghost use Rattle.bipr.specs.declared.answers.Status.TheVariants.{Refused};
-ghost use Rattle.bipr.specs.Wording.{code_of, model_text};
+ghost use Rattle.bipr.specs.Wording.{model_refusal};
 
 use crate::wording::{model_refusal, run_text, trace_refusal, verdict_text};
 use bip_model::{Model, Number, Seq};
-use bip_reader::{ReadFault, Why, meaning_laws, read_model};
-use bip_replay::{LineFault, ReplayFault, fault_laws, replay};
+use bip_reader::{ReadFault, Why, read_model};
+use bip_replay::{LineFault, ReplayFault, replay};
 use std::alloc::{AllocError, Global};
 
 /// How a command ends.
@@ -45,7 +45,8 @@ impl Status {
     }
 }
 
-/// The answer to a command: its status, and what it writes on standard output and on standard error.
+/// The answer to a command: its status, and what it writes on standard output and on standard
+/// error.
 #[derive(Drop)]
 pub struct Answer {
     pub status: Status,
@@ -53,16 +54,17 @@ pub struct Answer {
     pub complaint: Seq<u8>,
 }
 
-/// The answer to the replay of a trace's text on a model's text from a base: `run N` where the grants are a run of the model;
-/// else the verdict on the first line at fault where that line's grant can't be next; else the first fault of the model's
-/// text, or of the trace's (docs/DEFINITIONS.md, "Answers"). The only error is want of memory.
+/// The answer to the replay of a trace's text on a model's text from a base: `run N` where the
+/// grants are a run of the model; else the verdict on the first line at fault where that line's
+/// grant can't be next; else the first fault of the model's text, or of the trace's
+/// (docs/DEFINITIONS.md, "Answers"). The only error is want of memory.
 pub fn answer_replay(
     alloc: Global,
     model: &[u8],
     trace: &[u8],
     base: Number,
 ) -> Result<Answer, AllocError>
-    requires { base ≤ 18446744073709551614 }
+    requires { base ≤ greatest_base }
     ensures { IfOk result (IsAnswer base model.now trace.now) }
 {
     let (system, _classes) = match read_model(alloc, model) {
@@ -74,12 +76,14 @@ pub fn answer_replay(
 
 /// The answer to a model's text with a fault.
 pub fn answer_fault(alloc: Global, fault: &ReadFault) -> Result<Answer, AllocError>
-    ensures { IfOk result (λ answer. (fault.now.why ≢ Memory) × (answer ≡ record { status = Refused; output = []; complaint = model_text fault.now })) }
+    ensures { IfOk result (λ answer. (fault.now.why ≢ Memory)
+        × (answer ≡ complaining Refused (model_refusal fault.now))) }
 {
     if fault.why == Why::Memory {
         return Err(AllocError);
     }
-    Ok(refused(alloc, model_refusal(alloc, fault)?))
+    let complaint = model_refusal(alloc, fault)?;
+    Ok(complained(alloc, Status::Refused, complaint))
 }
 
 /// The answer to a trace, where the model's text is one.
@@ -89,18 +93,21 @@ pub fn answer_trace(
     trace: &[u8],
     base: Number,
 ) -> Result<Answer, AllocError>
-    requires { base ≤ 18446744073709551614 }
-    ensures { IfOk result (λ answer. (text : List ℕ) (classes : Classes) → Means text model.now classes → IsAnswer base text trace.now answer) }
+    requires { base ≤ greatest_base }
+    ensures { IfOk result (λ answer. (text : List ℕ) (classes : Classes)
+        → Means text model.now classes → IsAnswer base text trace.now answer) }
 {
     match replay(alloc, model, base, trace) {
         Ok(count) => Ok(said(alloc, Status::Done, run_text(alloc, count)?)),
         Err((line, fault)) => match fault {
-            ReplayFault::Syntax => Ok(refused(
+            ReplayFault::Syntax => Ok(complained(
                 alloc,
+                Status::Refused,
                 trace_refusal(alloc, line, &LineFault::Syntax)?,
             )),
-            ReplayFault::Unknown => Ok(refused(
+            ReplayFault::Unknown => Ok(complained(
                 alloc,
+                Status::Refused,
                 trace_refusal(alloc, line, &LineFault::Unknown)?,
             )),
             ReplayFault::NotARun(why) => Ok(said(
@@ -113,9 +120,9 @@ pub fn answer_trace(
     }
 }
 
-// An answer on standard output.
-fn said(alloc: Global, status: Status, output: Vec<u8>) -> Answer
-    ensures { result ≡ record { status = status; output = output.items; complaint = [] } }
+/// An answer on standard output, and no complaint.
+pub fn said(alloc: Global, status: Status, output: Vec<u8>) -> Answer
+    ensures { result ≡ saying status output.items }
 {
     Answer {
         status,
@@ -124,23 +131,13 @@ fn said(alloc: Global, status: Status, output: Vec<u8>) -> Answer
     }
 }
 
-// A refusal, which says nothing on standard output.
-fn refused(alloc: Global, complaint: Vec<u8>) -> Answer
-    ensures { result ≡ record { status = Refused; output = []; complaint = complaint.items } }
+/// A complaint, and nothing on standard output.
+pub fn complained(alloc: Global, status: Status, complaint: Vec<u8>) -> Answer
+    ensures { result ≡ complaining status complaint.items }
 {
     Answer {
-        status: Status::Refused,
+        status,
         output: Seq::of(Vec::new(alloc)),
         complaint: Seq::of(complaint),
     }
-}
-
-/// Two texts and a base have one answer, and two texts in one are parted by lines (docs/DEFINITIONS.md, "Answers" and "Two texts
-/// in one").
-pub fn answer_laws()
-    ensures parts { (text : List ℕ) → AreParts text (before_mark text) (after_mark text) }
-    ensures one { (base : ℕ) (model trace : List ℕ) (a b : Answer) → IsAnswer base model trace a → IsAnswer base model trace b → a ≡ b }
-{
-    meaning_laws();
-    fault_laws();
 }

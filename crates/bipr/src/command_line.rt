@@ -1,6 +1,6 @@
 //! The command line.
 ghost use Rattle.std.specs.Prelude.{IfSome};
-ghost use Rattle.bipr.specs.Requests.{IsAsked, IsRequest};
+ghost use Rattle.bipr.specs.CommandLine.{IsAsked, IsRequest};
 
 use bip_model::Number;
 use clap::{Arg, ArgMatches, Command, value_parser};
@@ -41,7 +41,8 @@ const REPLAY_HELP: &str = "\
 A path `-` is standard input. Where both are, the model is what stands before the first
 line `---`, and the trace what stands behind it.";
 
-/// What the command line asks: the replay of a trace on a model, each named by its path, from a base.
+/// What the command line asks: the replay of a trace on a model, each named by its path, from a
+/// base.
 #[derive(Drop)]
 pub struct Request<'a> {
     pub model: &'a str,
@@ -83,7 +84,8 @@ fn replay<'a>(alloc: Global) -> Result<Command<'a>, AllocError> {
         .arg(base)
 }
 
-/// What a command line asks; none where it asks for no replay, or its base is out of range (docs/DEFINITIONS.md, "Requests").
+/// What a command line asks; none where it asks for no replay, or its base is out of range
+/// (docs/DEFINITIONS.md, "Requests").
 pub fn read_request<'a>(matches: &ArgMatches<'a>) -> Option<Request<'a>>
     ensures { IfSome result (IsRequest matches.now) }
 {

@@ -1,12 +1,11 @@
-//! Reading the texts that the program is given.
-ghost use Rattle.std.specs.Prelude.{◌≡◌, ◌<◌, ◌≤◌, ◌+◌, Bool, true, length, drop, Some, None, IfOk, IfErr, IfSome};
-ghost use Rattle.std.specs.Option.{option_map};
-ghost use Rattle.bipr.specs.declared.inputs.InputFault.TheVariants.{TooLong};
-ghost use Rattle.bipr.specs.Dividing.{after_mark, before_mark, begins_with_mark, mark_in};
+//! Inputs: the texts that a command's paths name, read with a limit.
+ghost use Rattle.std.specs.Prelude.{ℕ, List, Result};
+ghost use Rattle.bipr.specs.Inputs.{IsAll, IsReading, Named, Opens, unknown};
+ghost use Rattle.bipr.specs.declared.inputs.InputFault.{InputFault};
 
-use bip_model::split_line;
+use bip_model::Seq;
 use std::alloc::Global;
-use std::io::{ErrorKind, Read};
+use std::io::{self, ErrorKind, Read};
 
 /// How many bytes a text has at most.
 pub const MOST_BYTES: usize = 16_777_216;
@@ -17,7 +16,7 @@ const MOST_READS: u32 = 33_554_432;
 /// Why a text isn't read.
 #[derive(Clone, Copy, Debug, PartialEq, Eq)]
 pub enum InputFault {
-    /// A read failed, or the reader doesn't end.
+    /// It couldn't be opened, a read failed, or the reader doesn't end.
     Failed,
     /// The text is longer than the limit.
     TooLong,
@@ -25,21 +24,55 @@ pub enum InputFault {
     NoMemory,
 }
 
+/// The texts that paths name. A command is proved for every such thing: of what a path gives it
+/// knows what `read` says.
+pub trait Inputs {
+    /// Reading the text that a path names may give this.
+    ghost gives: { Self → List ℕ → Result (List ℕ) InputFault → Type 0 };
+
+    /// Reads the text that a path names.
+    fn read(&self, alloc: Global, path: &str) -> Result<Seq<u8>, InputFault>
+        ensures { gives self.now path.now result };
+}
+
+/// A way to open what paths name.
+pub trait Open {
+    /// What is opened. It is closed where it is dropped.
+    type Source: Read + Drop;
+
+    /// What is known of what a path names.
+    ghost named: { Self → List ℕ → Named } = { λ _ _. unknown };
+
+    /// Opens what a path names, to be read from its beginning.
+    fn open(&self, path: &str) -> io::Result<Self::Source>
+        ensures { Opens Self.Source.remaining (named self.now path.now) result };
+}
+
+// A path is opened when its text is read, and closed before the next one is opened.
+impl<O: Open> Inputs for O {
+    ghost gives = { λ inputs path. IsReading (O.named inputs path) };
+
+    fn read(&self, alloc: Global, path: &str) -> Result<Seq<u8>, InputFault> {
+        match self.open(path) {
+            Ok(mut source) => read_text(alloc, &mut source, MOST_BYTES),
+            Err(_) => Err(InputFault::Failed),
+        }
+    }
+}
+
 /// All that a reader gives, at most so many bytes (docs/DEFINITIONS.md, "Inputs").
 pub fn read_text<R: Read>(
     alloc: Global,
     reader: &mut R,
     limit: usize,
-) -> Result<Vec<u8>, InputFault>
-    ensures text { IfOk result (λ text. IfSome (R.remaining reader.old) (λ bytes. text.items ≡ bytes)) }
-    ensures limit { IfOk result (λ text. length text.items ≤ limit) }
-    ensures long { IfErr result (λ fault. fault ≡ TooLong → IfSome (R.remaining reader.old) (λ bytes. limit < length bytes)) }
+) -> Result<Seq<u8>, InputFault>
+    ensures { IsAll (R.remaining reader.old) limit result }
 {
     let mut text = Vec::new(alloc);
     let mut buffer = [0; 8192];
     for _ in 0..MOST_READS {
         match reader.read(&mut buffer) {
-            Ok(0) => return Ok(text),
+            Ok(0) => return Ok(Seq::of(text)),
             Ok(count) => {
                 if count > limit - text.len() {
                     return Err(InputFault::TooLong);
@@ -56,42 +89,4 @@ pub fn read_text<R: Read>(
         }
     }
     Err(InputFault::Failed)
-}
-
-/// Two texts in one: what stands before the first line `---`, and what stands behind it; the second is empty where there is
-/// no such line (docs/DEFINITIONS.md, "Two texts in one").
-pub fn divide(text: &[u8]) -> (&[u8], &[u8])
-    ensures before { result.0.now ≡ before_mark text.now }
-    ensures after { result.1.now ≡ after_mark text.now }
-{
-    match mark_in(text) {
-        None => (text, &[]),
-        Some(at) => (&text[..at], text[at..].get(4..).unwrap_or(&[])),
-    }
-}
-
-// Where the first line `---` begins.
-fn mark_in(text: &[u8]) -> Option<usize>
-    ensures place { result ≡ mark_in true text.now }
-    ensures within { IfSome result (λ at. at < length text.now) }
-{
-    let mut begins = true;
-    let mut at = 0;
-    let mut rest = text;
-    while let [byte, after @ ..] = rest {
-        if begins && begins_with_mark(rest) {
-            return Some(at);
-        }
-        begins = *byte == b'\n';
-        at += 1;
-        rest = after;
-    }
-    None
-}
-
-fn begins_with_mark(text: &[u8]) -> bool
-    requires { 1 ≤ length text.now }
-    ensures { result ≡ begins_with_mark text.now }
-{
-    split_line(text).0 == b"---".as_slice()
 }

@@ -1,16 +1,22 @@
 //! The command over readers and writers that give little, or fail.
-use crate::answers::{Answer, Status, answer_laws};
-use crate::command_line::{command, read_request};
-use crate::inputs::{InputFault, divide, read_text};
-use crate::replaying::{Stop, Text, replay_inputs, replay_joined};
+mod commands;
+
+use crate::answers::Status;
+use crate::command_line::{Request, command, read_request};
+use crate::commands::replay::replay;
+use crate::dividing::divide;
+use crate::inputs::{InputFault, Open, read_text};
+use crate::laws::answer_laws;
+use crate::stops::Stop;
 use std::alloc::Global;
 use std::io::{self, Read, Write};
 use std::process::Abort;
 use std::test::Fail;
 
 /// Two components that go their own ways, each once.
-const OWN_WAYS: &str =
-    "bip 1\ncomponent A\nloc a0\nloc a1\nport s\ntrans s a0 a1\nend\ncomponent B\nloc b0\nloc b1\nport s\ntrans s b0 b1\nend\ninteraction x A.s\ninteraction y B.s\nclass P x\nclass Q y\n";
+const OWN_WAYS: &str = "bip 1\ncomponent A\nloc a0\nloc a1\nport s\ntrans s a0 a1\nend\n\
+    component B\nloc b0\nloc b1\nport s\ntrans s b0 b1\nend\n\
+    interaction x A.s\ninteraction y B.s\nclass P x\nclass Q y\n";
 
 /// A reader that gives one byte a call, and fails at one of its calls.
 #[derive(Drop)]
@@ -32,6 +38,34 @@ impl Read for Trickle<'_> {
                 Ok(1)
             }
             _ => Ok(0),
+        }
+    }
+}
+
+/// Two paths, `m` and `t`, and standard input: each text with the number of calls after which its
+/// reader fails. None can't be opened.
+#[derive(Clone, Copy)]
+struct Paths<'a> {
+    model: Option<(&'a str, u32)>,
+    trace: Option<(&'a str, u32)>,
+    input: Option<(&'a str, u32)>,
+}
+
+impl<'a> Open for Paths<'a> {
+    type Source = Trickle<'a>;
+
+    fn open(&self, path: &str) -> io::Result<Trickle<'a>> {
+        let named = match path {
+            "m" => self.model,
+            "t" => self.trace,
+            _ => self.input,
+        };
+        match named {
+            Some((text, calls_left)) => Ok(Trickle {
+                rest: text.as_bytes(),
+                calls_left,
+            }),
+            None => Err(io::Error::from(io::ErrorKind::NotFound)),
         }
     }
 }
@@ -68,12 +102,27 @@ impl Write for Narrow {
     }
 }
 
-fn answered(rt: &impl Abort, answer: &Answer, status: Status, output: &str, complaint: &str) {
-    assert_eq!(rt; answer.status, status);
-    assert_eq!(rt; answer.output.as_slice(), output.as_bytes());
-    assert_eq!(rt; answer.complaint.as_slice(), complaint.as_bytes());
+/// How the replay of two paths from 0 ends, and what it writes.
+fn ends(
+    rt: &impl Abort,
+    alloc: Global,
+    inputs: Paths<'_>,
+    paths: (&str, &str),
+    (status, output, complaint): (Status, &str, &str),
+) {
+    let (mut written, mut told) = (Vec::new(alloc), Vec::new(alloc));
+    let asked = Request {
+        model: paths.0,
+        trace: paths.1,
+        base: 0,
+    };
+    let ended = replay(alloc, &inputs, &asked, &mut written, &mut told);
+    assert_eq!(rt; ended, status);
+    assert_eq!(rt; written.as_slice(), output.as_bytes());
+    assert_eq!(rt; told.as_slice(), complaint.as_bytes());
 }
 
+/// How the replay of a trace on the two components' model ends.
 fn replays(
     rt: &impl Abort,
     alloc: Global,
@@ -82,13 +131,12 @@ fn replays(
     output: &str,
     complaint: &str,
 ) {
-    let mut written = Vec::new(alloc);
-    let model = Some(OWN_WAYS.as_bytes());
-    match replay_inputs(alloc, model, Some(trace.as_bytes()), 0, &mut written) {
-        Ok(answer) => answered(rt, &answer, status, output, complaint),
-        Err(stop) => panic!(rt; "{stop:?}"),
-    }
-    assert_eq!(rt; written.as_slice(), output.as_bytes());
+    let inputs = Paths {
+        model: Some((OWN_WAYS, 1000)),
+        trace: Some((trace, 1000)),
+        input: None,
+    };
+    ends(rt, alloc, inputs, ("m", "t"), (status, output, complaint));
 }
 
 #[test]
@@ -145,31 +193,34 @@ fn traces_are_refused(rt: HostRuntime) {
 
 #[test]
 fn the_model_is_refused_before_the_trace_is_read(rt: HostRuntime) {
-    let alloc = rt.alloc();
-    let mut written = Vec::new(alloc);
-    let model = Some("bip 1\ncomponent A\nloc a\nloc a".as_bytes());
-    let trace: Option<&[u8]> = None;
-    match replay_inputs(alloc, model, trace, 0, &mut written) {
-        Ok(answer) => {
-            let complaint = "bipr: model line 4: named twice\n";
-            answered(&rt, &answer, Status::Refused, "", complaint);
-        }
-        Err(stop) => panic!(rt; "{stop:?}"),
-    }
-    assert!(rt; written.is_empty());
+    let inputs = Paths {
+        model: Some(("bip 1\ncomponent A\nloc a\nloc a", 1000)),
+        trace: None,
+        input: None,
+    };
+    let complaint = "bipr: model line 4: named twice\n";
+    ends(
+        &rt,
+        rt.alloc(),
+        inputs,
+        ("m", "t"),
+        (Status::Refused, "", complaint),
+    );
 }
 
 /// Two texts in one input.
 fn joined(rt: &impl Abort, alloc: Global, text: &str, output: &str, complaint: &str) {
-    let mut written = Vec::new(alloc);
-    match replay_joined(alloc, text.as_bytes(), 0, &mut written) {
-        Ok(answer) => {
-            assert_eq!(rt; answer.output.as_slice(), output.as_bytes(), "{text}");
-            assert_eq!(rt; answer.complaint.as_slice(), complaint.as_bytes(), "{text}");
-        }
-        Err(stop) => panic!(rt; "{stop:?}"),
-    }
-    assert_eq!(rt; written.as_slice(), output.as_bytes());
+    let inputs = Paths {
+        model: None,
+        trace: None,
+        input: Some((text, 1000)),
+    };
+    let status = if complaint.is_empty() {
+        Status::Done
+    } else {
+        Status::Refused
+    };
+    ends(rt, alloc, inputs, ("-", "-"), (status, output, complaint));
 }
 
 #[test]
@@ -213,67 +264,59 @@ fn the_first_line_of_three_dashes_cuts(rt: HostRuntime) {
     cuts(&rt, "", "", "");
 }
 
-#[test]
-fn readers_that_give_little(rt: HostRuntime) -> Result<(), Fail> {
-    let alloc = rt.alloc();
-    let mut written = Vec::new(alloc);
-    let model = Trickle {
-        rest: OWN_WAYS.as_bytes(),
-        calls_left: 1000,
+/// The complaint of a replay whose readers fail after so many calls.
+fn stops(rt: &impl Abort, alloc: Global, model_calls: u32, trace_calls: u32, complaint: &str) {
+    let inputs = Paths {
+        model: Some((OWN_WAYS, model_calls)),
+        trace: Some(("grant x A:1", trace_calls)),
+        input: None,
     };
-    let trace = Trickle {
-        rest: "grant x A:1".as_bytes(),
-        calls_left: 1000,
-    };
-    match replay_inputs(alloc, Some(model), Some(trace), 0, &mut written) {
-        Ok(answer) => answered(&rt, &answer, Status::Done, "run 1\n", ""),
-        Err(stop) => panic!(rt; "{stop:?}"),
-    }
-    Ok(())
-}
-
-/// How a replay stops whose readers fail after so many calls; the writer stays as it was.
-fn stops(rt: &impl Abort, alloc: Global, model_calls: u32, trace_calls: u32, want: Stop) {
-    let mut written = Vec::new(alloc);
-    let model = Trickle {
-        rest: OWN_WAYS.as_bytes(),
-        calls_left: model_calls,
-    };
-    let trace = Trickle {
-        rest: "grant x A:1".as_bytes(),
-        calls_left: trace_calls,
-    };
-    match replay_inputs(alloc, Some(model), Some(trace), 0, &mut written) {
-        Ok(_) => panic!(rt; "read after {model_calls} and {trace_calls} calls"),
-        Err(stop) => assert_eq!(rt; stop, want),
-    }
-    assert!(rt; written.is_empty());
+    ends(
+        rt,
+        alloc,
+        inputs,
+        ("m", "t"),
+        (Status::Refused, "", complaint),
+    );
 }
 
 #[test]
 fn reads_fail_at_each_call(rt: HostRuntime) {
     let alloc = rt.alloc();
     for calls in 0..OWN_WAYS.len() as u32 + 1 {
-        stops(&rt, alloc, calls, 1000, Stop::CannotRead(Text::Model));
+        stops(&rt, alloc, calls, 1000, "bipr: cannot read m\n");
     }
     for calls in 0..12 {
-        stops(&rt, alloc, 1000, calls, Stop::CannotRead(Text::Trace));
+        stops(&rt, alloc, 1000, calls, "bipr: cannot read t\n");
     }
 }
 
 #[test]
 fn writes_fail_at_each_call(rt: HostRuntime) {
     let alloc = rt.alloc();
+    let inputs = Paths {
+        model: Some((OWN_WAYS, 1000)),
+        trace: Some(("grant x A:1", 1000)),
+        input: None,
+    };
+    let asked = Request {
+        model: "m",
+        trace: "t",
+        base: 0,
+    };
     for calls in 0..8 {
         let mut output = Narrow {
             written: Vec::new(alloc),
             calls_left: calls,
         };
-        let (model, trace) = (OWN_WAYS.as_bytes(), "grant x A:1".as_bytes());
-        let answer = replay_inputs(alloc, Some(model), Some(trace), 0, &mut output);
-        match answer {
-            Ok(_) => assert!(rt; calls == 7),
-            Err(stop) => assert_eq!(rt; stop, Stop::CannotWrite),
+        let mut told = Vec::new(alloc);
+        let status = replay(alloc, &inputs, &asked, &mut output, &mut told);
+        if calls == 7 {
+            assert_eq!(rt; status, Status::Done);
+            assert!(rt; told.is_empty());
+        } else {
+            assert_eq!(rt; status, Status::Refused);
+            assert_eq!(rt; told.as_slice(), "bipr: cannot write\n".as_bytes());
         }
         let most = (calls as usize).min(6);
         assert_eq!(rt; output.written.as_slice(), &"run 1\n".as_bytes()[..most]);
@@ -310,64 +353,60 @@ impl Read for Comment {
     }
 }
 
-/// What is said of a comment of so many bytes as a model.
-fn commented(alloc: Global, left: usize) -> Result<Status, Stop> {
-    let mut written = Vec::new(alloc);
-    let trace = "".as_bytes();
-    replay_inputs(alloc, Some(Comment { left }), Some(trace), 0, &mut written).map(
-        |answer| answer.status,
-    )
+/// Each path names a comment of so many bytes.
+#[derive(Drop)]
+struct Comments {
+    left: usize,
+}
+
+impl Open for Comments {
+    type Source = Comment;
+
+    fn open(&self, _path: &str) -> io::Result<Comment> {
+        Ok(Comment { left: self.left })
+    }
+}
+
+/// What is complained of a comment of so many bytes as a model.
+fn commented(rt: &impl Abort, alloc: Global, left: usize, complaint: &str) {
+    let (mut written, mut told) = (Vec::new(alloc), Vec::new(alloc));
+    let asked = Request {
+        model: "m",
+        trace: "t",
+        base: 0,
+    };
+    let inputs = Comments { left };
+    let status = replay(alloc, &inputs, &asked, &mut written, &mut told);
+    assert_eq!(rt; status, Status::Refused);
+    assert!(rt; written.is_empty());
+    assert_eq!(rt; told.as_slice(), complaint.as_bytes());
 }
 
 #[test]
 fn the_programs_limit_is_16_mebibytes(rt: HostRuntime) {
     let alloc = rt.alloc();
-    assert_eq!(rt; commented(alloc, 16_777_216), Ok(Status::Refused));
-    assert_eq!(rt;
-        commented(alloc, 16_777_217),
-        Err(Stop::TooLong(Text::Model))
-    );
+    commented(&rt, alloc, 16_777_216, "bipr: model line 1: missing\n");
+    commented(&rt, alloc, 16_777_217, "bipr: cannot read m\n");
 }
 
-fn complains(rt: &impl Abort, alloc: Global, stop: Stop, status: Status, complaint: &str) {
-    let mut written = Vec::new(alloc);
-    let told = stop.complain(&mut written, "m.bip", "t.trace");
-    assert!(rt; told.is_ok());
-    assert_eq!(rt; written.as_slice(), complaint.as_bytes());
+fn complains(rt: &impl Abort, alloc: Global, stop: Stop<'_>, status: Status, complaint: &str) {
+    match stop.complaint(alloc) {
+        Ok(told) => assert_eq!(rt; told.as_slice(), complaint.as_bytes()),
+        Err(_) => panic!(rt; "no memory"),
+    }
     assert_eq!(rt; stop.status(), status);
 }
 
 #[test]
 fn each_stop_has_its_complaint(rt: HostRuntime) {
     let alloc = rt.alloc();
-    let (model, trace) = (Stop::CannotRead(Text::Model), Stop::CannotRead(Text::Trace));
+    let unread = Stop::CannotRead("m.bip");
     complains(
         &rt,
         alloc,
-        model,
+        unread,
         Status::Refused,
         "bipr: cannot read m.bip\n",
-    );
-    complains(
-        &rt,
-        alloc,
-        trace,
-        Status::Refused,
-        "bipr: cannot read t.trace\n",
-    );
-    complains(
-        &rt,
-        alloc,
-        Stop::CannotWrite,
-        Status::Refused,
-        "bipr: cannot write\n",
-    );
-    complains(
-        &rt,
-        alloc,
-        Stop::TooLong(Text::Trace),
-        Status::Refused,
-        "bipr: cannot read t.trace\n",
     );
     complains(
         &rt,

@@ -2,7 +2,8 @@
 ghost use Rattle.std.specs.Prelude.{◌≡◌, ◌≤◌, ◌++◌, ◌-◌, [], IfOk, OnOk, slice_index_or};
 ghost use Rattle.bip_model.specs.Texts.{lines, words};
 ghost use Rattle.bip_replay.specs.Writing.{name_in};
-ghost use Rattle.bipr.specs.Wording.{interaction_on, model_text, run_text, step_text, trace_text, verdict_text};
+ghost use Rattle.bipr.specs.Wording.{interaction_on, model_refusal, run_text, step_text};
+ghost use Rattle.bipr.specs.Wording.{trace_refusal, verdict_text};
 
 use bip_model::{CompId, InterId, Model, split_line, split_word};
 use bip_reader::ReadFault;
@@ -18,14 +19,14 @@ pub fn run_text(alloc: Global, count: u64) -> Result<Vec<u8>, AllocError>
 
 /// The complaint of a model's text.
 pub fn model_refusal(alloc: Global, fault: &ReadFault) -> Result<Vec<u8>, AllocError>
-    ensures { IfOk result (λ text. text.items ≡ model_text fault.now) }
+    ensures { IfOk result (λ text. text.items ≡ model_refusal fault.now) }
 {
     Ok(format!(in alloc; "bipr: model {fault}\n")?.into_bytes())
 }
 
 /// The complaint of a trace's text.
 pub fn trace_refusal(alloc: Global, line: u64, fault: &LineFault) -> Result<Vec<u8>, AllocError>
-    ensures { IfOk result (λ text. text.items ≡ trace_text line fault.now) }
+    ensures { IfOk result (λ text. text.items ≡ trace_refusal line fault.now) }
 {
     Ok(format!(in alloc; "bipr: trace line {line}: {fault}\n")?.into_bytes())
 }
@@ -54,7 +55,8 @@ fn write_step(
     inter: &[u8],
     fault: &BookFault,
 ) -> Result<(), AllocError>
-    ensures { OnOk result (text.new.items ≡ text.old.items ++ step_text model.now inter.now fault.now) }
+    ensures { OnOk result (text.new.items
+        ≡ text.old.items ++ step_text model.now inter.now fault.now) }
 {
     match fault {
         BookFault::NotEnabled => {

@@ -1,0 +1,7 @@
+use Rattle.std.proofs.Common.{refl}
+use Rattle.bipr.specs.Endings.{written}
+use Rattle.bipr.specs.Streams.{nothing}
+use Rattle.bipr.proofs.endings.complain.Goals as goal
+
+pub returns : goal.returns
+returns g c = written c.put.result (nothing refl) c.put.ensures

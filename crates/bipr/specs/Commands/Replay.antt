@@ -1,0 +1,50 @@
+-- What the replay may answer that a request asks for.
+use Rattle.std.specs.Prelude.{◌≡◌, ◌≢◌, ℕ, Bool, false, true, ◌&&◌, List, Result, Ok, Err}
+use Rattle.bip_model.specs.declared.parts.System.{System}
+use Rattle.bip_model.specs.declared.partitions.Classes.{Classes}
+use Rattle.bip_reader.specs.Meanings.{HasFault, Means}
+use Rattle.bip_reader.specs.declared.faults.ReadFault.{ReadFault}
+use Rattle.bip_reader.specs.declared.faults.Why.TheVariants.{Memory}
+use Rattle.bipr.specs.Answers.{IsAnswer, complaining}
+use Rattle.bipr.specs.Sources.{is_standard_input}
+use Rattle.bipr.specs.Dividing.{after_mark, before_mark}
+use Rattle.bipr.specs.Stops.{out_of_memory, unread}
+use Rattle.bipr.specs.Wording.{model_refusal}
+use Rattle.bipr.specs.declared.answers.Answer.{Answer}
+use Rattle.bipr.specs.declared.answers.Status.TheVariants.{Refused}
+use Rattle.bipr.specs.declared.command_line.Request.{Request}
+use Rattle.bipr.specs.declared.inputs.InputFault.{InputFault}
+
+-- a text means a model
+abbrev pub IsModelText : List ℕ → Type 0
+IsModelText text = (m : System) × (classes : Classes) × Means text m classes
+
+-- both texts are in standard input
+abbrev pub is_joined : Request → Bool
+is_joined asked = is_standard_input asked.model.now && is_standard_input asked.trace.now
+
+-- what the replay that is asked for may answer, where reading a path may give these texts
+pub data IsReplay (gives : List ℕ → Result (List ℕ) InputFault → Type 0)
+    (asked : Request) : Answer → Type 0 where
+  -- the text that the first path names means a model, and the second path names a trace
+  of_two : (model trace : List ℕ) (answer : Answer) → is_joined asked ≡ false
+      → gives asked.model.now (Ok model) → IsModelText model → gives asked.trace.now (Ok trace)
+      → IsAnswer asked.base model trace answer → IsReplay gives asked answer
+  -- the text that the first path names has a fault; the second isn't read
+  no_model : (model : List ℕ) (fault : ReadFault) → is_joined asked ≡ false
+      → gives asked.model.now (Ok model) → HasFault model fault → fault.why ≢ Memory
+      → IsReplay gives asked (complaining Refused (model_refusal fault))
+  -- one input has both texts
+  of_one : (text : List ℕ) (answer : Answer) → is_joined asked ≡ true
+      → gives asked.model.now (Ok text)
+      → IsAnswer asked.base (before_mark text) (after_mark text) answer
+      → IsReplay gives asked answer
+  -- the text that the first path names isn't read
+  first_unread : (fault : InputFault) → gives asked.model.now (Err fault)
+      → IsReplay gives asked (unread asked.model.now fault)
+  -- the text that the second path names isn't read, and the first means a model
+  second_unread : (model : List ℕ) (fault : InputFault) → is_joined asked ≡ false
+      → gives asked.model.now (Ok model) → IsModelText model → gives asked.trace.now (Err fault)
+      → IsReplay gives asked (unread asked.trace.now fault)
+  -- memory is out
+  lacking : IsReplay gives asked out_of_memory

@@ -1,0 +1,72 @@
+//! The commands, and what they have in common.
+ghost use Rattle.std.specs.Prelude.{◌≡◌, Ok, Err, IfErr, IfOk};
+ghost use Rattle.bipr.specs.Commands.{IsCarriedOut, IsCarriedOutBy};
+ghost use Rattle.bipr.specs.Endings.{Ends};
+ghost use Rattle.bipr.specs.Stops.{answer_of_stop, unread};
+ghost use Rattle.bipr.specs.Streams.{Puts};
+ghost use Rattle.bipr.specs.declared.inputs.InputFault.{InputFault};
+
+pub mod replay;
+
+use crate::answers::Status;
+use crate::command_line::{command, read_request};
+use crate::endings::complain;
+use crate::inputs::Inputs;
+use crate::refusals::{refuse_base, refuse_parse};
+use crate::stops::{NO_MEMORY, Stop};
+use crate::streams::Stream;
+use bip_model::Seq;
+use clap::ArgMatches;
+use replay::replay;
+use std::alloc::Global;
+
+/// Carries out what the words of a command line ask, or says why they ask for nothing, and says
+/// with which status the program ends (docs/DEFINITIONS.md, "Endings").
+pub fn carry_out<'a, I: Inputs, O: Stream, E: Stream>(
+    alloc: Global,
+    words: &'a [String],
+    inputs: &I,
+    output: &mut O,
+    errors: &mut E,
+) -> Status
+    ensures { Ends (IsCarriedOut (I.gives inputs.now)) (Puts O.writes output.old output.new)
+        (Puts E.writes errors.old errors.new) result }
+{
+    let Ok(command) = command(alloc) else {
+        return complain(output, errors, Status::NoMemory, NO_MEMORY);
+    };
+    match command.try_get_matches_from(words) {
+        Ok(matches) => carry_out_matches(alloc, &matches, inputs, output, errors),
+        Err(error) => refuse_parse(alloc, output, errors, &error),
+    }
+}
+
+// Carries out what a parsed command line asks.
+fn carry_out_matches<I: Inputs, O: Stream, E: Stream>(
+    alloc: Global,
+    matches: &ArgMatches<'_>,
+    inputs: &I,
+    output: &mut O,
+    errors: &mut E,
+) -> Status
+    ensures { Ends (IsCarriedOutBy matches.now (I.gives inputs.now))
+        (Puts O.writes output.old output.new) (Puts E.writes errors.old errors.new) result }
+{
+    match read_request(matches) {
+        Some(asked) => replay(alloc, inputs, &asked, output, errors),
+        None => refuse_base(output, errors),
+    }
+}
+
+/// The text that a path names, or why it isn't read.
+fn read_input<'a, I: Inputs>(alloc: Global, inputs: &I, path: &'a str) -> Result<Seq<u8>, Stop<'a>>
+    ensures read { IfOk result (λ text. I.gives inputs.now path.now (Ok text)) }
+    ensures unread { IfErr result (λ why. (fault : InputFault)
+        × I.gives inputs.now path.now (Err fault)
+        × (answer_of_stop why ≡ unread path.now fault)) }
+{
+    match inputs.read(alloc, path) {
+        Ok(text) => Ok(text),
+        Err(fault) => Err(Stop::unread(path, fault)),
+    }
+}

@@ -1,0 +1,104 @@
+//! The command `replay`.
+ghost use Rattle.std.specs.Prelude.{◌≡◌, ◌≤◌, ℕ, false, true, List, Ok};
+ghost use Rattle.bip_model.specs.declared.partitions.Classes.{Classes};
+ghost use Rattle.bip_reader.specs.Meanings.{Means};
+ghost use Rattle.bipr.specs.CommandLine.{greatest_base};
+ghost use Rattle.bipr.specs.Commands.Replay.{IsReplay, is_joined};
+ghost use Rattle.bipr.specs.Endings.{AllOutcomes, Ends};
+ghost use Rattle.bipr.specs.Streams.{Puts};
+
+use crate::answers::{Answer, Status, answer_fault, answer_replay, answer_trace};
+use crate::command_line::Request;
+use crate::commands::read_input;
+use crate::dividing::divide;
+use crate::endings::end;
+use crate::inputs::Inputs;
+use crate::sources::is_standard_input;
+use crate::stops::Stop;
+use crate::streams::Stream;
+use bip_model::Model;
+use bip_reader::read_model;
+use std::alloc::Global;
+
+/// Replays the trace that a request's second path names on the model that its first path names,
+/// writes the answer, and says with which status the command ends. The trace is read only where the
+/// model's text is one; where both paths are standard input, that has both texts
+/// (docs/DEFINITIONS.md, "The replay that is asked for").
+pub fn replay<I: Inputs, O: Stream, E: Stream>(
+    alloc: Global,
+    inputs: &I,
+    asked: &Request<'_>,
+    output: &mut O,
+    errors: &mut E,
+) -> Status
+    requires { asked.now.base ≤ greatest_base }
+    ensures { Ends (IsReplay (I.gives inputs.now) asked.now) (Puts O.writes output.old output.new)
+        (Puts E.writes errors.old errors.new) result }
+{
+    end(alloc, output, errors, answer_request(alloc, inputs, asked))
+}
+
+// The answer to a request.
+fn answer_request<'a, I: Inputs>(
+    alloc: Global,
+    inputs: &I,
+    asked: &Request<'a>,
+) -> Result<Answer, Stop<'a>>
+    requires { asked.now.base ≤ greatest_base }
+    ensures { AllOutcomes result (IsReplay (I.gives inputs.now) asked.now) }
+{
+    if is_standard_input(asked.model) && is_standard_input(asked.trace) {
+        answer_one(alloc, inputs, asked)
+    } else {
+        answer_two(alloc, inputs, asked)
+    }
+}
+
+// The answer where one input has both texts.
+fn answer_one<'a, I: Inputs>(
+    alloc: Global,
+    inputs: &I,
+    asked: &Request<'a>,
+) -> Result<Answer, Stop<'a>>
+    requires bound { asked.now.base ≤ greatest_base }
+    requires joined { is_joined asked.now ≡ true }
+    ensures { AllOutcomes result (IsReplay (I.gives inputs.now) asked.now) }
+{
+    let both = read_input(alloc, inputs, asked.model)?;
+    let (model, trace) = divide(both.as_slice());
+    Ok(answer_replay(alloc, model, trace, asked.base)?)
+}
+
+// The answer where each path names a text: the model's half.
+fn answer_two<'a, I: Inputs>(
+    alloc: Global,
+    inputs: &I,
+    asked: &Request<'a>,
+) -> Result<Answer, Stop<'a>>
+    requires bound { asked.now.base ≤ greatest_base }
+    requires apart { is_joined asked.now ≡ false }
+    ensures { AllOutcomes result (IsReplay (I.gives inputs.now) asked.now) }
+{
+    let text = read_input(alloc, inputs, asked.model)?;
+    match read_model(alloc, text.as_slice()) {
+        Ok((model, _classes)) => answer_second(alloc, inputs, asked, &model),
+        Err(fault) => Ok(answer_fault(alloc, &fault)?),
+    }
+}
+
+// The trace's half, where the model's text means a model.
+fn answer_second<'a, I: Inputs>(
+    alloc: Global,
+    inputs: &I,
+    asked: &Request<'a>,
+    model: &Model,
+) -> Result<Answer, Stop<'a>>
+    requires bound { asked.now.base ≤ greatest_base }
+    requires apart { is_joined asked.now ≡ false }
+    ensures { (text : List ℕ) (classes : Classes) → I.gives inputs.now asked.now.model.now (Ok text)
+        → Means text model.now classes
+        → AllOutcomes result (IsReplay (I.gives inputs.now) asked.now) }
+{
+    let trace = read_input(alloc, inputs, asked.trace)?;
+    Ok(answer_trace(alloc, model, trace.as_slice(), asked.base)?)
+}

@@ -1,0 +1,63 @@
+//! What stops a command before it has an answer.
+ghost use Rattle.std.specs.Prelude.{◌≡◌, IfOk};
+ghost use Rattle.bipr.specs.Stops.{answer_of_stop, unread};
+ghost use Rattle.bipr.specs.declared.stops.Stop.TheVariants.{OutOfMemory};
+
+use crate::answers::Status;
+use crate::inputs::InputFault;
+use std::alloc::{AllocError, Global};
+
+/// Why a command has no answer.
+#[derive(Clone, Copy, Debug, PartialEq, Eq)]
+pub enum Stop<'a> {
+    /// The text that this path names can't be read, or is longer than the limit.
+    CannotRead(&'a str),
+    /// Want of memory.
+    OutOfMemory,
+}
+
+/// The complaint where memory is out, which has to be told without memory.
+pub const NO_MEMORY: &[u8] = b"bipr: no memory\n";
+
+impl<'a> Stop<'a> {
+    /// Why the text of this path isn't read.
+    pub fn unread(path: &'a str, fault: InputFault) -> Stop<'a>
+        ensures { answer_of_stop result ≡ unread path.now fault }
+    {
+        match fault {
+            InputFault::Failed => Stop::CannotRead(path),
+            InputFault::TooLong => Stop::CannotRead(path),
+            InputFault::NoMemory => Stop::OutOfMemory,
+        }
+    }
+
+    /// The status with which the command ends.
+    pub fn status(&self) -> Status
+        ensures { result ≡ (answer_of_stop self.now).status }
+    {
+        match self {
+            Stop::CannotRead(_) => Status::Refused,
+            Stop::OutOfMemory => Status::NoMemory,
+        }
+    }
+
+    /// What is complained of; the only error is want of memory.
+    pub fn complaint(&self, alloc: Global) -> Result<Vec<u8>, AllocError>
+        ensures { IfOk result (λ text. text.items ≡ (answer_of_stop self.now).complaint) }
+    {
+        match self {
+            Stop::CannotRead(path) => {
+                Ok(format!(in alloc; "bipr: cannot read {path}\n")?.into_bytes())
+            }
+            Stop::OutOfMemory => Vec::from_slice(alloc, NO_MEMORY),
+        }
+    }
+}
+
+impl From<AllocError> for Stop<'_> {
+    ghost from_gives = { λ _ why. why ≡ OutOfMemory };
+
+    fn from(_: AllocError) -> Self {
+        Stop::OutOfMemory
+    }
+}
