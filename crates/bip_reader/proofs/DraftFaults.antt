@@ -3,9 +3,11 @@ use Rattle.std.proofs.Common.{◌≡◌, ℕ, Bool, true, false, cond, ◌==◌,
 use Rattle.std.specs.Prelude.{slice_get}
 use Rattle.std.specs.List.{list_any}
 use Rattle.std.specs.Option.{ok_or}
-use Rattle.bip_model.specs.Drafts.{◌>>=◌, begun_in, component_line, end_line, finished, inside, interaction_line, loc_line, number_in, participant_named, participants_named, port_line, put_by_component, trans_line, with_interaction, with_transition}
+use Rattle.bip_model.specs.Outcomes.{◌>>=◌}
+use Rattle.bip_reader.specs.ModelTexts.{finished}
+use Rattle.bip_model.specs.Drafts.{begun_in, component_line, end_line, inside, interaction_line, loc_line, number_in, participant_named, participants_named, port_line, put_by_component, trans_line, with_interaction, with_transition}
 use Rattle.bip_model.specs.Naming.{is_known}
-use Rattle.bip_model.specs.System.{Participant}
+use Rattle.bip_model.specs.Parts.{Participant}
 use Rattle.bip_model.specs.declared.drafts.Draft.{Draft}
 use Rattle.bip_model.specs.declared.faults.BuildFault.{BuildFault}
 use Rattle.bip_model.specs.declared.faults.BuildFault.TheVariants.{Unknown, Twice}

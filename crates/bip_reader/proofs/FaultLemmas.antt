@@ -6,14 +6,15 @@ use Rattle.std.specs.Option.{ok_or}
 use Rattle.bip_model.specs.Naming.{same_text}
 use Rattle.bip_model.specs.declared.numbering.InterId.{InterId}
 use Rattle.bip_model.specs.declared.partitions.TheConstants.{MOST_CLASSES}
-use Rattle.bip_model.specs.Drafts.{begun_in, component_line, end_line, finished, inside, interaction_line, loc_line, port_line, trans_line}
+use Rattle.bip_model.specs.Drafts.{begun_in, component_line, end_line, inside, interaction_line, loc_line, port_line, trans_line}
 use Rattle.bip_model.specs.Texts.{last_line, lines, words_said}
 use Rattle.bip_model.specs.declared.drafts.Draft.{Draft}
 use Rattle.bip_model.specs.declared.faults.BuildFault.{BuildFault}
 use Rattle.bip_model.specs.declared.parts.System.{System}
 use Rattle.bip_reader.specs.Faults.{is_of_text}
 use Rattle.bip_reader.specs.Meanings.{TextFaults}
-use Rattle.bip_reader.specs.ModelTexts.{◌>>=◌, ClassList, at_line, built, class_line, declared_by, ended, fresh, has_place, interaction_named, line_said, lines_said, said_there, says, with_classes, words_say}
+use Rattle.bip_model.specs.Outcomes.{◌>>=◌}
+use Rattle.bip_reader.specs.ModelTexts.{ClassList, at_line, built, class_line, declared_by, ended, finished, fresh, has_place, interaction_named, line_said, lines_said, said_there, says, with_classes, words_say}
 use Rattle.bip_reader.specs.Outcomes.{or_syntax}
 use Rattle.bip_reader.specs.Statements.{each_of, statement_of}
 use Rattle.bip_reader.specs.declared.faults.ReadFault.{ReadFault}

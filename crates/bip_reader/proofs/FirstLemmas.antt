@@ -7,7 +7,8 @@ use Rattle.bip_reader.specs.declared.faults.ReadFault.{ReadFault}
 use Rattle.bip_reader.specs.declared.faults.Why.{Why}
 use Rattle.bip_reader.specs.declared.reading.Reading.{Reading}
 use Rattle.bip_reader.specs.Meanings.{FirstFault, NothingPast}
-use Rattle.bip_reader.specs.ModelTexts.{◌>>=◌, IsReached, at_line, declared_by, ended, fresh, line_said, lines_said}
+use Rattle.bip_model.specs.Outcomes.{◌>>=◌}
+use Rattle.bip_reader.specs.ModelTexts.{IsReached, at_line, declared_by, ended, fresh, line_said, lines_said}
 use Rattle.bip_reader.proofs.LawLemmas.{Ends, ends}
 use Rattle.bip_reader.proofs.TextLemmas.{at_end, last_reached, lines_said-append}
 

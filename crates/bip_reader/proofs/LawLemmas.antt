@@ -7,7 +7,8 @@ use Rattle.bip_reader.specs.declared.faults.ReadFault.{ReadFault}
 use Rattle.bip_reader.specs.declared.faults.Why.{Why}
 use Rattle.bip_reader.specs.declared.reading.Reading.{Reading}
 use Rattle.bip_reader.specs.Meanings.{NoLastLineFeed, SameMeaning}
-use Rattle.bip_reader.specs.ModelTexts.{◌>>=◌, ClassList, at_line, declared_by, ended, fresh, line_said, lines_said, words_say}
+use Rattle.bip_model.specs.Outcomes.{◌>>=◌}
+use Rattle.bip_reader.specs.ModelTexts.{ClassList, at_line, declared_by, ended, fresh, line_said, lines_said, words_say}
 use Rattle.bip_reader.proofs.TextLemmas.{declares}
 
 -- what words say, line after line, without the lines' numbers

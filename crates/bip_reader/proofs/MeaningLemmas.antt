@@ -9,7 +9,7 @@ use Rattle.bip_model.specs.Texts.{last_line}
 use Rattle.bip_model.specs.declared.faults.ClassFault.{ClassFault}
 use Rattle.bip_model.specs.declared.faults.ClassFault.TheVariants as class_fault
 use Rattle.bip_model.specs.declared.numbering.InterId.{InterId}
-use Rattle.bip_model.specs.declared.partitions.Classes.{Classes}
+use Rattle.bip_model.specs.declared.partitions.Partition.{Partition}
 use Rattle.bip_model.specs.declared.parts.System.{System}
 use Rattle.bip_reader.specs.declared.faults.Why.{Why}
 use Rattle.bip_reader.specs.declared.faults.Why.TheVariants.{NotAPartition, Memory}
@@ -75,16 +75,17 @@ parts_short v m listed cs class_fault.NotAPartition why seen is short memory = a
 parts_short v m listed cs class_fault.Memory why seen is short memory = parts v m listed cs seen (short refl)
 
 -- classes that were made of lists that are seen in another way
-pub numbers : {C : Type 0} (v : C → List ℕ × List InterId) (m : System) (listed : ClassList) (cs : List C) (classes : Classes) → map v cs ≡ listed
+pub numbers : {C : Type 0} (v : C → List ℕ × List InterId) (m : System) (listed : ClassList) (cs : List C) (classes : Partition) → map v cs ≡ listed → classes.count ≡ length m.interactions
     → classes.names ≡ map (λ c. (v c).0) cs → classes.members ≡ map (λ c. in_order (length m.interactions) (v c).1) cs → classes ≡ classes_of m listed
-numbers v m listed cs classes seen names members =
+numbers v m listed cs classes seen count names members =
     let names_are : classes.names ≡ map (λ (d : List ℕ × List InterId). d.0) listed = names ∙ sym (map-map (λ (d : List ℕ × List InterId). d.0) v cs) ∙ ap (map (λ (d : List ℕ × List InterId). d.0)) seen in
     let members_are : classes.members ≡ map (λ (d : List ℕ × List InterId). in_order (length m.interactions) d.1) listed =
     members ∙ sym (map-map (λ (d : List ℕ × List InterId). in_order (length m.interactions) d.1) v cs)
     ∙ ap (map (λ (d : List ℕ × List InterId). in_order (length m.interactions) d.1)) seen
     in
-    ap (λ (ns : List (List ℕ)). record { names = ns; members = classes.members }) names_are
-    ∙ ap (λ (ms : List (List InterId)). record { names = map (λ (d : List ℕ × List InterId). d.0) listed; members = ms }) members_are
+    ap (λ (n : ℕ). record { count = n; names = classes.names; members = classes.members }) count
+    ∙ ap (λ (ns : List (List ℕ)). record { count = length m.interactions; names = ns; members = classes.members }) names_are
+    ∙ ap (λ (ms : List (List InterId)). record { count = length m.interactions; names = map (λ (d : List ℕ × List InterId). d.0) listed; members = ms }) members_are
 
 -- the lists that a text declares are no partition
 pub unparted : (text : List ℕ) (m : System) (listed : ClassList) (fault : ReadFault) → declared_by text ≡ Ok (m, listed) → fault.line ≡ last_line text

@@ -2,7 +2,7 @@
 use Rattle.std.proofs.Common.{◌≡◌, Bool, true, false, ◌||◌, not, Result, Ok, Err, refl, subst}
 use Rattle.bip_reader.specs.declared.faults.Why.{Why}
 use Rattle.bip_reader.specs.declared.faults.Why.TheVariants.{Syntax, Unknown, Twice, TooMany, Missing, TwoTransitions, PriorityCycle, NotAPartition, Memory}
-use Rattle.bip_reader.specs.ModelTexts.{◌>>=◌}
+use Rattle.bip_model.specs.Outcomes.{◌>>=◌}
 use Rattle.bip_reader.specs.Outcomes.{Fails, Leads, has_fault}
 
 -- a fault stays the fault of what follows

@@ -8,7 +8,8 @@ use Rattle.std.specs.Option.{ok_or, option_map}
 use Rattle.bip_model.specs.Naming.{same_text}
 use Rattle.bip_model.specs.declared.partitions.TheConstants.{MOST_CLASSES}
 use Rattle.bip_model.specs.Texts.{is_comment, is_plain, words}
-use Rattle.bip_model.specs.Drafts.{Follows}
+use Rattle.bip_model.specs.Outcomes.{◌>>=◌, Answers, new_or_fault}
+use Rattle.bip_model.specs.declared.faults.BuildFault.TheVariants as build
 use Rattle.bip_model.specs.declared.drafts.Draft.{Draft}
 use Rattle.bip_model.specs.declared.faults.BuildFault.{BuildFault}
 use Rattle.bip_model.specs.declared.numbering.InterId.{InterId}
@@ -17,7 +18,7 @@ use Rattle.bip_reader.specs.declared.faults.Why.TheVariants.{Syntax, Unknown, To
 use Rattle.bip_reader.specs.declared.reading.Reading.{Reading}
 use Rattle.bip_reader.specs.declared.statements.Statement.{Statement}
 use Rattle.bip_reader.specs.Faults.{why_of_build}
-use Rattle.bip_reader.specs.ModelTexts.{◌>>=◌, built, class_line, interaction_named, line_said, says, said_there, has_place, words_say}
+use Rattle.bip_reader.specs.ModelTexts.{built, class_line, interaction_named, line_said, says, said_there, has_place, words_say}
 use Rattle.bip_reader.specs.Outcomes.{Fails, has_fault, or_syntax}
 use Rattle.bip_reader.specs.Statements.{each_of, statement_of}
 use Rattle.bip_reader.proofs.OutcomeLemmas.{fails_else, fails_first, fails_so, wants}
@@ -87,13 +88,13 @@ no_form line r may why plain e h =
     (subst (λ said. Fails may why said) (sym (stating line r plain e)) (fails_first may why (or_syntax (statement_of (words line))) (λ s. says s r) h))
 
 -- the builder refused a line
-pub refused : (said : Result Draft BuildFault) (r : Reading) (fault : BuildFault) (new : Draft) → Follows said r.builder (Err fault) new
+pub refused : (said : Result Draft BuildFault) (r : Reading) (fault : BuildFault) (new : Draft) → Answers build.Memory said (new_or_fault {U = Unit {0}} (Err fault) new)
     → Fails (not (has_fault (built r said))) (why_of_build fault) (built r said)
-refused (Ok draft) r fault new h = rw h.0 refl
-refused (Err other) r fault new h = rw h.0 (fails_so Reading (why_of_build other))
+refused (Ok draft) r fault new h = rw h refl
+refused (Err other) r fault new h = rw h (fails_so Reading (why_of_build other))
 
 -- the builder took a line
-pub taken : (said : Result Draft BuildFault) (r : Reading) (u : Unit {0}) (new : Draft) → Follows said r.builder (Ok u) new → built r said ≡ Ok (record r { builder = new })
+pub taken : (said : Result Draft BuildFault) (r : Reading) (u : Unit {0}) (new : Draft) → Answers build.Memory said (new_or_fault (Ok u) new) → built r said ≡ Ok (record r { builder = new })
 taken (Ok draft) r u new h = rw h refl
 taken (Err other) r u new h = absurd h
 

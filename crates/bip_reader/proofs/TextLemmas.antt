@@ -9,7 +9,8 @@ use Rattle.bip_reader.specs.declared.faults.Why.{Why}
 use Rattle.bip_reader.specs.declared.faults.Why.TheVariants.{Syntax, Unknown, Twice, TooMany, Missing, TwoTransitions, PriorityCycle, NotAPartition, Memory}
 use Rattle.bip_reader.specs.declared.reading.Reading.{Reading}
 use Rattle.bip_model.specs.declared.parts.System.{System}
-use Rattle.bip_reader.specs.ModelTexts.{◌>>=◌, ClassList, IsReached, MayLackMemory, at_line, ended, fresh, line_said, lines_said, declared_by}
+use Rattle.bip_model.specs.Outcomes.{◌>>=◌}
+use Rattle.bip_reader.specs.ModelTexts.{ClassList, IsReached, MayLackMemory, at_line, ended, fresh, line_said, lines_said, declared_by}
 use Rattle.bip_reader.specs.Outcomes.{Fails, Leads, has_fault}
 use Rattle.bip_reader.specs.Statements.{lists_words}
 use Rattle.bip_reader.proofs.FaultLemmas.{fair_lines, no_want}

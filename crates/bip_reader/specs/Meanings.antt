@@ -3,7 +3,7 @@ use Rattle.std.specs.Prelude.{◌≡◌, ◌⊎◌, ◌++◌, ℕ, List, [], ◌
 use Rattle.bip_model.specs.Partitions.{IsPartition, in_order}
 use Rattle.bip_model.specs.Texts.{last_line, lines, said_in}
 use Rattle.bip_model.specs.declared.numbering.InterId.{InterId}
-use Rattle.bip_model.specs.declared.partitions.Classes.{Classes}
+use Rattle.bip_model.specs.declared.partitions.Partition.{Partition}
 use Rattle.bip_model.specs.declared.parts.System.{System}
 use Rattle.bip_reader.specs.declared.faults.ReadFault.{ReadFault}
 use Rattle.bip_reader.specs.declared.faults.Why.TheVariants.{NotAPartition}
@@ -15,11 +15,11 @@ abbrev pub IsParted : System → ClassList → Type 0
 IsParted m list = IsPartition (λ (c : List ℕ × List InterId). c.0) (λ c. c.1) (length m.interactions) list
 
 -- the classes that such lists are: of each the interactions in order of number
-abbrev pub classes_of : System → ClassList → Classes
-classes_of m list = record { names = map (λ c. c.0) list; members = map (λ c. in_order (length m.interactions) c.1) list }
+abbrev pub classes_of : System → ClassList → Partition
+classes_of m list = record { count = length m.interactions; names = map (λ c. c.0) list; members = map (λ c. in_order (length m.interactions) c.1) list }
 
 -- a text means a model with its classes: its lines declare them, and the classes part the interactions
-pub record Means (text : List ℕ) (m : System) (classes : Classes) : Type 0 where
+pub record Means (text : List ℕ) (m : System) (classes : Partition) : Type 0 where
   pub listed : ClassList
   pub declared : declared_by text ≡ Ok (m, listed)
   pub parted : IsParted m listed
@@ -52,7 +52,7 @@ NothingPast =
 
 -- texts that say the same words in as many lines mean the same
 abbrev pub SameMeaning : Type 0
-SameMeaning = (a b : List ℕ) → said_in a ≡ said_in b → (m : System) (classes : Classes) → Means a m classes → Means b m classes
+SameMeaning = (a b : List ℕ) → said_in a ≡ said_in b → (m : System) (classes : Partition) → Means a m classes → Means b m classes
 
 -- a line feed at the end of a text says nothing
 abbrev pub NoLastLineFeed : Type 0
@@ -60,7 +60,7 @@ NoLastLineFeed = (text : List ℕ) → said_in (text ++ 10 ∷ []) ≡ said_in t
 
 -- a text has at most one meaning
 abbrev pub OneMeaning : Type 0
-OneMeaning = (text : List ℕ) (m n : System) (c d : Classes) → Means text m c → Means text n d → (m ≡ n) × (c ≡ d)
+OneMeaning = (text : List ℕ) (m n : System) (c d : Partition) → Means text m c → Means text n d → (m ≡ n) × (c ≡ d)
 
 -- a text has at most one fault
 abbrev pub OneFault : Type 0
@@ -68,4 +68,4 @@ OneFault = (text : List ℕ) (f g : ReadFault) → HasFault text f → HasFault 
 
 -- a text with a meaning has no fault
 abbrev pub NoFault : Type 0
-NoFault = (text : List ℕ) (m : System) (c : Classes) (f : ReadFault) → Means text m c → HasFault text f → ⊥
+NoFault = (text : List ℕ) (m : System) (c : Partition) (f : ReadFault) → Means text m c → HasFault text f → ⊥

@@ -1,12 +1,14 @@
 -- What the text of a model means: line after line, and then as a whole.
-use Rattle.std.specs.Prelude.{◌≡◌, ◌⊎◌, ℕ, ◌+◌, ◌-◌, ◌≤◌, take, IsOk, IsTrue, slice_get, ◌++◌, ◌&&◌, Bool, false, true, not, nat_le, List, [], ◌∷◌, length, Option, None, Some, Result, Ok, Err, is_some, position, if◌then◌else◌}
+use Rattle.std.specs.Prelude.{◌≡◌, ◌⊎◌, ℕ, ◌+◌, ◌-◌, ◌≤◌, take, IsOk, IsTrue, slice_get, ◌++◌, ◌&&◌, ◌||◌, ◌==◌, Bool, false, true, not, nat_le, List, [], ◌∷◌, length, Option, None, Some, Result, Ok, Err, is_some, position, if◌then◌else◌}
 use Rattle.std.specs.List.{list_any}
 use Rattle.std.specs.Option.{ok_or, option_map}
-use Rattle.bip_model.specs.Drafts.{component_line, empty_draft, end_line, finished, inside, interaction_line, loc_line, port_line, trans_line}
+use Rattle.bip_model.specs.Drafts.{component_line, empty_draft, end_line, inside, interaction_line, loc_line, port_line, trans_line}
 use Rattle.bip_model.specs.Naming.{same_text}
+use Rattle.bip_model.specs.Outcomes.{◌>>=◌}
 use Rattle.bip_model.specs.Texts.{last_line, lines, words, words_said}
 use Rattle.bip_model.specs.declared.drafts.Draft.{Draft}
 use Rattle.bip_model.specs.declared.faults.BuildFault.{BuildFault}
+use Rattle.bip_model.specs.declared.faults.BuildFault.TheVariants as build
 use Rattle.bip_model.specs.declared.numbering.InterId.{InterId}
 use Rattle.bip_model.specs.declared.parts.System.{System}
 use Rattle.bip_reader.specs.declared.faults.ReadFault.{ReadFault}
@@ -19,11 +21,6 @@ use Rattle.bip_reader.specs.declared.statements.Statement.TheVariants.{Header, C
 use Rattle.bip_reader.specs.Faults.{why_of_build}
 use Rattle.bip_reader.specs.Outcomes.{or_syntax}
 use Rattle.bip_reader.specs.Statements.{each_of, lists_words, statement_of}
-
-infixl 10 ◌>>=◌
-abbrev pub ◌>>=◌ : {A B E : Type 0} → Result A E → (A → Result B E) → Result B E
-(Ok x) >>= f = f x
-(Err e) >>= f = Err e
 
 -- classes as a text names them: a name, and the numbers of interactions
 abbrev pub ClassList : Type 0
@@ -102,6 +99,10 @@ at_line n (Err why) = Err (record { line = n; why = why })
 abbrev pub lines_said : ℕ → List (List ℕ) → Reading → Result Reading ReadFault
 lines_said n [] r = Ok r
 lines_said n (line ∷ rest) r = at_line n (line_said line r) >>= lines_said (n + 1) rest
+
+-- the model that lines have declared; Missing where a component is begun, and where there is none
+abbrev pub finished : Draft → Result System BuildFault
+finished d = if is_some d.begun || length d.system.components == 0 then Err build.Missing else Ok d.system
 
 -- what a builder makes of all lines, beside the classes
 abbrev pub with_classes : ClassList → Result System BuildFault → Result (System × ClassList) Why

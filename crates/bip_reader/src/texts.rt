@@ -1,7 +1,7 @@
 //! Model texts: a text is a model with its classes, or it has a first fault.
 ghost use Rattle.std.specs.Prelude.{◌≡◌, ◌≢◌, IfErr, IfOk, MatchResult, OnOk, Ok, Err};
 ghost use Rattle.bip_model.specs.Texts.{last_line, lines};
-ghost use Rattle.bip_model.specs.declared.partitions.Classes.{Classes};
+ghost use Rattle.bip_model.specs.declared.partitions.Partition.{Partition};
 ghost use Rattle.bip_model.specs.declared.parts.System.{System};
 ghost use Rattle.bip_reader.specs.declared.faults.Why.TheVariants.{Memory, NotAPartition};
 ghost use Rattle.bip_reader.specs.Meanings.{FirstFault, HasFault, IsParted, Means, NoFault, NoLastLineFeed, NothingPast, OneFault, OneMeaning, SameMeaning, TextFaults, classes_of};
@@ -21,7 +21,7 @@ pub fn read_model(alloc: Global, text: &[u8]) -> Result<(Model, Classes), ReadFa
     // What is read is meant.
     ensures model { IfOk result (λ read. Means text.now read.0 read.1) }
     // What is meant is read, unless memory runs out.
-    ensures only { (m : System) (c : Classes) → Means text.now m c
+    ensures only { (m : System) (c : Partition) → Means text.now m c
         → MatchResult result (λ read. (read.0 ≡ m) × (read.1 ≡ c)) (λ fault. fault.why ≡ Memory) }
     ensures fault { IfErr result (λ fault. fault.why ≢ Memory → HasFault text.now fault) }
     ensures memory { IfErr result (λ fault. fault.why ≡ Memory → MayLackMemory text.now fault.line) }

@@ -7,7 +7,7 @@ returns-in-Ok-clause-parted c = parts (λ class. (class.0, class.1.items)) c.arg
 
 pub returns-in-Ok-clause-numbered : goal.returns-in-Ok-clause-numbered
 returns-in-Ok-clause-numbered c =
-    numbers (λ class. (class.0, class.1.items)) c.args.model.now c.args.listed c.into_vec.result.items c.in-Ok.classes c.into_vec.ensures c.in-Ok.ensures.names c.in-Ok.ensures.members
+    numbers (λ class. (class.0, class.1.items)) c.args.model.now c.args.listed c.into_vec.result.items c.in-Ok.classes c.into_vec.ensures c.in-Ok.ensures.of_model c.in-Ok.ensures.names c.in-Ok.ensures.members
 
 pub returns-in-Err-clause-unparted : goal.returns-in-Err-clause-unparted
 returns-in-Err-clause-unparted c =
