@@ -1,5 +1,6 @@
 pub mod AnswerLemmas
 pub mod EndingLemmas
+pub mod KnownLemmas
 pub mod MarkLemmas
 pub mod OneAnswerLemmas
 pub mod ReplayLemmas

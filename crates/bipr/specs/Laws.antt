@@ -1,9 +1,51 @@
--- The laws of answers.
-use Rattle.std.specs.Prelude.{◌≡◌, ℕ, List}
-use Rattle.bipr.specs.Answers.{IsAnswer}
+-- The laws of answers, and of the replay of texts that are known.
+use Rattle.std.specs.Prelude.{◌≡◌, ◌≤◌, ℕ, false, true, List, length}
+use Rattle.bipr.specs.Answers.{IsAnswer, complaining}
+use Rattle.bipr.specs.Commands.Replay.{IsModelText, IsReplay, is_joined}
+use Rattle.bipr.specs.Dividing.{AreParts, after_mark, before_mark}
+use Rattle.bipr.specs.Inputs.{IsReading, Named, bytes, most_bytes}
+use Rattle.bipr.specs.Stops.{out_of_memory, unread_text}
 use Rattle.bipr.specs.declared.answers.Answer.{Answer}
+use Rattle.bipr.specs.declared.answers.Status.TheVariants.{Refused}
+use Rattle.bipr.specs.declared.command_line.Request.{Request}
+
+-- two texts in one are parted by lines
+abbrev pub PartedByLines : Type 0
+PartedByLines = (text : List ℕ) → AreParts text (before_mark text) (after_mark text)
 
 -- two texts and a base have one answer
 abbrev pub OneAnswer : Type 0
 OneAnswer = (base : ℕ) (model trace : List ℕ) (a b : Answer)
     → IsAnswer base model trace a → IsAnswer base model trace b → a ≡ b
+
+-- what may be answered where the two paths name these texts
+pub data IsOfTwo (asked : Request) (model trace : List ℕ) : Answer → Type 0 where
+  -- the answer of the two texts, neither of which is too long; the trace isn't read where the
+  -- model's text is none
+  answered : (answer : Answer) → length model ≤ most_bytes
+      → (IsModelText model → length trace ≤ most_bytes)
+      → IsAnswer asked.base model trace answer → IsOfTwo asked model trace answer
+  model_unread : IsOfTwo asked model trace (complaining Refused (unread_text asked.model.now))
+  trace_unread : IsModelText model
+      → IsOfTwo asked model trace (complaining Refused (unread_text asked.trace.now))
+  lacking : IsOfTwo asked model trace out_of_memory
+
+-- what may be answered where one input has both texts
+pub data IsOfOne (asked : Request) (text : List ℕ) : Answer → Type 0 where
+  one_answered : (answer : Answer) → length text ≤ most_bytes
+      → IsAnswer asked.base (before_mark text) (after_mark text) answer → IsOfOne asked text answer
+  one_unread : IsOfOne asked text (complaining Refused (unread_text asked.model.now))
+  one_lacking : IsOfOne asked text out_of_memory
+
+-- what paths name decides what is answered: the first path names the model, the second the trace
+abbrev pub TwoTextsDecide : Type 0
+TwoTextsDecide = (named : List ℕ → Named) (asked : Request) (model trace : List ℕ) (answer : Answer)
+    → is_joined asked ≡ false
+    → named asked.model.now ≡ bytes model → named asked.trace.now ≡ bytes trace
+    → IsReplay (λ path. IsReading (named path)) asked answer → IsOfTwo asked model trace answer
+
+-- and so does the text of one input
+abbrev pub OneTextDecides : Type 0
+OneTextDecides = (named : List ℕ → Named) (asked : Request) (text : List ℕ) (answer : Answer)
+    → is_joined asked ≡ true → named asked.model.now ≡ bytes text
+    → IsReplay (λ path. IsReading (named path)) asked answer → IsOfOne asked text answer

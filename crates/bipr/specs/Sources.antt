@@ -1,5 +1,5 @@
 -- What a path names, and the bytes that it has left.
-use Rattle.std.specs.Prelude.{ℕ, Bool, List, Option, codes}
+use Rattle.std.specs.Prelude.{ℕ, Bool, false, true, List, Option, codes}
 use Rattle.bip_model.specs.Naming.{same_text}
 use Rattle.bipr.specs.declared.sources.Source.{Source}
 use Rattle.bipr.specs.declared.sources.Source.TheVariants as source
@@ -13,3 +13,8 @@ abbrev pub remaining_in : {I F : Type 0} → (I → Option (List ℕ)) → (F �
     → Source I F → Option (List ℕ)
 remaining_in of_input of_file (source.StandardInput input) = of_input input
 remaining_in of_input of_file (source.File file) = of_file file
+
+-- a source is standard input
+abbrev pub is_input : {I F : Type 0} → Source I F → Bool
+is_input (source.StandardInput input) = true
+is_input (source.File file) = false

@@ -1,7 +1,5 @@
-//! The laws of answers and of two texts in one.
-ghost use Rattle.std.specs.Prelude.{ℕ, List};
-ghost use Rattle.bipr.specs.Dividing.{AreParts, after_mark, before_mark};
-ghost use Rattle.bipr.specs.Laws.{OneAnswer};
+//! The laws of answers, of two texts in one, and of the replay of texts that are known.
+ghost use Rattle.bipr.specs.Laws.{OneAnswer, OneTextDecides, PartedByLines, TwoTextsDecide};
 
 use bip_reader::meaning_laws;
 use bip_replay::fault_laws;
@@ -9,9 +7,19 @@ use bip_replay::fault_laws;
 /// Two texts and a base have one answer, and two texts in one are parted by lines
 /// (docs/DEFINITIONS.md, "Answers" and "Two texts in one").
 pub fn answer_laws()
-    ensures parts { (text : List ℕ) → AreParts text (before_mark text) (after_mark text) }
+    ensures parts { PartedByLines }
     ensures one { OneAnswer }
 {
     meaning_laws();
     fault_laws();
+}
+
+/// Where the paths of a replay name texts that are known, what is answered is the answer of these
+/// texts, or that one of them can't be read, or want of memory (docs/DEFINITIONS.md, "The replay that
+/// is asked for").
+pub fn replay_laws()
+    ensures two { TwoTextsDecide }
+    ensures one { OneTextDecides }
+{
+    meaning_laws();
 }

@@ -1,6 +1,6 @@
 //! What the paths of a command name: `-` is standard input, any other a file.
-ghost use Rattle.std.specs.Prelude.{◌≡◌};
-ghost use Rattle.bipr.specs.Sources.{is_standard_input, remaining_in};
+ghost use Rattle.std.specs.Prelude.{◌≡◌, IfOk};
+ghost use Rattle.bipr.specs.Sources.{is_input, is_standard_input, remaining_in};
 
 use crate::inputs::Open;
 use std::fs::{File, Files};
@@ -40,7 +40,9 @@ impl<'a, R> Sources<'a, R> {
 impl<R: Files + Input> Open for Sources<'_, R> {
     type Source = Source<R::Reader, R::File>;
 
-    fn open(&self, path: &str) -> io::Result<Self::Source> {
+    fn open(&self, path: &str) -> io::Result<Self::Source>
+        ensures { IfOk result (λ source. is_input source ≡ is_standard_input path.now) }
+    {
         if is_standard_input(path) {
             Ok(Source::StandardInput(self.rt.reader()))
         } else {

@@ -6,7 +6,7 @@ use crate::command_line::{Request, command, read_request};
 use crate::commands::replay::replay;
 use crate::dividing::divide;
 use crate::inputs::{InputFault, Open, read_text};
-use crate::laws::answer_laws;
+use crate::laws::{answer_laws, replay_laws};
 use crate::stops::Stop;
 use std::alloc::Global;
 use std::io::{self, Read, Write};
@@ -420,6 +420,7 @@ fn each_stop_has_its_complaint(rt: HostRuntime) {
 #[test]
 fn laws_take_nothing() {
     answer_laws();
+    replay_laws();
 }
 
 /// What the words of a command line ask; none where they ask for nothing.
