@@ -7,9 +7,9 @@ use Rattle.bip_reader.specs.declared.faults.ReadFault.{ReadFault}
 use Rattle.bip_reader.specs.declared.faults.Why.TheVariants.{Memory}
 use Rattle.bip_replay.specs.Replays.{IsFirstFault, IsRunOf}
 use Rattle.bip_replay.specs.declared.faults.BookFault.{BookFault}
-use Rattle.bip_replay.specs.declared.faults.LineFault.{LineFault}
+use Rattle.bip_replay.specs.declared.faults.ReplayFault.{ReplayFault}
 use Rattle.bip_replay.specs.declared.faults.ReplayFault.TheVariants as replay_fault
-use Rattle.bipr.specs.Answers.{IsAnswer, complaining, no_model, no_trace, not_a_run, of_line, run, saying}
+use Rattle.bipr.specs.Answers.{IsAnswer, SaysNoGrant, complaining, no_model, no_trace, not_a_run, run, saying}
 use Rattle.bipr.specs.Wording.{model_refusal, run_text, trace_refusal, verdict_text}
 use Rattle.bipr.specs.declared.answers.Answer.{Answer}
 use Rattle.bipr.specs.declared.answers.Status.TheVariants.{Done, Refused, NotARun}
@@ -26,11 +26,11 @@ pub has_answered-not_a_run : (base : ℕ) (text trace output : List ℕ) (answer
 has_answered-not_a_run base text trace output answer m classes number fault same written means first =
     subst (IsAnswer base text trace) (sym (same ∙ ap (saying NotARun) written)) (not_a_run m classes number fault means first)
 
-pub has_answered-no_trace : (base : ℕ) (text trace complaint : List ℕ) (answer : Answer) (m : System) (classes : Classes) (number : ℕ) (fault : LineFault)
+pub has_answered-no_trace : (base : ℕ) (text trace complaint : List ℕ) (answer : Answer) (m : System) (classes : Classes) (number : ℕ) (fault : ReplayFault)
     → answer ≡ complaining Refused complaint → complaint ≡ trace_refusal number fault → Means text m classes
-    → IsFirstFault m base trace number (of_line fault) → IsAnswer base text trace answer
-has_answered-no_trace base text trace complaint answer m classes number fault same written means first =
-    subst (IsAnswer base text trace) (sym (same ∙ ap (complaining Refused) written)) (no_trace m classes number fault means first)
+    → SaysNoGrant fault → IsFirstFault m base trace number fault → IsAnswer base text trace answer
+has_answered-no_trace base text trace complaint answer m classes number fault same written means none first =
+    subst (IsAnswer base text trace) (sym (same ∙ ap (complaining Refused) written)) (no_trace m classes number fault means none first)
 
 pub has_answered-no_model : (base : ℕ) (text trace : List ℕ) (answer : Answer) (fault : ReadFault)
     → (fault.why ≢ Memory) → answer ≡ complaining Refused (model_refusal fault) → HasFault text fault

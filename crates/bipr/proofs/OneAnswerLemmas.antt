@@ -8,11 +8,9 @@ use Rattle.bip_replay.specs.Replays.{IsFirstFault, IsRunOf}
 use Rattle.bip_replay.specs.Runs.{IsModelRun}
 use Rattle.bip_replay.specs.Traces.{grants_of}
 use Rattle.bip_replay.specs.declared.faults.BookFault.{BookFault}
-use Rattle.bip_replay.specs.declared.faults.LineFault.{LineFault}
-use Rattle.bip_replay.specs.declared.faults.LineFault.TheVariants as line_fault
 use Rattle.bip_replay.specs.declared.faults.ReplayFault.{ReplayFault}
 use Rattle.bip_replay.specs.declared.faults.ReplayFault.TheVariants.{NotARun}
-use Rattle.bipr.specs.Answers.{IsAnswer, run, not_a_run, no_trace, no_model, of_line}
+use Rattle.bipr.specs.Answers.{IsAnswer, SaysNoGrant, run, not_a_run, no_trace, no_model}
 use Rattle.bipr.specs.declared.answers.Answer.{Answer}
 
 -- what the libraries below say of texts
@@ -23,7 +21,7 @@ pub record AreExact : Type 0 where
   pub no_run : (m : System) (base : ℕ) (text : List ℕ) (number : ℕ) (fault : ReplayFault) → IsFirstFault m base text number fault → (gs : List Grant) → grants_of m text ≡ Ok gs → IsModelRun m base gs → ⊥
   pub one : (m : System) (base : ℕ) (text : List ℕ) (n k : ℕ) (f g : ReplayFault) → IsFirstFault m base text n f → IsFirstFault m base text k g → (n ≡ k) × (f ≡ g)
 
-same_grants : (found : Result (List Grant) (ℕ × LineFault)) (gs hs : List Grant) → found ≡ Ok gs → found ≡ Ok hs → gs ≡ hs
+same_grants : {E : Type 0} (found : Result (List Grant) E) (gs hs : List Grant) → found ≡ Ok gs → found ≡ Ok hs → gs ≡ hs
 same_grants found gs hs a b = cc
 
 -- a run has one count
@@ -47,15 +45,8 @@ same_fault exact m n c d base text trace i k f g at_m at_n here there =
     (same, one.0, one.1)
 
 -- a grant that can't be next is no fault of a line's form
-apart : (why : BookFault) (f : LineFault) → NotARun why ≡ of_line f → ⊥
-apart why line_fault.Syntax e = cc
-apart why line_fault.Unknown e = cc
-
-one_line_fault : (f g : LineFault) → of_line f ≡ of_line g → f ≡ g
-one_line_fault line_fault.Syntax line_fault.Syntax e = refl
-one_line_fault line_fault.Syntax line_fault.Unknown e = absurd cc
-one_line_fault line_fault.Unknown line_fault.Syntax e = absurd cc
-one_line_fault line_fault.Unknown line_fault.Unknown e = refl
+apart : (why : BookFault) (f : ReplayFault) → NotARun why ≡ f → SaysNoGrant f → ⊥
+apart why f e none = subst SaysNoGrant (sym e) none
 
 one_book_fault : (f g : BookFault) → NotARun f ≡ NotARun g → f ≡ g
 one_book_fault f g e = cc
@@ -66,25 +57,24 @@ has_one_answer exact base text trace a b (run m c n means is) (run m' c' k means
     let counts : n ≡ k = one_count m base trace n k is (subst (λ s. IsRunOf s base trace k) same is') in
     rw counts refl
 has_one_answer exact base text trace a b (run m c n means is) (not_a_run m' c' k f means' is') = absurd (no_both exact m m' c c' base text trace n k (NotARun f) means means' is is')
-has_one_answer exact base text trace a b (run m c n means is) (no_trace m' c' k f means' is') = absurd (no_both exact m m' c c' base text trace n k (of_line f) means means' is is')
+has_one_answer exact base text trace a b (run m c n means is) (no_trace m' c' k f means' none is') = absurd (no_both exact m m' c c' base text trace n k f means means' is is')
 has_one_answer exact base text trace a b (run m c n means is) (no_model f other has) = absurd (exact.either text m c f means has)
 has_one_answer exact base text trace a b (not_a_run m c k f means is) (run m' c' n means' is') = absurd (no_both exact m' m c' c base text trace n k (NotARun f) means' means is' is)
 has_one_answer exact base text trace a b (not_a_run m c n f means is) (not_a_run m' c' k g means' is') =
     let same = same_fault exact m m' c c' base text trace n k (NotARun f) (NotARun g) means means' is is' in
     let whys : f ≡ g = one_book_fault f g same.2 in
     rw (same.0, same.1, whys) refl
-has_one_answer exact base text trace a b (not_a_run m c n f means is) (no_trace m' c' k g means' is') =
-    absurd (apart f g (same_fault exact m m' c c' base text trace n k (NotARun f) (of_line g) means means' is is').2)
+has_one_answer exact base text trace a b (not_a_run m c n f means is) (no_trace m' c' k g means' none' is') =
+    absurd (apart f g (same_fault exact m m' c c' base text trace n k (NotARun f) g means means' is is').2 none')
 has_one_answer exact base text trace a b (not_a_run m c n f means is) (no_model g other has) = absurd (exact.either text m c g means has)
-has_one_answer exact base text trace a b (no_trace m c k f means is) (run m' c' n means' is') = absurd (no_both exact m' m c' c base text trace n k (of_line f) means' means is' is)
-has_one_answer exact base text trace a b (no_trace m c n f means is) (not_a_run m' c' k g means' is') =
-    absurd (apart g f (sym (same_fault exact m m' c c' base text trace n k (of_line f) (NotARun g) means means' is is').2))
-has_one_answer exact base text trace a b (no_trace m c n f means is) (no_trace m' c' k g means' is') =
-    let same = same_fault exact m m' c c' base text trace n k (of_line f) (of_line g) means means' is is' in
-    let whys : f ≡ g = one_line_fault f g same.2 in
-    rw (same.1, whys) refl
-has_one_answer exact base text trace a b (no_trace m c n f means is) (no_model g other has) = absurd (exact.either text m c g means has)
+has_one_answer exact base text trace a b (no_trace m c k f means none is) (run m' c' n means' is') = absurd (no_both exact m' m c' c base text trace n k f means' means is' is)
+has_one_answer exact base text trace a b (no_trace m c n f means none is) (not_a_run m' c' k g means' is') =
+    absurd (apart g f (sym (same_fault exact m m' c c' base text trace n k f (NotARun g) means means' is is').2) none)
+has_one_answer exact base text trace a b (no_trace m c n f means none is) (no_trace m' c' k g means' none' is') =
+    let same = same_fault exact m m' c c' base text trace n k f g means means' is is' in
+    rw (same.1, same.2) refl
+has_one_answer exact base text trace a b (no_trace m c n f means none is) (no_model g other has) = absurd (exact.either text m c g means has)
 has_one_answer exact base text trace a b (no_model f other has) (run m c n means is) = absurd (exact.either text m c f means has)
 has_one_answer exact base text trace a b (no_model f other has) (not_a_run m c n g means is) = absurd (exact.either text m c f means has)
-has_one_answer exact base text trace a b (no_model f other has) (no_trace m c n g means is) = absurd (exact.either text m c f means has)
+has_one_answer exact base text trace a b (no_model f other has) (no_trace m c n g means none is) = absurd (exact.either text m c f means has)
 has_one_answer exact base text trace a b (no_model f other has) (no_model g other' has') = let same : f ≡ g = exact.fault text f g has has' in rw same refl

@@ -1,5 +1,5 @@
 -- The answer to a replay: the one that the text of a model, the text of a trace and a base have.
-use Rattle.std.specs.Prelude.{◌≢◌, ℕ, List, []}
+use Rattle.std.specs.Prelude.{◌≢◌, ℕ, List, [], ⊤}
 use Rattle.bip_model.specs.declared.parts.System.{System}
 use Rattle.bip_model.specs.declared.partitions.Classes.{Classes}
 use Rattle.bip_reader.specs.Meanings.{HasFault, Means}
@@ -7,8 +7,6 @@ use Rattle.bip_reader.specs.declared.faults.ReadFault.{ReadFault}
 use Rattle.bip_reader.specs.declared.faults.Why.TheVariants.{Memory}
 use Rattle.bip_replay.specs.Replays.{IsFirstFault, IsRunOf}
 use Rattle.bip_replay.specs.declared.faults.BookFault.{BookFault}
-use Rattle.bip_replay.specs.declared.faults.LineFault.{LineFault}
-use Rattle.bip_replay.specs.declared.faults.LineFault.TheVariants as line_fault
 use Rattle.bip_replay.specs.declared.faults.ReplayFault.{ReplayFault}
 use Rattle.bip_replay.specs.declared.faults.ReplayFault.TheVariants as replay_fault
 use Rattle.bipr.specs.Wording.{model_refusal, run_text, trace_refusal, verdict_text}
@@ -33,10 +31,12 @@ saying status output = record { status = status; output = output; complaint = []
 abbrev pub complaining : Status → List ℕ → Answer
 complaining status complaint = record { status = status; output = []; complaint = complaint }
 
--- a line that says no grant, as a fault of a replay
-abbrev pub of_line : LineFault → ReplayFault
-of_line line_fault.Syntax = replay_fault.Syntax
-of_line line_fault.Unknown = replay_fault.Unknown
+-- a fault of a line that says no grant of the model
+abbrev pub SaysNoGrant : ReplayFault → Type 0
+SaysNoGrant replay_fault.Syntax = ⊤
+SaysNoGrant replay_fault.Unknown = ⊤
+SaysNoGrant (replay_fault.NotARun why) = ⊥
+SaysNoGrant replay_fault.Memory = ⊥
 
 -- the answer to the texts of a model and a trace, from a base
 pub data IsAnswer (base : ℕ) (model trace : List ℕ) : Answer → Type 0 where
@@ -48,8 +48,8 @@ pub data IsAnswer (base : ℕ) (model trace : List ℕ) : Answer → Type 0 wher
       → Means model m classes → IsFirstFault m base trace number (replay_fault.NotARun fault)
       → IsAnswer base model trace (saying NotARun (verdict_text m trace number fault))
   -- the first line at fault is no grant of the model
-  no_trace : (m : System) (classes : Classes) (number : ℕ) (fault : LineFault)
-      → Means model m classes → IsFirstFault m base trace number (of_line fault)
+  no_trace : (m : System) (classes : Classes) (number : ℕ) (fault : ReplayFault)
+      → Means model m classes → SaysNoGrant fault → IsFirstFault m base trace number fault
       → IsAnswer base model trace (complaining Refused (trace_refusal number fault))
   -- the model's text is none; the trace doesn't count
   no_model : (fault : ReadFault) → fault.why ≢ Memory → HasFault model fault

@@ -5,12 +5,12 @@ use Rattle.bip_model.specs.Texts.{lines, words}
 use Rattle.bip_model.specs.declared.parts.System.{System}
 use Rattle.bip_reader.specs.Faults.{text_of_fault}
 use Rattle.bip_reader.specs.declared.faults.ReadFault.{ReadFault}
-use Rattle.bip_replay.specs.FaultTexts.{text_of_line}
-use Rattle.bip_replay.specs.declared.faults.LineFault.{LineFault}
+use Rattle.bip_replay.specs.Faults.{text_of_replay}
 use Rattle.bip_replay.specs.declared.faults.BookFault.{BookFault}
 use Rattle.bip_replay.specs.declared.faults.BookFault.TheVariants.{NotEnabled, Below, Number}
 use Rattle.bip_replay.specs.declared.faults.BookFault.TheVariants.{Parties, Memory}
 use Rattle.bip_replay.specs.Writing.{name_in}
+use Rattle.bip_replay.specs.declared.faults.ReplayFault.{ReplayFault}
 
 -- `run N`
 abbrev pub run_text : ℕ → List ℕ
@@ -45,6 +45,7 @@ abbrev pub model_refusal : ReadFault → List ℕ
 model_refusal fault = complaint_text (codes "model " ++ text_of_fault fault)
 
 -- a trace's text is refused
-abbrev pub trace_refusal : ℕ → LineFault → List ℕ
+abbrev pub trace_refusal : ℕ → ReplayFault → List ℕ
 trace_refusal number fault =
-    complaint_text (codes "trace line " ++ (decimal number ++ (codes ": " ++ text_of_line fault)))
+    complaint_text
+    (codes "trace line " ++ (decimal number ++ (codes ": " ++ text_of_replay fault)))

@@ -12,7 +12,7 @@ ghost use Rattle.bipr.specs.Wording.{model_refusal};
 use crate::wording::{model_refusal, run_text, trace_refusal, verdict_text};
 use bip_model::{Model, Number, Seq};
 use bip_reader::{ReadFault, Why, read_model};
-use bip_replay::{LineFault, ReplayFault, replay};
+use bip_replay::{ReplayFault, replay};
 use std::alloc::{AllocError, Global};
 
 /// How a command ends.
@@ -103,12 +103,12 @@ pub fn answer_trace(
             ReplayFault::Syntax => Ok(complained(
                 alloc,
                 Status::Refused,
-                trace_refusal(alloc, line, &LineFault::Syntax)?,
+                trace_refusal(alloc, line, &ReplayFault::Syntax)?,
             )),
             ReplayFault::Unknown => Ok(complained(
                 alloc,
                 Status::Refused,
-                trace_refusal(alloc, line, &LineFault::Unknown)?,
+                trace_refusal(alloc, line, &ReplayFault::Unknown)?,
             )),
             ReplayFault::NotARun(why) => Ok(said(
                 alloc,

@@ -7,7 +7,7 @@ ghost use Rattle.bipr.specs.Wording.{trace_refusal, verdict_text};
 
 use bip_model::{CompId, InterId, Model, split_line, split_word};
 use bip_reader::ReadFault;
-use bip_replay::{BookFault, LineFault};
+use bip_replay::{BookFault, ReplayFault};
 use std::alloc::{AllocError, Global};
 
 /// `run N`.
@@ -25,7 +25,11 @@ pub fn model_refusal(alloc: Global, fault: &ReadFault) -> Result<Vec<u8>, AllocE
 }
 
 /// The complaint of a trace's text.
-pub fn trace_refusal(alloc: Global, line: u64, fault: &LineFault) -> Result<Vec<u8>, AllocError>
+pub fn trace_refusal(
+    alloc: Global,
+    line: u64,
+    fault: &ReplayFault,
+) -> Result<Vec<u8>, AllocError>
     ensures { IfOk result (λ text. text.items ≡ trace_refusal line fault.now) }
 {
     Ok(format!(in alloc; "bipr: trace line {line}: {fault}\n")?.into_bytes())

@@ -1,6 +1,6 @@
 use Rattle.std.proofs.Common.{subst}
 use Rattle.bip_replay.specs.Replays.{IsReplayFault}
-use Rattle.bip_replay.specs.declared.faults.LineFault.TheVariants.{Syntax, Unknown}
+use Rattle.bip_replay.specs.declared.faults.ReplayFault.TheVariants.{Syntax, Unknown}
 use Rattle.bipr.proofs.AnswerLemmas.{has_answered-run, has_answered-not_a_run, has_answered-no_trace}
 use Rattle.bipr.proofs.answers.answer_trace.Goals as goal
 
@@ -10,11 +10,11 @@ returns-in_ok-run_text-in-Ok c =
 
 pub returns-in_ok-trace_refusal-in-Syntax : goal.returns-in_ok-trace_refusal-in-Syntax
 returns-in_ok-trace_refusal-in-Syntax c =
-    λ text classes means. has_answered-no_trace c.args.base text c.args.trace.now _ _ c.args.model.now classes c.in-Err.line Syntax c.complained.ensures c.in_ok-trace_refusal-in-Syntax.ensures means (subst (IsReplayFault c.args.model.now c.args.base c.args.trace.now c.in-Err.line) c.in-Syntax.is c.in-Err.ensures.fault)
+    λ text classes means. has_answered-no_trace c.args.base text c.args.trace.now _ _ c.args.model.now classes c.in-Err.line Syntax c.complained.ensures c.in_ok-trace_refusal-in-Syntax.ensures means tt (subst (IsReplayFault c.args.model.now c.args.base c.args.trace.now c.in-Err.line) c.in-Syntax.is c.in-Err.ensures.fault)
 
 pub returns-in_ok-trace_refusal-in-Unknown : goal.returns-in_ok-trace_refusal-in-Unknown
 returns-in_ok-trace_refusal-in-Unknown c =
-    λ text classes means. has_answered-no_trace c.args.base text c.args.trace.now _ _ c.args.model.now classes c.in-Err.line Unknown c.complained-in-Unknown.ensures c.in_ok-trace_refusal-in-Unknown.ensures means (subst (IsReplayFault c.args.model.now c.args.base c.args.trace.now c.in-Err.line) c.in-Unknown.is c.in-Err.ensures.fault)
+    λ text classes means. has_answered-no_trace c.args.base text c.args.trace.now _ _ c.args.model.now classes c.in-Err.line Unknown c.complained-in-Unknown.ensures c.in_ok-trace_refusal-in-Unknown.ensures means tt (subst (IsReplayFault c.args.model.now c.args.base c.args.trace.now c.in-Err.line) c.in-Unknown.is c.in-Err.ensures.fault)
 
 pub returns-in_ok-verdict_text-in-NotARun : goal.returns-in_ok-verdict_text-in-NotARun
 returns-in_ok-verdict_text-in-NotARun c =
