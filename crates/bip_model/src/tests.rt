@@ -1,89 +1,81 @@
-//! What no clause says: worked examples, limits at and one past, and that each call can succeed.
+//! What no clause and no text of `cases/` says: each call with ample memory, and calls that no text makes.
 mod building;
 mod granting;
 mod naming;
 mod parting;
 mod sequences;
 mod stepping;
-mod texts;
 
 use crate::{BuildFault, Builder, Model, Name};
 use std::alloc::Global;
 use std::process::Abort;
-use std::test::Fail;
-
-/// Two components that go their own ways, each once.
-const OWN_WAYS: &str =
-    "0 component A|0 loc a0|0 loc a1|0 port s|0 trans s a0 a1|0 end|0 component B|0 loc b0|0 loc b1|0 port s|0 trans s b0 b1|0 end|0 interaction x A.s|0 interaction y B.s";
 
 fn name(rt: &impl Abort, text: &str) -> Name {
     Name::of(text.as_bytes()).expect(rt, "a name")
 }
 
-/// Gives a builder one line of a model's text: the number of its fault, 0 where there is none.
-fn say(rt: &impl Abort, alloc: Global, builder: &mut Builder, line: &str) -> Result<u8, Fail> {
-    let words: Vec<&str> = line.split(' ').collect(alloc)?;
-    let answer = if builder.is_inside() {
-        say_inside(rt, builder, words.as_slice())
-    } else {
-        say_outside(rt, alloc, builder, words.as_slice())?
-    };
-    match answer {
-        Ok(()) => Ok(0),
-        Err(fault) => Ok(fault.number()),
-    }
-}
-
-fn say_inside(rt: &impl Abort, builder: &mut Builder, words: &[&str]) -> Result<(), BuildFault> {
-    assert!(rt; builder.is_inside());
-    match words {
-        ["loc", text] => builder.loc(name(rt, *text)),
-        ["port", text] => builder.port(name(rt, *text)),
-        [_, port, source, target] => {
-            builder.trans(name(rt, *port), name(rt, *source), name(rt, *target))
-        }
-        _ => builder.end(),
-    }
-}
-
-fn say_outside(
-    rt: &impl Abort,
-    alloc: Global,
-    builder: &mut Builder,
-    words: &[&str],
-) -> Result<Result<(), BuildFault>, Fail> {
+fn component(rt: &impl Abort, builder: &mut Builder, text: &str) -> Result<(), BuildFault> {
     assert!(rt; !builder.is_inside());
-    match words {
-        [_, text] => Ok(builder.component(name(rt, *text))),
-        [_, text, ports @ ..] => {
-            let mut participants = Vec::new(alloc);
-            for port in ports {
-                let (component, port) = port.split_once('.').expect(rt, "a pair");
-                participants.push((name(rt, component), name(rt, port)))?;
-            }
-            assert!(rt; participants.len() > 0);
-            Ok(builder.interaction(name(rt, *text), participants.as_slice()))
-        }
-        _ => Ok(Err(BuildFault::Missing)),
-    }
+    builder.component(name(rt, text))
 }
 
-/// Says each line of a table, in which the number of its fault stands before it.
-fn say_all(rt: &impl Abort, alloc: Global, builder: &mut Builder, table: &str) -> Result<(), Fail> {
-    for row in table.split('|') {
-        let (fault, line) = row.split_once(' ').expect(rt, "a row");
-        assert_eq!(rt;
-            say(rt, alloc, builder, line)?,
-            fault.parse::<u8>()?,
-            "{line}"
-        );
-    }
-    Ok(())
+fn loc(rt: &impl Abort, builder: &mut Builder, text: &str) -> Result<(), BuildFault> {
+    assert!(rt; builder.is_inside());
+    builder.loc(name(rt, text))
 }
 
-/// The model that the lines of a table declare.
-fn build(rt: &impl Abort, alloc: Global, table: &str) -> Result<Model, Fail> {
-    let mut builder = Builder::new(alloc)?;
-    say_all(rt, alloc, &mut builder, table)?;
-    Ok(builder.finish()?)
+fn port(rt: &impl Abort, builder: &mut Builder, text: &str) -> Result<(), BuildFault> {
+    assert!(rt; builder.is_inside());
+    builder.port(name(rt, text))
+}
+
+fn trans(
+    rt: &impl Abort,
+    builder: &mut Builder,
+    port: &str,
+    source: &str,
+    target: &str,
+) -> Result<(), BuildFault> {
+    assert!(rt; builder.is_inside());
+    builder.trans(name(rt, port), name(rt, source), name(rt, target))
+}
+
+fn end(rt: &impl Abort, builder: &mut Builder) -> Result<(), BuildFault> {
+    assert!(rt; builder.is_inside());
+    builder.end()
+}
+
+/// An interaction of one component by its port `s`.
+fn interaction(
+    rt: &impl Abort,
+    builder: &mut Builder,
+    text: &str,
+    component: &str,
+) -> Result<(), BuildFault> {
+    assert!(rt; !builder.is_inside());
+    builder.interaction(name(rt, text), &[(name(rt, component), name(rt, "s"))])
+}
+
+/// A component that goes from `off` to `on` by its port `s`.
+fn switch(rt: &impl Abort, builder: &mut Builder, text: &str) -> Result<(), BuildFault> {
+    component(rt, builder, text)?;
+    loc(rt, builder, "off")?;
+    loc(rt, builder, "on")?;
+    port(rt, builder, "s")?;
+    trans(rt, builder, "s", "off", "on")?;
+    end(rt, builder)
+}
+
+/// Two components that go their own ways, each once.
+fn say_own_ways(rt: &impl Abort, builder: &mut Builder) -> Result<(), BuildFault> {
+    switch(rt, builder, "A")?;
+    switch(rt, builder, "B")?;
+    interaction(rt, builder, "x", "A")?;
+    interaction(rt, builder, "y", "B")
+}
+
+fn own_ways(rt: &impl Abort, alloc: Global) -> Model {
+    let mut builder = Builder::new(alloc).expect(rt, "memory");
+    say_own_ways(rt, &mut builder).expect(rt, "lines");
+    builder.finish().expect(rt, "a model")
 }

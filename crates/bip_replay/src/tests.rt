@@ -1,84 +1,107 @@
-//! What no clause says: traces and books worked by hand, limits at and one past, and that each call can succeed.
+//! What no clause and no text of `cases/` says: each call with ample memory, and calls that no text makes.
 mod appending;
-mod faulting;
 mod positions;
 mod reading;
-mod replaying;
 mod writing;
 
-use crate::read_trace;
-use bip_model::{BuildFault, Builder, CompId, Grant, InterId, Model, Name, Number, Role, Want};
+use bip_model::{
+    BuildFault, Builder, CompId, Grant, InterId, Model, Name, Number, Role, Want, Wants,
+};
 use std::alloc::Global;
 use std::process::Abort;
-use std::test::Fail;
-
-/// Two components that go their own ways, each once.
-const OWN_WAYS: &str =
-    "component A|loc a0|loc a1|port s|trans s a0 a1|end|component B|loc b0|loc b1|port s|trans s b0 b1|end|interaction x A.s|interaction y B.s";
-
-/// Two components that each move once with a third, which moves once.
-const SHARED: &str =
-    "component A|loc a0|loc a1|port s|trans s a0 a1|end|component B|loc b0|loc b1|port s|trans s b0 b1|end|component R|loc r0|loc r1|port g|trans g r0 r1|end|interaction x A.s R.g|interaction y B.s R.g";
-
-/// One component that can always move.
-const ENDLESS: &str = "component L|loc l|port t|trans t l l|end|interaction z L.t";
 
 fn name(rt: &impl Abort, text: &str) -> Name {
     Name::of(text.as_bytes()).expect(rt, "a name")
 }
 
-/// Gives a builder one line of a model's text.
-fn say(rt: &impl Abort, alloc: Global, builder: &mut Builder, line: &str) -> Result<(), Fail> {
-    let words: Vec<&str> = line.split(' ').collect(alloc)?;
-    if builder.is_inside() {
-        say_inside(rt, builder, words.as_slice())?;
-        return Ok(());
-    }
-    say_outside(rt, alloc, builder, words.as_slice())
-}
-
-fn say_inside(rt: &impl Abort, builder: &mut Builder, words: &[&str]) -> Result<(), BuildFault> {
-    assert!(rt; builder.is_inside());
-    match words {
-        ["loc", text] => builder.loc(name(rt, *text)),
-        ["port", text] => builder.port(name(rt, *text)),
-        [_, port, source, target] => {
-            builder.trans(name(rt, *port), name(rt, *source), name(rt, *target))
-        }
-        _ => builder.end(),
-    }
-}
-
-fn say_outside(
-    rt: &impl Abort,
-    alloc: Global,
-    builder: &mut Builder,
-    words: &[&str],
-) -> Result<(), Fail> {
+fn component(rt: &impl Abort, builder: &mut Builder, text: &str) -> Result<(), BuildFault> {
     assert!(rt; !builder.is_inside());
-    match words {
-        [_, text] => builder.component(name(rt, *text))?,
-        [_, text, ports @ ..] => {
-            let mut participants = Vec::new(alloc);
-            for port in ports {
-                let (component, port) = port.split_once('.').expect(rt, "a pair");
-                participants.push((name(rt, component), name(rt, port)))?;
-            }
-            assert!(rt; participants.len() > 0);
-            builder.interaction(name(rt, *text), participants.as_slice())?;
-        }
-        _ => panic!(rt; "a line of no model"),
-    }
-    Ok(())
+    builder.component(name(rt, text))
 }
 
-/// The model that the lines of a table declare.
-fn build(rt: &impl Abort, alloc: Global, table: &str) -> Result<Model, Fail> {
-    let mut builder = Builder::new(alloc)?;
-    for line in table.split('|') {
-        say(rt, alloc, &mut builder, line)?;
-    }
-    Ok(builder.finish()?)
+fn loc(rt: &impl Abort, builder: &mut Builder, text: &str) -> Result<(), BuildFault> {
+    assert!(rt; builder.is_inside());
+    builder.loc(name(rt, text))
+}
+
+fn port(rt: &impl Abort, builder: &mut Builder) -> Result<(), BuildFault> {
+    assert!(rt; builder.is_inside());
+    builder.port(name(rt, "s"))
+}
+
+fn trans(rt: &impl Abort, builder: &mut Builder) -> Result<(), BuildFault> {
+    assert!(rt; builder.is_inside());
+    builder.trans(name(rt, "s"), name(rt, "off"), name(rt, "on"))
+}
+
+fn end(rt: &impl Abort, builder: &mut Builder) -> Result<(), BuildFault> {
+    assert!(rt; builder.is_inside());
+    builder.end()
+}
+
+/// A component that goes from `off` to `on` by its port `s`.
+fn switch(rt: &impl Abort, builder: &mut Builder, text: &str) -> Result<(), BuildFault> {
+    component(rt, builder, text)?;
+    loc(rt, builder, "off")?;
+    loc(rt, builder, "on")?;
+    port(rt, builder)?;
+    trans(rt, builder)?;
+    end(rt, builder)
+}
+
+/// An interaction of one component by its port `s`.
+fn alone(
+    rt: &impl Abort,
+    builder: &mut Builder,
+    text: &str,
+    component: &str,
+) -> Result<(), BuildFault> {
+    assert!(rt; !builder.is_inside());
+    builder.interaction(name(rt, text), &[(name(rt, component), name(rt, "s"))])
+}
+
+/// An interaction of a component and R by their ports `s`.
+fn with_third(
+    rt: &impl Abort,
+    builder: &mut Builder,
+    text: &str,
+    component: &str,
+) -> Result<(), BuildFault> {
+    assert!(rt; !builder.is_inside());
+    let participants = [
+        (name(rt, component), name(rt, "s")),
+        (name(rt, "R"), name(rt, "s")),
+    ];
+    builder.interaction(name(rt, text), &participants)
+}
+
+/// Two components that go their own ways, each once.
+fn say_own_ways(rt: &impl Abort, builder: &mut Builder) -> Result<(), BuildFault> {
+    switch(rt, builder, "A")?;
+    switch(rt, builder, "B")?;
+    alone(rt, builder, "x", "A")?;
+    alone(rt, builder, "y", "B")
+}
+
+fn own_ways(rt: &impl Abort, alloc: Global) -> Model {
+    let mut builder = Builder::new(alloc).expect(rt, "memory");
+    say_own_ways(rt, &mut builder).expect(rt, "lines");
+    builder.finish().expect(rt, "a model")
+}
+
+/// Two components that each move once with a third, which moves once.
+fn say_shared(rt: &impl Abort, builder: &mut Builder) -> Result<(), BuildFault> {
+    switch(rt, builder, "A")?;
+    switch(rt, builder, "B")?;
+    switch(rt, builder, "R")?;
+    with_third(rt, builder, "x", "A")?;
+    with_third(rt, builder, "y", "B")
+}
+
+fn shared(rt: &impl Abort, alloc: Global) -> Model {
+    let mut builder = Builder::new(alloc).expect(rt, "memory");
+    say_shared(rt, &mut builder).expect(rt, "lines");
+    builder.finish().expect(rt, "a model")
 }
 
 fn moved(comp: u16, number: Number) -> Want {
@@ -97,17 +120,16 @@ fn seen(comp: u16, number: Number) -> Want {
     }
 }
 
+fn grant(rt: &impl Abort, alloc: Global, inter: u16, wants: &[Want]) -> Grant {
+    Grant {
+        inter: InterId(inter),
+        wants: Wants::of(alloc, wants).expect(rt, "wants"),
+    }
+}
+
 /// Compares a grant with its parts.
 fn is_grant(rt: &impl Abort, grants: &[Grant], place: usize, inter: u16, wants: &[Want]) {
     let grant = grants.get(place).expect(rt, "a grant");
     assert_eq!(rt; grant.inter, InterId(inter), "grant {place}");
     assert_eq!(rt; grant.wants.as_slice(), wants, "grant {place}");
-}
-
-/// The one grant of a text.
-fn grant_of(rt: &impl Abort, alloc: Global, model: &Model, text: &str) -> Grant {
-    match read_trace(alloc, model, text.as_bytes()) {
-        Ok(mut grants) => grants.pop().expect(rt, "a grant"),
-        Err((line, fault)) => panic!(rt; "line {line}: {fault}"),
-    }
 }

@@ -1,8 +1,7 @@
-use super::{OWN_WAYS, build, moved};
+use super::{moved, own_ways};
 use crate::{GrantRef, Position};
 use bip_model::{CompId, InterId, Number, Wants};
 use std::process::Abort;
-use std::test::Fail;
 
 /// Compares the used numbers of two components and of a third that the model lacks.
 fn has_used(rt: &impl Abort, position: &Position<'_>, used: (Number, Number, Number)) {
@@ -33,10 +32,9 @@ fn move_first(rt: &impl Abort, position: &mut Position<'_>, wants: &Wants) {
 }
 
 #[test]
-fn a_position_goes_on_by_a_grant(rt: HostRuntime) -> Result<(), Fail> {
-    let model = build(&rt, rt.alloc(), OWN_WAYS)?;
+fn a_position_goes_on_by_a_grant(rt: HostRuntime) {
+    let model = own_ways(&rt, rt.alloc());
     let wants = Wants::of(rt.alloc(), &[moved(0, 5)]).expect(&rt, "wants");
-    let mut position = Position::start(rt.alloc(), &model, 4)?;
+    let mut position = Position::start(rt.alloc(), &model, 4).expect(&rt, "memory");
     move_first(&rt, &mut position, &wants);
-    Ok(())
 }

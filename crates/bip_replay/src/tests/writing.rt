@@ -2,12 +2,11 @@ ghost use Rattle.std.specs.Prelude.{◌↔◌, ◌<◌, length, All, IsTrue};
 ghost use Rattle.bip_model.specs.declared.wants.Want.{Want};
 ghost use Rattle.bip_replay.specs.Writing.{IsGrantOf};
 
-use super::{SHARED, build, is_grant, moved, seen};
+use super::{is_grant, moved, seen, shared};
 use crate::{read_trace, write_trace};
 use bip_model::{Grant, Model, Want};
 use std::alloc::Global;
 use std::process::Abort;
-use std::test::Fail;
 
 const LOOSE: &str =
     "# two grants\n\n\tgrant  y R:18446744073709551615 see B:2 A:007\n#\ngrant x R:1 A:02";
@@ -43,18 +42,11 @@ fn read(rt: &impl Abort, alloc: Global, model: &Model, text: &str) -> Vec<Grant>
 }
 
 /// Reads a text and writes its grants, which have this spelling.
-fn is_spelled(
-    rt: &impl Abort,
-    alloc: Global,
-    model: &Model,
-    text: &str,
-    spelled: &str,
-) -> Result<(), Fail> {
+fn is_spelled(rt: &impl Abort, alloc: Global, model: &Model, text: &str, spelled: &str) {
     let grants = read(rt, alloc, model, text);
     assert!(rt; are_of(model, grants.as_slice()));
-    let written = write_trace(alloc, model, grants.as_slice())?;
+    let written = write_trace(alloc, model, grants.as_slice()).expect(rt, "memory");
     assert_eq!(rt; written.as_slice(), spelled.as_bytes());
-    Ok(())
 }
 
 /// Compares grants with the two of both texts.
@@ -71,17 +63,16 @@ fn are_the_two(rt: &impl Abort, grants: &[Grant]) {
 }
 
 #[test]
-fn both_spellings_read_as_the_same_grants(rt: HostRuntime) -> Result<(), Fail> {
-    let model = build(&rt, rt.alloc(), SHARED)?;
+fn both_spellings_read_as_the_same_grants(rt: HostRuntime) {
+    let model = shared(&rt, rt.alloc());
     are_the_two(&rt, read(&rt, rt.alloc(), &model, LOOSE).as_slice());
     are_the_two(&rt, read(&rt, rt.alloc(), &model, SPELLED).as_slice());
-    Ok(())
 }
 
 #[test]
-fn grants_are_written_in_one_spelling(rt: HostRuntime) -> Result<(), Fail> {
-    let model = build(&rt, rt.alloc(), SHARED)?;
-    is_spelled(&rt, rt.alloc(), &model, LOOSE, SPELLED)?;
-    is_spelled(&rt, rt.alloc(), &model, SPELLED, SPELLED)?;
-    is_spelled(&rt, rt.alloc(), &model, "# no grants", "")
+fn grants_are_written_in_one_spelling(rt: HostRuntime) {
+    let model = shared(&rt, rt.alloc());
+    is_spelled(&rt, rt.alloc(), &model, LOOSE, SPELLED);
+    is_spelled(&rt, rt.alloc(), &model, SPELLED, SPELLED);
+    is_spelled(&rt, rt.alloc(), &model, "# no grants", "");
 }
