@@ -1,90 +1,67 @@
 -- Why texts that say the same words mean the same.
 use Rattle.std.proofs.Common.{◌≡◌, ℕ, ◌+◌, Bool, true, false, cond, List, [], ◌∷◌, ◌++◌, map, Option, None, Some, Result, Ok, Err, refl, ap, ◌∙◌, sym, inl, inr}
 use Rattle.std.specs.Prelude.{filter, ◌⊎◌}
-use Rattle.bip_model.specs.Texts.{is_line_feed, last_line, lines, onto_first_line, said_in, says_something, words_said}
-use Rattle.bip_model.specs.declared.parts.System.{System}
-use Rattle.bip_reader.specs.declared.faults.ReadFault.{ReadFault}
+use Rattle.bip_model.specs.Outcomes.{◌>>=◌}
+use Rattle.bip_model.specs.Texts.{is_line_feed, lines, onto_first_line, said_in, says_something, words_said}
 use Rattle.bip_reader.specs.declared.faults.Why.{Why}
 use Rattle.bip_reader.specs.declared.reading.Reading.{Reading}
-use Rattle.bip_reader.specs.Meanings.{NoLastLineFeed, SameMeaning}
-use Rattle.bip_model.specs.Outcomes.{◌>>=◌}
-use Rattle.bip_reader.specs.ModelTexts.{ClassList, at_line, declared_by, ended, fresh, line_said, lines_said, words_say}
-use Rattle.bip_reader.proofs.TextLemmas.{declares}
+use Rattle.bip_reader.specs.Laws.{NoLastLineFeed, SameMeaning}
+use Rattle.bip_reader.specs.Reading.{at_line, empty_reading, reading_after, reading_after_lines, reading_after_words}
+use Rattle.bip_reader.specs.Texts.{reading_of}
 
 -- what words say, line after line, without the lines' numbers
-abbrev all_say : List (Option (List (List ℕ))) → Reading → Result Reading Why
-all_say [] r = Ok r
-all_say (ws ∷ rest) r = words_say ws r >>= all_say rest
+abbrev reading_after_all : List (Option (List (List ℕ))) → Reading → Result Reading Why
+reading_after_all [] r = Ok r
+reading_after_all (ws ∷ rest) r = reading_after_words ws r >>= reading_after_all rest
 
 without_number : (n : ℕ) (said : Result Reading Why) (ls : List (List ℕ)) (new : Reading)
-    → ((r : Reading) → lines_said (n + 1) ls r ≡ Ok new → all_say (map words_said ls) r ≡ Ok new)
-    → at_line n said >>= lines_said (n + 1) ls ≡ Ok new → said >>= all_say (map words_said ls) ≡ Ok new
+    → ((r : Reading) → reading_after_lines (n + 1) ls r ≡ Ok new → reading_after_all (map words_said ls) r ≡ Ok new)
+    → at_line n said >>= reading_after_lines (n + 1) ls ≡ Ok new → said >>= reading_after_all (map words_said ls) ≡ Ok new
 without_number n (Ok r) ls new h e = h r e
 without_number n (Err why) ls new h e = absurd (cc)
 
 with_number : (n : ℕ) (said : Result Reading Why) (ls : List (List ℕ)) (new : Reading)
-    → ((r : Reading) → all_say (map words_said ls) r ≡ Ok new → lines_said (n + 1) ls r ≡ Ok new)
-    → said >>= all_say (map words_said ls) ≡ Ok new → at_line n said >>= lines_said (n + 1) ls ≡ Ok new
+    → ((r : Reading) → reading_after_all (map words_said ls) r ≡ Ok new → reading_after_lines (n + 1) ls r ≡ Ok new)
+    → said >>= reading_after_all (map words_said ls) ≡ Ok new → at_line n said >>= reading_after_lines (n + 1) ls ≡ Ok new
 with_number n (Ok r) ls new h e = h r e
 with_number n (Err why) ls new h e = absurd (cc)
 
 same_ok : {A E : Type 0} (x y : A) (said : Result A E) → said ≡ Ok x → said ≡ Ok y → x ≡ y
 same_ok x y said e f = cc
 
-lines_to_words : (n : ℕ) (ls : List (List ℕ)) (r new : Reading) → lines_said n ls r ≡ Ok new → all_say (map words_said ls) r ≡ Ok new
-unfolding line_said
+lines_to_words : (n : ℕ) (ls : List (List ℕ)) (r new : Reading) → reading_after_lines n ls r ≡ Ok new → reading_after_all (map words_said ls) r ≡ Ok new
+unfolding reading_after
 lines_to_words n [] r new e = ap Ok (same_ok r new (Ok r) refl e)
-lines_to_words n (line ∷ ls) r new e = without_number n (words_say (words_said line) r) ls new (λ s. lines_to_words (n + 1) ls s new) e
+lines_to_words n (line ∷ ls) r new e = without_number n (reading_after_words (words_said line) r) ls new (λ s. lines_to_words (n + 1) ls s new) e
 
-words_to_lines : (n : ℕ) (ls : List (List ℕ)) (r new : Reading) → all_say (map words_said ls) r ≡ Ok new → lines_said n ls r ≡ Ok new
-unfolding line_said
+words_to_lines : (n : ℕ) (ls : List (List ℕ)) (r new : Reading) → reading_after_all (map words_said ls) r ≡ Ok new → reading_after_lines n ls r ≡ Ok new
+unfolding reading_after
 words_to_lines n [] r new e = ap Ok (same_ok r new (Ok r) refl e)
-words_to_lines n (line ∷ ls) r new e = with_number n (words_say (words_said line) r) ls new (λ s. words_to_lines (n + 1) ls s new) e
+words_to_lines n (line ∷ ls) r new e = with_number n (reading_after_words (words_said line) r) ls new (λ s. words_to_lines (n + 1) ls s new) e
 
 same_after : (said : Result Reading Why) (f g : Reading → Result Reading Why) → ((r : Reading) → f r ≡ g r) → said >>= f ≡ said >>= g
 same_after (Ok r) f g h = h r
 same_after (Err why) f g h = refl
 
-skipped_aside : (said : List (Option (List (List ℕ)))) (r : Reading) → all_say (filter says_something said) r ≡ all_say said r
+skipped_aside : (said : List (Option (List (List ℕ)))) (r : Reading) → reading_after_all (filter says_something said) r ≡ reading_after_all said r
 skipped_aside [] r = refl
 skipped_aside (None ∷ rest) r = refl
 skipped_aside (Some [] ∷ rest) r = skipped_aside rest r
-skipped_aside (Some (word ∷ words) ∷ rest) r = same_after (words_say (Some (word ∷ words)) r) (all_say (filter says_something rest)) (all_say rest) (skipped_aside rest)
+skipped_aside (Some (word ∷ words) ∷ rest) r = same_after (reading_after_words (Some (word ∷ words)) r) (reading_after_all (filter says_something rest)) (reading_after_all rest) (skipped_aside rest)
 
-same_lines : (a b : List ℕ) (r : Reading) → said_in a ≡ said_in b → lines_said 1 (lines a) fresh ≡ Ok r → lines_said 1 (lines b) fresh ≡ Ok r
+same_lines : (a b : List ℕ) (r : Reading) → said_in a ≡ said_in b → reading_after_lines 1 (lines a) empty_reading ≡ Ok r → reading_after_lines 1 (lines b) empty_reading ≡ Ok r
 same_lines a b r same e =
-    words_to_lines 1 (lines b) fresh r
-    (sym (skipped_aside (map words_said (lines b)) fresh) ∙ ap (λ (said : List (Option (List (List ℕ)))). all_say said fresh) (sym same) ∙ skipped_aside (map words_said (lines a)) fresh
-    ∙ lines_to_words 1 (lines a) fresh r e)
-
--- what is declared at the end is declared by what is read
-pub record Ends (text : List ℕ) (declared : System × ClassList) : Type 0 where
-  pub read : Reading
-  pub said : lines_said 1 (lines text) fresh ≡ Ok read
-  pub end : ended read ≡ Ok declared
-
-unnumbered : {A : Type 0} (n : ℕ) (said : Result A Why) (x : A) → at_line n said ≡ Ok x → said ≡ Ok x
-unnumbered n (Ok y) x e = cc
-unnumbered n (Err why) x e = absurd (cc)
-
-ends_by : (text : List ℕ) (declared : System × ClassList) (said : Result Reading ReadFault) → lines_said 1 (lines text) fresh ≡ said
-    → said >>= (λ r. at_line (last_line text) (ended r)) ≡ Ok declared → Ends text declared
-ends_by text declared (Ok r) is e = record { read = r; said = is; end = unnumbered (last_line text) (ended r) declared e }
-ends_by text declared (Err fault) is e = absurd (cc)
-
-pub ends : (text : List ℕ) (declared : System × ClassList) → declared_by text ≡ Ok declared → Ends text declared
-unfolding declared_by
-ends text declared e = ends_by text declared (lines_said 1 (lines text) fresh) refl e
+    words_to_lines 1 (lines b) empty_reading r
+    (sym (skipped_aside (map words_said (lines b)) empty_reading) ∙ ap (λ (said : List (Option (List (List ℕ)))). reading_after_all said empty_reading) (sym same) ∙ skipped_aside (map words_said (lines a)) empty_reading
+    ∙ lines_to_words 1 (lines a) empty_reading r e)
 
 pub same_meaning : SameMeaning
-same_meaning a b same m classes h =
-    let all = ends a (m, h.listed) h.declared in
-    record {
-      listed = h.listed;
-      declared = declares b all.read (m, h.listed) (same_lines a b all.read same all.said) all.end;
-      parted = h.parted;
-      numbered = h.numbered;
-    }
+unfolding reading_of
+same_meaning a b same m classes h = record {
+  read = h.read;
+  said = same_lines a b h.read same h.said;
+  declares = h.declares;
+}
 
 -- a line feed more at the end: the lines are as they were, or one more is empty
 abbrev HasLineMore : List ℕ → Type 0

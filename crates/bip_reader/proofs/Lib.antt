@@ -1,9 +1,8 @@
-pub mod DraftFaults
+pub mod AnswerLemmas
 pub mod FaultLemmas
 pub mod FirstLemmas
 pub mod LawLemmas
 pub mod MeaningLemmas
-pub mod OutcomeLemmas
 pub mod ReadingLemmas
 pub mod StatementLemmas
 pub mod TextLemmas

@@ -1,11 +1,10 @@
 -- Lemmas on what texts mean, and on partitions of lists that are seen in another way.
-use Rattle.std.proofs.Common.{◌≡◌, ◌≢◌, ℕ, ◌+◌, ◌<◌, List, [], ◌∷◌, length, map, Ok, refl, ap, ◌∙◌, subst, sym, inr}
+use Rattle.std.proofs.Common.{◌≡◌, ◌≢◌, ℕ, ◌+◌, ◌<◌, List, [], ◌∷◌, length, map, refl, ap, ◌∙◌, subst, sym}
 use Rattle.std.specs.Prelude.{All, fold, sum_by}
 use Rattle.std.proofs.lemmas.List.{get_or-map, length-map}
 use Rattle.std.proofs.lemmas.List.Elements.{All-map}
 use Rattle.bip_model.specs.Naming.{AreApart}
 use Rattle.bip_model.specs.Partitions.{IsPartition, in_order, times_in}
-use Rattle.bip_model.specs.Texts.{last_line}
 use Rattle.bip_model.specs.declared.faults.ClassFault.{ClassFault}
 use Rattle.bip_model.specs.declared.faults.ClassFault.TheVariants as class_fault
 use Rattle.bip_model.specs.declared.numbering.InterId.{InterId}
@@ -13,10 +12,11 @@ use Rattle.bip_model.specs.declared.partitions.Partition.{Partition}
 use Rattle.bip_model.specs.declared.parts.System.{System}
 use Rattle.bip_reader.specs.declared.faults.Why.{Why}
 use Rattle.bip_reader.specs.declared.faults.Why.TheVariants.{NotAPartition, Memory}
-use Rattle.bip_reader.specs.declared.faults.ReadFault.{ReadFault}
 use Rattle.bip_reader.specs.Faults.{why_of_class}
-use Rattle.bip_reader.specs.Meanings.{HasFault, IsParted, classes_of}
-use Rattle.bip_reader.specs.ModelTexts.{ClassList, declared_by}
+use Rattle.bip_reader.specs.Reading.{ClassList}
+use Rattle.bip_reader.specs.Texts.{IsFaultAtEnd, IsParted, IsWholeReading, classes_of, system_of}
+use Rattle.bip_model.specs.Steps.{IsCyclic}
+use Rattle.bip_reader.specs.declared.reading.Reading.{Reading}
 
 All-unmap : {X Y : Type 0} (P : X → Type 0) (f : Y → X) (ys : List Y) → All P (map f ys) → All (λ y. P (f y)) ys
 All-unmap P f ys h = λ k d within. let longer : k < length (map f ys) = rw length-map within in subst P (get_or-map f ys k d (f d) within) (h k (f d) longer)
@@ -68,12 +68,6 @@ pub no_parts : {C : Type 0} (v : C → List ℕ × List InterId) (m : System) (l
 no_parts v m listed cs class_fault.NotAPartition why seen is refused other = (is, λ parted. refused refl (parts_as_seen v m listed cs seen parted))
 no_parts v m listed cs class_fault.Memory why seen is refused other = absurd (other is)
 
--- memory was wanting for the classes of the lists
-pub parts_short : {C : Type 0} (v : C → List ℕ × List InterId) (m : System) (listed : ClassList) (cs : List C) (fault : ClassFault) (why : Why) → map v cs ≡ listed → why ≡ why_of_class fault
-    → (fault ≡ class_fault.Memory → IsPartition (λ c. (v c).0) (λ c. (v c).1) (length m.interactions) cs) → why ≡ Memory → IsParted m listed
-parts_short v m listed cs class_fault.NotAPartition why seen is short memory = absurd (cc)
-parts_short v m listed cs class_fault.Memory why seen is short memory = parts v m listed cs seen (short refl)
-
 -- classes that were made of lists that are seen in another way
 pub numbers : {C : Type 0} (v : C → List ℕ × List InterId) (m : System) (listed : ClassList) (cs : List C) (classes : Partition) → map v cs ≡ listed → classes.count ≡ length m.interactions
     → classes.names ≡ map (λ c. (v c).0) cs → classes.members ≡ map (λ c. in_order (length m.interactions) (v c).1) cs → classes ≡ classes_of m listed
@@ -87,13 +81,9 @@ numbers v m listed cs classes seen count names members =
     ∙ ap (λ (ns : List (List ℕ)). record { count = length m.interactions; names = ns; members = classes.members }) names_are
     ∙ ap (λ (ms : List (List InterId)). record { count = length m.interactions; names = map (λ (d : List ℕ × List InterId). d.0) listed; members = ms }) members_are
 
--- the lists that a text declares are no partition
-pub unparted : (text : List ℕ) (m : System) (listed : ClassList) (fault : ReadFault) → declared_by text ≡ Ok (m, listed) → fault.line ≡ last_line text
-    → (fault.why ≡ NotAPartition) × ¬ IsParted m listed → HasFault text fault
-unparted text m listed fault declared last why = inr (record {
-  model = m;
-  listed = listed;
-  declared = declared;
-  unparted = why.1;
-  at_end = ap (λ (n : ℕ). record { line = n; why = fault.why }) last ∙ ap (λ (w : Why). record { line = last_line text; why = w }) why.0;
-})
+-- the lists that a whole reading has are no partition
+pub unparted : (r : Reading) (m : System) (listed : ClassList) (why : Why) → m ≡ system_of r → listed ≡ r.classes → IsWholeReading r → ¬ IsCyclic (system_of r)
+    → (why ≡ NotAPartition) × ¬ IsParted m listed → IsFaultAtEnd r why
+unparted r m listed why is_model is_listed whole acyclic h =
+    subst (IsFaultAtEnd r) (sym h.0)
+    (whole, acyclic, λ parted. h.1 (subst (λ (x : System). IsParted x listed) (sym is_model) (subst (IsParted (system_of r)) (sym is_listed) parted)))

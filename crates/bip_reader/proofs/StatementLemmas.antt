@@ -1,14 +1,13 @@
 -- Lemmas on the forms of lines.
-use Rattle.std.proofs.Common.{◌≡◌, ℕ, ◌++◌, ◌∷◌, [], append_assoc, Err, Bool, true, false, cond, ◌&&◌, not, List, length, option_and_then, Option, None, Some, refl, sym, ap, ◌∙◌, arith, rules}
+use Rattle.std.proofs.Common.{◌≡◌, ℕ, ◌++◌, ◌∷◌, [], append_assoc, Bool, true, false, cond, ◌&&◌, not, List, length, option_and_then, eqb, Option, None, Some, refl, sym, ap, ◌∙◌, arith, rules}
 use Rattle.std.specs.Prelude.{IfSome, IfNone, IsSome, ◌↔◌, is_some, nat_le}
 use Rattle.std.specs.List.{list_all}
 use Rattle.std.proofs.lemmas.Bool.{leb-true, le-leb}
 use Rattle.bip_model.specs.Naming.{IsName, is_spelled_as_name, is_reserved}
 use Rattle.std.specs.Option.{option_map}
 use Rattle.std.proofs.lemmas.List.{append-nil}
-use Rattle.bip_reader.specs.declared.faults.Why.TheVariants.{Syntax}
-use Rattle.bip_reader.specs.Outcomes.{or_syntax}
-use Rattle.bip_reader.specs.Statements.{NamesAreTaken, name_of, each_of, one_or_more_of}
+use Rattle.bip_reader.specs.Laws.{NamesAreTaken}
+use Rattle.bip_reader.specs.Statements.{name_of, each_of, one_or_more_of}
 
 spelled : (a b c : Bool) → (a ≡ true) → (b ≡ true) → (not c ≡ true) → (a && b && not c) ≡ true
 spelled a b c x y z = rw (x, y, z) refl
@@ -100,7 +99,7 @@ none_left f [] e = refl
 none_left f (word ∷ rest) e = joined_to word rest (f word) (each_of f rest) e
 
 -- no word was there at all
-pub is_empty : {A : Type 0} (f : List ℕ → Option A) (ws : List (List ℕ)) → each_of f ws ≡ Some [] → or_syntax (one_or_more_of f ws) ≡ Err Syntax
+pub is_empty : {A : Type 0} (f : List ℕ → Option A) (ws : List (List ℕ)) → each_of f ws ≡ Some [] → one_or_more_of f ws ≡ None
 is_empty f ws e = rw (none_left f ws e) refl
 
 left_none : {B P : Type 0} (found : Option B) → IfNone found P → ((x : B) → found ≡ Some x → ⊥) → P
@@ -114,6 +113,29 @@ no_items (x ∷ xs) e = absurd (omega arith)
 -- all words are read, and nothing came of them
 pub came_to_nothing : {A B : Type 0} (f : List ℕ → Option A) (found : Option B) (front : List A) (ws rest : List (List ℕ))
     → IfNone found (rest ≡ []) → ((x : B) → found ≡ Some x → ⊥) → with_front front (each_of f rest) ≡ each_of f ws → length front ≡ 0
-    → or_syntax (one_or_more_of f ws) ≡ Err Syntax
+    → one_or_more_of f ws ≡ None
 came_to_nothing f found front ws rest none not_some so_far empty =
     is_empty f ws (is_done f front rest (each_of f ws) (left_none found none not_some) so_far ∙ ap Some (no_items front empty))
+
+-- each word is looked at: the one more is something, or nothing
+pub looks_on : {A : Type 0} (f : List ℕ → Option A) (ws all : List (List ℕ)) (word : List ℕ) (after : List (List ℕ)) → ws ≡ word ∷ after
+    → is_some (f word) ≡ true → is_some (each_of f ws) ≡ is_some (each_of f all) → is_some (each_of f after) ≡ is_some (each_of f all)
+looks_on f ws all word after e h so_far = sym (rw e (one_more (f word) (each_of f after) h)) ∙ so_far
+  where
+    one_more : {A : Type 0} (x : Option A) (xs : Option (List A)) → is_some x ≡ true → is_some (option_and_then (λ y. option_map (λ ys. y ∷ ys) xs) x) ≡ is_some xs
+    one_more None xs h = absurd (cc)
+    one_more (Some x) None h = refl
+    one_more (Some x) (Some xs) h = refl
+
+-- one word is nothing
+pub looks_off : {A : Type 0} (f : List ℕ → Option A) (ws all : List (List ℕ)) (word : List ℕ) (after : List (List ℕ)) → ws ≡ word ∷ after
+    → is_some (f word) ≡ false → is_some (each_of f ws) ≡ is_some (each_of f all) → is_some (one_or_more_of f all) ≡ false
+looks_off f ws all word after e h so_far = neither (eqb (length all) 0) (each_of f all) (sym so_far ∙ rw e (nothing (f word) (each_of f after) h))
+  where
+    nothing : {A : Type 0} (x : Option A) (xs : Option (List A)) → is_some x ≡ false → is_some (option_and_then (λ y. option_map (λ ys. y ∷ ys) xs) x) ≡ false
+    nothing None xs h = refl
+    nothing (Some x) xs h = absurd (cc)
+
+    neither : {A : Type 0} (b : Bool) (xs : Option (List A)) → is_some xs ≡ false → is_some (cond b None xs) ≡ false
+    neither true xs h = refl
+    neither false xs h = h

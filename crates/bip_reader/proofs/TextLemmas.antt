@@ -1,50 +1,28 @@
 -- Lemmas on what lines say one after another, and on how far reading has come.
-use Rattle.std.proofs.Common.{◌≡◌, ◌≢◌, ℕ, ◌+◌, ◌-◌, ◌≤◌, ◌<◌, List, [], ◌∷◌, ◌++◌, length, take, drop, max, Result, Ok, Err, refl, ap, ◌∙◌, sym, inl, inr, append_assoc, arith, length-append}
-use Rattle.std.specs.Prelude.{Bool, true, false, IsOk, Some, not, slice_get, ◌||◌}
+use Rattle.std.proofs.Common.{◌≡◌, ℕ, ◌+◌, ◌-◌, ◌≤◌, ◌<◌, List, [], ◌∷◌, ◌++◌, length, take, drop, max, Result, Ok, Err, refl, ap, ◌∙◌, sym, append_assoc, arith, length-append}
+use Rattle.std.specs.Prelude.{IsOk, Some, slice_get}
 use Rattle.std.proofs.lemmas.List.{append-nil, take-append-drop, take_all}
 use Rattle.std.proofs.Math.Seq.{take-append_seam}
-use Rattle.bip_model.specs.Texts.{last_line, lines, words}
+use Rattle.bip_model.specs.Outcomes.{◌>>=◌}
+use Rattle.bip_model.specs.Texts.{last_line, lines}
 use Rattle.bip_reader.specs.declared.faults.ReadFault.{ReadFault}
 use Rattle.bip_reader.specs.declared.faults.Why.{Why}
-use Rattle.bip_reader.specs.declared.faults.Why.TheVariants.{Syntax, Unknown, Twice, TooMany, Missing, TwoTransitions, PriorityCycle, NotAPartition, Memory}
 use Rattle.bip_reader.specs.declared.reading.Reading.{Reading}
-use Rattle.bip_model.specs.declared.parts.System.{System}
-use Rattle.bip_model.specs.Outcomes.{◌>>=◌}
-use Rattle.bip_reader.specs.ModelTexts.{ClassList, IsReached, MayLackMemory, at_line, ended, fresh, line_said, lines_said, declared_by}
-use Rattle.bip_reader.specs.Outcomes.{Fails, Leads, has_fault}
-use Rattle.bip_reader.specs.Statements.{lists_words}
-use Rattle.bip_reader.proofs.FaultLemmas.{fair_lines, no_want}
-use Rattle.bip_reader.proofs.OutcomeLemmas.{hidden_none}
+use Rattle.bip_reader.specs.Reading.{MayBeHidden, at_line, empty_reading, reading_after, reading_after_lines}
+use Rattle.bip_reader.specs.Texts.{IsReached, MayLackMemory, reading_of}
 
--- a fault other than want of memory is the one that is there
-pub fails_unless : {A : Type 0} (may : Bool) (why : Why) (said : Result A Why) → Fails may why said → why ≢ Memory → said ≡ Err why
-fails_unless may Syntax said h n = h
-fails_unless may Unknown said h n = h
-fails_unless may Twice said h n = h
-fails_unless may TooMany said h n = h
-fails_unless may Missing said h n = h
-fails_unless may TwoTransitions said h n = h
-fails_unless may PriorityCycle said h n = h
-fails_unless may NotAPartition said h n = h
-fails_unless may Memory said h n = absurd (n refl)
-
--- a call that fails with nothing leads to what is said
-pub led : {A : Type 0} (hides : Bool) (said : Result A Why) (result : Result (Unit {0}) Why) (new : A) → ((why : Why) → result ≡ Err why → ⊥) → Leads hides said result new → said ≡ Ok new
-led hides said (Ok u) new none h = h
-led hides said (Err why) new none h = absurd (none why refl)
-
-lines_said-after : (n : ℕ) (x : List ℕ) (xs ys : List (List ℕ)) (said : Result Reading ReadFault)
-    → ((r : Reading) → lines_said (n + 1) (xs ++ ys) r ≡ lines_said (n + 1) xs r >>= lines_said (n + 1 + length xs) ys)
-    → said >>= lines_said (n + 1) (xs ++ ys) ≡ said >>= lines_said (n + 1) xs >>= lines_said (n + length (x ∷ xs)) ys
-lines_said-after n x xs ys (Ok r) h =
+reading-after : (n : ℕ) (x : List ℕ) (xs ys : List (List ℕ)) (said : Result Reading ReadFault)
+    → ((r : Reading) → reading_after_lines (n + 1) (xs ++ ys) r ≡ reading_after_lines (n + 1) xs r >>= reading_after_lines (n + 1 + length xs) ys)
+    → said >>= reading_after_lines (n + 1) (xs ++ ys) ≡ said >>= reading_after_lines (n + 1) xs >>= reading_after_lines (n + length (x ∷ xs)) ys
+reading-after n x xs ys (Ok r) h =
     let e : n + length (x ∷ xs) ≡ n + 1 + length xs = omega arith in
     rw e (h r)
-lines_said-after n x xs ys (Err fault) h = refl
+reading-after n x xs ys (Err fault) h = refl
 
 -- what lines say, and then what more lines say
-pub lines_said-append : (n : ℕ) (xs ys : List (List ℕ)) (r : Reading) → lines_said n (xs ++ ys) r ≡ lines_said n xs r >>= lines_said (n + length xs) ys
-lines_said-append n [] ys r = let e : n + 0 ≡ n = omega arith in rw e refl
-lines_said-append n (x ∷ xs) ys r = lines_said-after n x xs ys (at_line n (line_said x r)) (lines_said-append (n + 1) xs ys)
+pub reading-append : (n : ℕ) (xs ys : List (List ℕ)) (r : Reading) → reading_after_lines n (xs ++ ys) r ≡ reading_after_lines n xs r >>= reading_after_lines (n + length xs) ys
+reading-append n [] ys r = let e : n + 0 ≡ n = omega arith in rw e refl
+reading-append n (x ∷ xs) ys r = reading-after n x xs ys (at_line n (reading_after x r)) (reading-append (n + 1) xs ys)
 
 same_fault : {A E : Type 0} (x y : E) (said : Result A E) → said ≡ Err x → said ≡ Err y → x ≡ y
 same_fault x y said e f = cc
@@ -57,34 +35,31 @@ pub record IsAt (text : List ℕ) (read : ℕ) (r : Reading) (rest : List ℕ) :
   pub before : List (List ℕ)
   pub whole : lines text ≡ before ++ lines rest
   pub counted : length before ≡ read
-  pub said : lines_said 1 before fresh ≡ Ok r
+  pub said : reading_after_lines 1 before empty_reading ≡ Ok r
   pub short : read + length rest ≤ length text
 
-pub starts : (text : List ℕ) → IsAt text 0 fresh text
+pub starts : (text : List ℕ) → IsAt text 0 empty_reading text
 starts text = record { before = []; whole = refl; counted = refl; said = refl; short = omega arith }
 
 -- one line more
 pub goes_on : (text : List ℕ) (read : ℕ) (r new : Reading) (rest line after : List ℕ) → IsAt text read r rest → lines rest ≡ line ∷ lines after → length after < length rest
-    → line_said line r ≡ Ok new → IsAt text (read + 1) new after
+    → reading_after line r ≡ Ok new → IsAt text (read + 1) new after
 goes_on text read r new rest line after h e shorter s = record {
   before = h.before ++ line ∷ [];
   whole = h.whole ∙ ap (λ (ls : List (List ℕ)). h.before ++ ls) e ∙ sym (append_assoc h.before (line ∷ []) (lines after));
   counted = omega (arith, length-append h.before (line ∷ []));
-  said = lines_said-append 1 h.before (line ∷ []) fresh ∙ rw (h.said, s) refl;
+  said = reading-append 1 h.before (line ∷ []) empty_reading ∙ rw (h.said, s) refl;
   short = omega arith;
 }
 
 -- the next line is at fault
 pub at_fault : (text : List ℕ) (read : ℕ) (r : Reading) (rest line after : List ℕ) (why : Why) → IsAt text read r rest → lines rest ≡ line ∷ lines after
-    → line_said line r ≡ Err why → declared_by text ≡ Err (record { line = read + 1; why = why })
-unfolding declared_by
+    → reading_after line r ≡ Err why → reading_of text ≡ Err (record { line = read + 1; why = why })
+unfolding reading_of
 at_fault text read r rest line after why h e s =
     let place : 1 + length h.before ≡ read + 1 = omega arith in
-    let all : lines_said 1 (lines text) fresh ≡ Err (record { line = read + 1; why = why }) =
-    ap (λ (ls : List (List ℕ)). lines_said 1 ls fresh) (h.whole ∙ ap (λ (ls : List (List ℕ)). h.before ++ ls) e)
-    ∙ lines_said-append 1 h.before (line ∷ lines after) fresh ∙ rw (h.said, s, place) refl
-    in
-    rw all refl
+    ap (λ (ls : List (List ℕ)). reading_after_lines 1 ls empty_reading) (h.whole ∙ ap (λ (ls : List (List ℕ)). h.before ++ ls) e)
+    ∙ reading-append 1 h.before (line ∷ lines after) empty_reading ∙ rw (h.said, s, place) refl
 
 -- the next line is reached
 pub reached : (text : List ℕ) (read : ℕ) (r : Reading) (rest line after : List ℕ) → IsAt text read r rest → lines rest ≡ line ∷ lines after → IsReached text (read + 1)
@@ -107,8 +82,9 @@ all_before : (text : List ℕ) (read : ℕ) (r : Reading) (rest : List ℕ) (h :
 all_before text read r rest h e = h.whole ∙ rw (lines_of_nothing rest e) (append-nil h.before)
 
 -- all lines are read
-pub all_said : (text : List ℕ) (read : ℕ) (r : Reading) (rest : List ℕ) → IsAt text read r rest → length rest ≡ 0 → lines_said 1 (lines text) fresh ≡ Ok r
-all_said text read r rest h e = ap (λ (ls : List (List ℕ)). lines_said 1 ls fresh) (all_before text read r rest h e) ∙ h.said
+pub all_said : (text : List ℕ) (read : ℕ) (r : Reading) (rest : List ℕ) → IsAt text read r rest → length rest ≡ 0 → reading_of text ≡ Ok r
+unfolding reading_of
+all_said text read r rest h e = ap (λ (ls : List (List ℕ)). reading_after_lines 1 ls empty_reading) (all_before text read r rest h e) ∙ h.said
 
 pub all_counted : (text : List ℕ) (read : ℕ) (r : Reading) (rest : List ℕ) → IsAt text read r rest → length rest ≡ 0 → max 1 read ≡ last_line text
 all_counted text read r rest h e = ap (λ (n : ℕ). max 1 n) (sym h.counted ∙ ap length (sym (all_before text read r rest h e)))
@@ -118,56 +94,35 @@ is_ok_first (Ok x) f y e = refl
 is_ok_first (Err d) f y e = absurd (cc)
 
 -- the last line is reached where no line is at fault
-pub last_reached : (text : List ℕ) (r : Reading) → lines_said 1 (lines text) fresh ≡ Ok r → IsReached text (last_line text)
+pub last_reached : (text : List ℕ) (r : Reading) → reading_of text ≡ Ok r → IsReached text (last_line text)
+unfolding reading_of
 last_reached text r e =
     let n = last_line text - 1 in
-    let cut : lines_said 1 (take n (lines text) ++ drop n (lines text)) fresh ≡ Ok r = ap (λ (ls : List (List ℕ)). lines_said 1 ls fresh) (take-append-drop n (lines text)) ∙ e in
+    let cut : reading_after_lines 1 (take n (lines text) ++ drop n (lines text)) empty_reading ≡ Ok r = ap (λ (ls : List (List ℕ)). reading_after_lines 1 ls empty_reading) (take-append-drop n (lines text)) ∙ e in
     record {
       first = omega arith;
       last = omega arith;
-      clear = is_ok_first (lines_said 1 (take n (lines text)) fresh) (lines_said (1 + length (take n (lines text))) (drop n (lines text))) r
-          (sym (lines_said-append 1 (take n (lines text)) (drop n (lines text)) fresh) ∙ cut);
+      clear = is_ok_first (reading_after_lines 1 (take n (lines text)) empty_reading) (reading_after_lines (1 + length (take n (lines text))) (drop n (lines text))) r
+          (sym (reading-append 1 (take n (lines text)) (drop n (lines text)) empty_reading) ∙ cut);
     }
-
--- the lines end: what they declare
-pub ends_with : (text : List ℕ) (r : Reading) (line : ℕ) → lines_said 1 (lines text) fresh ≡ Ok r → line ≡ last_line text → declared_by text ≡ at_line line (ended r)
-unfolding declared_by
-ends_with text r line e last = rw (e, last) refl
-
--- the lines end, and have declared a model
-pub declares : (text : List ℕ) (r : Reading) (declared : System × ClassList) → lines_said 1 (lines text) fresh ≡ Ok r → ended r ≡ Ok declared → declared_by text ≡ Ok declared
-unfolding declared_by
-declares text r declared e d = rw (e, d) refl
-
--- a fault is told of its line
-pub at_end : (n : ℕ) {A : Type 0} (said : Result A Why) (fault : ReadFault) → at_line n said ≡ Err fault → fault.line ≡ n
-at_end n (Ok x) fault e = absurd (cc)
-at_end n (Err why) fault e = ap (λ (f : ReadFault). f.line) (same_fault fault (record { line = n; why = why }) (at_line n (Err why)) e refl)
-
--- memory may be wanting before the first line
-pub lacks_first : (text : List ℕ) → MayLackMemory text 1
-lacks_first text = record {
-  reached = record { first = omega arith; last = omega arith; clear = refl };
-  hidden = λ fault e. inl refl;
-}
 
 -- memory may be wanting where no line is at fault
-pub lacks_last : (text : List ℕ) (r : Reading) → lines_said 1 (lines text) fresh ≡ Ok r → MayLackMemory text (last_line text)
+pub lacks_last : (text : List ℕ) (r : Reading) → reading_of text ≡ Ok r → MayLackMemory text (last_line text)
+unfolding reading_of
 lacks_last text r e =
     let long : length (lines text) ≤ last_line text = omega arith in
-    let all : lines_said 1 (take (last_line text) (lines text)) fresh ≡ Ok r = rw (take_all (last_line text) (lines text) long) e in
+    let all : reading_after_lines 1 (take (last_line text) (lines text)) empty_reading ≡ Ok r = rw (take_all (last_line text) (lines text) long) e in
     record {
       reached = last_reached text r e;
-      hidden = λ fault f. absurd (not_both r fault (lines_said 1 (take (last_line text) (lines text)) fresh) all f);
+      hidden = λ fault f. absurd (not_both r fault (reading_after_lines 1 (take (last_line text) (lines text)) empty_reading) all f);
     }
 
-hidden_by : (lists : Bool) (n : ℕ) (said : Result Reading Why) (fault : ReadFault) → (lists || not (has_fault said)) ≡ true → at_line n said >>= lines_said (n + 1) [] ≡ Err fault
-    → fault.why ≢ Memory → lists ≡ true
-hidden_by true n said fault h e other = refl
-hidden_by false n (Ok r) fault h e other = absurd (cc)
-hidden_by false n (Err why) fault h e other =
+-- the fault of lines with but one is that of the line
+only_fault : (n : ℕ) (said : Result Reading Why) (fault : ReadFault) → at_line n said >>= reading_after_lines (n + 1) [] ≡ Err fault → said ≡ Err fault.why
+only_fault n (Ok r) fault e = absurd (cc)
+only_fault n (Err why) fault e =
     let same : record { line = n; why = why } ≡ fault = same_fault (record { line = n; why = why }) fault (Err (record { line = n; why = why })) refl e in
-    absurd (other (sym (ap (λ (f : ReadFault). f.why) same) ∙ hidden_none Reading why h))
+    ap (λ (f : ReadFault). Err f.why) same
 
 seam : (xs ys : List (List ℕ)) (y : List ℕ) → slice_get (xs ++ y ∷ ys) (length xs) ≡ Some y
 seam [] ys y = refl
@@ -175,18 +130,18 @@ seam (x ∷ xs) ys y = seam xs ys y
 
 -- memory may be wanting for the next line
 pub lacks_next : (text : List ℕ) (read : ℕ) (r : Reading) (rest line after : List ℕ) → IsAt text read r rest → lines rest ≡ line ∷ lines after
-    → (lists_words (words line) || not (has_fault (line_said line r))) ≡ true → MayLackMemory text (read + 1)
-lacks_next text read r rest line after h e may =
+    → ((why : Why) → reading_after line r ≡ Err why → MayBeHidden line why) → MayLackMemory text (read + 1)
+lacks_next text read r rest line after h e hides =
     let back : read + 1 - 1 ≡ length h.before = omega (arith, h.counted) in
     let whole : lines text ≡ h.before ++ line ∷ lines after = h.whole ∙ ap (λ (ls : List (List ℕ)). h.before ++ ls) e in
     let here : slice_get (lines text) (read + 1 - 1) ≡ Some line = rw (back, whole) (seam h.before (lines after) line) in
     let parts : lines text ≡ (h.before ++ line ∷ []) ++ lines after = whole ∙ sym (append_assoc h.before (line ∷ []) (lines after)) in
     let count : read + 1 ≡ length (h.before ++ line ∷ []) = omega (arith, h.counted, length-append h.before (line ∷ [])) in
     let front : take (read + 1) (lines text) ≡ h.before ++ line ∷ [] = rw (count, parts) (take-append_seam (h.before ++ line ∷ []) (lines after)) in
-    let said : lines_said 1 (take (read + 1) (lines text)) fresh ≡ at_line (1 + length h.before) (line_said line r) >>= lines_said (1 + length h.before + 1) [] =
-    rw front (lines_said-append 1 h.before (line ∷ []) fresh ∙ rw h.said refl)
+    let said : reading_after_lines 1 (take (read + 1) (lines text)) empty_reading ≡ at_line (1 + length h.before) (reading_after line r) >>= reading_after_lines (1 + length h.before + 1) [] =
+    rw front (reading-append 1 h.before (line ∷ []) empty_reading ∙ rw h.said refl)
     in
     record {
       reached = reached text read r rest line after h e;
-      hidden = λ fault f. inr (rw here (hidden_by (lists_words (words line)) (1 + length h.before) (line_said line r) fault may (sym said ∙ f) (no_want fault.why (fair_lines 1 (take (read + 1) (lines text)) fresh fault f))));
+      hidden = λ fault f. rw here (hides fault.why (only_fault (1 + length h.before) (reading_after line r) fault (sym said ∙ f)));
     }

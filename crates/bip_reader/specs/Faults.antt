@@ -1,5 +1,5 @@
 -- The numbers and the texts of faults.
-use Rattle.std.specs.Prelude.{ℕ, Bool, false, true, List, ◌++◌, codes}
+use Rattle.std.specs.Prelude.{ℕ, List, ◌++◌, codes}
 use Rattle.std.specs.Fmt.{decimal}
 use Rattle.bip_model.specs.declared.faults.BuildFault.{BuildFault}
 use Rattle.bip_model.specs.declared.faults.BuildFault.TheVariants as build
@@ -30,12 +30,6 @@ text_of_why TwoTransitions = codes "two transitions"
 text_of_why PriorityCycle = codes "priority cycle"
 text_of_why NotAPartition = codes "not a partition"
 text_of_why Memory = codes "no memory"
-
--- the faults that a text can have: it wants no memory, and a plain model has no priorities
-abbrev pub is_of_text : Why → Bool
-is_of_text PriorityCycle = false
-is_of_text Memory = false
-is_of_text why = true
 
 abbrev pub text_of_fault : ReadFault → List ℕ
 text_of_fault fault = codes "line " ++ decimal fault.line ++ codes ": " ++ text_of_why fault.why

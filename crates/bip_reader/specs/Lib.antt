@@ -1,5 +1,5 @@
 pub mod Faults
-pub mod Meanings
-pub mod ModelTexts
-pub mod Outcomes
+pub mod Laws
+pub mod Reading
 pub mod Statements
+pub mod Texts

@@ -1,29 +1,27 @@
 -- The forms of the lines of a model's text: from the words of a line to what it states.
-use Rattle.std.specs.Prelude.{ℕ, ◌↔◌, Bool, false, true, IsSome, ◌==◌, List, [], ◌∷◌, length, Option, None, Some, option_and_then, codes, if◌then◌else◌}
-use Rattle.std.specs.Option.{option_map}
-use Rattle.bip_model.specs.Naming.{IsName, is_name, same_text}
+use Rattle.std.specs.Prelude.{ℕ, Bool, false, true, ◌==◌, List, [], ◌∷◌, length, Option, None, Some, option_and_then, codes, if◌then◌else◌}
+use Rattle.std.specs.Option.{option_map, option_map_or}
+use Rattle.bip_model.specs.Naming.{is_name, same_text}
 use Rattle.bip_model.specs.Texts.{pair_of}
 use Rattle.bip_reader.specs.declared.statements.Keyword.{Keyword}
 use Rattle.bip_reader.specs.declared.statements.Keyword.TheVariants as keyword
 use Rattle.bip_reader.specs.declared.statements.Statement.{Statement}
 use Rattle.bip_reader.specs.declared.statements.Statement.TheVariants.{Header, Component, Loc, Port, Trans, End, Interaction, Class}
+use Rattle.bip_reader.specs.declared.statements.TheConstants.{PORT_MARK}
 
+-- a chain ends where a word is nothing
 infixl 10 ◌>>=◌
-abbrev pub ◌>>=◌ : {A B : Type 0} → Option A → (A → Option B) → Option B
+abbrev ◌>>=◌ : {A B : Type 0} → Option A → (A → Option B) → Option B
 o >>= f = option_and_then f o
 
 -- the name that a word is: spelled as one, of at most 32 bytes, and not reserved
 unfoldable pub name_of : List ℕ → Option (List ℕ)
 name_of word = if is_name word then Some word else None
 
--- a word is taken as a name exactly where it is one
-abbrev pub NamesAreTaken : Type 0
-NamesAreTaken = (word : List ℕ) → IsSome (name_of word) ↔ IsName word
-
 -- `C.p`, a component and one of its ports
 unfoldable pub participant_of : List ℕ → Option (List ℕ × List ℕ)
 participant_of word = do
-  parts ← pair_of 46 word
+  parts ← pair_of PORT_MARK word
   component ← name_of parts.0
   port ← name_of parts.1
   Some (component, port)
@@ -50,16 +48,27 @@ keyword_of word =
     else if same_text word (codes "class") then Some keyword.Class
     else None
 
+-- the keyword of a statement's line
+abbrev pub keyword_in : Statement → Keyword
+keyword_in Header = keyword.Bip
+keyword_in (Component name) = keyword.Component
+keyword_in (Loc name) = keyword.Loc
+keyword_in (Port name) = keyword.Port
+keyword_in (Trans port source target) = keyword.Trans
+keyword_in End = keyword.End
+keyword_in (Interaction name participants) = keyword.Interaction
+keyword_in (Class name interactions) = keyword.Class
+
 -- whether a line with this keyword lists words
-abbrev pub is_of_list : Option Keyword → Bool
-is_of_list (Some keyword.Interaction) = true
-is_of_list (Some keyword.Class) = true
-is_of_list _ = false
+abbrev pub is_of_list : Keyword → Bool
+is_of_list keyword.Interaction = true
+is_of_list keyword.Class = true
+is_of_list k = false
 
 -- whether a line lists words, as an interaction's and a class's do
 abbrev pub lists_words : List (List ℕ) → Bool
 lists_words [] = false
-lists_words (word ∷ rest) = is_of_list (keyword_of word)
+lists_words (word ∷ rest) = option_map_or is_of_list (keyword_of word) false
 
 -- `1`
 unfoldable pub header_form : List (List ℕ) → Option Statement
@@ -101,18 +110,13 @@ class_form (word ∷ rest) = do
   interactions ← one_or_more_of name_of rest
   Some (Class name interactions)
 
--- what a line states that begins with a keyword, by the words that follow
-abbrev pub form : Keyword → List (List ℕ) → Option Statement
-form keyword.Bip rest = header_form rest
-form keyword.Component rest = option_map Component (one_name rest)
-form keyword.Loc rest = option_map Loc (one_name rest)
-form keyword.Port rest = option_map Port (one_name rest)
-form keyword.Trans rest = trans_form rest
-form keyword.End rest = end_form rest
-form keyword.Interaction rest = interaction_form rest
-form keyword.Class rest = class_form rest
-
--- what the words of a line state; none where they have no form
-unfoldable pub statement_of : List (List ℕ) → Option Statement
-statement_of [] = None
-statement_of (word ∷ rest) = keyword_of word >>= λ k. form k rest
+-- what a line states that begins with a keyword, by the words that follow; none where they lack its form
+abbrev pub statement_of : Keyword → List (List ℕ) → Option Statement
+statement_of keyword.Bip rest = header_form rest
+statement_of keyword.Component rest = option_map Component (one_name rest)
+statement_of keyword.Loc rest = option_map Loc (one_name rest)
+statement_of keyword.Port rest = option_map Port (one_name rest)
+statement_of keyword.Trans rest = trans_form rest
+statement_of keyword.End rest = end_form rest
+statement_of keyword.Interaction rest = interaction_form rest
+statement_of keyword.Class rest = class_form rest

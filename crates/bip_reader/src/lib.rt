@@ -2,6 +2,7 @@
 #![tactic(auto)]
 
 mod faults;
+mod laws;
 mod reading;
 mod statements;
 #[cfg(test)]
@@ -9,4 +10,5 @@ mod tests;
 mod texts;
 
 pub use faults::{ReadFault, Why};
-pub use texts::{meaning_laws, read_model};
+pub use laws::meaning_laws;
+pub use texts::read_model;

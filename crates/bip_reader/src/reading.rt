@@ -1,19 +1,30 @@
 //! Reading the text of a model, line after line.
-ghost use Rattle.std.specs.Prelude.{◌≡◌, ◌∷◌, ◌++◌, [], ◌==◌, ◌||◌, false, is_some, length, map, true, IfOk, OnOk, IsTrue};
+ghost use Rattle.std.specs.Prelude.{◌≡◌, ◌≢◌, ◌∷◌, ◌++◌, [], ◌==◌, ◌||◌, is_some, length, map, true, Err, IfErr, IfOk, OnOk, IsTrue};
 ghost use Rattle.std.specs.List.{list_all, list_any};
 ghost use Rattle.std.specs.Option.{ok_or};
 ghost use Rattle.bip_model.specs.Naming.{same_text};
+ghost use Rattle.bip_model.specs.Outcomes.{Answers, new_or_fault};
+ghost use Rattle.bip_model.specs.Steps.{IsCyclic};
 ghost use Rattle.bip_model.specs.Texts.{is_comment, words};
-ghost use Rattle.bip_reader.specs.declared.faults.Why.TheVariants.{Unknown};
-ghost use Rattle.bip_reader.specs.Outcomes.{Gives, Leads};
-ghost use Rattle.bip_reader.specs.ModelTexts.{class_line, ended, fresh, has_place, interaction_named, line_said, said_there};
-ghost use Rattle.bip_reader.specs.Statements.{each_of, lists_words};
+ghost use Rattle.bip_model.specs.declared.faults.BuildFault.TheVariants as build_fault;
+ghost use Rattle.bip_reader.specs.declared.faults.Why.{Why};
+ghost use Rattle.bip_reader.specs.declared.faults.Why.TheVariants.{Memory, Syntax, Unknown};
+ghost use Rattle.bip_reader.specs.Reading.{MayBeHidden, can_follow, class_line, draft_of, draft_with};
+ghost use Rattle.bip_reader.specs.Reading.{empty_reading, has_place, interaction_named, reading_after};
+ghost use Rattle.bip_reader.specs.Reading.{reading_with, statement_in};
+ghost use Rattle.bip_reader.specs.Statements.{each_of, keyword_in, lists_words};
+ghost use Rattle.bip_reader.specs.Texts.{IsFaultAtEnd, IsWholeReading, system_of};
 
 use crate::Why;
-use crate::statements::{Statement, read_statement};
-use bip_model::{Builder, InterId, MOST_CLASSES, Model, Name, Seq, is_plain, split_word};
+use crate::statements::{Keyword, Statement, keyword_of, read_statement};
+use bip_model::{
+    BuildFault, Builder, InterId, MOST_CLASSES, Model, Name, Seq, is_plain, split_word,
+};
 use std::alloc::{AllocError, Global};
 use std::marker;
+
+/// The byte that begins a comment.
+const COMMENT_MARK: u8 = b'#';
 
 /// Classes as a text names them, each a name with numbers of interactions. Contracts see the list of them.
 #[derive(Drop)]
@@ -65,29 +76,31 @@ impl ClassLines {
     }
 }
 
-/// What the lines so far have said: whether `bip 1` has stood, what the builder made of them, and the classes.
+/// What the lines so far have said: what the builder made of those behind `bip 1`, none where that hasn't
+/// stood, and the classes.
 #[derive(Drop)]
 pub(crate) struct Reading {
-    headed: bool,
-    builder: Builder,
+    builder: Option<Builder>,
     classes: ClassLines,
 }
 
 impl Reading {
     /// Nothing has been read yet.
-    pub(crate) fn new(alloc: Global) -> Result<Reading, AllocError>
-        ensures { IfOk result (λ reading. reading ≡ fresh) }
+    pub(crate) fn new(alloc: Global) -> Reading
+        ensures { result ≡ empty_reading }
     {
-        Ok(Reading {
-            headed: false,
-            builder: Builder::new(alloc)?,
+        Reading {
+            builder: None,
             classes: ClassLines::new(alloc),
-        })
+        }
     }
 
-    /// Reads one more line. Want of memory hides a fault of it only where it lists words, which are stored before they are looked up.
+    /// Reads one more line. Want of memory hides no fault of its syntax, which is told before anything is
+    /// stored, and another one only where it lists words.
     pub(crate) fn read_line(&mut self, alloc: Global, line: &[u8]) -> Result<(), Why>
-        ensures { Leads (lists_words (words line.now)) (line_said line.now self.old) result self.new }
+        ensures said { result ≢ Err Memory → reading_after line.now self.old ≡ new_or_fault result self.new }
+        ensures memory { result ≡ Err Memory → (why : Why) → reading_after line.now self.old ≡ Err why
+            → MayBeHidden line.now why }
     {
         if !is_plain(line) {
             return Err(Why::Syntax);
@@ -95,57 +108,62 @@ impl Reading {
         if is_skipped(line) {
             return Ok(());
         }
-        let statement = read_statement(alloc, line)?;
-        if !self.has_place(&statement) {
-            return Err(Why::Syntax);
-        }
-        self.state(alloc, statement)
+        let statement = self.statement_in(alloc, line)?;
+        self.take(alloc, statement)
     }
 
-    /// Whether a statement can stand now.
-    fn has_place(&self, statement: &Statement) -> bool
-        ensures { result ≡ has_place statement.now self.now }
+    /// What a line states in its place. Syntax: it has no form, or no place now; memory comes only where
+    /// it has both, and lists words.
+    fn statement_in(&self, alloc: Global, line: &[u8]) -> Result<Statement, Why>
+        ensures said { Answers Memory (ok_or (statement_in (words line.now) self.now) Syntax) result }
+        ensures place { IfOk result (λ statement. IsTrue (has_place (keyword_in statement) self.now)) }
+        ensures memory { result ≡ Err Memory → IsTrue (lists_words (words line.now)) }
     {
-        match statement {
-            Statement::Header => !self.headed,
-            Statement::Loc(_) | Statement::Port(_) | Statement::Trans { .. } | Statement::End =>
-                self.headed && self.builder.is_inside(),
-            Statement::Component(_) | Statement::Interaction { .. } | Statement::Class { .. } =>
-                self.headed && !self.builder.is_inside(),
+        let Some((word, rest)) = split_word(line) else {
+            return Err(Why::Syntax);
+        };
+        let Some(keyword) = keyword_of(word) else {
+            return Err(Why::Syntax);
+        };
+        if !self.has_place(keyword) {
+            return Err(Why::Syntax);
+        }
+        read_statement(alloc, keyword, rest)
+    }
+
+    /// Whether a line with this keyword can stand now.
+    fn has_place(&self, keyword: Keyword) -> bool
+        ensures { result ≡ has_place keyword self.now }
+    {
+        match &self.builder {
+            None => matches!(keyword, Keyword::Bip),
+            Some(builder) => can_follow(builder, keyword),
         }
     }
 
     /// Takes a statement in its place.
-    fn state(&mut self, alloc: Global, statement: Statement) -> Result<(), Why>
-        requires { IsTrue (has_place statement self.old) }
-        ensures { Leads false (said_there statement self.old) result self.new }
+    fn take(&mut self, alloc: Global, statement: Statement) -> Result<(), Why>
+        requires { IsTrue (has_place (keyword_in statement) self.old) }
+        ensures { Answers Memory (reading_with statement self.old) (new_or_fault result self.new) }
     {
         match statement {
             Statement::Header => {
-                self.headed = true;
+                self.builder = Some(Builder::new(alloc)?);
                 Ok(())
-            }
-            Statement::Component(name) => Ok(self.builder.component(name)?),
-            Statement::Loc(name) => Ok(self.builder.loc(name)?),
-            Statement::Port(name) => Ok(self.builder.port(name)?),
-            Statement::Trans {
-                port,
-                source,
-                target,
-            } => Ok(self.builder.trans(port, source, target)?),
-            Statement::End => Ok(self.builder.end()?),
-            Statement::Interaction { name, participants } => {
-                Ok(self.builder.interaction(name, participants.as_slice())?)
             }
             Statement::Class { name, interactions } => {
                 self.class(alloc, name, interactions.as_slice())
             }
+            statement => match &mut self.builder {
+                None => unreachable!(),
+                Some(builder) => Ok(build(builder, statement)?),
+            },
         }
     }
 
-    #[tactic(auto, unfolding(crate::specs::ModelTexts::class_line))]
+    #[tactic(auto, unfolding(crate::specs::Reading::class_line))]
     fn class(&mut self, alloc: Global, name: Name, interactions: &[Name]) -> Result<(), Why>
-        ensures { Leads false (class_line name interactions.now self.old) result self.new }
+        ensures { Answers Memory (class_line name interactions.now self.old) (new_or_fault result self.new) }
     {
         if self.classes.contains(&name) {
             return Err(Why::Twice);
@@ -163,7 +181,7 @@ impl Reading {
 
     /// Whether each name is that of an interaction, which takes no memory.
     fn are_interactions(&self, names: &[Name]) -> bool
-        ensures { result ≡ list_all (λ name. is_some (interaction_named self.now.builder.system name)) names.now }
+        ensures { result ≡ list_all (λ name. is_some (interaction_named (draft_of self.now) name)) names.now }
     {
         names
             .iter()
@@ -171,7 +189,8 @@ impl Reading {
     }
 
     fn interaction_numbers(&self, alloc: Global, names: &[Name]) -> Result<Seq<InterId>, Why>
-        ensures { Gives true result (ok_or (each_of (interaction_named self.now.builder.system) names.now) Unknown) }
+        requires { list_all (λ name. is_some (interaction_named (draft_of self.now) name)) names.now ≡ true }
+        ensures { Answers Memory (ok_or (each_of (interaction_named (draft_of self.now)) names.now) Unknown) result }
     {
         let mut numbers = Vec::new(alloc);
         for name in names {
@@ -181,28 +200,63 @@ impl Reading {
     }
 
     fn interaction_number(&self, name: &Name) -> Option<InterId>
-        ensures { result ≡ interaction_named self.now.builder.system name.now }
+        ensures { result ≡ interaction_named (draft_of self.now) name.now }
     {
-        self.builder.interaction_number(name)
+        match &self.builder {
+            None => None,
+            Some(builder) => builder.interaction_number(name),
+        }
     }
 
     /// The lines end: the model that they declare, and their classes.
-    #[tactic(auto, unfolding(crate::specs::ModelTexts::ended))]
     pub(crate) fn finish(self) -> Result<(Model, ClassLines), Why>
-        ensures { result ≡ ended self }
+        ensures model { IfOk result (λ read. read.0 ≡ system_of self) }
+        ensures classes { IfOk result (λ read. read.1 ≡ self.classes) }
+        ensures whole { OnOk result (IsWholeReading self) }
+        ensures acyclic { OnOk result (¬ IsCyclic (system_of self)) }
+        ensures fault { IfErr result (IsFaultAtEnd self) }
     {
-        if !self.headed {
+        let Reading { builder, classes } = self;
+        let Some(builder) = builder else {
             return Err(Why::Missing);
-        }
-        let Reading {
-            headed: _,
-            builder,
-            classes,
-        } = self;
+        };
         match builder.finish() {
             Ok(model) => Ok((model, classes)),
             Err(fault) => Err(Why::from(fault)),
         }
+    }
+}
+
+/// Whether a line with this keyword can stand behind what the builder was given.
+fn can_follow(builder: &Builder, keyword: Keyword) -> bool
+    ensures { result ≡ can_follow keyword builder.now }
+{
+    match keyword {
+        Keyword::Bip => false,
+        Keyword::Loc | Keyword::Port | Keyword::Trans | Keyword::End => builder.is_inside(),
+        Keyword::Component | Keyword::Interaction | Keyword::Class => !builder.is_inside(),
+    }
+}
+
+/// Gives the builder a statement in its place.
+fn build(builder: &mut Builder, statement: Statement) -> Result<(), BuildFault>
+    requires { IsTrue (can_follow (keyword_in statement) builder.old) }
+    ensures { Answers build_fault.Memory (draft_with statement builder.old) (new_or_fault result builder.new) }
+{
+    match statement {
+        Statement::Component(name) => builder.component(name),
+        Statement::Loc(name) => builder.loc(name),
+        Statement::Port(name) => builder.port(name),
+        Statement::Trans {
+            port,
+            source,
+            target,
+        } => builder.trans(port, source, target),
+        Statement::End => builder.end(),
+        Statement::Interaction { name, participants } => {
+            builder.interaction(name, participants.as_slice())
+        }
+        Statement::Header | Statement::Class { .. } => Ok(()),
     }
 }
 
@@ -218,6 +272,6 @@ fn is_skipped(line: &[u8]) -> bool
 {
     match split_word(line) {
         None => true,
-        Some((word, _)) => word[0] == b'#',
+        Some((word, _)) => word[0] == COMMENT_MARK,
     }
 }

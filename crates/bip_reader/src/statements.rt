@@ -1,14 +1,22 @@
 //! The forms of lines: from the words of a line to what it states.
-ghost use Rattle.std.specs.Prelude.{◌≡◌, ◌<◌, length, true};
+ghost use Rattle.std.specs.Prelude.{◌≡◌, ◌<◌, is_some, length, Err, IfOk, IfSome, IsTrue};
+ghost use Rattle.std.specs.Option.{ok_or};
 ghost use Rattle.bip_model.specs.Naming.{same_text};
+ghost use Rattle.bip_model.specs.Outcomes.{Answers};
 ghost use Rattle.bip_model.specs.Texts.{words};
-ghost use Rattle.bip_reader.specs.Outcomes.{Gives, or_syntax};
-ghost use Rattle.bip_reader.specs.Statements.{name_of, participant_of, one_or_more_of, keyword_of, header_form, one_name, trans_form, end_form, interaction_form, class_form, lists_words, statement_of};
+ghost use Rattle.bip_reader.specs.declared.faults.Why.TheVariants.{Memory, Syntax};
+ghost use Rattle.bip_reader.specs.declared.statements.Keyword.TheVariants as keyword_is;
+ghost use Rattle.bip_reader.specs.Statements.{class_form, end_form, header_form, interaction_form};
+ghost use Rattle.bip_reader.specs.Statements.{is_of_list, keyword_in, keyword_of, name_of, one_name};
+ghost use Rattle.bip_reader.specs.Statements.{one_or_more_of, participant_of, statement_of, trans_form};
 
 use crate::Why;
 use bip_model::{Name, Seq, split_pair, split_word};
 use std::alloc::Global;
 use std::marker::Model;
+
+/// The byte between a component and its port.
+pub(crate) const PORT_MARK: u8 = b'.';
 
 /// The word that a line begins with.
 #[derive(Clone, Copy)]
@@ -71,32 +79,29 @@ pub(crate) enum Statement {
     },
 }
 
-/// What a line states. It is `Syntax` where the line has no form, and `Memory` only where it lists words.
-#[tactic(auto, unfolding(crate::specs::Statements::statement_of))]
-pub(crate) fn read_statement(alloc: Global, line: &[u8]) -> Result<Statement, Why>
-    ensures { Gives (lists_words (words line.now)) result (or_syntax (statement_of (words line.now))) }
+/// What a line with this keyword states, by the words that follow. Syntax: they lack its form; memory
+/// comes only where they have it, and the line lists words.
+pub(crate) fn read_statement(alloc: Global, keyword: Keyword, line: &[u8]) -> Result<Statement, Why>
+    ensures said { Answers Memory (ok_or (statement_of keyword (words line.now)) Syntax) result }
+    ensures keyword { IfOk result (λ statement. keyword_in statement ≡ keyword) }
+    ensures memory { result ≡ Err Memory → IsTrue (is_of_list keyword) }
 {
-    let Some((word, rest)) = split_word(line) else {
-        return Err(Why::Syntax);
-    };
-    let Some(keyword) = keyword_of(word) else {
-        return Err(Why::Syntax);
-    };
     match keyword {
-        Keyword::Bip => header(rest).ok_or(Why::Syntax),
-        Keyword::Component => only_name(rest).map(Statement::Component).ok_or(Why::Syntax),
-        Keyword::Loc => only_name(rest).map(Statement::Loc).ok_or(Why::Syntax),
-        Keyword::Port => only_name(rest).map(Statement::Port).ok_or(Why::Syntax),
-        Keyword::Trans => trans(rest).ok_or(Why::Syntax),
-        Keyword::End => end(rest).ok_or(Why::Syntax),
-        Keyword::Interaction => interaction(alloc, rest),
-        Keyword::Class => class(alloc, rest),
+        Keyword::Bip => header(line).ok_or(Why::Syntax),
+        Keyword::Component => only_name(line).map(Statement::Component).ok_or(Why::Syntax),
+        Keyword::Loc => only_name(line).map(Statement::Loc).ok_or(Why::Syntax),
+        Keyword::Port => only_name(line).map(Statement::Port).ok_or(Why::Syntax),
+        Keyword::Trans => trans(line).ok_or(Why::Syntax),
+        Keyword::End => end(line).ok_or(Why::Syntax),
+        Keyword::Interaction => interaction(alloc, line),
+        Keyword::Class => class(alloc, line),
     }
 }
 
 #[tactic(auto, unfolding(crate::specs::Statements::interaction_form))]
 fn interaction(alloc: Global, line: &[u8]) -> Result<Statement, Why>
-    ensures { Gives true result (or_syntax (interaction_form (words line.now))) }
+    ensures said { Answers Memory (ok_or (interaction_form (words line.now)) Syntax) result }
+    ensures keyword { IfOk result (λ statement. keyword_in statement ≡ keyword_is.Interaction) }
 {
     let Some((word, rest)) = split_word(line) else {
         return Err(Why::Syntax);
@@ -110,7 +115,8 @@ fn interaction(alloc: Global, line: &[u8]) -> Result<Statement, Why>
 
 #[tactic(auto, unfolding(crate::specs::Statements::class_form))]
 fn class(alloc: Global, line: &[u8]) -> Result<Statement, Why>
-    ensures { Gives true result (or_syntax (class_form (words line.now))) }
+    ensures said { Answers Memory (ok_or (class_form (words line.now)) Syntax) result }
+    ensures keyword { IfOk result (λ statement. keyword_in statement ≡ keyword_is.Class) }
 {
     let Some((word, rest)) = split_word(line) else {
         return Err(Why::Syntax);
@@ -122,9 +128,13 @@ fn class(alloc: Global, line: &[u8]) -> Result<Statement, Why>
     Ok(Statement::Class { name, interactions })
 }
 
+/// The participants that the words of a line name. All words are looked at before one is stored.
 fn participants_in(alloc: Global, line: &[u8]) -> Result<Participants, Why>
-    ensures { Gives true result (or_syntax (one_or_more_of participant_of (words line.now))) }
+    ensures { Answers Memory (ok_or (one_or_more_of participant_of (words line.now)) Syntax) result }
 {
+    if !are_participants(line) {
+        return Err(Why::Syntax);
+    }
     let mut participants = Vec::new(alloc);
     let mut rest = line;
     while let Some((word, after)) = split_word(rest) {
@@ -137,9 +147,27 @@ fn participants_in(alloc: Global, line: &[u8]) -> Result<Participants, Why>
     Ok(Participants { participants })
 }
 
-fn names_in(alloc: Global, line: &[u8]) -> Result<Seq<Name>, Why>
-    ensures { Gives true result (or_syntax (one_or_more_of name_of (words line.now))) }
+/// Whether a line has words, and each of them names a participant.
+fn are_participants(line: &[u8]) -> bool
+    ensures { result ≡ is_some (one_or_more_of participant_of (words line.now)) }
 {
+    let mut rest = line;
+    while let Some((word, after)) = split_word(rest) {
+        if participant_of(word).is_none() {
+            return false;
+        }
+        rest = after;
+    }
+    split_word(line).is_some()
+}
+
+/// The names that the words of a line are. All words are looked at before one is stored.
+fn names_in(alloc: Global, line: &[u8]) -> Result<Seq<Name>, Why>
+    ensures { Answers Memory (ok_or (one_or_more_of name_of (words line.now)) Syntax) result }
+{
+    if !are_names(line) {
+        return Err(Why::Syntax);
+    }
     let mut names = Vec::new(alloc);
     let mut rest = line;
     while let Some((word, after)) = split_word(rest) {
@@ -152,9 +180,24 @@ fn names_in(alloc: Global, line: &[u8]) -> Result<Seq<Name>, Why>
     Ok(Seq::of(names))
 }
 
+/// Whether a line has words, and each of them is a name.
+fn are_names(line: &[u8]) -> bool
+    ensures { result ≡ is_some (one_or_more_of name_of (words line.now)) }
+{
+    let mut rest = line;
+    while let Some((word, after)) = split_word(rest) {
+        if name_of(word).is_none() {
+            return false;
+        }
+        rest = after;
+    }
+    split_word(line).is_some()
+}
+
 #[tactic(auto, unfolding(crate::specs::Statements::header_form))]
 fn header(line: &[u8]) -> Option<Statement>
-    ensures { result ≡ header_form (words line.now) }
+    ensures form { result ≡ header_form (words line.now) }
+    ensures keyword { IfSome result (λ statement. keyword_in statement ≡ keyword_is.Bip) }
 {
     let (version, rest) = split_word(line)?;
     match split_word(rest) {
@@ -176,7 +219,8 @@ fn only_name(line: &[u8]) -> Option<Name>
 
 #[tactic(auto, unfolding(crate::specs::Statements::trans_form))]
 fn trans(line: &[u8]) -> Option<Statement>
-    ensures { result ≡ trans_form (words line.now) }
+    ensures form { result ≡ trans_form (words line.now) }
+    ensures keyword { IfSome result (λ statement. keyword_in statement ≡ keyword_is.Trans) }
 {
     let (port, rest) = split_word(line)?;
     let (source, rest) = split_word(rest)?;
@@ -193,7 +237,8 @@ fn trans(line: &[u8]) -> Option<Statement>
 
 #[tactic(auto, unfolding(crate::specs::Statements::end_form))]
 fn end(line: &[u8]) -> Option<Statement>
-    ensures { result ≡ end_form (words line.now) }
+    ensures form { result ≡ end_form (words line.now) }
+    ensures keyword { IfSome result (λ statement. keyword_in statement ≡ keyword_is.End) }
 {
     match split_word(line) {
         None => Some(Statement::End),
@@ -205,12 +250,12 @@ fn end(line: &[u8]) -> Option<Statement>
 fn participant_of(word: &[u8]) -> Option<(Name, Name)>
     ensures { result ≡ participant_of word.now }
 {
-    let (component, port) = split_pair(word, b'.')?;
+    let (component, port) = split_pair(word, PORT_MARK)?;
     Some((name_of(component)?, name_of(port)?))
 }
 
 #[tactic(auto, unfolding(crate::specs::Statements::keyword_of))]
-fn keyword_of(word: &[u8]) -> Option<Keyword>
+pub(crate) fn keyword_of(word: &[u8]) -> Option<Keyword>
     ensures { result ≡ keyword_of word.now }
 {
     if is_text(word, b"bip") {

@@ -2,7 +2,7 @@ use Rattle.bip_reader.proofs.FaultLemmas.{text_faults}
 use Rattle.bip_reader.proofs.FirstLemmas.{first_fault, nothing_past}
 use Rattle.bip_reader.proofs.LawLemmas.{no_last_line_feed, same_meaning}
 use Rattle.bip_reader.proofs.StatementLemmas.{names_are_taken}
-use Rattle.bip_reader.proofs.texts.meaning_laws.Goals as goal
+use Rattle.bip_reader.proofs.laws.meaning_laws.Goals as goal
 
 pub returns-clause-same : goal.returns-clause-same
 returns-clause-same c = same_meaning

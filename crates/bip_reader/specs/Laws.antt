@@ -1,0 +1,82 @@
+-- What the definitions mean, in the subject's own words: laws that a reviewer reads.
+use Rattle.std.specs.Prelude.{◌≡◌, ◌⊎◌, ◌↔◌, ◌++◌, ℕ, Bool, false, true, List, [], ◌∷◌, take, Err, IsTrue, IsSome}
+use Rattle.bip_model.specs.Naming.{IsName}
+use Rattle.bip_model.specs.Parts.{IsSystem}
+use Rattle.bip_model.specs.Partitions.{AreClassesOf, IsClasses}
+use Rattle.bip_model.specs.Texts.{lines, said_in}
+use Rattle.bip_model.specs.declared.partitions.Partition.{Partition}
+use Rattle.bip_model.specs.declared.parts.System.{System}
+use Rattle.bip_reader.specs.declared.faults.ReadFault.{ReadFault}
+use Rattle.bip_reader.specs.declared.faults.Why.{Why}
+use Rattle.bip_reader.specs.declared.faults.Why.TheVariants.{PriorityCycle, Memory}
+use Rattle.bip_reader.specs.Statements.{name_of}
+use Rattle.bip_reader.specs.Texts.{HasFault, IsReached, Means, reading_of}
+
+-- a text has at most one meaning
+abbrev pub OneMeaning : Type 0
+OneMeaning =
+    (text : List ℕ) (m n : System) (c d : Partition)
+    → Means text m c → Means text n d → (m ≡ n) × (c ≡ d)
+
+-- a text has at most one fault
+abbrev pub OneFault : Type 0
+OneFault = (text : List ℕ) (f g : ReadFault) → HasFault text f → HasFault text g → f ≡ g
+
+-- a text with a meaning has no fault
+abbrev pub NoFault : Type 0
+NoFault =
+    (text : List ℕ) (m : System) (c : Partition) (f : ReadFault)
+    → Means text m c → HasFault text f → ⊥
+
+-- a text means some model with classes
+abbrev pub HasMeaning : List ℕ → Type 0
+HasMeaning text = (m : System) × (classes : Partition) × Means text m classes
+
+-- every text has a meaning or a fault
+abbrev pub MeaningOrFault : Type 0
+MeaningOrFault = (text : List ℕ) → HasMeaning text ⊎ ((fault : ReadFault) × HasFault text fault)
+
+-- what a text means is a valid model with a partition of its interactions
+abbrev pub MeansValid : Type 0
+MeansValid =
+    (text : List ℕ) (m : System) (classes : Partition) → Means text m classes
+    → IsSystem m × IsClasses classes × AreClassesOf m classes
+
+-- the faults that a text can have: it wants no memory, and a plain model has no priorities
+abbrev pub is_of_text : Why → Bool
+is_of_text PriorityCycle = false
+is_of_text Memory = false
+is_of_text why = true
+
+-- a text has only faults that a text can have
+abbrev pub TextFaults : Type 0
+TextFaults = (text : List ℕ) (fault : ReadFault) → HasFault text fault → IsTrue (is_of_text fault.why)
+
+-- the fault of a text is the first: no line before its line is at fault
+abbrev pub FirstFault : Type 0
+FirstFault = (text : List ℕ) (fault : ReadFault) → HasFault text fault → IsReached text fault.line
+
+-- what stands behind a line at fault counts for nothing: texts that begin with the same lines, down to
+-- that one, have the same fault
+abbrev pub NothingPast : Type 0
+NothingPast =
+    (a b : List ℕ) (fault : ReadFault) → reading_of a ≡ Err fault
+    → take fault.line (lines a) ≡ take fault.line (lines b) → HasFault b fault
+
+-- texts that say the same words in as many lines mean the same
+abbrev pub SameMeaning : Type 0
+SameMeaning =
+    (a b : List ℕ) → said_in a ≡ said_in b
+    → (m : System) (classes : Partition) → Means a m classes → Means b m classes
+
+-- the byte that ends a line
+abbrev pub line_feed : ℕ
+line_feed = 10
+
+-- a line feed at the end of a text says nothing
+abbrev pub NoLastLineFeed : Type 0
+NoLastLineFeed = (text : List ℕ) → said_in (text ++ line_feed ∷ []) ≡ said_in text
+
+-- a word is taken as a name exactly where it is one
+abbrev pub NamesAreTaken : Type 0
+NamesAreTaken = (word : List ℕ) → IsSome (name_of word) ↔ IsName word
