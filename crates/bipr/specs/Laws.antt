@@ -20,8 +20,8 @@ OneAnswer = (base : ℕ) (model trace : List ℕ) (a b : Answer)
 
 -- what may be answered where the two paths name these texts
 pub data IsOfTwo (asked : Request) (model trace : List ℕ) : Answer → Type 0 where
-  -- the answer of the two texts, neither of which is too long; the trace isn't read where the
-  -- model's text is none
+  -- the answer of the two texts, neither of which is too long; the trace may be where the model's
+  -- text is none
   answered : (answer : Answer) → length model ≤ most_bytes
       → (IsModelText model → length trace ≤ most_bytes)
       → IsAnswer asked.base model trace answer → IsOfTwo asked model trace answer

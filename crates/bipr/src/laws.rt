@@ -15,8 +15,8 @@ pub fn answer_laws()
 }
 
 /// Where the paths of a replay name texts that are known, what is answered is the answer of these
-/// texts, or that one of them can't be read, or want of memory (docs/DEFINITIONS.md, "The replay that
-/// is asked for").
+/// texts, or that one of them can't be read, or want of memory (docs/DEFINITIONS.md, "The replay
+/// that is asked for").
 pub fn replay_laws()
     ensures two { TwoTextsDecide }
     ensures one { OneTextDecides }

@@ -30,7 +30,7 @@ pub data IsReplay (gives : List ℕ → Result (List ℕ) InputFault → Type 0)
   of_two : (model trace : List ℕ) (answer : Answer) → is_joined asked ≡ false
       → gives asked.model.now (Ok model) → IsModelText model → gives asked.trace.now (Ok trace)
       → IsAnswer asked.base model trace answer → IsReplay gives asked answer
-  -- the text that the first path names has a fault; the second isn't read
+  -- the text that the first path names has a fault, whatever the second path names
   no_model : (model : List ℕ) (fault : ReadFault) → is_joined asked ≡ false
       → gives asked.model.now (Ok model) → HasFault model fault → fault.why ≢ Memory
       → IsReplay gives asked (complaining Refused (model_refusal fault))
