@@ -1,8 +1,8 @@
 -- Answers that were written out are those that the texts have.
 use Rattle.std.proofs.Common.{◌≡◌, ◌≢◌, ℕ, List, sym, ap, ◌∙◌, subst}
 use Rattle.bip_model.specs.declared.parts.System.{System}
-use Rattle.bip_model.specs.declared.partitions.Classes.{Classes}
-use Rattle.bip_reader.specs.Meanings.{HasFault, Means}
+use Rattle.bip_model.specs.declared.partitions.Partition.{Partition}
+use Rattle.bip_reader.specs.Texts.{HasFault, Means}
 use Rattle.bip_reader.specs.declared.faults.ReadFault.{ReadFault}
 use Rattle.bip_reader.specs.declared.faults.Why.TheVariants.{Memory}
 use Rattle.bip_replay.specs.Replays.{IsFirstFault, IsRunOf}
@@ -14,19 +14,19 @@ use Rattle.bipr.specs.Wording.{model_refusal, run_text, trace_refusal, verdict_t
 use Rattle.bipr.specs.declared.answers.Answer.{Answer}
 use Rattle.bipr.specs.declared.answers.Status.TheVariants.{Done, Refused, NotARun}
 
-pub has_answered-run : (base : ℕ) (text trace output : List ℕ) (answer : Answer) (m : System) (classes : Classes) (count : ℕ)
+pub has_answered-run : (base : ℕ) (text trace output : List ℕ) (answer : Answer) (m : System) (classes : Partition) (count : ℕ)
     → answer ≡ saying Done output → output ≡ run_text count → Means text m classes → IsRunOf m base trace count
     → IsAnswer base text trace answer
 has_answered-run base text trace output answer m classes count same written means is_run =
     subst (IsAnswer base text trace) (sym (same ∙ ap (saying Done) written)) (run m classes count means is_run)
 
-pub has_answered-not_a_run : (base : ℕ) (text trace output : List ℕ) (answer : Answer) (m : System) (classes : Classes) (number : ℕ) (fault : BookFault)
+pub has_answered-not_a_run : (base : ℕ) (text trace output : List ℕ) (answer : Answer) (m : System) (classes : Partition) (number : ℕ) (fault : BookFault)
     → answer ≡ saying NotARun output → output ≡ verdict_text m trace number fault → Means text m classes
     → IsFirstFault m base trace number (replay_fault.NotARun fault) → IsAnswer base text trace answer
 has_answered-not_a_run base text trace output answer m classes number fault same written means first =
     subst (IsAnswer base text trace) (sym (same ∙ ap (saying NotARun) written)) (not_a_run m classes number fault means first)
 
-pub has_answered-no_trace : (base : ℕ) (text trace complaint : List ℕ) (answer : Answer) (m : System) (classes : Classes) (number : ℕ) (fault : ReplayFault)
+pub has_answered-no_trace : (base : ℕ) (text trace complaint : List ℕ) (answer : Answer) (m : System) (classes : Partition) (number : ℕ) (fault : ReplayFault)
     → answer ≡ complaining Refused complaint → complaint ≡ trace_refusal number fault → Means text m classes
     → SaysNoGrant fault → IsFirstFault m base trace number fault → IsAnswer base text trace answer
 has_answered-no_trace base text trace complaint answer m classes number fault same written means none first =

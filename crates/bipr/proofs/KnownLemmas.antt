@@ -1,7 +1,8 @@
 -- The replay of texts that are known.
 use Rattle.std.proofs.Common.{◌≡◌, ◌≤◌, false, true, ℕ, List, length, Ok, subst}
 use Rattle.std.specs.Prelude.{Some}
-use Rattle.bip_reader.specs.Meanings.{HasFault, NoFault}
+use Rattle.bip_reader.specs.Laws.{NoFault}
+use Rattle.bip_reader.specs.Texts.{HasFault}
 use Rattle.bipr.specs.Answers.{IsAnswer, no_model as answers_no_model}
 use Rattle.bipr.specs.Commands.Replay as replay
 use Rattle.bipr.specs.Commands.Replay.{IsModelText, IsReplay, is_joined}

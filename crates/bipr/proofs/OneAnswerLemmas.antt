@@ -2,8 +2,9 @@
 use Rattle.std.proofs.Common.{◌≡◌, ℕ, List, length, Result, Ok, refl, sym, ap, ◌∙◌, subst}
 use Rattle.bip_model.specs.declared.grants.Grant.{Grant}
 use Rattle.bip_model.specs.declared.parts.System.{System}
-use Rattle.bip_model.specs.declared.partitions.Classes.{Classes}
-use Rattle.bip_reader.specs.Meanings.{Means, NoFault, OneFault, OneMeaning}
+use Rattle.bip_model.specs.declared.partitions.Partition.{Partition}
+use Rattle.bip_reader.specs.Laws.{NoFault, OneFault, OneMeaning}
+use Rattle.bip_reader.specs.Texts.{Means}
 use Rattle.bip_replay.specs.Replays.{IsFirstFault, IsRunOf}
 use Rattle.bip_replay.specs.Runs.{IsModelRun}
 use Rattle.bip_replay.specs.Traces.{grants_of}
@@ -30,14 +31,14 @@ one_count m base trace n k a b =
     sym a.counted ∙ ap length (same_grants (grants_of m trace) a.grants b.grants a.reads b.reads) ∙ b.counted
 
 -- no trace is a run that has a first fault
-no_both : AreExact → (m n : System) (c d : Classes) (base : ℕ) (text trace : List ℕ) (count number : ℕ) (fault : ReplayFault)
+no_both : AreExact → (m n : System) (c d : Partition) (base : ℕ) (text trace : List ℕ) (count number : ℕ) (fault : ReplayFault)
     → Means text m c → Means text n d → IsRunOf m base trace count → IsFirstFault n base trace number fault → ⊥
 no_both exact m n c d base text trace count number fault at_m at_n is_run first =
     let here : IsFirstFault m base trace number fault = subst (λ s. IsFirstFault s base trace number fault) (sym (exact.meaning text m n c d at_m at_n).0) first in
     exact.no_run m base trace number fault here is_run.grants is_run.reads is_run.run
 
 -- the first faults of one trace, of what one text means
-same_fault : AreExact → (m n : System) (c d : Classes) (base : ℕ) (text trace : List ℕ) (i k : ℕ) (f g : ReplayFault)
+same_fault : AreExact → (m n : System) (c d : Partition) (base : ℕ) (text trace : List ℕ) (i k : ℕ) (f g : ReplayFault)
     → Means text m c → Means text n d → IsFirstFault m base trace i f → IsFirstFault n base trace k g → (m ≡ n) × (i ≡ k) × (f ≡ g)
 same_fault exact m n c d base text trace i k f g at_m at_n here there =
     let same : m ≡ n = (exact.meaning text m n c d at_m at_n).0 in

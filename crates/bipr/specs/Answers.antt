@@ -1,8 +1,8 @@
 -- The answer to a replay: the one that the text of a model, the text of a trace and a base have.
 use Rattle.std.specs.Prelude.{◌≢◌, ℕ, List, [], ⊤}
 use Rattle.bip_model.specs.declared.parts.System.{System}
-use Rattle.bip_model.specs.declared.partitions.Classes.{Classes}
-use Rattle.bip_reader.specs.Meanings.{HasFault, Means}
+use Rattle.bip_model.specs.declared.partitions.Partition.{Partition}
+use Rattle.bip_reader.specs.Texts.{HasFault, Means}
 use Rattle.bip_reader.specs.declared.faults.ReadFault.{ReadFault}
 use Rattle.bip_reader.specs.declared.faults.Why.TheVariants.{Memory}
 use Rattle.bip_replay.specs.Replays.{IsFirstFault, IsRunOf}
@@ -41,14 +41,14 @@ SaysNoGrant replay_fault.Memory = ⊥
 -- the answer to the texts of a model and a trace, from a base
 pub data IsAnswer (base : ℕ) (model trace : List ℕ) : Answer → Type 0 where
   -- the grants of the trace are a run of the model
-  run : (m : System) (classes : Classes) (count : ℕ) → Means model m classes
+  run : (m : System) (classes : Partition) (count : ℕ) → Means model m classes
       → IsRunOf m base trace count → IsAnswer base model trace (saying Done (run_text count))
   -- the first line at fault has a grant that can't be next after those before it
-  not_a_run : (m : System) (classes : Classes) (number : ℕ) (fault : BookFault)
+  not_a_run : (m : System) (classes : Partition) (number : ℕ) (fault : BookFault)
       → Means model m classes → IsFirstFault m base trace number (replay_fault.NotARun fault)
       → IsAnswer base model trace (saying NotARun (verdict_text m trace number fault))
   -- the first line at fault is no grant of the model
-  no_trace : (m : System) (classes : Classes) (number : ℕ) (fault : ReplayFault)
+  no_trace : (m : System) (classes : Partition) (number : ℕ) (fault : ReplayFault)
       → Means model m classes → SaysNoGrant fault → IsFirstFault m base trace number fault
       → IsAnswer base model trace (complaining Refused (trace_refusal number fault))
   -- the model's text is none; the trace doesn't count

@@ -1,8 +1,8 @@
 //! Answers: what the program writes for the texts that it is given, and the status with which it
 //! ends.
 ghost use Rattle.std.specs.Prelude.{◌≡◌, ◌≢◌, ◌≤◌, ℕ, List, IfOk};
-ghost use Rattle.bip_model.specs.declared.partitions.Classes.{Classes};
-ghost use Rattle.bip_reader.specs.Meanings.{Means};
+ghost use Rattle.bip_model.specs.declared.partitions.Partition.{Partition};
+ghost use Rattle.bip_reader.specs.Texts.{Means};
 ghost use Rattle.bip_reader.specs.declared.faults.Why.TheVariants.{Memory};
 ghost use Rattle.bipr.specs.Answers.{IsAnswer, code_of, complaining, saying};
 ghost use Rattle.bipr.specs.CommandLine.{greatest_base};
@@ -94,7 +94,7 @@ pub fn answer_trace(
     base: Number,
 ) -> Result<Answer, AllocError>
     requires { base ≤ greatest_base }
-    ensures { IfOk result (λ answer. (text : List ℕ) (classes : Classes)
+    ensures { IfOk result (λ answer. (text : List ℕ) (classes : Partition)
         → Means text model.now classes → IsAnswer base text trace.now answer) }
 {
     match replay(alloc, model, base, trace) {

@@ -1,8 +1,8 @@
 -- What the replay may answer that a request asks for.
 use Rattle.std.specs.Prelude.{◌≡◌, ◌≢◌, ℕ, Bool, false, true, ◌&&◌, List, Result, Ok, Err}
 use Rattle.bip_model.specs.declared.parts.System.{System}
-use Rattle.bip_model.specs.declared.partitions.Classes.{Classes}
-use Rattle.bip_reader.specs.Meanings.{HasFault, Means}
+use Rattle.bip_model.specs.declared.partitions.Partition.{Partition}
+use Rattle.bip_reader.specs.Texts.{HasFault, Means}
 use Rattle.bip_reader.specs.declared.faults.ReadFault.{ReadFault}
 use Rattle.bip_reader.specs.declared.faults.Why.TheVariants.{Memory}
 use Rattle.bipr.specs.Answers.{IsAnswer, complaining}
@@ -17,7 +17,7 @@ use Rattle.bipr.specs.declared.inputs.InputFault.{InputFault}
 
 -- a text means a model
 abbrev pub IsModelText : List ℕ → Type 0
-IsModelText text = (m : System) × (classes : Classes) × Means text m classes
+IsModelText text = (m : System) × (classes : Partition) × Means text m classes
 
 -- both texts are in standard input
 abbrev pub is_joined : Request → Bool

@@ -1,7 +1,7 @@
 //! The command `replay`.
 ghost use Rattle.std.specs.Prelude.{◌≡◌, ◌≤◌, ℕ, false, true, List, Ok};
-ghost use Rattle.bip_model.specs.declared.partitions.Classes.{Classes};
-ghost use Rattle.bip_reader.specs.Meanings.{Means};
+ghost use Rattle.bip_model.specs.declared.partitions.Partition.{Partition};
+ghost use Rattle.bip_reader.specs.Texts.{Means};
 ghost use Rattle.bipr.specs.CommandLine.{greatest_base};
 ghost use Rattle.bipr.specs.Commands.Replay.{IsReplay, is_joined};
 ghost use Rattle.bipr.specs.Endings.{AllOutcomes, Ends};
@@ -95,7 +95,7 @@ fn answer_second<'a, I: Inputs>(
 ) -> Result<Answer, Stop<'a>>
     requires bound { asked.now.base ≤ greatest_base }
     requires apart { is_joined asked.now ≡ false }
-    ensures { (text : List ℕ) (classes : Classes) → I.gives inputs.now asked.now.model.now (Ok text)
+    ensures { (text : List ℕ) (classes : Partition) → I.gives inputs.now asked.now.model.now (Ok text)
         → Means text model.now classes
         → AllOutcomes result (IsReplay (I.gives inputs.now) asked.now) }
 {

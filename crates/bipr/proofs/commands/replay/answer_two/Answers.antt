@@ -1,5 +1,5 @@
 use Rattle.std.proofs.Common.{◌∙◌, ℕ, List, subst, sym}
-use Rattle.bip_reader.specs.Meanings.{HasFault}
+use Rattle.bip_reader.specs.Texts.{HasFault}
 use Rattle.bipr.specs.Commands.Replay.{IsReplay, lacking, no_model}
 use Rattle.bipr.proofs.EndingLemmas.{outcome_lacking, outcome_stopped}
 use Rattle.bipr.proofs.ReplayLemmas.{stopped_at_first}
