@@ -1,4 +1,5 @@
-//! What no clause says: traces and books worked by hand, limits at and one past, and that each call can succeed.
+//! What no clause says: traces and books worked by hand, limits at and one past, and that each call
+//! can succeed.
 mod appending;
 mod faulting;
 mod positions;
