@@ -114,14 +114,18 @@ run_or_fault m base text valid = by_answer (answer m (start_of m) (λ _. base) 1
   where
     by_answer : Answered m (start_of m) (λ _. base) 1 (lines text) → ((count : ℕ) × IsRunOf m base text count) ⊎ ((number : ℕ) × (fault : ReplayFault) × IsFirstFault m base text number fault)
     by_answer (inl to) = inl (length to.grants, record { grants = to.grants; reads = to.reads; run = to.run; counted = refl })
-    by_answer (inr at) = inr (length at.front + 1, at.fault, record {
-      front = at.front;
-      line = at.line;
-      rest = at.rest;
-      grants = at.to.grants;
-      split = at.split;
-      numbered = refl;
-      reads = at.to.reads;
-      run = at.to.run;
-      why = at.to.there;
-    })
+    by_answer (inr at) = inr (
+      length at.front + 1,
+      at.fault,
+      record {
+        front = at.front;
+        line = at.line;
+        rest = at.rest;
+        grants = at.to.grants;
+        split = at.split;
+        numbered = refl;
+        reads = at.to.reads;
+        run = at.to.run;
+        why = at.to.there;
+      },
+    )

@@ -163,7 +163,8 @@ not_parties m s g qs e rising climbing test has =
 pub may_run : (m : System) (s : State) (a : ℕ) → IsEnabled m s a → MayRun m s a
 may_run m s a enabled = record { enabled = enabled; clear = λ b above. absurd above }
 
--- a grant of an enabled interaction, no want of which is wrong and whose wants pass the test, is next
+-- a grant of an enabled interaction, no want of which is wrong and whose wants pass the test, is
+-- next
 pub next_from_tests : (m : System) (s : State) (used : ℕ → ℕ) (g : Grant) (qs : List Participant) → IsSystem m → qs ≡ participants_of m g.inter.0 → MayRun m s g.inter.0 → find (is_wrong (length m.components) used) g.wants ≡ None → (eqb (length g.wants) (length qs) && list_all is_party (zip g.wants qs)) ≡ true → IsNext m s used g
 next_from_tests m s used g qs valid e may found test =
     let parts = and_parts (eqb (length g.wants) (length qs)) (list_all is_party (zip g.wants qs)) test in

@@ -43,9 +43,10 @@ pub runs-back : (m : System) (s : State) (front : List ℕ) (a : ℕ) → IsRun 
 runs-back m s front a = (runs-pop m s front a, λ both. runs-push m s front a both.0 both.1)
 
 pub grants-back : (m : System) (base : ℕ) (gs : List Grant) (g : Grant) → IsModelRun m base (gs ++ g ∷ []) ↔ (IsModelRun m base gs × IsNext m (state_after m gs) (used_after base gs) g)
-grants-back m base gs g =
-    (λ run. (IsRunFrom-beginning m (start_of m) (λ _. base) gs (g ∷ []) run, IsRunFrom-last m (start_of m) (λ _. base) gs g run),
-    λ both. IsRunFrom-push m (start_of m) (λ _. base) gs g both.0 both.1)
+grants-back m base gs g = (
+  λ run. (IsRunFrom-beginning m (start_of m) (λ _. base) gs (g ∷ []) run, IsRunFrom-last m (start_of m) (λ _. base) gs g run),
+  λ both. IsRunFrom-push m (start_of m) (λ _. base) gs g both.0 both.1,
+)
 
 -- the grant behind a beginning is next there
 pub next_at : (m : System) (base : ℕ) (front rest : List Grant) (g : Grant) → IsModelRun m base (front ++ g ∷ rest) → IsNext m (state_after m front) (used_after base front) g

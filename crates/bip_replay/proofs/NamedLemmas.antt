@@ -1,4 +1,5 @@
--- The wants that a line names: they are few, of different components, each with a number, and one at least is moved.
+-- The wants that a line names: they are few, of different components, each with a number, and one
+-- at least is moved.
 use Rattle.std.proofs.Common.{◌≡◌, ℕ, ◌^◌, ◌<◌, ◌≤◌, Bool, true, false, cond, ◌&&◌, ◌||◌, eqb, List, [], ◌∷◌, ◌++◌, length, Option, None, Some, Ok, Err, refl, sym, ap, subst, arith, inl, inr, ◌⊎◌, length-append}
 use Rattle.std.specs.Prelude.{All, nat_lt, nat_le, codes}
 use Rattle.std.specs.List.{list_any}

@@ -117,7 +117,8 @@ behind_above f x xs c climbs at =
 climbs_behind : {X : Type 0} (f : X → ℕ) (x : X) (xs : List X) → Climbs f (x ∷ xs) → Climbs f xs
 climbs_behind f x xs climbs = λ i j d before within. climbs (suc i) (suc j) d (omega arith) (omega arith)
 
--- of two lists whose numbers rise, where each number of the one is one of the other, the first are the same
+-- of two lists whose numbers rise, where each number of the one is one of the other, the first are
+-- the same
 same_first : {X Y : Type 0} (f : X → ℕ) (g : Y → ℕ) (x : X) (xs : List X) (y : Y) (ys : List Y) → Climbs f (x ∷ xs) → Climbs g (y ∷ ys) → Has g (y ∷ ys) (f x) → Has f (x ∷ xs) (g y) → f x ≡ g y
 same_first f g x xs y ys up climbs there here =
     elim (has_cases g y ys (f x) there.0 there.1 there.2 there.3 there.4) [

@@ -1,4 +1,5 @@
--- Wants whose components rise, by their roles: put by component, the moved ones and then the seen ones are the wants again.
+-- Wants whose components rise, by their roles: put by component, the moved ones and then the seen
+-- ones are the wants again.
 use Rattle.std.proofs.Common.{◌≡◌, ◌≢◌, ℕ, suc, ◌+◌, ◌<◌, Bool, true, false, not, cond, ◌||◌, List, [], ◌∷◌, ◌++◌, length, refl, sym, ap, ◌∙◌, arith}
 use Rattle.std.specs.Prelude.{All, filter, slice_index, slice_index_or}
 use Rattle.std.specs.List.{list_any}

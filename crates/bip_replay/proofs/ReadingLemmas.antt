@@ -111,4 +111,3 @@ has_read-fault m text rest after line old new number fault so next reads = by_fa
     by_fault Syntax says = at _ says
     by_fault Unknown says = at _ says
     by_fault Memory says = memory_at m text rest after line old number says.0 so next says.1
-

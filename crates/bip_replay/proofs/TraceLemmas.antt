@@ -1,5 +1,5 @@
--- What texts of grants have in common: texts that say the same words say the same grants, a grant's line names its interaction, and each grant is one of
--- the model.
+-- What texts of grants have in common: texts that say the same words say the same grants, a grant's
+-- line names its interaction, and each grant is one of the model.
 use Rattle.std.proofs.Common.{◌≡◌, ℕ, ◌+◌, ◌<◌, Bool, true, false, cond, List, [], ◌∷◌, length, get_or, map, position, Option, None, Some, Result, Ok, Err, refl, sym, ap, ◌∙◌, subst}
 use Rattle.std.specs.Prelude.{All, filter, slice_index_or}
 use Rattle.std.specs.Option.{option_and_then, option_map, option_map_or}

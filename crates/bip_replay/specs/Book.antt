@@ -23,7 +23,8 @@ IsFaultAfter b g fault = IsFaultAt (standing_after b.model b.base b.grants) g fa
 abbrev pub IsRunWith : Content → Grant → Type 0
 IsRunWith b g = IsModelRun b.model b.base (b.grants ++ g ∷ [])
 
--- why a grant wasn't appended: want of memory, where the longer list is a run, or else the grant's fault
+-- why a grant wasn't appended: want of memory, where the longer list is a run, or else the grant's
+-- fault
 abbrev pub IsAppendFault : Content → Grant → BookFault → Type 0
 IsAppendFault b g NotEnabled = IsFaultAfter b g step.NotEnabled
 IsAppendFault b g (Below a) = IsFaultAfter b g (step.Below a)

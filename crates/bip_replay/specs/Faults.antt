@@ -30,16 +30,19 @@ pub record IsLowestWrong (m : System) (used : ℕ → ℕ) (wants : List Want) (
 
 -- each want whose component the model has is that of its next move
 abbrev pub KnownAreRight : System → (ℕ → ℕ) → List Want → Type 0
-KnownAreRight m used wants = All (λ (w : Want). w.comp.0 < length m.components → HasNextNumber used w) wants
+KnownAreRight m used wants =
+    All (λ (w : Want). w.comp.0 < length m.components → HasNextNumber used w) wants
 
 -- the fault of a grant in a state, after the used numbers: the first of these that applies; its
--- interaction isn't enabled, or it is and may not run, or it may; a plain model has none below another
+-- interaction isn't enabled, or it is and may not run, or it may; a plain model has none below
+-- another
 abbrev pub IsFaultOf : System → State → (ℕ → ℕ) → Grant → StepFault → Type 0
 IsFaultOf m s used g NotEnabled = ¬ IsEnabled m s g.inter.0
 IsFaultOf m s used g (Below b) = IsEnabled m s g.inter.0 × IsLowestAbove m s g.inter.0 b.0
 IsFaultOf m s used g (Number c expected) =
     MayRun m s g.inter.0 × IsLowestWrong m used g.wants c.0 × (expected ≡ expected_after (used c.0))
-IsFaultOf m s used g Parties = MayRun m s g.inter.0 × KnownAreRight m used g.wants × ¬ HasItsParties m s g
+IsFaultOf m s used g Parties =
+    MayRun m s g.inter.0 × KnownAreRight m used g.wants × ¬ HasItsParties m s g
 
 -- why a grant can't come next
 abbrev pub IsFaultAt : Standing → Grant → StepFault → Type 0
@@ -72,7 +75,8 @@ number_of_book book.Memory = 5
 abbrev pub text_of_book : BookFault → List ℕ
 text_of_book book.NotEnabled = codes "not enabled"
 text_of_book (book.Below b) = codes "below interaction " ++ decimal b.0
-text_of_book (book.Number c expected) = codes "component " ++ (decimal c.0 ++ (codes " expected " ++ decimal expected))
+text_of_book (book.Number c expected) =
+    codes "component " ++ (decimal c.0 ++ (codes " expected " ++ decimal expected))
 text_of_book book.Parties = codes "parties"
 text_of_book book.Memory = codes "no memory"
 

@@ -47,20 +47,21 @@ abbrev pub GrantsFromTheBack : Type 0
 GrantsFromTheBack =
     (m : System) (base : ℕ) (gs : List Grant) (g : Grant)
     → IsModelRun m base (gs ++ g ∷ [])
-      ↔ (IsModelRun m base gs × IsNext m (state_after m gs) (used_after base gs) g)
+    ↔ (IsModelRun m base gs × IsNext m (state_after m gs) (used_after base gs) g)
 
 -- the beginning of a run is a run
 abbrev pub BeginningsAreRuns : Type 0
 BeginningsAreRuns =
-    (m : System) (base : ℕ) (gs hs : List Grant) → IsModelRun m base (gs ++ hs) → IsModelRun m base gs
+    (m : System) (base : ℕ) (gs hs : List Grant)
+    → IsModelRun m base (gs ++ hs) → IsModelRun m base gs
 
 -- each grant of a run is a next step after those before it, and where each is, the grants are a run
 abbrev pub RunsStepByStep : Type 0
 RunsStepByStep =
     (m : System) (base : ℕ) (gs : List Grant)
     → IsModelRun m base gs
-      ↔ ((front rest : List Grant) (g : Grant) → gs ≡ front ++ g ∷ rest
-         → IsNext m (state_after m front) (used_after base front) g)
+    ↔ ((front rest : List Grant) (g : Grant) → gs ≡ front ++ g ∷ rest
+    → IsNext m (state_after m front) (used_after base front) g)
 
 -- the interactions of a run of grants are a run of the model
 abbrev pub StepsAreARun : Type 0
@@ -132,7 +133,7 @@ abbrev pub IsRunOrFaulty : Type 0
 IsRunOrFaulty =
     (m : System) (base : ℕ) (text : List ℕ) → IsSystem m
     → ((count : ℕ) × IsRunOf m base text count)
-      ⊎ ((number : ℕ) × (fault : ReplayFault) × IsFirstFault m base text number fault)
+    ⊎ ((number : ℕ) × (fault : ReplayFault) × IsFirstFault m base text number fault)
 
 -- texts that say the same words in as many lines are the same grants
 abbrev pub SameGrants : Type 0

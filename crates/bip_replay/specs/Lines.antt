@@ -6,6 +6,7 @@ use Rattle.bip_model.specs.Naming.{is_name, same_text}
 use Rattle.bip_model.specs.Texts.{number_of, pair_of, words_said}
 use Rattle.bip_model.specs.Wants.{is_moved}
 use Rattle.bip_model.specs.declared.grants.Grant.{Grant}
+use Rattle.bip_model.specs.declared.wants.TheConstants.{MOST_WANTS}
 use Rattle.bip_model.specs.declared.wants.Role.TheVariants.{Moved, Seen}
 use Rattle.bip_model.specs.declared.wants.Role.{Role}
 use Rattle.bip_model.specs.declared.wants.Want.{Want}
@@ -19,32 +20,49 @@ pub record NamedGrant : Type 0 where
   pub inter : List ℕ
   pub wants : List NamedWant
 
+-- what parts a component from its number in a word
+abbrev pub colon : ℕ
+colon = 58
+
+-- a name and a number, as a want
+abbrev pub want_of : Role → List ℕ × List ℕ → Option NamedWant
+want_of role parts =
+    if is_name parts.0
+    then option_map (λ n. record { name = parts.0; number = n; role = role }) (number_of parts.1)
+    else None
+
 -- `C:N`: a component and its number
 abbrev pub want_said : Role → List ℕ → Option NamedWant
-want_said role word =
-    option_and_then (λ parts. if is_name parts.0 then option_map (λ n. record { name = parts.0; number = n; role = role }) (number_of parts.1) else None) (pair_of 58 word)
+want_said role word = option_and_then (want_of role) (pair_of colon word)
 
 -- whether a component is named among wants
 abbrev pub is_named : List ℕ → List NamedWant → Bool
 is_named name wants = list_any (λ (w : NamedWant). same_text name w.name) wants
 
--- a want after others: no component stands twice, and there are at most 32
+-- a want after others: no component stands twice, and they aren't too many
 abbrev pub with_want : List NamedWant → NamedWant → Option (List NamedWant)
-with_want before w = if is_named w.name before || nat_le 32 (length before) then None else Some (before ++ w ∷ [])
+with_want before w =
+    if is_named w.name before || nat_le MOST_WANTS (length before) then None
+    else Some (before ++ w ∷ [])
 
--- what stands behind the interaction, after the wants of the words before: `C:N C:N ..`, one at least, and then perhaps `see` with one or more that are only looked at
+-- what stands behind the interaction, after the wants of the words before: `C:N C:N ..`, one at
+-- least, and then perhaps `see` with one or more that are only looked at
 abbrev pub wants_said : Role → List NamedWant → List (List ℕ) → Option (List NamedWant)
 wants_said role before [] = if length before == 0 then None else Some before
 wants_said role before (word ∷ rest) =
-    if is_moved role && same_text word (codes "see") then (if (length before == 0) || (length rest == 0) then None else wants_said Seen before rest)
-    else option_and_then (λ wants. wants_said role wants rest) (option_and_then (with_want before) (want_said role word))
+    if is_moved role && same_text word (codes "see")
+    then (if (length before == 0) || (length rest == 0) then None else wants_said Seen before rest)
+    else option_and_then (λ wants. wants_said role wants rest)
+    (option_and_then (with_want before) (want_said role word))
 
 -- `grant INTER C:N C:N .. [see C:N ..]`; a line without words says nothing
 abbrev pub said : List (List ℕ) → Result (Option NamedGrant) LineFault
 said [] = Ok None
 said (word ∷ []) = Err Syntax
 said (word ∷ inter ∷ rest) =
-    if same_text word (codes "grant") && is_name inter then option_map_or (λ wants. Ok (Some (record { inter = inter; wants = wants }))) (wants_said Moved [] rest) (Err Syntax)
+    if same_text word (codes "grant") && is_name inter
+    then option_map_or (λ wants. Ok (Some (record { inter = inter; wants = wants })))
+    (wants_said Moved [] rest) (Err Syntax)
     else Err Syntax
 
 -- what a line says, by names
@@ -56,21 +74,29 @@ abbrev pub put_in_order : Want → List Want → List Want
 put_in_order w [] = w ∷ []
 put_in_order w (v ∷ vs) = if nat_lt w.comp.0 v.comp.0 then w ∷ v ∷ vs else v ∷ put_in_order w vs
 
--- wants by the numbers of their components, by component, put among those before; none where a component isn't known
+-- a named want, of the component with this number
+abbrev pub numbered_want : ℕ → NamedWant → Want
+numbered_want c w = record { comp = record { 0 = c }; number = w.number; role = w.role }
+
+-- wants by the numbers of their components, by component, put among those before; none where a
+-- component isn't known
 abbrev pub wants_known : List (List ℕ) → List Want → List NamedWant → Option (List Want)
 wants_known names before [] = Some before
 wants_known names before (w ∷ ws) =
-    option_and_then (λ c. wants_known names (put_in_order (record { comp = record { 0 = c }; number = w.number; role = w.role }) before) ws)
+    option_and_then (λ c. wants_known names (put_in_order (numbered_want c w) before) ws)
     (position (same_text w.name) names)
 
 -- the grant that a line names, of a model; none where the model lacks one of its names
 abbrev pub known : System → NamedGrant → Option Grant
 known m g =
-    option_and_then (λ a. option_map (λ wants. record { inter = record { 0 = a }; wants = wants }) (wants_known m.component_names [] g.wants))
+    option_and_then
+    (λ a. option_map (λ wants. record { inter = record { 0 = a }; wants = wants })
+    (wants_known m.component_names [] g.wants))
     (position (same_text g.inter) m.interaction_names)
 
 -- what is said by names, as a grant of a model
-abbrev pub looked_up : System → Result (Option NamedGrant) LineFault → Result (Option Grant) LineFault
+abbrev pub looked_up :
+    System → Result (Option NamedGrant) LineFault → Result (Option Grant) LineFault
 looked_up m (Err fault) = Err fault
 looked_up m (Ok None) = Ok None
 looked_up m (Ok (Some g)) = option_map_or (λ h. Ok (Some h)) (known m g) (Err Unknown)

@@ -14,7 +14,8 @@ use Rattle.bip_replay.specs.declared.faults.ReplayFault.{ReplayFault}
 use Rattle.bip_replay.specs.declared.faults.StepFault.{StepFault}
 
 -- the line reads as a grant with this fault in a state, after the used numbers
-pub record IsRefused (m : System) (s : State) (used : ℕ → ℕ) (line : List ℕ) (fault : StepFault) : Type 0 where
+pub record IsRefused
+    (m : System) (s : State) (used : ℕ → ℕ) (line : List ℕ) (fault : StepFault) : Type 0 where
   pub grant : Grant
   pub reads : grant_on m line ≡ Ok (Some grant)
   pub why : IsFaultOf m s used grant fault
@@ -23,11 +24,14 @@ pub record IsRefused (m : System) (s : State) (used : ℕ → ℕ) (line : List 
 abbrev pub IsLineFault : System → State → (ℕ → ℕ) → List ℕ → ReplayFault → Type 0
 IsLineFault m s used line Syntax = grant_on m line ≡ Err line_fault.Syntax
 IsLineFault m s used line Unknown = grant_on m line ≡ Err line_fault.Unknown
-IsLineFault m s used line (NotARun why) = (fault : StepFault) × (why ≡ of_step fault) × IsRefused m s used line fault
+IsLineFault m s used line (NotARun why) =
+    (fault : StepFault) × (why ≡ of_step fault) × IsRefused m s used line fault
 IsLineFault m s used line Memory = ⊥
 
--- the first fault of a trace: the lines before read as grants that are a run, and the line with this number is at fault after them
-pub record IsFirstFault (m : System) (base : ℕ) (text : List ℕ) (number : ℕ) (fault : ReplayFault) : Type 0 where
+-- the first fault of a trace: the lines before read as grants that are a run, and the line with
+-- this number is at fault after them
+pub record IsFirstFault
+    (m : System) (base : ℕ) (text : List ℕ) (number : ℕ) (fault : ReplayFault) : Type 0 where
   pub front : List (List ℕ)
   pub line : List ℕ
   pub rest : List (List ℕ)

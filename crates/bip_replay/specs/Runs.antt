@@ -1,5 +1,5 @@
--- Runs of a model with exact numbers: which grant may come next, what a list of grants leads to, and
--- where a run stands.
+-- Runs of a model with exact numbers: which grant may come next, what a list of grants leads to,
+-- and where a run stands.
 use Rattle.std.specs.Prelude.{All, Any, IsTrue, List, [], map, slice_index_or, ℕ, ⊤, ◌+◌, ◌↔◌, ◌∷◌, ◌≡◌, ◌≤◌}
 use Rattle.bip_model.specs.Grants.{used_by}
 use Rattle.bip_model.specs.States.{State, state_of}
@@ -25,11 +25,13 @@ pub record HasNextNumber (used : ℕ → ℕ) (w : Want) : Type 0 where
 abbrev pub IsWanted : Role → List Want → ℕ → Type 0
 IsWanted role wants c = Any (λ (w : Want). (w.comp.0 ≡ c) × (w.role ≡ role)) wants
 
--- an interaction looks at a component in a state; a plain model has no priorities, and looks at none
+-- an interaction looks at a component in a state; a plain model has no priorities, and looks at
+-- none
 abbrev pub IsLookedAt : System → State → ℕ → ℕ → Type 0
 IsLookedAt m s a c = ⊥
 
--- a grant moves just the components that its interaction moves, and sees just those that it looks at
+-- a grant moves just the components that its interaction moves, and sees just those that it looks
+-- at
 pub record HasItsParties (m : System) (s : State) (g : Grant) : Type 0 where
   pub moved : (c : ℕ) → IsWanted Moved g.wants c ↔ IsTrue (moves m g.inter.0 c)
   pub seen : (c : ℕ) → IsWanted Seen g.wants c ↔ IsLookedAt m s g.inter.0 c
@@ -43,7 +45,8 @@ pub record IsNext (m : System) (s : State) (used : ℕ → ℕ) (g : Grant) : Ty
 -- grants, each of which may come next where those before it lead
 abbrev pub IsRunFrom : System → State → (ℕ → ℕ) → List Grant → Type 0
 IsRunFrom m s used [] = ⊤
-IsRunFrom m s used (g ∷ gs) = IsNext m s used g × IsRunFrom m (after m s g.inter.0) (raised used g.wants) gs
+IsRunFrom m s used (g ∷ gs) =
+    IsNext m s used g × IsRunFrom m (after m s g.inter.0) (raised used g.wants) gs
 
 -- grants that are a run of the model from its start, with exact numbers above a base
 abbrev pub IsModelRun : System → ℕ → List Grant → Type 0
@@ -78,7 +81,12 @@ pub record Kept : Type 0 where
 -- where a run stands by what is kept; a component that isn't kept has used nothing above the base
 abbrev pub standing_of : Kept → Standing
 standing_of p =
-    record { model = p.model; base = p.base; state = state_of p.places; used = λ c. slice_index_or p.used c p.base }
+    record {
+      model = p.model;
+      base = p.base;
+      state = state_of p.places;
+      used = λ c. slice_index_or p.used c p.base;
+    }
 
 -- where grants lead from the model's start
 abbrev pub standing_after : System → ℕ → List Grant → Standing

@@ -10,13 +10,16 @@ use Rattle.bip_replay.specs.declared.faults.TraceFault.TheVariants.{Memory, Synt
 use Rattle.bip_replay.specs.declared.faults.TraceFault.{TraceFault}
 
 -- what a line says, before what the lines after it say: its fault, or its grant and theirs
-abbrev pub before_rest : ℕ → Result (Option Grant) LineFault → Result (List Grant) (ℕ × LineFault) → Result (List Grant) (ℕ × LineFault)
+abbrev pub before_rest :
+    ℕ → Result (Option Grant) LineFault → Result (List Grant) (ℕ × LineFault)
+    → Result (List Grant) (ℕ × LineFault)
 before_rest n (Err fault) rest = Err (n, fault)
 before_rest n (Ok None) rest = rest
 before_rest n (Ok (Some g)) (Ok gs) = Ok (g ∷ gs)
 before_rest n (Ok (Some g)) (Err e) = Err e
 
--- the grants of lines that are numbered from a number on, or the number and the fault of the first line at fault
+-- the grants of lines that are numbered from a number on, or the number and the fault of the first
+-- line at fault
 abbrev pub grants_from : System → ℕ → List (List ℕ) → Result (List Grant) (ℕ × LineFault)
 grants_from m n [] = Ok []
 grants_from m n (line ∷ rest) = before_rest n (grant_on m line) (grants_from m (n + 1) rest)

@@ -1,4 +1,5 @@
--- The one spelling of traces: moved components, then the seen ones, each by component; one space between words, and a line feed after each line.
+-- The one spelling of traces: moved components, then the seen ones, each by component; one space
+-- between words, and a line feed after each line.
 use Rattle.std.specs.Fmt.{decimal}
 use Rattle.std.specs.List.{flat_map, list_any}
 use Rattle.std.specs.Prelude.{All, Bool, IsTrue, List, Ok, Some, [], codes, filter, if◌then◌else◌, length, map, not, slice_index_or, ℕ, ◌++◌, ◌<◌, ◌^◌, ◌∷◌, ◌≡◌}
@@ -10,7 +11,7 @@ use Rattle.bip_model.specs.declared.wants.Role.TheVariants.{Moved, Seen}
 use Rattle.bip_model.specs.declared.wants.Role.{Role}
 use Rattle.bip_model.specs.declared.wants.Want.{Want}
 use Rattle.bip_model.specs.declared.parts.System.{System}
-use Rattle.bip_replay.specs.Lines.{grant_on}
+use Rattle.bip_replay.specs.Lines.{colon, grant_on}
 
 -- a grant of a model: the model has its interaction and its components
 pub record IsGrantOf (m : System) (g : Grant) : Type 0 where
@@ -23,7 +24,7 @@ name_in names n = slice_index_or names n []
 
 -- `C:N`
 abbrev pub want_word : System → Want → List ℕ
-want_word m w = name_in m.component_names w.comp.0 ++ 58 ∷ decimal w.number
+want_word m w = name_in m.component_names w.comp.0 ++ colon ∷ decimal w.number
 
 -- whether a want has a role
 abbrev pub has_role : Role → Want → Bool
@@ -36,15 +37,23 @@ want_words m role wants = map (want_word m) (filter (has_role role) wants)
 
 -- `see C:N ..`, where a component is seen
 abbrev pub seen_words : System → List Want → List (List ℕ)
-seen_words m wants = if list_any (has_role Seen) wants then codes "see" ∷ want_words m Seen wants else []
+seen_words m wants =
+    if list_any (has_role Seen) wants then codes "see" ∷ want_words m Seen wants else []
 
 -- what stands behind the word `grant`
 abbrev pub words_behind : System → Grant → List (List ℕ)
-words_behind m g = name_in m.interaction_names g.inter.0 ∷ (want_words m Moved g.wants ++ seen_words m g.wants)
+words_behind m g =
+    name_in m.interaction_names g.inter.0 ∷ (want_words m Moved g.wants ++ seen_words m g.wants)
+
+abbrev pub space : ℕ
+space = 32
+
+abbrev pub line_feed : ℕ
+line_feed = 10
 
 -- a word behind a space
 abbrev pub spaced : List ℕ → List ℕ
-spaced word = 32 ∷ word
+spaced word = space ∷ word
 
 -- the line of a grant, without its line feed
 abbrev pub bare_line : System → Grant → List ℕ
@@ -52,7 +61,7 @@ bare_line m g = codes "grant" ++ flat_map spaced (words_behind m g)
 
 -- the same, with its line feed
 abbrev pub line_of : System → Grant → List ℕ
-line_of m g = bare_line m g ++ 10 ∷ []
+line_of m g = bare_line m g ++ line_feed ∷ []
 
 -- the text of grants
 abbrev pub text_of : System → List Grant → List ℕ

@@ -1,17 +1,17 @@
 //! The book of a run: its grants, with the position to which they lead.
-ghost use Rattle.std.specs.Prelude.{◌≡◌, ◌≤◌, [], ◌∷◌, ◌++◌, length, IfOk, IfErr, OnOk, OnErr};
+ghost use Rattle.std.specs.Prelude.{◌≡◌, ◌<◌, [], ◌∷◌, ◌++◌, length, IfOk, IfErr, OnOk, OnErr};
 ghost use Rattle.bip_replay.specs.Book.{IsRunWith, IsAppendFault};
 ghost use Rattle.bip_replay.specs.declared.faults.BookFault.TheVariants.{Memory};
-ghost use Rattle.bip_replay.specs.Runs.{IsModelRun};
+ghost use Rattle.bip_replay.specs.Runs.{IsModelRun, last_number};
 
 use crate::{BookFault, GrantRef, Position};
 use bip_model::{Grant, Model, Number};
 use std::alloc::{AllocError, Global};
 use std::marker;
 
-/// The grants of a run with exact numbers, and where they lead: whatever a book holds is a run of its model from
-/// the model's start (docs/DEFINITIONS.md, "Runs with exact numbers"). Contracts see the model, the base of the
-/// numbers and the grants.
+/// The grants of a run with exact numbers, and where they lead: whatever a book holds is a run of
+/// its model from the model's start (docs/DEFINITIONS.md, "Runs with exact numbers"). Contracts see
+/// the model, the base of the numbers and the grants.
 #[derive(Drop)]
 pub struct Book<'m> {
     position: Position<'m>,
@@ -24,7 +24,11 @@ impl<'m> marker::Model for Book<'m> {
 
     ghost Value = { Content };
 
-    ghost view = { λ b. record { model = b.position.model; base = b.position.base; grants = b.grants.items } };
+    ghost view = { λ b. record {
+      model = b.position.model;
+      base = b.position.base;
+      grants = b.grants.items;
+    } };
 
     ghost invariant = { λ b. StandsAfter b.position.model b.position.base b.grants.items (standing_of b.position) };
 }
@@ -32,7 +36,7 @@ impl<'m> marker::Model for Book<'m> {
 impl<'m> Book<'m> {
     /// The book of the empty run above a base.
     pub fn start(alloc: Global, model: &'m Model, base: Number) -> Result<Book<'m>, AllocError>
-        requires { base ≤ 18446744073709551614 }
+        requires { base < last_number }
         ensures { IfOk result (λ book. book ≡ record { model = model.now; base = base; grants = [] }) }
     {
         let position = Position::start(alloc, model, base)?;
@@ -51,9 +55,9 @@ impl<'m> Book<'m> {
         self.grants.as_slice()
     }
 
-    /// Appends a grant that can be next, and says how many stood before. Any other grant is refused with its fault,
-    /// and the book stays as it was; so it does without memory, which is asked for last. Nothing else keeps a grant
-    /// out that can be next.
+    /// Appends a grant that can be next, and says how many stood before. Any other grant is refused
+    /// with its fault, and the book stays as it was; so it does without memory, which is asked for
+    /// last. Nothing else keeps a grant out that can be next.
     pub fn append(&mut self, grant: Grant) -> Result<u64, BookFault>
         ensures count { IfOk result (λ before. before ≡ length self.old.grants) }
         ensures ok { OnOk result (self.new ≡ record self.old { grants = self.old.grants ++ grant ∷ [] }) }

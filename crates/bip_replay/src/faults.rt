@@ -11,13 +11,14 @@ use thiserror::Error;
 pub enum StepFault {
     /// A participant's port is not offered, or the model has no such interaction.
     NotEnabled,
-    /// This interaction, the lowest-numbered one, is above it and enabled. It never comes of a plain model, which
-    /// has no priorities.
+    /// This interaction, the lowest-numbered one, is above it and enabled. It never comes of a
+    /// plain model, which has no priorities.
     Below(InterId),
-    /// The lowest component of the model whose number isn't the one that its next move has, and that number; 0
-    /// where the component is spent.
+    /// The lowest component of the model whose number isn't the one that its next move has, and
+    /// that number; 0 where the component is spent.
     Number(CompId, Number),
-    /// The moved wants aren't the participants, or the seen ones aren't what the interaction looks at.
+    /// The moved wants aren't the participants, or the seen ones aren't what the interaction looks
+    /// at.
     Parties,
 }
 
@@ -55,13 +56,14 @@ impl StepFault {
 pub enum BookFault {
     /// A participant's port is not offered, or the model has no such interaction.
     NotEnabled,
-    /// This interaction, the lowest-numbered one, is above it and enabled. It never comes of a plain model, which
-    /// has no priorities.
+    /// This interaction, the lowest-numbered one, is above it and enabled. It never comes of a
+    /// plain model, which has no priorities.
     Below(InterId),
-    /// The lowest component of the model whose number isn't the one that its next move has, and that number; 0
-    /// where the component is spent.
+    /// The lowest component of the model whose number isn't the one that its next move has, and
+    /// that number; 0 where the component is spent.
     Number(CompId, Number),
-    /// The moved wants aren't the participants, or the seen ones aren't what the interaction looks at.
+    /// The moved wants aren't the participants, or the seen ones aren't what the interaction looks
+    /// at.
     Parties,
     /// Want of memory.
     Memory,

@@ -5,8 +5,8 @@ ghost use Rattle.bip_model.specs.Wants.{IsWants};
 use bip_model::{Grant, InterId, Want};
 use std::marker::Model;
 
-/// A grant whose wants stand elsewhere: an interaction, and a slice of wants that can be those of one grant
-/// (docs/DEFINITIONS.md, "Wants"). Contracts see the grant.
+/// A grant whose wants stand elsewhere: an interaction, and a slice of wants that can be those of
+/// one grant (docs/DEFINITIONS.md, "Wants"). Contracts see the grant.
 #[derive(Drop)]
 pub struct GrantRef<'w> {
     inter: InterId,

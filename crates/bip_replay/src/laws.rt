@@ -3,10 +3,10 @@ ghost use Rattle.bip_replay.specs.Laws.{AreOfModel, AtMostOneFault, AtMostOneFir
 
 use bip_model::history_laws;
 
-/// Runs from the back: a run goes on by each grant that can be next where it leads, and by no other.
-/// Each grant of a run is a next step after those before it. The k-th move of a component has the
-/// base and k as its number. A run is a history, and moves no component twice with one number
-/// (docs/DEFINITIONS.md, "Runs with exact numbers").
+/// Runs from the back: a run goes on by each grant that can be next where it leads, and by no
+/// other. Each grant of a run is a next step after those before it. The k-th move of a component
+/// has the base and k as its number. A run is a history, and moves no component twice with one
+/// number (docs/DEFINITIONS.md, "Runs with exact numbers").
 pub fn run_laws()
     ensures ends { EndsFromTheBack }
     ensures runs { RunsFromTheBack }
@@ -25,8 +25,8 @@ pub fn run_laws()
 }
 
 /// Faults are exact: a grant with a fault can't be next, and a trace with a first fault isn't the
-/// trace of a run. A grant has one fault at most, and a trace one first fault. And there is always an
-/// answer: a grant can be next or has a fault, a trace is that of a run or has a first fault
+/// trace of a run. A grant has one fault at most, and a trace one first fault. And there is always
+/// an answer: a grant can be next or has a fault, a trace is that of a run or has a first fault
 /// (docs/DEFINITIONS.md, "Why a grant can't be next" and "The first fault of a trace").
 pub fn fault_laws()
     ensures refused { FaultsAreExact }

@@ -42,8 +42,12 @@ fn blank() -> Name {
     }
 }
 
-/// The interaction that a line names, with its wants in the room for them; none of a line that says nothing.
-pub(crate) fn read_line(named: &mut ArrayVec<NamedWant, MOST_WANTS>, line: &[u8]) -> Result<Option<Name>, LineFault>
+/// The interaction that a line names, with its wants in the room for them; none of a line that says
+/// nothing.
+pub(crate) fn read_line(
+    named: &mut ArrayVec<NamedWant, MOST_WANTS>,
+    line: &[u8],
+) -> Result<Option<Name>, LineFault>
     ensures said { as_said result named.new.items ≡ named_on line.now }
 {
     if !is_plain(line) {
@@ -104,7 +108,8 @@ fn read_wants(named: &mut ArrayVec<NamedWant, MOST_WANTS>, line: &[u8]) -> bool
 
 // The want of a word, put last; where it hasn't its form or can't stand there, the answer is no.
 fn read_want(named: &mut ArrayVec<NamedWant, MOST_WANTS>, role: Role, word: &[u8]) -> bool
-    ensures said { option_and_then (with_want named.old.items) (want_said role word.now) ≡ (if result then Some named.new.items else None) }
+    ensures said { option_and_then (with_want named.old.items) (want_said role word.now)
+        ≡ (if result then Some named.new.items else None) }
 {
     match parse_want(role, word) {
         Some(want) => add_want(named, want),
@@ -124,7 +129,7 @@ fn add_want(named: &mut ArrayVec<NamedWant, MOST_WANTS>, want: NamedWant) -> boo
 
 // Whether a component can join: it doesn't stand among these, and they aren't too many.
 fn has_room_for(named: &[NamedWant], name: &Name) -> bool
-    ensures { result ≡ not (is_named name.now named.now || nat_le 32 (length named.now)) }
+    ensures { result ≡ not (is_named name.now named.now || nat_le MOST_WANTS (length named.now)) }
 {
     !(is_named(named, name) || named.len() >= MOST_WANTS)
 }
@@ -150,11 +155,16 @@ fn name_of(text: &[u8]) -> Option<Name>
     Name::of(text)
 }
 
-/// The wants by the numbers of their components, by component, in the room for them; where the model lacks a
-/// component, the answer is no.
-pub(crate) fn look_up(wants: &mut ArrayVec<Want, MOST_WANTS>, model: &Model, named: &[NamedWant]) -> bool
+/// The wants by the numbers of their components, by component, in the room for them; where the
+/// model lacks a component, the answer is no.
+pub(crate) fn look_up(
+    wants: &mut ArrayVec<Want, MOST_WANTS>,
+    model: &Model,
+    named: &[NamedWant],
+) -> bool
     requires { length named.now ≤ MOST_WANTS }
-    ensures known { wants_known model.now.component_names [] named.now ≡ (if result then Some wants.new.items else None) }
+    ensures known { wants_known model.now.component_names [] named.now
+        ≡ (if result then Some wants.new.items else None) }
 {
     wants.clear();
     for want in named {

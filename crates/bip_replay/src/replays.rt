@@ -1,6 +1,6 @@
 //! Replaying a trace: whether the grants of a text are a run of a model.
-ghost use Rattle.std.specs.Prelude.{◌≤◌, ℕ, IfOk, IfErr};
-ghost use Rattle.bip_replay.specs.Runs.{standing_of};
+ghost use Rattle.std.specs.Prelude.{◌<◌, ℕ, IfOk, IfErr};
+ghost use Rattle.bip_replay.specs.Runs.{last_number, standing_of};
 ghost use Rattle.bip_replay.specs.Private.{Takes};
 ghost use Rattle.bip_replay.specs.Replays.{IsReplayFault, IsRunOf};
 
@@ -9,17 +9,18 @@ use crate::{Position, ReplayFault};
 use bip_model::{Model, Number, split_line};
 use std::alloc::Global;
 
-/// Reads and checks a trace line by line: how many grants it has where they are a run of the model with exact
-/// numbers above a base, or else the number of the first line at fault with its fault; what follows that line doesn't
-/// count (docs/DEFINITIONS.md, "Traces"). Its memory doesn't grow with the trace: it takes some at the start, and
-/// want of it is told of line 1, unless that line has a fault of its own.
+/// Reads and checks a trace line by line: how many grants it has where they are a run of the model
+/// with exact numbers above a base, or else the number of the first line at fault with its fault;
+/// what follows that line doesn't count (docs/DEFINITIONS.md, "Traces"). Its memory doesn't grow
+/// with the trace: it takes some at the start, and want of it is told of line 1, unless that line
+/// has a fault of its own.
 pub fn replay(
     alloc: Global,
     model: &Model,
     base: Number,
     text: &[u8],
 ) -> Result<u64, (u64, ReplayFault)>
-    requires { base ≤ 18446744073709551614 }
+    requires { base < last_number }
     ensures run { IfOk result (λ count. IsRunOf model.now base text.now count) }
     ensures fault { IfErr result (λ e. IsReplayFault model.now base text.now e.0 e.1) }
 {
@@ -45,7 +46,8 @@ pub fn replay(
     Ok(count)
 }
 
-// What is told of line 1 where there is no memory to start with: its own fault, if the line has one.
+// What is told of line 1 where there is no memory to start with: its own fault, if the line has
+// one.
 fn told_without_memory(room: &mut Room, model: &Model, text: &[u8]) -> ReplayFault
     ensures { (base : ℕ) → IsReplayFault model.now base text.now 1 result }
 {
@@ -60,11 +62,7 @@ fn told_without_memory(room: &mut Room, model: &Model, text: &[u8]) -> ReplayFau
 }
 
 // Goes on by the grant of a line: whether it has one, or why the trace stops there.
-fn take_line(
-    position: &mut Position<'_>,
-    room: &mut Room,
-    line: &[u8],
-) -> Result<bool, ReplayFault>
+fn take_line(position: &mut Position<'_>, room: &mut Room, line: &[u8]) -> Result<bool, ReplayFault>
     ensures { Takes (standing_of position.old) line.now result (standing_of position.new) }
 {
     let Some(grant) = room.read(position.model(), line)? else {

@@ -8,7 +8,8 @@ use crate::lines::{NamedWant, look_up, read_line};
 use arrayvec::ArrayVec;
 use bip_model::{MOST_WANTS, Model, Want};
 
-/// Room for the wants of a line, used again for each line. It is kept in place, and takes no memory.
+/// Room for the wants of a line, used again for each line. It is kept in place, and takes no
+/// memory.
 #[derive(Drop)]
 pub(crate) struct Room {
     named: ArrayVec<NamedWant, MOST_WANTS>,

@@ -1,20 +1,20 @@
 //! A position in a run: the state and the used numbers to which grants lead, without the grants.
-ghost use Rattle.std.specs.Prelude.{◌≡◌, ◌≤◌, ◌<◌, ◌&&◌, ◌==◌, ℕ, [], All, length, slice_index_or, find, max, if◌then◌else◌, IsTrue, IfOk, IfErr, OnOk, OnErr};
+ghost use Rattle.std.specs.Prelude.{◌≡◌, ◌<◌, ℕ, [], length, find, IsTrue, IfOk, IfErr, OnOk, OnErr};
 ghost use Rattle.std.specs.List.{list_all, zip};
 ghost use Rattle.std.specs.List.Sorted.{IsStrictlyIncreasing};
 ghost use Rattle.bip_model.specs.Wants.{components_of, is_moved, raised};
 ghost use Rattle.bip_model.specs.declared.wants.Want.{Want};
-ghost use Rattle.bip_replay.specs.Private.{is_party};
-ghost use Rattle.bip_replay.specs.Runs.{StandsAfter, standing_of};
+ghost use Rattle.bip_replay.specs.Private.{AreMovedWithin, are_parties, is_party, used_in, used_up};
+ghost use Rattle.bip_replay.specs.Runs.{StandsAfter, last_number, standing_of};
 
 use crate::{GrantRef, StepFault};
 use bip_model::{CompId, Model, Number, PortId, Role, Seq, State, Want};
 use std::alloc::{AllocError, Global};
 use std::marker;
 
-/// A position in a run of a model: the state, and for each component its used number. Its next move has one more,
-/// or it is spent. It keeps no grants (docs/DEFINITIONS.md, "Runs with exact numbers"). Contracts see where the run
-/// stands.
+/// A position in a run of a model: the state, and for each component its used number. Its next move
+/// has one more, or it is spent. It keeps no grants (docs/DEFINITIONS.md, "Runs with exact
+/// numbers"). Contracts see where the run stands.
 #[derive(Drop)]
 pub struct Position<'m> {
     model: &'m Model,
@@ -39,12 +39,8 @@ impl<'m> Position<'m> {
     ghost use Rattle.bip_replay.specs.Runs.{IsNextAt, standing_on};
 
     /// The position of the empty run above a base.
-    pub fn start(
-        alloc: Global,
-        model: &'m Model,
-        base: Number,
-    ) -> Result<Position<'m>, AllocError>
-        requires { base ≤ 18446744073709551614 }
+    pub fn start(alloc: Global, model: &'m Model, base: Number) -> Result<Position<'m>, AllocError>
+        requires { base < last_number }
         ensures { IfOk result (λ p. StandsAfter model.now base [] (standing_of p)) }
     {
         let state = model.start(alloc)?;
@@ -71,7 +67,8 @@ impl<'m> Position<'m> {
         self.base
     }
 
-    /// Goes on by a grant that can be next; any other is refused with its fault, and the position stays.
+    /// Goes on by a grant that can be next; any other is refused with its fault, and the position
+    /// stays.
     pub fn step(&mut self, grant: &GrantRef<'_>) -> Result<(), StepFault>
         ensures next { OnOk result (IsNextAt (standing_of self.old) grant.now) }
         ensures on { OnOk result (standing_of self.new ≡ standing_on (standing_of self.old) grant.now) }
@@ -118,7 +115,8 @@ impl<'m> Position<'m> {
     ghost use Rattle.bip_replay.specs.Faults.{expected_after};
     ghost use Rattle.bip_replay.specs.Private.{has_next_number, is_wrong};
 
-    /// The first want of one of so many components whose number isn't the one that its next move has.
+    /// The first want of one of so many components whose number isn't the one that its next move
+    /// has.
     fn first_wrong(&self, known: usize, wants: &[Want]) -> Option<Want>
         ensures { result ≡ find (is_wrong known (standing_of self.now).used) wants.now }
     {
@@ -154,8 +152,8 @@ impl<'m> Position<'m> {
 /// Uses up the numbers of the wants that move their components.
 fn use_up(used: &mut Seq<Number>, wants: &[Want])
     requires rising { IsStrictlyIncreasing (components_of wants.now) }
-    requires known { All (λ (w : Want). IsTrue (is_moved w.role) → w.comp.0 < length used.old) wants.now }
-    ensures used { (base c : ℕ) → slice_index_or used.new c base ≡ raised (λ d. slice_index_or used.old d base) wants.now c }
+    requires known { AreMovedWithin (length used.old) wants.now }
+    ensures used { (base c : ℕ) → used_in used.new base c ≡ raised (used_in used.old base) wants.now c }
     ensures counted { length used.new ≡ length used.old }
 {
     for want in wants {
@@ -165,7 +163,7 @@ fn use_up(used: &mut Seq<Number>, wants: &[Want])
 
 fn use_one(used: &mut Seq<Number>, want: Want)
     requires { IsTrue (is_moved want.role) → want.comp.0 < length used.old }
-    ensures used { (base c : ℕ) → slice_index_or used.new c base ≡ (if (want.comp.0 == c) && is_moved want.role then max (slice_index_or used.old c base) want.number else slice_index_or used.old c base) }
+    ensures used { (base c : ℕ) → used_in used.new base c ≡ used_up want (used_in used.old base) c }
     ensures counted { length used.new ≡ length used.old }
 {
     if want.role == Role::Moved {
@@ -176,7 +174,7 @@ fn use_one(used: &mut Seq<Number>, want: Want)
 }
 
 fn are_parties(wants: &[Want], participants: &[(CompId, PortId)]) -> bool
-    ensures { result ≡ ((length wants.now == length participants.now) && list_all is_party (zip wants.now participants.now)) }
+    ensures { result ≡ are_parties wants.now participants.now }
 {
     wants.len() == participants.len() && move_these(wants, participants)
 }

@@ -4,14 +4,14 @@ ghost use Rattle.bip_replay.specs.Private.{Reads};
 ghost use Rattle.bip_replay.specs.Traces.{IsTraceFault, grants_of};
 ghost use Rattle.bip_replay.specs.Laws.{AreOfModel, NamesItsInteraction, SameGrants};
 
-use crate::rooms::Room;
 use crate::TraceFault;
+use crate::rooms::Room;
 use bip_model::{Grant, Model, Wants, split_line};
 use std::alloc::Global;
 
-/// The grants of a trace of a model, or the number of the first line at fault with its fault; what follows that line
-/// doesn't count. Want of memory names a line that isn't at fault, and none before it is (docs/DEFINITIONS.md,
-/// "Traces").
+/// The grants of a trace of a model, or the number of the first line at fault with its fault; what
+/// follows that line doesn't count. Want of memory names a line that isn't at fault, and none
+/// before it is (docs/DEFINITIONS.md, "Traces").
 pub fn read_trace(
     alloc: Global,
     model: &Model,

@@ -10,8 +10,9 @@ use bip_model::{Grant, Model, Role, Want};
 use itoa::Buffer;
 use std::alloc::{AllocError, Global};
 
-/// The text of grants of a model: a line for each, its moved components and then those that are only looked at, each by
-/// component. It reads back as the same grants (docs/DEFINITIONS.md, "Traces").
+/// The text of grants of a model: a line for each, its moved components and then those that are
+/// only looked at, each by component. It reads back as the same grants (docs/DEFINITIONS.md,
+/// "Traces").
 pub fn write_trace(alloc: Global, model: &Model, grants: &[Grant]) -> Result<Vec<u8>, AllocError>
     requires { All (IsGrantOf model.now) grants.now }
     ensures text { IfOk result (λ text. text.items ≡ text_of model.now grants.now) }
@@ -40,7 +41,8 @@ fn write_line(text: &mut Vec<u8>, model: &Model, grant: &Grant) -> Result<(), Al
 
 fn write_seen(text: &mut Vec<u8>, model: &Model, wants: &[Want]) -> Result<(), AllocError>
     requires { All (λ (w : Want). w.comp.0 < length model.now.component_names) wants.now }
-    ensures { OnOk result (text.new.items ≡ text.old.items ++ flat_map spaced (seen_words model.now wants.now)) }
+    ensures { OnOk result
+        (text.new.items ≡ text.old.items ++ flat_map spaced (seen_words model.now wants.now)) }
 {
     if look(wants) {
         write_word(text, b"see")?;
@@ -62,7 +64,8 @@ fn write_wants(
     role: Role,
 ) -> Result<(), AllocError>
     requires { All (λ (w : Want). w.comp.0 < length model.now.component_names) wants.now }
-    ensures text { OnOk result (text.new.items ≡ text.old.items ++ flat_map spaced (want_words model.now role wants.now)) }
+    ensures text { OnOk result
+        (text.new.items ≡ text.old.items ++ flat_map spaced (want_words model.now role wants.now)) }
     ensures spelled { OnOk result (All (IsSpelled model.now) wants.now) }
 {
     for want in wants {
@@ -73,7 +76,9 @@ fn write_wants(
 
 fn write_want(text: &mut Vec<u8>, model: &Model, want: &Want, role: Role) -> Result<(), AllocError>
     requires { want.now.comp.0 < length model.now.component_names }
-    ensures text { OnOk result (text.new.items ≡ text.old.items ++ flat_map spaced (want_words model.now role (want.now ∷ []))) }
+    ensures text { OnOk result
+        (text.new.items
+        ≡ text.old.items ++ flat_map spaced (want_words model.now role (want.now ∷ []))) }
     ensures spelled { IsSpelled model.now want.now }
 {
     let Want { comp, number, .. } = *want;

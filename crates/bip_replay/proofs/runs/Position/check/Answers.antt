@@ -7,19 +7,21 @@ use Rattle.bip_replay.proofs.runs.Position.check.Goals as goal
 pub returns-in-Some-clause-fault : goal.returns-in-Some-clause-fault
 returns-in-Some-clause-fault c =
     let found = sym (rw (← c.self.view_is) at (rw c.wants-wants.ensures.wants at c.in-Some.ensures)) in
-    rw (← c.self.view_is)
-    (may_run _ _ _ (rw c.inter-inter.ensures at (c.if-not-enabled.ensures.0 refl)),
-    lowest_wrong c.self.inside.model.now (λ k. slice_index_or c.self.inside.used k c.self.inside.base) c.args.grant.now.wants c.in-Some.want c.wants-wants.ensures.valid.rising (rw (← c.components.ensures.components) found),
-    rw (← c.self.view_is) at c.expected.ensures)
+    rw (← c.self.view_is) (
+      may_run _ _ _ (rw c.inter-inter.ensures at (c.if-not-enabled.ensures.0 refl)),
+      lowest_wrong c.self.inside.model.now (λ k. slice_index_or c.self.inside.used k c.self.inside.base) c.args.grant.now.wants c.in-Some.want c.wants-wants.ensures.valid.rising (rw (← c.components.ensures.components) found),
+      rw (← c.self.view_is) at c.expected.ensures,
+    )
 
 pub returns-then-not-are_parties-clause-fault : goal.returns-then-not-are_parties-clause-fault
 returns-then-not-are_parties-clause-fault c =
     let none = sym (rw (← c.self.view_is) at (rw c.wants-wants.ensures.wants at c.in_default.ensures)) in
-    rw (← c.self.view_is)
-    (may_run _ _ _ (rw c.inter-inter.ensures at (c.if-not-enabled.ensures.0 refl)),
-    none_wrong c.self.inside.model.now (λ k. slice_index_or c.self.inside.used k c.self.inside.base) c.args.grant.now.wants (rw (← c.components.ensures.components) none),
-    not_parties c.self.inside.model.now (state_of c.self.inside.state) c.args.grant.now c.participants.result.now (rw c.inter-inter.ensures at c.participants.ensures.participants) c.wants-wants.ensures.valid.rising c.participants.ensures.rising
-    (sym (rw c.wants-wants.ensures.wants at c.if-not-are_parties.ensures)))
+    rw (← c.self.view_is) (
+      may_run _ _ _ (rw c.inter-inter.ensures at (c.if-not-enabled.ensures.0 refl)),
+      none_wrong c.self.inside.model.now (λ k. slice_index_or c.self.inside.used k c.self.inside.base) c.args.grant.now.wants (rw (← c.components.ensures.components) none),
+      not_parties c.self.inside.model.now (state_of c.self.inside.state) c.args.grant.now c.participants.result.now (rw c.inter-inter.ensures at c.participants.ensures.participants) c.wants-wants.ensures.valid.rising c.participants.ensures.rising
+          (sym (rw c.wants-wants.ensures.wants at c.if-not-are_parties.ensures)),
+    )
 
 pub returns-clause-next : goal.returns-clause-next
 returns-clause-next c =
