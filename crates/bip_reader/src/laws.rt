@@ -13,6 +13,8 @@ pub fn meaning_laws()
     ensures meaning { OneMeaning }
     ensures fault { OneFault }
     ensures either { NoFault }
+    ensures some { MeaningOrFault }
+    ensures valid { MeansValid }
     ensures whys { TextFaults }
     ensures first { FirstFault }
     ensures past { NothingPast }
