@@ -1,4 +1,5 @@
 pub mod AnswerLemmas
+pub mod DecisionLemmas
 pub mod FaultLemmas
 pub mod FirstLemmas
 pub mod LawLemmas
@@ -6,3 +7,4 @@ pub mod MeaningLemmas
 pub mod ReadingLemmas
 pub mod StatementLemmas
 pub mod TextLemmas
+pub mod ValidLemmas

@@ -50,14 +50,15 @@ is_of_text why = true
 
 -- a text has only faults that a text can have
 abbrev pub TextFaults : Type 0
-TextFaults = (text : List ℕ) (fault : ReadFault) → HasFault text fault → IsTrue (is_of_text fault.why)
+TextFaults =
+    (text : List ℕ) (fault : ReadFault) → HasFault text fault → IsTrue (is_of_text fault.why)
 
 -- the fault of a text is the first: no line before its line is at fault
 abbrev pub FirstFault : Type 0
 FirstFault = (text : List ℕ) (fault : ReadFault) → HasFault text fault → IsReached text fault.line
 
--- what stands behind a line at fault counts for nothing: texts that begin with the same lines, down to
--- that one, have the same fault
+-- what stands behind a line at fault counts for nothing: texts that begin with the same lines,
+-- down to that one, have the same fault
 abbrev pub NothingPast : Type 0
 NothingPast =
     (a b : List ℕ) (fault : ReadFault) → reading_of a ≡ Err fault

@@ -1,6 +1,6 @@
 -- What the lines of a model's text say, one after another.
 use Rattle.std.specs.Prelude.{◌≢◌, ℕ, ◌+◌, ◌++◌, Bool, false, true, IsTrue, not, nat_le, List, [], ◌∷◌, length, Option, None, Some, Result, Ok, Err, is_some, option_and_then, position, unwrap_or, if◌then◌else◌}
-use Rattle.std.specs.List.{list_any}
+use Rattle.std.specs.List.{list_all, list_any}
 use Rattle.std.specs.Option.{ok_or, option_map, option_map_or}
 use Rattle.bip_model.specs.Drafts.{component_line, empty_draft, end_line, inside, interaction_line, loc_line, port_line, trans_line}
 use Rattle.bip_model.specs.Naming.{same_text}
@@ -38,6 +38,14 @@ abbrev pub interaction_named : Draft → List ℕ → Option InterId
 interaction_named d name =
     option_map (λ n. record { 0 = n }) (position (same_text name) d.system.interaction_names)
 
+-- whether each name is that of an interaction
+abbrev pub are_interactions : Reading → List (List ℕ) → Bool
+are_interactions r names = list_all (λ name. is_some (interaction_named (draft_of r) name)) names
+
+-- the numbers of interactions, by their names
+abbrev pub interactions_named : Reading → List (List ℕ) → Result (List InterId) Why
+interactions_named r names = ok_or (each_of (interaction_named (draft_of r)) names) Unknown
+
 -- the class joins those of a reading
 abbrev pub with_class : List ℕ → List InterId → Reading → Result Reading Why
 with_class name numbers r =
@@ -48,8 +56,7 @@ with_class name numbers r =
 unfoldable pub class_line : List ℕ → List (List ℕ) → Reading → Result Reading Why
 class_line name interactions r =
     if list_any (λ class. same_text name class.0) r.classes then Err Twice
-    else ok_or (each_of (interaction_named (draft_of r)) interactions) Unknown
-    >>= λ numbers. with_class name numbers r
+    else interactions_named r interactions >>= λ numbers. with_class name numbers r
 
 -- what a statement says to the draft; `bip 1` and a class say nothing to it
 abbrev pub draft_with : Statement → Draft → Result Draft BuildFault
@@ -121,8 +128,8 @@ reading_after_lines n [] r = Ok r
 reading_after_lines n (line ∷ rest) r =
     at_line n (reading_after line r) >>= reading_after_lines (n + 1) rest
 
--- a fault that want of memory may hide at its line: none of syntax, so the line has its form and its
--- place; and it lists words, which are stored before they are looked up
+-- a fault that want of memory may hide at its line: none of syntax, so the line has its form and
+-- its place; and it lists words, which are stored before they are looked up
 pub record MayBeHidden (line : List ℕ) (why : Why) : Type 0 where
   pub meaning : why ≢ Syntax
   pub listing : IsTrue (lists_words (words line))

@@ -110,7 +110,8 @@ class_form (word ∷ rest) = do
   interactions ← one_or_more_of name_of rest
   Some (Class name interactions)
 
--- what a line states that begins with a keyword, by the words that follow; none where they lack its form
+-- what a line states that begins with a keyword, by the words that follow; none where they lack
+-- its form
 abbrev pub statement_of : Keyword → List (List ℕ) → Option Statement
 statement_of keyword.Bip rest = header_form rest
 statement_of keyword.Component rest = option_map Component (one_name rest)

@@ -27,7 +27,7 @@ IsWholeReading r = IsSomeAnd r.builder IsWhole
 abbrev pub system_of : Reading → System
 system_of r = (draft_of r).system
 
--- lists of a model's interactions that part them: each interaction stands in exactly one of them, once
+-- lists of a model's interactions that part them: each stands in exactly one of them, once
 abbrev pub IsParted : System → ClassList → Type 0
 IsParted m list =
     IsPartition (λ (c : List ℕ × List InterId). c.0) (λ c. c.1) (length m.interactions) list
@@ -40,8 +40,8 @@ classes_of m list = record {
   members = map (λ c. in_order (length m.interactions) c.1) list;
 }
 
--- a reading declares a model with classes: it is whole, no interaction stands above itself, the lists
--- part the interactions, and the classes are those lists in order
+-- a reading declares a model with classes: it is whole, no interaction stands above itself, the
+-- lists part the interactions, and the classes are those lists in order
 pub record Declares (r : Reading) (m : System) (classes : Partition) : Type 0 where
   pub whole : IsWholeReading r
   pub model : m ≡ system_of r
@@ -85,8 +85,8 @@ pub record IsReached (text : List ℕ) (line : ℕ) : Type 0 where
   pub last : line ≤ last_line text
   pub clear : IsOk (reading_down_to (line - 1) text)
 
--- memory may be wanting at a line: reading comes to it, and a fault of the line itself is one that may
--- be hidden
+-- memory may be wanting at a line: reading comes to it, and a fault of the line itself is one that
+-- may be hidden
 pub record MayLackMemory (text : List ℕ) (line : ℕ) : Type 0 where
   pub reached : IsReached text line
   pub hidden : (fault : ReadFault) → reading_down_to line text ≡ Err fault

@@ -19,7 +19,8 @@ pub enum Why {
     Twice,
     /// A limit would be passed.
     TooMany,
-    /// A component without a location or without an end, or a text without its first line or without a component.
+    /// A component without a location or without an end, or a text without its first line or
+    /// without a component.
     Missing,
     /// A second transition for a location and a port.
     TwoTransitions,
@@ -111,8 +112,8 @@ impl<T: Drop> From<AllocFailed<T>> for Why {
     }
 }
 
-/// The first fault of a text, with the number of its line. Lines are counted from 1, and what a text lacks as a whole is a
-/// fault of its last line.
+/// The first fault of a text, with the number of its line. Lines are counted from 1, and what a text
+/// lacks as a whole is a fault of its last line.
 #[derive(Clone, Copy, Debug, Error, PartialEq, Eq)]
 pub struct ReadFault {
     pub line: u64,

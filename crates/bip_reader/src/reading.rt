@@ -1,6 +1,7 @@
 //! Reading the text of a model, line after line.
-ghost use Rattle.std.specs.Prelude.{◌≡◌, ◌≢◌, ◌∷◌, ◌++◌, [], ◌==◌, ◌||◌, is_some, length, map, true, Err, IfErr, IfOk, OnOk, IsTrue};
-ghost use Rattle.std.specs.List.{list_all, list_any};
+ghost use Rattle.std.specs.Prelude.{◌≡◌, ◌≢◌, ◌∷◌, ◌++◌, [], ◌==◌, ◌||◌, length, map, true};
+ghost use Rattle.std.specs.Prelude.{Err, IfErr, IfOk, OnOk, IsTrue};
+ghost use Rattle.std.specs.List.{list_any};
 ghost use Rattle.std.specs.Option.{ok_or};
 ghost use Rattle.bip_model.specs.Naming.{same_text};
 ghost use Rattle.bip_model.specs.Outcomes.{Answers, new_or_fault};
@@ -8,11 +9,12 @@ ghost use Rattle.bip_model.specs.Steps.{IsCyclic};
 ghost use Rattle.bip_model.specs.Texts.{is_comment, words};
 ghost use Rattle.bip_model.specs.declared.faults.BuildFault.TheVariants as build_fault;
 ghost use Rattle.bip_reader.specs.declared.faults.Why.{Why};
-ghost use Rattle.bip_reader.specs.declared.faults.Why.TheVariants.{Memory, Syntax, Unknown};
-ghost use Rattle.bip_reader.specs.Reading.{MayBeHidden, can_follow, class_line, draft_of, draft_with};
-ghost use Rattle.bip_reader.specs.Reading.{empty_reading, has_place, interaction_named, reading_after};
+ghost use Rattle.bip_reader.specs.declared.faults.Why.TheVariants.{Memory, Syntax};
+ghost use Rattle.bip_reader.specs.Reading.{MayBeHidden, are_interactions, can_follow, class_line};
+ghost use Rattle.bip_reader.specs.Reading.{draft_of, draft_with, empty_reading, has_place};
+ghost use Rattle.bip_reader.specs.Reading.{interaction_named, interactions_named, reading_after};
 ghost use Rattle.bip_reader.specs.Reading.{reading_with, statement_in};
-ghost use Rattle.bip_reader.specs.Statements.{each_of, keyword_in, lists_words};
+ghost use Rattle.bip_reader.specs.Statements.{keyword_in, lists_words};
 ghost use Rattle.bip_reader.specs.Texts.{IsFaultAtEnd, IsWholeReading, system_of};
 
 use crate::Why;
@@ -26,7 +28,8 @@ use std::marker;
 /// The byte that begins a comment.
 const COMMENT_MARK: u8 = b'#';
 
-/// Classes as a text names them, each a name with numbers of interactions. Contracts see the list of them.
+/// Classes as a text names them, each a name with numbers of interactions. Contracts see the list
+/// of them.
 #[derive(Drop)]
 pub(crate) struct ClassLines {
     classes: Vec<(Name, Vec<InterId>)>,
@@ -76,8 +79,8 @@ impl ClassLines {
     }
 }
 
-/// What the lines so far have said: what the builder made of those behind `bip 1`, none where that hasn't
-/// stood, and the classes.
+/// What the lines so far have said: what the builder made of those behind `bip 1`, none where that
+/// hasn't stood, and the classes.
 #[derive(Drop)]
 pub(crate) struct Reading {
     builder: Option<Builder>,
@@ -95,12 +98,13 @@ impl Reading {
         }
     }
 
-    /// Reads one more line. Want of memory hides no fault of its syntax, which is told before anything is
-    /// stored, and another one only where it lists words.
+    /// Reads one more line. Want of memory hides no fault of its syntax, which is told before
+    /// anything is stored, and another one only where it lists words.
     pub(crate) fn read_line(&mut self, alloc: Global, line: &[u8]) -> Result<(), Why>
-        ensures said { result ≢ Err Memory → reading_after line.now self.old ≡ new_or_fault result self.new }
-        ensures memory { result ≡ Err Memory → (why : Why) → reading_after line.now self.old ≡ Err why
-            → MayBeHidden line.now why }
+        ensures said { result ≢ Err Memory
+            → reading_after line.now self.old ≡ new_or_fault result self.new }
+        ensures memory { result ≡ Err Memory
+            → (why : Why) → reading_after line.now self.old ≡ Err why → MayBeHidden line.now why }
     {
         if !is_plain(line) {
             return Err(Why::Syntax);
@@ -112,11 +116,12 @@ impl Reading {
         self.take(alloc, statement)
     }
 
-    /// What a line states in its place. Syntax: it has no form, or no place now; memory comes only where
-    /// it has both, and lists words.
+    /// What a line states in its place. Syntax: it has no form, or no place now; memory comes only
+    /// where it has both, and lists words.
     fn statement_in(&self, alloc: Global, line: &[u8]) -> Result<Statement, Why>
-        ensures said { Answers Memory (ok_or (statement_in (words line.now) self.now) Syntax) result }
-        ensures place { IfOk result (λ statement. IsTrue (has_place (keyword_in statement) self.now)) }
+        ensures said { let said = statement_in (words line.now) self.now
+            in Answers Memory (ok_or said Syntax) result }
+        ensures place { IfOk result (λ s. IsTrue (has_place (keyword_in s) self.now)) }
         ensures memory { result ≡ Err Memory → IsTrue (lists_words (words line.now)) }
     {
         let Some((word, rest)) = split_word(line) else {
@@ -163,7 +168,8 @@ impl Reading {
 
     #[tactic(auto, unfolding(crate::specs::Reading::class_line))]
     fn class(&mut self, alloc: Global, name: Name, interactions: &[Name]) -> Result<(), Why>
-        ensures { Answers Memory (class_line name interactions.now self.old) (new_or_fault result self.new) }
+        ensures { let said = class_line name interactions.now self.old
+            in Answers Memory said (new_or_fault result self.new) }
     {
         if self.classes.contains(&name) {
             return Err(Why::Twice);
@@ -181,7 +187,7 @@ impl Reading {
 
     /// Whether each name is that of an interaction, which takes no memory.
     fn are_interactions(&self, names: &[Name]) -> bool
-        ensures { result ≡ list_all (λ name. is_some (interaction_named (draft_of self.now) name)) names.now }
+        ensures { result ≡ are_interactions self.now names.now }
     {
         names
             .iter()
@@ -189,8 +195,8 @@ impl Reading {
     }
 
     fn interaction_numbers(&self, alloc: Global, names: &[Name]) -> Result<Seq<InterId>, Why>
-        requires { list_all (λ name. is_some (interaction_named (draft_of self.now) name)) names.now ≡ true }
-        ensures { Answers Memory (ok_or (each_of (interaction_named (draft_of self.now)) names.now) Unknown) result }
+        requires { are_interactions self.now names.now ≡ true }
+        ensures { Answers Memory (interactions_named self.now names.now) result }
     {
         let mut numbers = Vec::new(alloc);
         for name in names {
@@ -241,7 +247,8 @@ fn can_follow(builder: &Builder, keyword: Keyword) -> bool
 /// Gives the builder a statement in its place.
 fn build(builder: &mut Builder, statement: Statement) -> Result<(), BuildFault>
     requires { IsTrue (can_follow (keyword_in statement) builder.old) }
-    ensures { Answers build_fault.Memory (draft_with statement builder.old) (new_or_fault result builder.new) }
+    ensures { let said = draft_with statement builder.old
+        in Answers build_fault.Memory said (new_or_fault result builder.new) }
 {
     match statement {
         Statement::Component(name) => builder.component(name),

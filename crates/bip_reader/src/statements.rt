@@ -79,8 +79,8 @@ pub(crate) enum Statement {
     },
 }
 
-/// What a line with this keyword states, by the words that follow. Syntax: they lack its form; memory
-/// comes only where they have it, and the line lists words.
+/// What a line with this keyword states, by the words that follow. Syntax: they lack its form;
+/// memory comes only where they have it, and the line lists words.
 pub(crate) fn read_statement(alloc: Global, keyword: Keyword, line: &[u8]) -> Result<Statement, Why>
     ensures said { Answers Memory (ok_or (statement_of keyword (words line.now)) Syntax) result }
     ensures keyword { IfOk result (λ statement. keyword_in statement ≡ keyword) }
@@ -130,7 +130,8 @@ fn class(alloc: Global, line: &[u8]) -> Result<Statement, Why>
 
 /// The participants that the words of a line name. All words are looked at before one is stored.
 fn participants_in(alloc: Global, line: &[u8]) -> Result<Participants, Why>
-    ensures { Answers Memory (ok_or (one_or_more_of participant_of (words line.now)) Syntax) result }
+    ensures { let said = one_or_more_of participant_of (words line.now)
+        in Answers Memory (ok_or said Syntax) result }
 {
     if !are_participants(line) {
         return Err(Why::Syntax);

@@ -12,11 +12,12 @@ use crate::{ReadFault, Why};
 use bip_model::{Classes, Model, split_line};
 use std::alloc::Global;
 
-/// The model and the classes that a text means, or its first fault: the one of the lowest line, and of a
-/// line the first by the order of faults (docs/DEFINITIONS.md, "Model texts"). Nothing is read past a
-/// fault. Want of memory names the line that was being read, the last one for what is made at the end,
-/// and comes only where no line before it has a fault. It hides no fault of syntax of its own line, and
-/// another one only where that lists words; and at the last line what the text lacks as a whole.
+/// The model and the classes that a text means, or its first fault: the one of the lowest line, and
+/// of a line the first by the order of faults (docs/DEFINITIONS.md, "Model texts"). Nothing is read
+/// past a fault. Want of memory names the line that was being read, the last one for what is made at
+/// the end, and comes only where no line before it has a fault. It hides no fault of syntax of its
+/// own line, and another one only where that lists words; and at the last line what the text lacks
+/// as a whole.
 pub fn read_model(alloc: Global, text: &[u8]) -> Result<(Model, Classes), ReadFault>
     // What is read is meant.
     ensures model { IfOk result (λ read. Means text.now read.0 read.1) }
@@ -24,7 +25,7 @@ pub fn read_model(alloc: Global, text: &[u8]) -> Result<(Model, Classes), ReadFa
     ensures only { (m : System) (c : Partition) → Means text.now m c
         → MatchResult result (λ read. (read.0 ≡ m) × (read.1 ≡ c)) (λ fault. fault.why ≡ Memory) }
     ensures fault { IfErr result (λ fault. fault.why ≢ Memory → HasFault text.now fault) }
-    ensures memory { IfErr result (λ fault. fault.why ≡ Memory → MayLackMemory text.now fault.line) }
+    ensures memory { IfErr result (λ f. f.why ≡ Memory → MayLackMemory text.now f.line) }
 {
     read_text(alloc, text)
 }
@@ -33,7 +34,7 @@ pub fn read_model(alloc: Global, text: &[u8]) -> Result<(Model, Classes), ReadFa
 fn read_text(alloc: Global, text: &[u8]) -> Result<(Model, Classes), ReadFault>
     ensures model { IfOk result (λ read. Means text.now read.0 read.1) }
     ensures fault { IfErr result (λ fault. fault.why ≢ Memory → HasFault text.now fault) }
-    ensures memory { IfErr result (λ fault. fault.why ≡ Memory → MayLackMemory text.now fault.line) }
+    ensures memory { IfErr result (λ f. f.why ≡ Memory → MayLackMemory text.now f.line) }
 {
     let (reading, line) = read_lines(alloc, text)?;
     match declared_by(alloc, reading) {
@@ -56,7 +57,8 @@ fn declared_by(alloc: Global, reading: Reading) -> Result<(Model, Classes), Why>
 fn classes_of(alloc: Global, model: &Model, listed: ClassLines) -> Result<Classes, Why>
     ensures parted { OnOk result (IsParted model.now listed) }
     ensures ordered { IfOk result (λ made. made ≡ classes_of model.now listed) }
-    ensures fault { IfErr result (λ why. why ≢ Memory → (why ≡ NotAPartition) × ¬ IsParted model.now listed) }
+    ensures fault { IfErr result (λ why. why ≢ Memory
+        → (why ≡ NotAPartition) × ¬ IsParted model.now listed) }
 {
     match Classes::of(alloc, model, listed.into_vec()) {
         Ok(classes) => Ok(classes),
@@ -69,7 +71,7 @@ fn read_lines(alloc: Global, text: &[u8]) -> Result<(Reading, u64), ReadFault>
     ensures said { IfOk result (λ read. reading_of text.now ≡ Ok read.0) }
     ensures last { IfOk result (λ read. read.1 ≡ last_line text.now) }
     ensures fault { IfErr result (λ fault. fault.why ≢ Memory → reading_of text.now ≡ Err fault) }
-    ensures memory { IfErr result (λ fault. fault.why ≡ Memory → MayLackMemory text.now fault.line) }
+    ensures memory { IfErr result (λ f. f.why ≡ Memory → MayLackMemory text.now f.line) }
 {
     let mut reading = Reading::new(alloc);
     let mut rest = text;

@@ -1,3 +1,5 @@
+use Rattle.bip_reader.proofs.DecisionLemmas.{meaning_or_fault}
+use Rattle.bip_reader.proofs.ValidLemmas.{means_valid}
 use Rattle.bip_reader.proofs.FaultLemmas.{text_faults}
 use Rattle.bip_reader.proofs.FirstLemmas.{first_fault, nothing_past}
 use Rattle.bip_reader.proofs.LawLemmas.{no_last_line_feed, same_meaning}
@@ -21,3 +23,9 @@ returns-clause-past c = nothing_past
 
 pub returns-clause-names : goal.returns-clause-names
 returns-clause-names c = names_are_taken
+
+pub returns-clause-some : goal.returns-clause-some
+returns-clause-some c = meaning_or_fault
+
+pub returns-clause-valid : goal.returns-clause-valid
+returns-clause-valid c = means_valid
