@@ -4,4 +4,5 @@ pub mod KnownLemmas
 pub mod MarkLemmas
 pub mod OneAnswerLemmas
 pub mod ReplayLemmas
+pub mod SomeAnswerLemmas
 pub mod StreamLemmas

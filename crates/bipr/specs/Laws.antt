@@ -18,6 +18,11 @@ abbrev pub OneAnswer : Type 0
 OneAnswer = (base : ℕ) (model trace : List ℕ) (a b : Answer)
     → IsAnswer base model trace a → IsAnswer base model trace b → a ≡ b
 
+-- every two texts and base have an answer
+abbrev pub SomeAnswer : Type 0
+SomeAnswer = (base : ℕ) (model trace : List ℕ)
+    → (answer : Answer) × IsAnswer base model trace answer
+
 -- what may be answered where the two paths name these texts
 pub data IsOfTwo (asked : Request) (model trace : List ℕ) : Answer → Type 0 where
   -- the answer of the two texts, neither of which is too long; the trace may be where the model's
