@@ -27,7 +27,8 @@ abbrev pub no_component : Component
 no_component = record { locations = []; ports = []; transitions = [] }
 
 abbrev pub no_system : System
-no_system = record { component_names = []; components = []; interaction_names = []; interactions = [] }
+no_system =
+    record { component_names = []; components = []; interaction_names = []; interactions = [] }
 
 -- nothing has been said yet
 abbrev pub empty_draft : Draft

@@ -146,8 +146,8 @@ abbrev pub times_parted : {C : Type 0} → (C → List InterId) → List C → �
 times_parted members classes a = sum_by (λ c. times_in (members c) a) classes
 
 -- an interaction stands in no class, or in two, or twice in one
-pub record IsMisplaced {C : Type 0} (members : C → List InterId) (count : ℕ) (classes : List C) (a : ℕ)
-    : Type 0 where
+pub record IsMisplaced {C : Type 0} (members : C → List InterId) (count : ℕ) (classes : List C)
+    (a : ℕ) : Type 0 where
   pub known : a < count
   pub times : (times_parted members classes a ≡ 0) ⊎ (1 < times_parted members classes a)
 
@@ -165,12 +165,14 @@ pub record IsInOrder (count : ℕ) (class ordered : List InterId) : Type 0 where
   pub rising : IsStrictlyIncreasing (numbers_in ordered)
   pub members : (a : ℕ) → a < count → times_in ordered a ≡ min 1 (times_in class a)
 
--- the participants that words name: they rise by component, are as many as the words, and have ports
+-- the participants that words name: they rise by component, are as many as the words, and each word
+-- names one of them
 pub record AreNamed (m : System) (words : List (List ℕ × List ℕ)) (qs : List Participant)
     : Type 0 where
   pub rising : IsStrictlyIncreasing (components_in qs)
   pub count : length qs ≡ length words
-  pub each : All (λ word. (q : Participant) × (participant_named m word ≡ Ok q) × Contains qs q) words
+  pub each : All (λ word. (q : Participant) × (participant_named m word ≡ Ok q) × Contains qs q)
+      words
 
 abbrev pub NamesParticipants : Type 0
 NamesParticipants =

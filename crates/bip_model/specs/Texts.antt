@@ -12,8 +12,12 @@ abbrev pub onto_first_line : ℕ → List (List ℕ) → List (List ℕ)
 onto_first_line b [] = (b ∷ []) ∷ []
 onto_first_line b (line ∷ rest) = (b ∷ line) ∷ rest
 
+-- the byte that ends a line
+abbrev pub line_feed : ℕ
+line_feed = 10
+
 abbrev pub is_line_feed : ℕ → Bool
-is_line_feed b = b == 10
+is_line_feed b = b == line_feed
 
 -- the lines of a text: each ends at a line feed, which the last one may lack
 abbrev pub lines : List ℕ → List (List ℕ)

@@ -7,7 +7,9 @@ use Rattle.bip_model.specs.declared.faults.ClassFault.{ClassFault}
 use Rattle.bip_model.specs.declared.faults.ClassFault.TheVariants as class_fault
 use Rattle.bip_reader.specs.declared.faults.ReadFault.{ReadFault}
 use Rattle.bip_reader.specs.declared.faults.Why.{Why}
-use Rattle.bip_reader.specs.declared.faults.Why.TheVariants.{Syntax, Unknown, Twice, TooMany, Missing, TwoTransitions, PriorityCycle, NotAPartition, Memory}
+use Rattle.bip_reader.specs.declared.faults.Why.TheVariants.{Syntax, Unknown, Twice, TooMany}
+use Rattle.bip_reader.specs.declared.faults.Why.TheVariants.{Missing, TwoTransitions, PriorityCycle}
+use Rattle.bip_reader.specs.declared.faults.Why.TheVariants.{NotAPartition, Memory}
 
 abbrev pub number_of_why : Why → ℕ
 number_of_why Syntax = 1

@@ -1,9 +1,10 @@
 -- What the definitions mean, in the subject's own words: laws that a reviewer reads.
-use Rattle.std.specs.Prelude.{◌≡◌, ◌⊎◌, ◌↔◌, ◌++◌, ℕ, Bool, false, true, List, [], ◌∷◌, take, Err, IsTrue, IsSome}
+use Rattle.std.specs.Prelude.{◌≡◌, ◌⊎◌, ◌↔◌, ◌++◌, ℕ, Bool, false, true, List, [], ◌∷◌, take, Err}
+use Rattle.std.specs.Prelude.{IsTrue, IsSome}
 use Rattle.bip_model.specs.Naming.{IsName}
 use Rattle.bip_model.specs.Parts.{IsSystem}
 use Rattle.bip_model.specs.Partitions.{AreClassesOf, IsClasses}
-use Rattle.bip_model.specs.Texts.{lines, said_in}
+use Rattle.bip_model.specs.Texts.{line_feed, lines, said_in}
 use Rattle.bip_model.specs.declared.partitions.Partition.{Partition}
 use Rattle.bip_model.specs.declared.parts.System.{System}
 use Rattle.bip_reader.specs.declared.faults.ReadFault.{ReadFault}
@@ -69,10 +70,6 @@ abbrev pub SameMeaning : Type 0
 SameMeaning =
     (a b : List ℕ) → said_in a ≡ said_in b
     → (m : System) (classes : Partition) → Means a m classes → Means b m classes
-
--- the byte that ends a line
-abbrev pub line_feed : ℕ
-line_feed = 10
 
 -- a line feed at the end of a text says nothing
 abbrev pub NoLastLineFeed : Type 0

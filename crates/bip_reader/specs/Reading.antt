@@ -1,8 +1,11 @@
 -- What the lines of a model's text say, one after another.
-use Rattle.std.specs.Prelude.{◌≢◌, ℕ, ◌+◌, ◌++◌, Bool, false, true, IsTrue, not, nat_le, List, [], ◌∷◌, length, Option, None, Some, Result, Ok, Err, is_some, option_and_then, position, unwrap_or, if◌then◌else◌}
+use Rattle.std.specs.Prelude.{◌≢◌, ℕ, ◌+◌, ◌++◌, Bool, false, true, IsTrue, not, nat_le, List, []}
+use Rattle.std.specs.Prelude.{◌∷◌, length, Option, None, Some, Result, Ok, Err, is_some}
+use Rattle.std.specs.Prelude.{option_and_then, position, unwrap_or, if◌then◌else◌}
 use Rattle.std.specs.List.{list_all, list_any}
 use Rattle.std.specs.Option.{ok_or, option_map, option_map_or}
-use Rattle.bip_model.specs.Drafts.{component_line, empty_draft, end_line, inside, interaction_line, loc_line, port_line, trans_line}
+use Rattle.bip_model.specs.Drafts.{component_line, empty_draft, end_line, inside, interaction_line}
+use Rattle.bip_model.specs.Drafts.{loc_line, port_line, trans_line}
 use Rattle.bip_model.specs.Naming.{same_text}
 use Rattle.bip_model.specs.Outcomes.{◌>>=◌}
 use Rattle.bip_model.specs.Texts.{words, words_said}
@@ -17,7 +20,9 @@ use Rattle.bip_reader.specs.declared.reading.Reading.{Reading}
 use Rattle.bip_reader.specs.declared.statements.Keyword.{Keyword}
 use Rattle.bip_reader.specs.declared.statements.Keyword.TheVariants as keyword
 use Rattle.bip_reader.specs.declared.statements.Statement.{Statement}
-use Rattle.bip_reader.specs.declared.statements.Statement.TheVariants.{Header, Component, Loc, Port, Trans, End, Interaction, Class}
+use Rattle.bip_reader.specs.declared.statements.Statement.TheVariants.{Header, Component, Loc, Port}
+use Rattle.bip_reader.specs.declared.statements.Statement.TheVariants.{Trans, End, Interaction}
+use Rattle.bip_reader.specs.declared.statements.Statement.TheVariants.{Class}
 use Rattle.bip_reader.specs.Faults.{why_of_build}
 use Rattle.bip_reader.specs.Statements.{each_of, keyword_of, lists_words, statement_of}
 

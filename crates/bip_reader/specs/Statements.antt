@@ -1,12 +1,15 @@
 -- The forms of the lines of a model's text: from the words of a line to what it states.
-use Rattle.std.specs.Prelude.{ℕ, Bool, false, true, ◌==◌, List, [], ◌∷◌, length, Option, None, Some, option_and_then, codes, if◌then◌else◌}
+use Rattle.std.specs.Prelude.{ℕ, Bool, false, true, ◌==◌, List, [], ◌∷◌, length, Option, None, Some}
+use Rattle.std.specs.Prelude.{option_and_then, codes, if◌then◌else◌}
 use Rattle.std.specs.Option.{option_map, option_map_or}
 use Rattle.bip_model.specs.Naming.{is_name, same_text}
 use Rattle.bip_model.specs.Texts.{pair_of}
 use Rattle.bip_reader.specs.declared.statements.Keyword.{Keyword}
 use Rattle.bip_reader.specs.declared.statements.Keyword.TheVariants as keyword
 use Rattle.bip_reader.specs.declared.statements.Statement.{Statement}
-use Rattle.bip_reader.specs.declared.statements.Statement.TheVariants.{Header, Component, Loc, Port, Trans, End, Interaction, Class}
+use Rattle.bip_reader.specs.declared.statements.Statement.TheVariants.{Header, Component, Loc, Port}
+use Rattle.bip_reader.specs.declared.statements.Statement.TheVariants.{Trans, End, Interaction}
+use Rattle.bip_reader.specs.declared.statements.Statement.TheVariants.{Class}
 use Rattle.bip_reader.specs.declared.statements.TheConstants.{PORT_MARK}
 
 -- a chain ends where a word is nothing

@@ -1,6 +1,7 @@
 -- What the text of a model means: a model with a partition of its interactions into classes, or the
 -- first fault.
-use Rattle.std.specs.Prelude.{◌≡◌, ◌⊎◌, ℕ, ◌-◌, ◌≤◌, List, length, map, take, slice_get, Result, Ok, Err, IsOk}
+use Rattle.std.specs.Prelude.{◌≡◌, ◌⊎◌, ℕ, ◌-◌, ◌≤◌, List, length, map, take, slice_get, Result, Ok}
+use Rattle.std.specs.Prelude.{Err, IsOk}
 use Rattle.std.specs.Option.{IsSomeAnd}
 use Rattle.bip_model.specs.Drafts.{IsWhole}
 use Rattle.bip_model.specs.Partitions.{IsPartition, in_order}
@@ -13,7 +14,8 @@ use Rattle.bip_reader.specs.declared.faults.ReadFault.{ReadFault}
 use Rattle.bip_reader.specs.declared.faults.Why.{Why}
 use Rattle.bip_reader.specs.declared.faults.Why.TheVariants.{Missing, PriorityCycle, NotAPartition}
 use Rattle.bip_reader.specs.declared.reading.Reading.{Reading}
-use Rattle.bip_reader.specs.Reading.{ClassList, MayBeHidden, draft_of, empty_reading, reading_after_lines}
+use Rattle.bip_reader.specs.Reading.{ClassList, MayBeHidden, draft_of, empty_reading}
+use Rattle.bip_reader.specs.Reading.{reading_after_lines}
 
 -- what the lines of a text say, all in all; or their first fault
 unfoldable pub reading_of : List ℕ → Result Reading ReadFault

@@ -1,7 +1,8 @@
 //! Why a text is no model.
 ghost use Rattle.std.specs.Prelude.{◌≡◌, Some};
 ghost use Rattle.bip_reader.specs.declared.faults.Why.TheVariants.{Memory};
-ghost use Rattle.bip_reader.specs.Faults.{number_of_why, text_of_why, text_of_fault, why_of_build, why_of_class};
+ghost use Rattle.bip_reader.specs.Faults.{number_of_why, text_of_why, text_of_fault, why_of_build};
+ghost use Rattle.bip_reader.specs.Faults.{why_of_class};
 
 use bip_model::{BuildFault, ClassFault};
 use std::alloc::{AllocError, AllocFailed};
@@ -112,8 +113,8 @@ impl<T: Drop> From<AllocFailed<T>> for Why {
     }
 }
 
-/// The first fault of a text, with the number of its line. Lines are counted from 1, and what a text
-/// lacks as a whole is a fault of its last line.
+/// The first fault of a text, with the number of its line. Lines are counted from 1, and what a
+/// text lacks as a whole is a fault of its last line.
 #[derive(Clone, Copy, Debug, Error, PartialEq, Eq)]
 pub struct ReadFault {
     pub line: u64,

@@ -1,7 +1,9 @@
 //! The laws above the definitions: what a reviewer reads to know what they mean. The call does
 //! nothing, and has the laws for its contract.
-ghost use Rattle.bip_reader.specs.Laws.{FirstFault, MeaningOrFault, MeansValid, NamesAreTaken, NoFault};
-ghost use Rattle.bip_reader.specs.Laws.{NoLastLineFeed, NothingPast, OneFault, OneMeaning, SameMeaning};
+ghost use Rattle.bip_reader.specs.Laws.{FirstFault, MeaningOrFault, MeansValid, NamesAreTaken};
+ghost use Rattle.bip_reader.specs.Laws.{NoFault};
+ghost use Rattle.bip_reader.specs.Laws.{NoLastLineFeed, NothingPast, OneFault, OneMeaning};
+ghost use Rattle.bip_reader.specs.Laws.{SameMeaning};
 ghost use Rattle.bip_reader.specs.Laws.{TextFaults};
 
 /// A text has one meaning or one fault, and never both. What it means is a valid model with a

@@ -2,8 +2,8 @@
 use crate::{Why, read_model};
 use std::test::Fail;
 
-const TEXT: &str =
-    "bip 1\ncomponent A\nloc a\nport p\nend\ncomponent B\nloc b\nport q\nend\ninteraction y B.q A.p\ninteraction x A.p\nclass K x y\n";
+const TEXT: &str = "bip 1\ncomponent A\nloc a\nport p\nend\ncomponent B\nloc b\nport q\nend\n\
+    interaction y B.q A.p\ninteraction x A.p\nclass K x y\n";
 
 #[test]
 fn participants_and_members_are_in_order(rt: HostRuntime) -> Result<(), Fail> {

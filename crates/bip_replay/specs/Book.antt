@@ -4,7 +4,8 @@ use Rattle.bip_model.specs.declared.grants.Grant.{Grant}
 use Rattle.bip_model.specs.declared.parts.System.{System}
 use Rattle.bip_replay.specs.Faults.{IsFaultAt}
 use Rattle.bip_replay.specs.Runs.{IsModelRun, standing_after}
-use Rattle.bip_replay.specs.declared.faults.BookFault.TheVariants.{Below, Memory, NotEnabled, Number, Parties}
+use Rattle.bip_replay.specs.declared.faults.BookFault.TheVariants.{Below, Memory, NotEnabled}
+use Rattle.bip_replay.specs.declared.faults.BookFault.TheVariants.{Number, Parties}
 use Rattle.bip_replay.specs.declared.faults.BookFault.{BookFault}
 use Rattle.bip_replay.specs.declared.faults.StepFault.TheVariants as step
 use Rattle.bip_replay.specs.declared.faults.StepFault.{StepFault}

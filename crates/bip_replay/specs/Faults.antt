@@ -1,6 +1,7 @@
 -- Why a grant can't be next, and the numbers and the texts of all faults.
 use Rattle.std.specs.Fmt.{decimal}
-use Rattle.std.specs.Prelude.{All, Any, List, codes, if◌then◌else◌, length, nat_lt, ℕ, ◌++◌, ◌+◌, ◌<◌, ◌≡◌}
+use Rattle.std.specs.Prelude.{All, Any, List, codes, if◌then◌else◌, length, nat_lt, ℕ, ◌++◌, ◌+◌}
+use Rattle.std.specs.Prelude.{◌<◌, ◌≡◌}
 use Rattle.bip_model.specs.States.{State}
 use Rattle.bip_model.specs.Steps.{IsEnabled, IsLowestAbove, MayRun}
 use Rattle.bip_model.specs.declared.grants.Grant.{Grant}
@@ -13,7 +14,8 @@ use Rattle.bip_replay.specs.declared.faults.LineFault.TheVariants as line
 use Rattle.bip_replay.specs.declared.faults.LineFault.{LineFault}
 use Rattle.bip_replay.specs.declared.faults.ReplayFault.TheVariants as replay
 use Rattle.bip_replay.specs.declared.faults.ReplayFault.{ReplayFault}
-use Rattle.bip_replay.specs.declared.faults.StepFault.TheVariants.{Below, NotEnabled, Number, Parties}
+use Rattle.bip_replay.specs.declared.faults.StepFault.TheVariants.{Below, NotEnabled, Number}
+use Rattle.bip_replay.specs.declared.faults.StepFault.TheVariants.{Parties}
 use Rattle.bip_replay.specs.declared.faults.StepFault.{StepFault}
 use Rattle.bip_replay.specs.declared.faults.TraceFault.TheVariants as trace
 use Rattle.bip_replay.specs.declared.faults.TraceFault.{TraceFault}

@@ -1,7 +1,9 @@
 -- What a line of a trace says: a grant by names, and the grant of a model.
 use Rattle.std.specs.List.{list_any}
 use Rattle.std.specs.Option.{option_and_then, option_map, option_map_or}
-use Rattle.std.specs.Prelude.{Bool, Err, List, None, Ok, Option, Result, Some, [], codes, if◌then◌else◌, length, nat_le, nat_lt, position, ℕ, ◌&&◌, ◌++◌, ◌==◌, ◌||◌, ◌∷◌}
+use Rattle.std.specs.Prelude.{Bool, Err, List, None, Ok, Option, Result, Some, [], codes}
+use Rattle.std.specs.Prelude.{if◌then◌else◌, length, nat_le, nat_lt, position, ℕ, ◌&&◌, ◌++◌, ◌==◌}
+use Rattle.std.specs.Prelude.{◌||◌, ◌∷◌}
 use Rattle.bip_model.specs.Naming.{is_name, same_text}
 use Rattle.bip_model.specs.Texts.{number_of, pair_of, words_said}
 use Rattle.bip_model.specs.Wants.{is_moved}

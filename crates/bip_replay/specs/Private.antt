@@ -1,6 +1,8 @@
 -- What contracts of private functions say.
 use Rattle.std.specs.List.{list_all, zip}
-use Rattle.std.specs.Prelude.{All, IsTrue, length, max, slice_index_or, if◌then◌else◌, ◌<◌, Bool, Err, List, None, Ok, Option, Result, Some, [], false, nat_lt, not, true, ℕ, ◌&&◌, ◌++◌, ◌+◌, ◌==◌, ◌∷◌, ◌≡◌}
+use Rattle.std.specs.Prelude.{All, IsTrue, length, max, slice_index_or, if◌then◌else◌, ◌<◌, Bool}
+use Rattle.std.specs.Prelude.{Err, List, None, Ok, Option, Result, Some, [], false, nat_lt, not}
+use Rattle.std.specs.Prelude.{true, ℕ, ◌&&◌, ◌++◌, ◌+◌, ◌==◌, ◌∷◌, ◌≡◌}
 use Rattle.bip_model.specs.Parts.{Participant}
 use Rattle.bip_model.specs.Wants.{is_moved}
 use Rattle.bip_model.specs.declared.grants.Grant.{Grant}

@@ -9,7 +9,8 @@ use Rattle.bip_replay.specs.Lines.{grant_on}
 use Rattle.bip_replay.specs.Runs.{IsModelRun, state_after, used_after}
 use Rattle.bip_replay.specs.Traces.{IsOutOfMemory, grants_from, grants_of}
 use Rattle.bip_replay.specs.declared.faults.LineFault.TheVariants as line_fault
-use Rattle.bip_replay.specs.declared.faults.ReplayFault.TheVariants.{Memory, NotARun, Syntax, Unknown}
+use Rattle.bip_replay.specs.declared.faults.ReplayFault.TheVariants.{Memory, NotARun, Syntax}
+use Rattle.bip_replay.specs.declared.faults.ReplayFault.TheVariants.{Unknown}
 use Rattle.bip_replay.specs.declared.faults.ReplayFault.{ReplayFault}
 use Rattle.bip_replay.specs.declared.faults.StepFault.{StepFault}
 

@@ -1,6 +1,7 @@
 -- Runs of a model with exact numbers: which grant may come next, what a list of grants leads to,
 -- and where a run stands.
-use Rattle.std.specs.Prelude.{All, Any, IsTrue, List, [], map, slice_index_or, ℕ, ⊤, ◌+◌, ◌↔◌, ◌∷◌, ◌≡◌, ◌≤◌}
+use Rattle.std.specs.Prelude.{All, Any, IsTrue, List, [], map, slice_index_or, ℕ, ⊤, ◌+◌, ◌↔◌, ◌∷◌}
+use Rattle.std.specs.Prelude.{◌≡◌, ◌≤◌}
 use Rattle.bip_model.specs.Grants.{used_by}
 use Rattle.bip_model.specs.States.{State, state_of}
 use Rattle.bip_model.specs.Steps.{MayRun, after, end_of, moves, start_of}
@@ -75,7 +76,7 @@ pub record Standing : Type 0 where
 pub record Kept : Type 0 where
   pub model : System
   pub base : ℕ
-  pub places : List LocalState
+  pub locals : List LocalState
   pub used : List ℕ
 
 -- where a run stands by what is kept; a component that isn't kept has used nothing above the base
@@ -84,7 +85,7 @@ standing_of p =
     record {
       model = p.model;
       base = p.base;
-      state = state_of p.places;
+      state = state_of p.locals;
       used = λ c. slice_index_or p.used c p.base;
     }
 

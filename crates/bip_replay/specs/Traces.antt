@@ -1,5 +1,6 @@
 -- Which grants a text is, and why it is none.
-use Rattle.std.specs.Prelude.{Err, IsOk, List, None, Ok, Option, Result, Some, [], take, ℕ, ◌+◌, ◌∷◌, ◌≡◌, ◌≤◌}
+use Rattle.std.specs.Prelude.{Err, IsOk, List, None, Ok, Option, Result, Some, [], take, ℕ, ◌+◌}
+use Rattle.std.specs.Prelude.{◌∷◌, ◌≡◌, ◌≤◌}
 use Rattle.bip_model.specs.Texts.{last_line, lines}
 use Rattle.bip_model.specs.declared.grants.Grant.{Grant}
 use Rattle.bip_model.specs.declared.parts.System.{System}

@@ -2,9 +2,10 @@
 -- between words, and a line feed after each line.
 use Rattle.std.specs.Fmt.{decimal}
 use Rattle.std.specs.List.{flat_map, list_any}
-use Rattle.std.specs.Prelude.{All, Bool, IsTrue, List, Ok, Some, [], codes, filter, if◌then◌else◌, length, map, not, slice_index_or, ℕ, ◌++◌, ◌<◌, ◌^◌, ◌∷◌, ◌≡◌}
+use Rattle.std.specs.Prelude.{All, Bool, IsTrue, List, Ok, Some, [], codes, filter, if◌then◌else◌}
+use Rattle.std.specs.Prelude.{length, map, not, slice_index_or, ℕ, ◌++◌, ◌<◌, ◌^◌, ◌∷◌, ◌≡◌}
 use Rattle.bip_model.specs.Naming.{IsName}
-use Rattle.bip_model.specs.Texts.{is_plain}
+use Rattle.bip_model.specs.Texts.{line_feed, is_plain}
 use Rattle.bip_model.specs.Wants.{is_moved}
 use Rattle.bip_model.specs.declared.grants.Grant.{Grant}
 use Rattle.bip_model.specs.declared.wants.Role.TheVariants.{Moved, Seen}
@@ -47,9 +48,6 @@ words_behind m g =
 
 abbrev pub space : ℕ
 space = 32
-
-abbrev pub line_feed : ℕ
-line_feed = 10
 
 -- a word behind a space
 abbrev pub spaced : List ℕ → List ℕ

@@ -30,14 +30,16 @@ impl<'m> marker::Model for Book<'m> {
       grants = b.grants.items;
     } };
 
-    ghost invariant = { λ b. StandsAfter b.position.model b.position.base b.grants.items (standing_of b.position) };
+    ghost invariant = { λ b. StandsAfter b.position.model b.position.base b.grants.items
+        (standing_of b.position) };
 }
 
 impl<'m> Book<'m> {
     /// The book of the empty run above a base.
     pub fn start(alloc: Global, model: &'m Model, base: Number) -> Result<Book<'m>, AllocError>
         requires { base < last_number }
-        ensures { IfOk result (λ book. book ≡ record { model = model.now; base = base; grants = [] }) }
+        ensures { IfOk result (λ book. book
+            ≡ record { model = model.now; base = base; grants = [] }) }
     {
         let position = Position::start(alloc, model, base)?;
         Ok(Book {
@@ -60,7 +62,8 @@ impl<'m> Book<'m> {
     /// last. Nothing else keeps a grant out that can be next.
     pub fn append(&mut self, grant: Grant) -> Result<u64, BookFault>
         ensures count { IfOk result (λ before. before ≡ length self.old.grants) }
-        ensures ok { OnOk result (self.new ≡ record self.old { grants = self.old.grants ++ grant ∷ [] }) }
+        ensures ok { OnOk result (self.new
+            ≡ record self.old { grants = self.old.grants ++ grant ∷ [] }) }
         ensures run { OnOk result (IsRunWith self.old grant) }
         ensures only { IsRunWith self.old grant → IfErr result (λ e. e ≡ Memory) }
         ensures fault { IfErr result (λ e. IsAppendFault self.old grant e) }

@@ -1,6 +1,8 @@
 //! Why a call of this crate refuses.
 ghost use Rattle.std.specs.Prelude.{◌≡◌, Some};
-ghost use Rattle.bip_replay.specs.Faults.{number_of_book, number_of_replay, number_of_step, number_of_trace, text_of_book, text_of_replay, text_of_step, text_of_trace};
+ghost use Rattle.bip_replay.specs.Faults.{number_of_book, number_of_replay, number_of_step};
+ghost use Rattle.bip_replay.specs.Faults.{number_of_trace, text_of_book, text_of_replay};
+ghost use Rattle.bip_replay.specs.Faults.{text_of_step, text_of_trace};
 
 use bip_model::{CompId, InterId, Number};
 use std::fmt;

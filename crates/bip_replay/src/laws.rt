@@ -1,5 +1,11 @@
 //! What runs, faults and traces mean.
-ghost use Rattle.bip_replay.specs.Laws.{AreOfModel, AtMostOneFault, AtMostOneFirstFault, BeginningsAreRuns, EndsFromTheBack, FaultsAreExact, FirstFaultsAreExact, GrantsFromTheBack, IsNextOrFaulty, IsRunOrFaulty, MovesAreNumbered, NamesItsInteraction, NumbersCountMoves, NumbersFromTheBack, RunsAreHistories, RunsFromTheBack, RunsMoveOnceEach, RunsStepByStep, SameGrants, StatesFromTheBack, StepsAreARun};
+ghost use Rattle.bip_replay.specs.Laws.{AreOfModel, AtMostOneFault, AtMostOneFirstFault};
+ghost use Rattle.bip_replay.specs.Laws.{BeginningsAreRuns, EndsFromTheBack, FaultsAreExact};
+ghost use Rattle.bip_replay.specs.Laws.{FirstFaultsAreExact, GrantsFromTheBack, IsNextOrFaulty};
+ghost use Rattle.bip_replay.specs.Laws.{IsRunOrFaulty, MovesAreNumbered, NamesItsInteraction};
+ghost use Rattle.bip_replay.specs.Laws.{NumbersCountMoves, NumbersFromTheBack, RunsAreHistories};
+ghost use Rattle.bip_replay.specs.Laws.{RunsFromTheBack, RunsMoveOnceEach, RunsStepByStep};
+ghost use Rattle.bip_replay.specs.Laws.{SameGrants, StatesFromTheBack, StepsAreARun};
 
 use bip_model::history_laws;
 

@@ -1,19 +1,21 @@
 //! What a line of a trace says: a grant by names, and the grant of a model.
-ghost use Rattle.std.specs.Prelude.{◌≡◌, ◌+◌, ◌<◌, ◌≤◌, [], ◌∷◌, None, Some, length, nat_le, nat_lt, not, ◌||◌, position, if◌then◌else◌};
+ghost use Rattle.std.specs.Prelude.{◌≡◌, ◌+◌, ◌<◌, ◌≤◌, [], ◌∷◌, None, Some, length, nat_le};
+ghost use Rattle.std.specs.Prelude.{nat_lt, not, ◌||◌, position, if◌then◌else◌};
 ghost use Rattle.std.specs.Option.{option_and_then};
 ghost use Rattle.arrayvec.specs.ArrayVec.{array_vec_len};
 ghost use Rattle.bip_model.specs.Naming.{is_name, same_text};
 ghost use Rattle.bip_model.specs.Texts.{words};
 ghost use Rattle.bip_model.specs.declared.wants.Role.TheVariants.{Moved};
 ghost use Rattle.bip_model.specs.declared.wants.TheConstants.{MOST_WANTS};
-ghost use Rattle.bip_replay.specs.Lines.{is_named, named_on, put_in_order, said, want_said, wants_known, wants_said, with_want};
+ghost use Rattle.bip_replay.specs.Lines.{is_named, named_on, put_in_order, said, want_said};
+ghost use Rattle.bip_replay.specs.Lines.{wants_known, wants_said, with_want};
 ghost use Rattle.bip_replay.specs.Private.{as_said};
 
 use crate::faults::LineFault;
 use arrayvec::ArrayVec;
 use bip_model::{
-    CompId, MOST_WANTS, Model, Name, Number, Role, Want, is_plain, parse_number, split_pair,
-    split_word,
+    CompId, Line, MOST_WANTS, Model, Name, Number, Role, Want, parse_number, read_words,
+    split_pair, split_word,
 };
 
 /// A want as a line names it: a component, its number, and whether it is moved.
@@ -50,16 +52,11 @@ pub(crate) fn read_line(
 ) -> Result<Option<Name>, LineFault>
     ensures said { as_said result named.new.items ≡ named_on line.now }
 {
-    if !is_plain(line) {
-        return Err(LineFault::Syntax);
+    match read_words(line) {
+        Line::BadByte => Err(LineFault::Syntax),
+        Line::Nothing => Ok(None),
+        Line::Words(word, rest) => read_grant(named, word, rest),
     }
-    let Some((word, rest)) = split_word(line) else {
-        return Ok(None);
-    };
-    if word[0] == b'#' {
-        return Ok(None);
-    }
-    read_grant(named, word, rest)
 }
 
 // The interaction of a line that begins with a word, with its wants in the room for them.
@@ -87,7 +84,8 @@ fn read_grant(
 
 // The wants behind an interaction; where they haven't their form, the answer is no.
 fn read_wants(named: &mut ArrayVec<NamedWant, MOST_WANTS>, line: &[u8]) -> bool
-    ensures said { wants_said Moved [] (words line.now) ≡ (if result then Some named.new.items else None) }
+    ensures said { wants_said Moved [] (words line.now)
+        ≡ (if result then Some named.new.items else None) }
 {
     named.clear();
     let mut role = Role::Moved;
@@ -118,7 +116,8 @@ fn read_want(named: &mut ArrayVec<NamedWant, MOST_WANTS>, role: Role, word: &[u8
 }
 
 fn add_want(named: &mut ArrayVec<NamedWant, MOST_WANTS>, want: NamedWant) -> bool
-    ensures said { with_want named.old.items want ≡ (if result then Some named.new.items else None) }
+    ensures said { with_want named.old.items want
+        ≡ (if result then Some named.new.items else None) }
 {
     if !has_room_for(named.as_slice(), &want.name) {
         return false;

@@ -1,5 +1,6 @@
 //! A position in a run: the state and the used numbers to which grants lead, without the grants.
-ghost use Rattle.std.specs.Prelude.{◌≡◌, ◌<◌, ℕ, [], length, find, IsTrue, IfOk, IfErr, OnOk, OnErr};
+ghost use Rattle.std.specs.Prelude.{◌≡◌, ◌<◌, ℕ, [], length, find, IsTrue, IfOk, IfErr, OnOk};
+ghost use Rattle.std.specs.Prelude.{OnErr};
 ghost use Rattle.std.specs.List.{list_all, zip};
 ghost use Rattle.std.specs.List.Sorted.{IsStrictlyIncreasing};
 ghost use Rattle.bip_model.specs.Wants.{components_of, is_moved, raised};
@@ -29,7 +30,8 @@ impl<'m> marker::Model for Position<'m> {
 
     ghost Value = { Kept };
 
-    ghost view = { λ p. record { model = p.model.now; base = p.base; places = p.state; used = p.used } };
+    ghost view = { λ p.
+        record { model = p.model.now; base = p.base; locals = p.state; used = p.used } };
 
     ghost invariant = { λ p. length p.used ≡ length p.model.now.components };
 }
@@ -71,7 +73,8 @@ impl<'m> Position<'m> {
     /// stays.
     pub fn step(&mut self, grant: &GrantRef<'_>) -> Result<(), StepFault>
         ensures next { OnOk result (IsNextAt (standing_of self.old) grant.now) }
-        ensures on { OnOk result (standing_of self.new ≡ standing_on (standing_of self.old) grant.now) }
+        ensures on { OnOk result (standing_of self.new
+            ≡ standing_on (standing_of self.old) grant.now) }
         ensures fault { IfErr result (λ e. IsFaultAt (standing_of self.old) grant.now e) }
         ensures err { OnErr result (self.new ≡ self.old) }
     {
@@ -153,7 +156,8 @@ impl<'m> Position<'m> {
 fn use_up(used: &mut Seq<Number>, wants: &[Want])
     requires rising { IsStrictlyIncreasing (components_of wants.now) }
     requires known { AreMovedWithin (length used.old) wants.now }
-    ensures used { (base c : ℕ) → used_in used.new base c ≡ raised (used_in used.old base) wants.now c }
+    ensures used { (base c : ℕ) → used_in used.new base c
+        ≡ raised (used_in used.old base) wants.now c }
     ensures counted { length used.new ≡ length used.old }
 {
     for want in wants {

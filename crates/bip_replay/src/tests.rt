@@ -1,4 +1,5 @@
-//! What no clause and no text of `cases/` says: each call with ample memory, and calls that no text makes.
+//! What no clause and no text of `cases/` says: each call with ample memory, and calls that no text
+//! makes.
 mod appending;
 mod positions;
 mod reading;

@@ -1,10 +1,12 @@
 //! Writing traces.
-ghost use Rattle.std.specs.Prelude.{◌≡◌, ◌<◌, ◌∷◌, ◌++◌, [], length, All, Ok, OnOk, IfOk, IsTrue, codes};
+ghost use Rattle.std.specs.Prelude.{◌≡◌, ◌<◌, ◌∷◌, ◌++◌, [], length, All, Ok, OnOk, IfOk, IsTrue};
+ghost use Rattle.std.specs.Prelude.{codes};
 ghost use Rattle.std.specs.List.{flat_map, list_any};
 ghost use Rattle.bip_model.specs.declared.wants.Role.TheVariants.{Seen};
 ghost use Rattle.bip_model.specs.declared.wants.Want.{Want};
 ghost use Rattle.bip_replay.specs.Traces.{grants_of};
-ghost use Rattle.bip_replay.specs.Writing.{IsGrantOf, IsSpelled, ReadsBack, has_role, line_of, seen_words, spaced, text_of, want_word, want_words};
+ghost use Rattle.bip_replay.specs.Writing.{IsGrantOf, IsSpelled, ReadsBack, has_role, line_of};
+ghost use Rattle.bip_replay.specs.Writing.{seen_words, spaced, text_of, want_word, want_words};
 
 use bip_model::{Grant, Model, Role, Want};
 use itoa::Buffer;

@@ -27,11 +27,11 @@ of_fault base model trace m c number Memory means first = absurd first.why
 pub some_answer : MeaningOrFault → MeansValid → TextFaults → IsRunOrFaulty → SomeAnswer
 some_answer meaning valid whys traces base model trace = elim (meaning model) [
   | inl (m, c, means) ↦ elim (traces m base trace (valid model m c means).0) [
-      | inl (count, is_run) ↦ (saying Done (run_text count), run m c count means is_run)
-      | inr (number, fault, first) ↦ of_fault base model trace m c number fault means first
-    ]
+    | inl (count, is_run) ↦ (saying Done (run_text count), run m c count means is_run)
+    | inr (number, fault, first) ↦ of_fault base model trace m c number fault means first
+  ]
   | inr (fault, has) ↦ (
-      complaining Refused (model_refusal fault),
-      no_model fault (λ is. false≢true (subst (λ (w : Why). is_of_text w ≡ true) is (whys model fault has))) has,
-    )
+    complaining Refused (model_refusal fault),
+    no_model fault (λ is. false≢true (subst (λ (w : Why). is_of_text w ≡ true) is (whys model fault has))) has,
+  )
 ]

@@ -25,11 +25,7 @@ pub fn model_refusal(alloc: Global, fault: &ReadFault) -> Result<Vec<u8>, AllocE
 }
 
 /// The complaint of a trace's text.
-pub fn trace_refusal(
-    alloc: Global,
-    line: u64,
-    fault: &ReplayFault,
-) -> Result<Vec<u8>, AllocError>
+pub fn trace_refusal(alloc: Global, line: u64, fault: &ReplayFault) -> Result<Vec<u8>, AllocError>
     ensures { IfOk result (λ text. text.items ≡ trace_refusal line fault.now) }
 {
     Ok(format!(in alloc; "bipr: trace line {line}: {fault}\n")?.into_bytes())

@@ -14,7 +14,8 @@ const LOOSE: &str =
 const SPELLED: &str = "grant y R:18446744073709551615 see A:7 B:2\ngrant x A:2 R:1\n";
 
 fn are_known(model: &Model, wants: &[Want]) -> bool
-    ensures { IsTrue result ↔ All (λ (w : Want). w.comp.0 < length model.now.component_names) wants.now }
+    ensures { IsTrue result
+        ↔ All (λ (w : Want). w.comp.0 < length model.now.component_names) wants.now }
 {
     let count = model.component_names().len();
     wants.iter().all(|want| (want.comp.0 as usize) < count)

@@ -95,7 +95,8 @@ fn answer_second<'a, I: Inputs>(
 ) -> Result<Answer, Stop<'a>>
     requires bound { asked.now.base ≤ greatest_base }
     requires apart { is_joined asked.now ≡ false }
-    ensures { (text : List ℕ) (classes : Partition) → I.gives inputs.now asked.now.model.now (Ok text)
+    ensures { (text : List ℕ) (classes : Partition)
+        → I.gives inputs.now asked.now.model.now (Ok text)
         → Means text model.now classes
         → AllOutcomes result (IsReplay (I.gives inputs.now) asked.now) }
 {
