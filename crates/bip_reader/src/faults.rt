@@ -112,8 +112,8 @@ impl<T: Drop> From<AllocFailed<T>> for Why {
     }
 }
 
-/// The first fault of a text, with the number of its line. Lines are counted from 1, and what a text
-/// lacks as a whole is a fault of its last line.
+/// The first fault of a text, with the number of its line. Lines are counted from 1, and what a
+/// text lacks as a whole is a fault of its last line.
 #[derive(Clone, Copy, Debug, Error, PartialEq, Eq)]
 pub struct ReadFault {
     pub line: u64,
