@@ -1,7 +1,6 @@
 -- The laws of the joint step.
-use Rattle.std.proofs.Common.{◌≡◌, ℕ, ◌<◌, Bool, true, false, cond, ◌||◌, eqb, List, [], ◌∷◌, length, suc, get_or, Option, None, Some, refl, sym, ap, ◌∙◌, inl, inr, arith, eq-eqb, eqb-true, subst, ◌&&◌}
+use Rattle.std.proofs.Common.{◌≡◌, ℕ, ◌<◌, Bool, true, false, cond, eqb, List, [], ◌∷◌, length, suc, get_or, Option, None, Some, refl, sym, ap, ◌∙◌, inl, inr, arith, eq-eqb, eqb-true, subst, ◌&&◌}
 use Rattle.std.specs.Prelude.{Contains, find, is_some, slice_get}
-use Rattle.std.specs.List.{list_any}
 use Rattle.std.specs.Option.{option_map, option_map_or}
 use Rattle.std.specs.List.Sorted.{IsStrictlyIncreasing}
 use Rattle.std.proofs.Math.Path.{fun_ext}
@@ -12,13 +11,13 @@ use Rattle.bip_model.specs.declared.parts.Component.{Component}
 use Rattle.bip_model.specs.declared.parts.System.{System}
 use Rattle.bip_model.specs.declared.parts.Transition.{Transition}
 use Rattle.bip_model.specs.declared.states.LocalState.{LocalState}
-use Rattle.bip_model.specs.Laws.{AgreeOn, CanGo, Commute, EnabledWhereAllCanGo, EndsAfterItsLast, GoesOnByWhatMayRun, IsItsTransition, IsLocal, MoveApart, OneTransition, OthersStay, ParticipantsGo, StatesLeadToStates}
+use Rattle.bip_model.specs.Laws.{AgreeOn, CanGo, Commute, EnabledWhereAllCanGo, EndsAfterItsLast, GoesOnByWhatMayRun, IsLocal, MoveApart, OneTransition, OthersStay, ParticipantsGo}
 use Rattle.bip_model.specs.declared.numbering.LocId.{LocId}
 use Rattle.bip_model.specs.declared.numbering.PortId.{PortId}
 use Rattle.bip_model.specs.Moves.{transition_for, offers_at}
 use Rattle.bip_model.proofs.ListLemmas.{All-slice_get, below_later, find_first, neq_eqb}
-use Rattle.bip_model.specs.States.{IsLocalStateOf, IsStateOf, State}
-use Rattle.bip_model.specs.Steps.{IsEnabled, IsRun, MayRun, after, end_of, led, moves, offered, participants_of, place_of, port_at}
+use Rattle.bip_model.specs.States.{State}
+use Rattle.bip_model.specs.Steps.{IsEnabled, after, led, moves, offered, participants_of, place_of, port_at}
 use Rattle.bip_model.proofs.StepLemmas.{after_led, led_all-member, led_all-stays}
 use Rattle.bip_model.specs.Parts.{IsComponent, IsSystem, IsInteraction, Participant, components_in, same_start}
 

@@ -13,7 +13,7 @@ use Rattle.std.proofs.lemmas.Option.{none-some, slice_get_within}
 use Rattle.std.specs.Option.{ok_or}
 use Rattle.std.proofs.lemmas.List.Quantifiers.{position-Some}
 use Rattle.bip_model.specs.Drafts.{number_in, participant_named, participants_named, put_by_component}
-use Rattle.bip_model.specs.Laws.{AreNamed, NamesParticipants}
+use Rattle.bip_model.specs.Laws.{NamesParticipants}
 use Rattle.bip_model.specs.Naming.{same_text}
 use Rattle.bip_model.specs.Outcomes.{◌>>=◌}
 use Rattle.bip_model.specs.declared.faults.BuildFault.{BuildFault}

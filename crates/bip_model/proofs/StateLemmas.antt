@@ -1,11 +1,10 @@
 -- States of a model: the first one, and those to which joint steps lead.
-use Rattle.std.proofs.Common.{◌≡◌, ◌&&◌, ℕ, ◌<◌, ◌≤◌, Bool, true, false, cond, eqb, List, [], ◌∷◌, length, get_or, Option, None, Some, refl, sym, ap, ◌∙◌, subst, arith, inl, inr}
+use Rattle.std.proofs.Common.{◌≡◌, ◌&&◌, ℕ, Bool, true, false, cond, eqb, List, [], ◌∷◌, Option, None, Some, refl, sym, ◌∙◌, subst, arith, inl, inr}
 use Rattle.std.specs.Prelude.{All, IsSomeAnd, find, slice_get, unwrap_or}
-use Rattle.std.specs.Option.{option_map, option_and_then}
+use Rattle.std.specs.Option.{option_map}
 use Rattle.std.proofs.lemmas.Bool.Decides.{eqb_tells}
 use Rattle.std.proofs.lemmas.List.Elements.{All-head, All-tail}
 use Rattle.std.proofs.lemmas.Option.{slice_get_cases, slice_get_within}
-use Rattle.bip_model.specs.declared.numbering.LocId.{LocId}
 use Rattle.bip_model.specs.declared.numbering.PortId.{PortId}
 use Rattle.bip_model.specs.declared.parts.Component.{Component}
 use Rattle.bip_model.specs.declared.parts.System.{System}
@@ -15,7 +14,7 @@ use Rattle.bip_model.specs.Laws.{StatesLeadToStates}
 use Rattle.bip_model.specs.Moves.{moved, transition_for}
 use Rattle.bip_model.specs.Parts.{IsComponent, IsSystem, IsTransitionOf, Participant}
 use Rattle.bip_model.specs.States.{IsLocalStateOf, IsStateOf, State}
-use Rattle.bip_model.specs.Steps.{after, led, led_all, participants_of, start_of}
+use Rattle.bip_model.specs.Steps.{led, led_all, participants_of, start_of}
 use Rattle.bip_model.proofs.ListLemmas.{All-slice_get}
 use Rattle.bip_model.proofs.StepLemmas.{after_led}
 

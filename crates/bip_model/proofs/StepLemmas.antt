@@ -1,5 +1,5 @@
 -- The joint step, one participant after another.
-use Rattle.std.proofs.Common.{◌≡◌, ◌+◌, ◌-◌, ◌≤◌, ℕ, ◌<◌, take, drop, Bool, true, false, cond, eqb, List, [], ◌∷◌, length, get_or, zero, suc, Option, None, Some, refl, sym, ap, ◌∙◌, eq-eqb, arith, inl, inr, ◌||◌, add-one}
+use Rattle.std.proofs.Common.{◌≡◌, ◌+◌, ◌-◌, ◌≤◌, ℕ, ◌<◌, take, drop, true, false, cond, eqb, List, [], ◌∷◌, length, get_or, zero, suc, Option, None, Some, refl, sym, ap, ◌∙◌, eq-eqb, arith, inl, inr, add-one}
 use Rattle.std.specs.Prelude.{is_some, position, slice_get}
 use Rattle.std.specs.List.{list_any}
 use Rattle.std.specs.Option.{option_map, option_map_or}

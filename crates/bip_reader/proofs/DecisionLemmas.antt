@@ -1,6 +1,6 @@
 -- It can be decided whether lists part interactions, so every text has a meaning or a fault.
-use Rattle.std.proofs.Common.{◌≡◌, ℕ, zero, suc, ◌+◌, ◌<◌, ◌≤◌, Bool, true, false, List, [], ◌∷◌, length, map, Option, None, Some, Result, Ok, Err, refl, ap, ◌∙◌, subst, sym, inl, inr, arith}
-use Rattle.std.specs.Prelude.{◌⊎◌, All, IsNone, is_some, sum_by}
+use Rattle.std.proofs.Common.{◌≡◌, ℕ, zero, suc, ◌+◌, ◌<◌, ◌≤◌, Bool, true, false, List, [], ◌∷◌, length, map, Option, None, Some, Result, Ok, Err, refl, subst, sym, inl, inr, arith}
+use Rattle.std.specs.Prelude.{◌⊎◌, All, IsNone, sum_by}
 use Rattle.std.specs.Option.{IsSomeAnd}
 use Rattle.std.proofs.lemmas.Bool.{cases_lt}
 use Rattle.std.proofs.lemmas.Bool.Decides.{eqb_tells}

@@ -1,14 +1,12 @@
 -- What lines lead to is a draft of the builder's, so what a text means is a valid model with classes of it.
-use Rattle.std.proofs.Common.{◌≡◌, ℕ, ◌+◌, ◌<◌, Bool, true, false, not, cond, ◌==◌, List, [], ◌∷◌, ◌++◌, length, map, Option, None, Some, Result, Ok, Err, refl, ap, ◌∙◌, subst, sym, arith, option_and_then}
-use Rattle.std.specs.Prelude.{IfSome, IsNone, IsSome, is_some, nat_le, unwrap_or, ⊤}
-use Rattle.std.specs.List.{list_any}
+use Rattle.std.proofs.Common.{◌≡◌, ℕ, ◌+◌, ◌<◌, Bool, true, false, not, cond, ◌==◌, List, [], ◌∷◌, length, Option, None, Some, Result, Ok, Err, refl, ap, ◌∙◌, subst, sym, arith, option_and_then}
+use Rattle.std.specs.Prelude.{IfSome, IsNone, is_some, unwrap_or, ⊤}
 use Rattle.std.specs.Option.{IsSomeAnd, ok_or, option_map}
 use Rattle.std.proofs.lemmas.Bool.Decides.{nat_tests}
 use Rattle.std.proofs.lemmas.List.Elements.{All-nil}
-use Rattle.bip_model.specs.Drafts.{IsDraft, IsWhole, component_line, empty_draft, loc_line, port_line, trans_line}
-use Rattle.bip_model.specs.Naming.{same_text}
+use Rattle.bip_model.specs.Drafts.{IsDraft, IsWhole, empty_draft, loc_line, port_line, trans_line}
 use Rattle.bip_model.specs.Outcomes.{◌>>=◌}
-use Rattle.bip_model.specs.Partitions.{AreClassesOf, IsClasses}
+use Rattle.bip_model.specs.Partitions.{IsClasses}
 use Rattle.bip_model.specs.Parts.{IsComponent, IsInteraction, IsSystem}
 use Rattle.bip_model.specs.Texts.{lines, words_said}
 use Rattle.bip_model.specs.declared.drafts.Draft.{Draft}
@@ -22,7 +20,7 @@ use Rattle.bip_model.proofs.PartitionLemmas.{classes_of_partition}
 use Rattle.bip_reader.specs.Laws.{MeansValid}
 use Rattle.bip_reader.specs.Reading.{at_line, can_follow, class_line, draft_of, draft_with, empty_reading, has_place, reading_after, reading_after_lines, reading_after_words, reading_with, statement_in, with_draft}
 use Rattle.bip_reader.specs.Statements.{class_form, each_of, end_form, header_form, interaction_form, keyword_in, keyword_of, name_of, one_name, one_or_more_of, participant_of, statement_of, trans_form}
-use Rattle.bip_reader.specs.Texts.{Declares, IsWholeReading, classes_of, reading_of, system_of}
+use Rattle.bip_reader.specs.Texts.{classes_of, reading_of, system_of}
 use Rattle.bip_reader.specs.declared.faults.ReadFault.{ReadFault}
 use Rattle.bip_reader.specs.declared.faults.Why.{Why}
 use Rattle.bip_reader.specs.declared.faults.Why.TheVariants.{Syntax}

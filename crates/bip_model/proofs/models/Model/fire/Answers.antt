@@ -1,5 +1,4 @@
-use Rattle.std.proofs.Common.{◌≡◌, ℕ, subst, sym, ◌∙◌}
-use Rattle.std.proofs.Math.Path.{fun_ext}
+use Rattle.std.proofs.Common.{◌≡◌, subst, sym}
 use Rattle.bip_model.specs.States.{IsStateOf, State, state_of}
 use Rattle.bip_model.specs.Steps.{after}
 use Rattle.bip_model.proofs.StateLemmas.{states_lead_to_states}
