@@ -16,11 +16,11 @@ pub record Content : Type 0 where
   pub base : ℕ
   pub grants : List Grant
 
--- the fault of a grant after those of a ledger
+-- the fault of a grant after those of a book
 abbrev pub IsFaultAfter : Content → Grant → StepFault → Type 0
 IsFaultAfter b g fault = IsFaultAt (standing_after b.model b.base b.grants) g fault
 
--- the ledger's grants and this one are a run
+-- the grants of a book and this one are a run
 abbrev pub IsRunWith : Content → Grant → Type 0
 IsRunWith b g = IsModelRun b.model b.base (b.grants ++ g ∷ [])
 
