@@ -96,36 +96,42 @@ behind : (q : Participant) (qs : List Participant) → take (length (q ∷ qs) -
 behind q qs = take_all (length (q ∷ qs) - 1) qs (omega arith)
 
 -- a participant goes where its port leads, and those behind it go
-pub led_all-put : (m : System) (s t new : State) (qs : List Participant) (d : Participant) (target : LocalState) → 1 ≤ length qs
-    → Some target ≡ option_map (led m (get_or qs 0 d).0.0 (get_or qs 0 d).1) (s (get_or qs 0 d).0.0)
+pub led_all-put : (m : System) (s t new : State) (qs : List Participant) (d : Participant) (local target : LocalState) → 1 ≤ length qs
+    → Some local ≡ s (get_or qs 0 d).0.0
+    → target ≡ led m (get_or qs 0 d).0.0 (get_or qs 0 d).1 local
     → ((c : ℕ) → t c ≡ led_all m s (take (length qs - 1) (drop 1 qs)) c)
     → ((c : ℕ) → new c ≡ cond (eqb c (get_or qs 0 d).0.0) (option_map (λ _. target) (t c)) (t c))
     → (c : ℕ) → new c ≡ led_all m s qs c
-led_all-put m s t new [] d target some goes later put c = absurd (omega arith)
-led_all-put m s t new (q ∷ qs) d target some goes later put c =
+led_all-put m s t new [] d local target some is told later put c = absurd (omega arith)
+led_all-put m s t new (q ∷ qs) d local target some is told later put c =
+    let goes : Some target ≡ option_map (led m q.0.0 q.1) (s q.0.0) =
+        ap (λ (l : LocalState). Some l) told
+        ∙ ap (λ (o : Option LocalState). option_map (led m q.0.0 q.1) o) is in
     let rest : t c ≡ led_all m s qs c = rw (behind q qs) at (later c) in
     put c
     ∙ elim (eqb_tells c q.0.0) [
       | inl here ↦
           let was : is_some (s c) ≡ true = rw here.1 (some_mapped (led m q.0.0 q.1) (s q.0.0) target goes) in
-          let is : is_some (t c) ≡ true = ap (λ (o : Option LocalState). is_some o) rest ∙ (led_all-some m s qs c ∙ was) in
-          rw here.0 (put_some (t c) target is ∙ goes)
+          let there : is_some (t c) ≡ true = ap (λ (o : Option LocalState). is_some o) rest ∙ (led_all-some m s qs c ∙ was) in
+          rw here.0 (put_some (t c) target there ∙ goes)
       | inr other ↦ rw other.0 rest
     ]
 
 -- who has no local state goes nowhere
 pub led_all-none : (m : System) (s t : State) (qs : List Participant) (d : Participant) → 1 ≤ length qs
-    → None ≡ option_map (led m (get_or qs 0 d).0.0 (get_or qs 0 d).1) (s (get_or qs 0 d).0.0)
+    → None ≡ s (get_or qs 0 d).0.0
     → ((c : ℕ) → t c ≡ led_all m s (take (length qs - 1) (drop 1 qs)) c)
     → (c : ℕ) → t c ≡ led_all m s qs c
-led_all-none m s t [] d some goes later c = absurd (omega arith)
-led_all-none m s t (q ∷ qs) d some goes later c =
+led_all-none m s t [] d some is later c = absurd (omega arith)
+led_all-none m s t (q ∷ qs) d some is later c =
+    let goes : None ≡ option_map (led m q.0.0 q.1) (s q.0.0) =
+        ap (λ (o : Option LocalState). option_map (led m q.0.0 q.1) o) is in
     let rest : t c ≡ led_all m s qs c = rw (behind q qs) at (later c) in
     elim (eqb_tells c q.0.0) [
       | inl here ↦
           let was : is_some (s c) ≡ false = rw here.1 (none_mapped (led m q.0.0 q.1) (s q.0.0) goes) in
-          let is : is_some (t c) ≡ false = ap (λ (o : Option LocalState). is_some o) rest ∙ (led_all-some m s qs c ∙ was) in
-          rw here.0 (none_else (t c) is ∙ goes)
+          let there : is_some (t c) ≡ false = ap (λ (o : Option LocalState). is_some o) rest ∙ (led_all-some m s qs c ∙ was) in
+          rw here.0 (none_else (t c) there ∙ goes)
       | inr other ↦ rw other.0 rest
     ]
 

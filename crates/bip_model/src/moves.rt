@@ -43,11 +43,18 @@ impl Component {
     pub(crate) fn moved(&self, local: &LocalState, port: PortId) -> Option<LocalState>
         ensures { result ≡ moved self.now local.now port }
     {
-        let transition = self.transition_for(local.location, port)?;
+        let location = self.target(local.location, port)?;
         Some(LocalState {
-            location: transition.target,
+            location,
             values: local.values,
         })
+    }
+
+    /// The target of the transition with this port from the location; none where there is none.
+    pub(crate) fn target(&self, location: LocId, port: PortId) -> Option<LocId>
+        ensures { result ≡ option_map (λ t. t.target) (transition_for self.now location port) }
+    {
+        Some(self.transition_for(location, port)?.target)
     }
 }
 

@@ -116,22 +116,27 @@ impl Model {
             ≡ led_all self.now (state_of state.old) participants.now c }
     {
         if let [participant, rest @ ..] = participants {
-            let target = self.led(state, participant.0, participant.1);
+            let local = state.local(participant.0);
             self.lead_all(state, rest);
-            if let Some(target) = target {
-                state.put(participant.0, target);
+            if let Some(local) = local {
+                state.put(participant.0, self.led(&local, participant.0, participant.1));
             }
         }
     }
 
-    /// Where a component goes by a port; none where the state has no such component.
-    fn led(&self, state: &State, comp: CompId, port: PortId) -> Option<LocalState>
-        ensures { result ≡ option_map (led self.now comp.0 port) (state_of state.now comp.0) }
+    /// Where a component goes by a port; it stays where it has no such transition.
+    fn led(&self, local: &LocalState, comp: CompId, port: PortId) -> LocalState
+        ensures { result ≡ led self.now comp.0 port local.now }
     {
-        let local = state.local(comp)?;
-        match self.components().get(comp.0 as usize) {
-            None => Some(local),
-            Some(component) => Some(component.moved(&local, port).unwrap_or(local)),
+        let location = match self.components().get(comp.0 as usize) {
+            None => local.location,
+            Some(component) => component
+                .target(local.location, port)
+                .unwrap_or(local.location),
+        };
+        LocalState {
+            location,
+            values: local.values,
         }
     }
 }

@@ -5,10 +5,13 @@ use Rattle.bip_model.proofs.models.Model.+lead_all.Goals as goal
 
 pub returns-in-Some : goal.returns-in-Some
 returns-in-Some t c =
-    led_all-put c.args.self.now (state_of c.args.state.now) (state_of c.lead_all.new.state) (state_of c.put.new.self) c.args.participants.now _
-    c.in-Some.target c.in-len1-up.len_at_least (sym c.in-Some.is ∙ c.led-target.ensures) c.lead_all.ensures c.put.ensures
+    led_all-put c.args.self.now (state_of c.args.state.now) (state_of c.lead_all.new.state)
+    (state_of c.put.new.self) c.args.participants.now _ c.in-Some.local _
+    c.in-len1-up.len_at_least (sym c.in-Some.is ∙ c.local-local.ensures) c.led.ensures
+    c.lead_all.ensures c.put.ensures
 
-pub returns-in_default-target : goal.returns-in_default-target
-returns-in_default-target t c =
-    led_all-none c.args.self.now (state_of c.args.state.now) (state_of c.lead_all.new.state) c.args.participants.now _
-    c.in-len1-up.len_at_least (sym c.in_default-target.is ∙ c.led-target.ensures) c.lead_all.ensures
+pub returns-in_default-local : goal.returns-in_default-local
+returns-in_default-local t c =
+    led_all-none c.args.self.now (state_of c.args.state.now) (state_of c.lead_all.new.state)
+    c.args.participants.now _ c.in-len1-up.len_at_least
+    (sym c.in_default-local.is ∙ c.local-local.ensures) c.lead_all.ensures
