@@ -105,8 +105,8 @@ pub led_all-put : (m : System) (s t new : State) (qs : List Participant) (d : Pa
 led_all-put m s t new [] d local target some is told later put c = absurd (omega arith)
 led_all-put m s t new (q ∷ qs) d local target some is told later put c =
     let goes : Some target ≡ option_map (led m q.0.0 q.1) (s q.0.0) =
-        ap (λ (l : LocalState). Some l) told
-        ∙ ap (λ (o : Option LocalState). option_map (led m q.0.0 q.1) o) is in
+    ap (λ (l : LocalState). Some l) told
+    ∙ ap (λ (o : Option LocalState). option_map (led m q.0.0 q.1) o) is in
     let rest : t c ≡ led_all m s qs c = rw (behind q qs) at (later c) in
     put c
     ∙ elim (eqb_tells c q.0.0) [
@@ -125,7 +125,7 @@ pub led_all-none : (m : System) (s t : State) (qs : List Participant) (d : Parti
 led_all-none m s t [] d some is later c = absurd (omega arith)
 led_all-none m s t (q ∷ qs) d some is later c =
     let goes : None ≡ option_map (led m q.0.0 q.1) (s q.0.0) =
-        ap (λ (o : Option LocalState). option_map (led m q.0.0 q.1) o) is in
+    ap (λ (o : Option LocalState). option_map (led m q.0.0 q.1) o) is in
     let rest : t c ≡ led_all m s qs c = rw (behind q qs) at (later c) in
     elim (eqb_tells c q.0.0) [
       | inl here ↦

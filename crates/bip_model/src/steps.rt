@@ -119,7 +119,8 @@ impl Model {
             let local = state.local(participant.0);
             self.lead_all(state, rest);
             if let Some(local) = local {
-                state.put(participant.0, self.led(&local, participant.0, participant.1));
+                let target = self.led(&local, participant.0, participant.1);
+                state.put(participant.0, target);
             }
         }
     }
