@@ -1,9 +1,9 @@
 -- The faults of a statement in its place, and of a text.
-use Rattle.std.proofs.Common.{◌≡◌, ◌≢◌, ℕ, ◌+◌, Bool, true, false, cond, ◌==◌, List, [], ◌∷◌, Option, None, Some, Result, Ok, Err, refl, ap, ◌∙◌, sym, subst, inl, inr, arith}
+use Rattle.std.proofs.Common.{◌≡◌, ◌≢◌, ℕ, ◌+◌, Bool, true, false, cond, ◌==◌, List, [], ◌∷◌, ◌++◌, Option, None, Some, Result, Ok, Err, refl, ap, ◌∙◌, sym, subst, inl, inr, arith}
 use Rattle.std.specs.Prelude.{slice_get}
 use Rattle.std.specs.List.{list_any}
 use Rattle.std.specs.Option.{ok_or}
-use Rattle.bip_model.specs.Drafts.{begun_in, component_line, end_line, inside, interaction_line, loc_line, number_in, participant_named, participants_named, port_line, put_by_component, trans_line, with_interaction, with_transition}
+use Rattle.bip_model.specs.Drafts.{begun_in, component_line, end_line, inside, interaction_line, loc_line, number_in, participant_named, participants_named, port_line, trans_line, with_interaction, with_transition}
 use Rattle.bip_model.specs.Naming.{is_known, same_text}
 use Rattle.bip_model.specs.Outcomes.{◌>>=◌}
 use Rattle.bip_model.specs.Parts.{Participant}
@@ -97,8 +97,8 @@ participants_faults : (m : System) (before : List Participant) (words : List (Li
 participants_faults m before [] = refl
 participants_faults m before (word ∷ words) =
     among_then is_of_line (participant_named m word) _ (participant_faults m word) (λ q.
-    among_if is_of_line (list_any (λ (r : Participant). r.0.0 == q.0.0) before) (Err build_fault.Twice) (participants_named m (put_by_component q before) words) refl
-    (participants_faults m (put_by_component q before) words))
+    among_if is_of_line (list_any (λ (r : Participant). r.0.0 == q.0.0) before) (Err build_fault.Twice) (participants_named m (before ++ q ∷ []) words) refl
+    (participants_faults m (before ++ q ∷ []) words))
 
 put_faults : (name : List ℕ) (participants : List Participant) (m : System) → is_among is_of_line (with_interaction name participants m) ≡ true
 put_faults name participants m = grind arith
