@@ -123,7 +123,7 @@ draft_faults (statement.Class name interactions) d = refl
 class_faults : (name : List ℕ) (interactions : List (List ℕ)) (r : Reading) → is_among is_of_statement (class_line name interactions r) ≡ true
 unfolding class_line
 class_faults name interactions r =
-    let numbers = each_of (interaction_named (draft_of r)) interactions in
+    let numbers = each_of (interaction_named (draft_of r)) [] interactions in
     among_if is_of_statement (list_any (λ (class : List ℕ × List InterId). same_text name class.0) r.classes) (Err Twice) (ok_or numbers Unknown >>= λ ns. with_class name ns r) refl
     (among_then is_of_statement (ok_or numbers Unknown) (λ ns. with_class name ns r) (among_found is_of_statement numbers Unknown refl) (λ ns. grind arith))
 
@@ -151,7 +151,7 @@ fair_words : (ws : Option (List (List ℕ))) (r : Reading) → is_among is_of_te
 fair_words None r = refl
 fair_words (Some []) r = refl
 fair_words (Some (word ∷ rest)) r =
-    among_then is_of_text (ok_or (statement_in (word ∷ rest) r) Syntax) (λ s. reading_with s r) (among_found is_of_text (statement_in (word ∷ rest) r) Syntax refl)
+    among_then is_of_text (ok_or (statement_in word rest r) Syntax) (λ s. reading_with s r) (among_found is_of_text (statement_in word rest r) Syntax refl)
     (λ s. among_more is_of_statement is_of_text (reading_with s r) fair_more (reading_faults s r))
 
 fair_line : (line : List ℕ) (r : Reading) → is_among is_of_text (reading_after line r) ≡ true

@@ -1,7 +1,7 @@
 -- What lines lead to is a draft of the builder's, so what a text means is a valid model with classes of it.
 use Rattle.std.proofs.Common.{◌≡◌, ℕ, ◌+◌, ◌<◌, Bool, true, false, not, cond, ◌==◌, List, [], ◌∷◌, length, Option, None, Some, Result, Ok, Err, refl, ap, ◌∙◌, subst, sym, arith, option_and_then}
 use Rattle.std.specs.Prelude.{IfSome, IsNone, is_some, unwrap_or, ⊤}
-use Rattle.std.specs.Option.{IsSomeAnd, ok_or, option_map}
+use Rattle.std.specs.Option.{IsSomeAnd, ok_or, option_map, option_zip}
 use Rattle.std.proofs.lemmas.Bool.Decides.{nat_tests}
 use Rattle.std.proofs.lemmas.List.Elements.{All-nil}
 use Rattle.bip_model.specs.Drafts.{IsDraft, IsWhole, empty_draft, loc_line, port_line, trans_line}
@@ -17,6 +17,7 @@ use Rattle.bip_model.specs.declared.partitions.Partition.{Partition}
 use Rattle.bip_model.specs.declared.parts.System.{System}
 use Rattle.bip_model.proofs.DraftLemmas.{component_keeps, end_keeps, inside_keeps, interaction_keeps, loc_keeps, port_keeps, trans_keeps}
 use Rattle.bip_model.proofs.PartitionLemmas.{classes_of_partition}
+use Rattle.bip_reader.proofs.StatementLemmas.{as_many}
 use Rattle.bip_reader.specs.Laws.{MeansValid}
 use Rattle.bip_reader.specs.Reading.{at_line, can_follow, class_line, draft_of, draft_with, empty_reading, has_place, reading_after, reading_after_lines, reading_after_words, reading_with, statement_in, with_draft}
 use Rattle.bip_reader.specs.Statements.{class_form, each_of, end_form, header_form, interaction_form, keyword_in, keyword_of, name_of, one_name, one_or_more_of, participant_of, statement_of, trans_form}
@@ -47,20 +48,21 @@ some_then : {A B : Type 0} (P : B → Type 0) (o : Option A) (f : A → Option B
 some_then P None f h = tt
 some_then P (Some a) f h = h a refl
 
-some_map : {A B : Type 0} (P : B → Type 0) (o : Option A) (f : A → B) → ((a : A) → P (f a)) → IfSome (option_map f o) P
+some_map : {A B : Type 0} (P : B → Type 0) (o : Option A) (f : A → B) → ((a : A) → o ≡ Some a → P (f a)) → IfSome (option_map f o) P
 some_map P None f h = tt
-some_map P (Some a) f h = h a
+some_map P (Some a) f h = h a refl
 
-one_at_least : {A : Type 0} (x : Option A) (more : Option (List A)) (xs : List A) → option_and_then (λ y. option_map (λ ys. y ∷ ys) more) x ≡ Some xs → 0 < length xs
-one_at_least None more xs e = absurd (cc)
-one_at_least (Some x) None xs e = absurd (cc)
-one_at_least (Some x) (Some ys) xs e = let same : x ∷ ys ≡ xs = cc in subst (λ (zs : List _). 0 < length zs) same (omega arith)
+filled : {A B : Type 0} (x : Option A) (f : List ℕ → Option B) (ws : List (List ℕ)) (both : A × List B) → option_zip x (one_or_more_of f ws) ≡ Some both → 0 < length both.1
+filled None f ws both e = absurd (cc)
+filled (Some x) f [] both e = absurd (cc)
+filled {A} {B} (Some x) f (w ∷ ws) both e = by_all (each_of f [] (w ∷ ws)) refl (rw some at e)
+  where
+    some : (length (w ∷ ws) == 0) ≡ false
+    some = grind (arith, nat_tests)
 
-filled : {A : Type 0} (f : List ℕ → Option A) (ws : List (List ℕ)) (xs : List A) → one_or_more_of f ws ≡ Some xs → 0 < length xs
-filled f [] xs e = absurd (cc)
-filled f (w ∷ ws) xs e =
-    let some : (length (w ∷ ws) == 0) ≡ false = grind (arith, nat_tests) in
-    one_at_least (f w) (each_of f ws) xs (rw some at e)
+    by_all : (all : Option (List B)) → each_of f [] (w ∷ ws) ≡ all → option_zip (Some x) all ≡ Some both → 0 < length both.1
+    by_all None are e' = absurd (cc)
+    by_all (Some xs) are e' = let same : xs ≡ both.1 = cc in rw (← same) (omega (arith, as_many f [] (w ∷ ws) xs are))
 
 header_is : (ws : List (List ℕ)) → IfSome (header_form ws) (IsOf keyword.Bip)
 unfolding header_form
@@ -73,8 +75,7 @@ unfolding trans_form
 trans_is [] = tt
 trans_is (a ∷ []) = tt
 trans_is (a ∷ b ∷ []) = tt
-trans_is (a ∷ b ∷ c ∷ []) =
-    some_then (IsOf keyword.Trans) (name_of a) _ (λ port e. some_then (IsOf keyword.Trans) (name_of b) _ (λ source f. some_then (IsOf keyword.Trans) (name_of c) _ (λ target g. (refl, tt))))
+trans_is (a ∷ b ∷ c ∷ []) = some_map (IsOf keyword.Trans) _ _ (λ names e. (refl, tt))
 trans_is (a ∷ b ∷ c ∷ d ∷ ws) = tt
 
 end_is : (ws : List (List ℕ)) → IfSome (end_form ws) (IsOf keyword.End)
@@ -85,19 +86,18 @@ end_is (w ∷ ws) = tt
 interaction_is : (ws : List (List ℕ)) → IfSome (interaction_form ws) (IsOf keyword.Interaction)
 unfolding interaction_form
 interaction_is [] = tt
-interaction_is (w ∷ ws) =
-    some_then (IsOf keyword.Interaction) (name_of w) _ (λ name e. some_then (IsOf keyword.Interaction) (one_or_more_of participant_of ws) _ (λ participants f. (refl, filled participant_of ws participants f)))
+interaction_is (w ∷ ws) = some_map (IsOf keyword.Interaction) _ _ (λ parts e. (refl, filled (name_of w) participant_of ws parts e))
 
 class_is : (ws : List (List ℕ)) → IfSome (class_form ws) (IsOf keyword.Class)
 unfolding class_form
 class_is [] = tt
-class_is (w ∷ ws) = some_then (IsOf keyword.Class) (name_of w) _ (λ name e. some_then (IsOf keyword.Class) (one_or_more_of name_of ws) _ (λ interactions f. (refl, tt)))
+class_is (w ∷ ws) = some_map (IsOf keyword.Class) _ _ (λ parts e. (refl, tt))
 
 statement_is : (k : Keyword) (ws : List (List ℕ)) → IfSome (statement_of k ws) (IsOf k)
 statement_is keyword.Bip ws = header_is ws
-statement_is keyword.Component ws = some_map (IsOf keyword.Component) (one_name ws) statement.Component (λ name. (refl, tt))
-statement_is keyword.Loc ws = some_map (IsOf keyword.Loc) (one_name ws) statement.Loc (λ name. (refl, tt))
-statement_is keyword.Port ws = some_map (IsOf keyword.Port) (one_name ws) statement.Port (λ name. (refl, tt))
+statement_is keyword.Component ws = some_map (IsOf keyword.Component) (one_name ws) statement.Component (λ name e. (refl, tt))
+statement_is keyword.Loc ws = some_map (IsOf keyword.Loc) (one_name ws) statement.Loc (λ name e. (refl, tt))
+statement_is keyword.Port ws = some_map (IsOf keyword.Port) (one_name ws) statement.Port (λ name e. (refl, tt))
 statement_is keyword.Trans ws = trans_is ws
 statement_is keyword.End ws = end_is ws
 statement_is keyword.Interaction ws = interaction_is ws
@@ -112,9 +112,8 @@ in_place_if r k true None place h = tt
 in_place_if r k true (Some s) place h = (ap (λ (j : Keyword). has_place j r) h.0 ∙ place, h.1)
 in_place_if r k false o place h = tt
 
-in_place_all : (ws : List (List ℕ)) (r : Reading) → IfSome (statement_in ws r) (IsInPlace r)
-in_place_all [] r = tt
-in_place_all (word ∷ rest) r = some_then (IsInPlace r) (keyword_of word) _ (λ k e. in_place_if r k (has_place k r) (statement_of k rest) refl (statement_is k rest))
+in_place_all : (word : List ℕ) (rest : List (List ℕ)) (r : Reading) → IfSome (statement_in word rest r) (IsInPlace r)
+in_place_all word rest r = some_then (IsInPlace r) (keyword_of word) _ (λ k e. in_place_if r k (has_place k r) (statement_of k rest) refl (statement_is k rest))
 
 not_begun : {A : Type 0} (o : Option A) → not (is_some o) ≡ true → IsNone o
 not_begun None h = refl
@@ -179,7 +178,7 @@ stated_keeps (Some s) r new h valid e = reading_keeps s r new h.0 h.1 valid e
 words_keep : (ws : Option (List (List ℕ))) (r new : Reading) → IsDraft (draft_of r) → reading_after_words ws r ≡ Ok new → IsDraft (draft_of new)
 words_keep None r new valid e = absurd (cc)
 words_keep (Some []) r new valid e = let same : r ≡ new = cc in subst (λ (x : Reading). IsDraft (draft_of x)) same valid
-words_keep (Some (word ∷ rest)) r new valid e = stated_keeps (statement_in (word ∷ rest) r) r new (in_place_all (word ∷ rest) r) valid e
+words_keep (Some (word ∷ rest)) r new valid e = stated_keeps (statement_in word rest r) r new (in_place_all word rest r) valid e
 
 line_keeps : (line : List ℕ) (r new : Reading) → IsDraft (draft_of r) → reading_after line r ≡ Ok new → IsDraft (draft_of new)
 unfolding reading_after
