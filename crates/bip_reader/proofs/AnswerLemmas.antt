@@ -6,10 +6,6 @@ use Rattle.bip_model.specs.Outcomes.{Answers, new_or_fault}
 use Rattle.bip_reader.specs.declared.faults.Why.{Why}
 use Rattle.bip_reader.specs.declared.faults.Why.TheVariants.{Memory}
 
--- nothing is a fault
-pub none_told : {A : Type 0} (o : Option A) (fault : Why) → o ≡ None → Answers Memory (ok_or o fault) (Err fault)
-none_told o fault e = rw e refl
-
 -- memory is wanting where there is something
 pub want_told : {A : Type 0} (o : Option A) (fault why : Why) → is_some o ≡ true → why ≡ Memory → Answers Memory (ok_or o fault) (Err why)
 want_told None fault why e is = absurd (cc)
@@ -29,11 +25,6 @@ pub hidden_none : {A : Type 0} (said : Result A Why) (result : Result (Unit {0})
 hidden_none (Ok x) result new why h wants e = absurd (cc)
 hidden_none (Err fault) (Ok u) new why h wants e = absurd h
 hidden_none (Err fault) (Err other) new why h wants e = cc
-
--- a form that a line lacks is a fault of syntax, and so it stays
-pub lacking : {A : Type 0} (o : Option A) (fault why : Why) → Answers {X = A} Memory (ok_or o fault) (Err why) → why ≢ Memory → ok_or o fault ≡ Err why
-lacking None fault why h other = ap Err (sym h)
-lacking (Some x) fault why h other = absurd (other h)
 
 pub err_same : {A : Type 0} (x y : Why) → ◌≡◌ {A = Result A Why} (Err x) (Err y) → x ≡ y
 err_same x y e = cc

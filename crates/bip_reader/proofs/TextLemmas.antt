@@ -1,5 +1,5 @@
 -- Lemmas on what lines say one after another, and on how far reading has come.
-use Rattle.std.proofs.Common.{◌≡◌, ℕ, ◌+◌, ◌-◌, ◌≤◌, ◌<◌, List, [], ◌∷◌, ◌++◌, length, take, drop, max, Result, Ok, Err, refl, ap, ◌∙◌, sym, append_assoc, arith, length-append}
+use Rattle.std.proofs.Common.{◌≡◌, ℕ, ◌+◌, ◌-◌, ◌≤◌, ◌<◌, List, [], ◌∷◌, ◌++◌, length, take, drop, Result, Ok, Err, refl, ap, ◌∙◌, sym, append_assoc, arith, length-append}
 use Rattle.std.specs.Prelude.{IsOk, Some, slice_get}
 use Rattle.std.proofs.lemmas.List.{append-nil, take-append-drop, take_all}
 use Rattle.std.proofs.Math.Seq.{take-append_seam}
@@ -37,9 +37,6 @@ pub record IsAt (text : List ℕ) (read : ℕ) (r : Reading) (rest : List ℕ) :
   pub counted : length before ≡ read
   pub said : reading_after_lines 1 before empty_reading ≡ Ok r
   pub short : read + length rest ≤ length text
-
-pub starts : (text : List ℕ) → IsAt text 0 empty_reading text
-starts text = record { before = []; whole = refl; counted = refl; said = refl; short = omega arith }
 
 -- one line more
 pub goes_on : (text : List ℕ) (read : ℕ) (r new : Reading) (rest line after : List ℕ) → IsAt text read r rest → lines rest ≡ line ∷ lines after → length after < length rest
@@ -85,9 +82,6 @@ all_before text read r rest h e = h.whole ∙ rw (lines_of_nothing rest e) (appe
 pub all_said : (text : List ℕ) (read : ℕ) (r : Reading) (rest : List ℕ) → IsAt text read r rest → length rest ≡ 0 → reading_of text ≡ Ok r
 unfolding reading_of
 all_said text read r rest h e = ap (λ (ls : List (List ℕ)). reading_after_lines 1 ls empty_reading) (all_before text read r rest h e) ∙ h.said
-
-pub all_counted : (text : List ℕ) (read : ℕ) (r : Reading) (rest : List ℕ) → IsAt text read r rest → length rest ≡ 0 → max 1 read ≡ last_line text
-all_counted text read r rest h e = ap (λ (n : ℕ). max 1 n) (sym h.counted ∙ ap length (sym (all_before text read r rest h e)))
 
 is_ok_first : {A B E : Type 0} (said : Result A E) (f : A → Result B E) (y : B) → said >>= f ≡ Ok y → IsOk said
 is_ok_first (Ok x) f y e = refl
