@@ -4,10 +4,10 @@ use Rattle.std.specs.Prelude.{filter, Ok, Some, All, slice_index_or}
 use Rattle.std.specs.List.Sorted.{IsStrictlyIncreasing}
 use Rattle.bip_model.specs.Grants.{IsHistory, MovesOnceEach}
 use Rattle.bip_model.specs.States.{State}
-use Rattle.bip_model.specs.Steps.{IsRun, MayRun, after, end_of, start_of}
+use Rattle.bip_model.specs.Steps.{IsRun, after, start_of}
 use Rattle.bip_model.specs.Parts.{IsSystem}
 use Rattle.bip_model.specs.Texts.{said_in, words}
-use Rattle.bip_model.specs.Wants.{components_of, moved_in, raised}
+use Rattle.bip_model.specs.Wants.{components_of, moved_in}
 use Rattle.bip_model.specs.declared.grants.Grant.{Grant}
 use Rattle.bip_model.specs.declared.parts.System.{System}
 use Rattle.bip_replay.specs.Faults.{IsFaultOf}
@@ -19,29 +19,11 @@ use Rattle.bip_replay.specs.Writing.{IsGrantOf, name_in}
 use Rattle.bip_replay.specs.declared.faults.ReplayFault.{ReplayFault}
 use Rattle.bip_replay.specs.declared.faults.StepFault.{StepFault}
 
--- one interaction more leads from where those before it lead
-abbrev pub EndsFromTheBack : Type 0
-EndsFromTheBack =
-    (m : System) (s : State) (front : List ℕ) (a : ℕ)
-    → end_of m s (front ++ a ∷ []) ≡ after m (end_of m s front) a
-
--- interactions and one more are a run exactly where they are one and it may run at their end
-abbrev pub RunsFromTheBack : Type 0
-RunsFromTheBack =
-    (m : System) (s : State) (front : List ℕ) (a : ℕ)
-    → IsRun m s (front ++ a ∷ []) ↔ (IsRun m s front × MayRun m (end_of m s front) a)
-
 -- one grant more leads from the state to which those before it lead
 abbrev pub StatesFromTheBack : Type 0
 StatesFromTheBack =
     (m : System) (gs : List Grant) (g : Grant)
     → state_after m (gs ++ g ∷ []) ≡ after m (state_after m gs) g.inter.0
-
--- one grant more raises the used numbers of those before it
-abbrev pub NumbersFromTheBack : Type 0
-NumbersFromTheBack =
-    (base : ℕ) (gs : List Grant) (g : Grant)
-    → used_after base (gs ++ g ∷ []) ≡ raised (used_after base gs) g.wants
 
 -- grants and one more are a run exactly where they are one and it can be next where they lead
 abbrev pub GrantsFromTheBack : Type 0

@@ -106,3 +106,12 @@ looked_up m (Ok (Some g)) = option_map_or (λ h. Ok (Some h)) (known m g) (Err U
 -- the grant of a line, or its fault; none of a line that says nothing
 abbrev pub grant_on : System → List ℕ → Result (Option Grant) LineFault
 grant_on m line = looked_up m (named_on line)
+
+-- What contracts of private functions say.
+
+-- the answer of a reader of one line, and the wants that it left, as what the line says
+abbrev pub as_said :
+    Result (Option (List ℕ)) LineFault → List NamedWant → Result (Option NamedGrant) LineFault
+as_said (Err fault) wants = Err fault
+as_said (Ok None) wants = Ok None
+as_said (Ok (Some inter)) wants = Ok (Some (record { inter = inter; wants = wants }))

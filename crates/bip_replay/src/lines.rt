@@ -7,9 +7,8 @@ ghost use Rattle.bip_model.specs.Naming.{is_name, same_text};
 ghost use Rattle.bip_model.specs.Texts.{words};
 ghost use Rattle.bip_model.specs.declared.wants.Role.TheVariants.{Moved};
 ghost use Rattle.bip_model.specs.declared.wants.TheConstants.{MOST_WANTS};
-ghost use Rattle.bip_replay.specs.Lines.{is_named, named_on, put_in_order, said, want_said};
-ghost use Rattle.bip_replay.specs.Lines.{wants_known, wants_said, with_want};
-ghost use Rattle.bip_replay.specs.Private.{as_said};
+ghost use Rattle.bip_replay.specs.Lines.{as_said, is_named, named_on, put_in_order, said};
+ghost use Rattle.bip_replay.specs.Lines.{want_said, wants_known, wants_said, with_want};
 
 use crate::faults::LineFault;
 use arrayvec::ArrayVec;
