@@ -8,9 +8,9 @@ use Rattle.std.proofs.lemmas.List.{length-append, append_assoc}
 use Rattle.std.proofs.lemmas.List.Elements.{All-push, All-weaker, All-nil}
 use Rattle.std.proofs.lemmas.List.Folds.{list_any-append, list_any_at}
 use Rattle.std.proofs.lemmas.List.Quantifiers.{all_pairs_push}
-use Rattle.bip_model.specs.Drafts.{IsDraft, begun_in, component_line, end_line, inside, interaction_line, is_taken, loc_line, no_component, number_in, participant_named, participants_named, port_line, put_by_component, trans_line, with_interaction, with_transition}
+use Rattle.bip_model.specs.Drafts.{IsDraft, begun_in, component_line, end_line, inside, interaction_line, is_taken, loc_line, no_component, number_in, participants_named, port_line, trans_line, with_interaction, with_transition}
 use Rattle.bip_model.specs.Naming.{AreApart, is_known, same_text}
-use Rattle.bip_model.specs.Parts.{IsComponent, IsComponentSoFar, IsInteraction, IsPortIn, IsTransitionOf, Participant, components_in, same_start}
+use Rattle.bip_model.specs.Parts.{IsComponent, IsComponentSoFar, IsInteraction, IsPortIn, IsTransitionOf, Participant, same_start}
 use Rattle.bip_model.specs.declared.drafts.Draft.{Draft}
 use Rattle.bip_model.specs.declared.faults.BuildFault.{BuildFault}
 use Rattle.bip_model.specs.declared.faults.BuildFault.TheVariants.{Twice, TooMany, Missing, TwoTransitions, Memory}
@@ -20,7 +20,7 @@ use Rattle.bip_model.specs.declared.parts.System.{System}
 use Rattle.bip_model.specs.declared.parts.Transition.{Transition}
 use Rattle.bip_model.proofs.ListLemmas.{neither}
 use Rattle.bip_model.proofs.NameLemmas.{apart_between, apart_push}
-use Rattle.bip_model.proofs.ParticipantLemmas.{AreParticipants, bind_ok, increasing_from_rises, length-put, number_in-below, participants_named-valid}
+use Rattle.bip_model.proofs.ParticipantLemmas.{bind_ok, named_valid, number_in-below}
 
 -- what holds before a call, and after what its line says, holds after it
 pub answers_keeps : {X : Type 0} (P : X → Type 0) (said : Result X BuildFault) (old : X)
@@ -238,19 +238,6 @@ end_keeps d e valid begun is =
     not_zero : (n : ℕ) → eqb n 0 ≡ false → 0 < n
     not_zero n h = let differs : n ≢ 0 = λ e. eqb-false n 0 h e in omega arith
 
--- a participant more for each word
-participants_named-length : (m : System) (before : List Participant) (words : List (List ℕ × List ℕ)) (qs : List Participant) → participants_named m before words ≡ Ok qs → length qs ≡ length before + length words
-participants_named-length m before [] qs is = let same : before ≡ qs = same_ok before qs (Ok before) refl is in rw (← same) (omega arith)
-participants_named-length m before (word ∷ words) qs is =
-    let first = bind_ok (participant_named m word) _ qs is in
-    let second = guard_ok (list_any (λ (r : Participant). eqb r.0.0 first.0.0.0) before) Twice _ qs first.2 in
-    let rest : length qs ≡ length (put_by_component first.0 before) + length words = participants_named-length m (put_by_component first.0 before) words qs second.1 in
-    let more = length-put first.0 before in
-    omega arith
-
-none_valid : (components : List Component) → AreParticipants components []
-none_valid components = record { rises = tt; ports = All-nil (IsPortIn components) }
-
 pub interaction_keeps : (d e : Draft) (name : List ℕ) (words : List (List ℕ × List ℕ)) → IsDraft d → 0 < length words → interaction_line d name words ≡ Ok e → IsDraft e
 interaction_keeps d e name words valid some is =
     let first = guard_ok (is_known name d.system.interaction_names) Twice _ e is in
@@ -261,11 +248,11 @@ interaction_keeps d e name words valid some is =
     let room = neither (leb 128 (length d.system.interactions)) (ltb 8 (length qs)) fourth.0 in
     let fits : length d.system.interactions < 128 = leb-false 128 (length d.system.interactions) room.0 in
     let few : length qs ≤ 8 = ltb-false 8 (length qs) room.1 in
-    let all : length qs ≡ 0 + length words = participants_named-length d.system [] words qs second.1 in
-    let found : AreParticipants d.system.components qs = participants_named-valid d.system [] words qs (none_valid d.system.components) second.1 in
+    let found = named_valid d.system words qs second.1 in
+    let all : length qs ≡ length words = found.0 in
     let interaction : Interaction = record { participants = qs } in
     let whole : IsInteraction d.system.components interaction =
-    record { some = omega arith; few = few; rising = increasing_from_rises (components_in qs) found.rises; ports = found.ports } in
+    record { some = omega arith; few = few; rising = found.1; ports = found.2 } in
     let names : List (List ℕ) = d.system.interaction_names ++ name ∷ [] in
     let interactions : List Interaction = d.system.interactions ++ interaction ∷ [] in
     let more_names' : length names ≡ length d.system.interaction_names + 1 = one_longer d.system.interaction_names name in

@@ -9,7 +9,7 @@ use Rattle.bip_model.specs.declared.wants.Role.{Role}
 use Rattle.bip_model.specs.declared.wants.Role.TheVariants.{Moved, Seen}
 use Rattle.bip_model.specs.Laws.{HistoryGoesOn, MovedIsWanted, MovesBy, UsedGoesOn}
 use Rattle.bip_model.proofs.ListLemmas.{below_later, neq_eqb}
-use Rattle.bip_model.proofs.ParticipantLemmas.{increasing_tail}
+use Rattle.bip_model.proofs.NumberingLemmas.{increasing_tail}
 use Rattle.std.specs.List.Sorted.{IsStrictlyIncreasing}
 use Rattle.std.proofs.lemmas.Bool.Decides.{eqb_tells}
 use Rattle.bip_model.specs.Grants.{IsGreatestUsed, IsHistory, MovesOnceEach, used_by}

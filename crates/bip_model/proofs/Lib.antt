@@ -5,6 +5,7 @@ pub mod LawLemmas
 pub mod ListLemmas
 pub mod NameLemmas
 pub mod NumberLemmas
+pub mod NumberingLemmas
 pub mod PaddingLemmas
 pub mod ParticipantLemmas
 pub mod PartitionLemmas

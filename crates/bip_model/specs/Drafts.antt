@@ -5,6 +5,7 @@ use Rattle.std.specs.Prelude.{slice_get, position, unwrap_or, if◌then◌else�
 use Rattle.std.specs.List.{list_any}
 use Rattle.std.specs.Option.{ok_or}
 use Rattle.bip_model.specs.Naming.{is_known, same_text}
+use Rattle.bip_model.specs.Numbering.{by_number}
 use Rattle.bip_model.specs.Outcomes.{◌>>=◌}
 use Rattle.bip_model.specs.Steps.{IsCyclic}
 use Rattle.bip_model.specs.Parts.{IsComponentSoFar, IsSystemSoFar, Participant, same_start}
@@ -103,20 +104,19 @@ participant_named m word =
     >>= λ component. number_in component.ports word.1
     >>= λ p. Ok (record { 0 = c }, record { 0 = p })
 
--- a participant among others by component
-abbrev pub put_by_component : Participant → List Participant → List Participant
-put_by_component q [] = q ∷ []
-put_by_component q (r ∷ rs) = if nat_lt q.0.0 r.0.0 then q ∷ r ∷ rs else r ∷ put_by_component q rs
+-- participants by component
+abbrev pub by_component : List Participant → List Participant
+by_component participants = by_number (λ (q : Participant). q.0.0) participants
 
--- the participants that a text names, by component, put among those of the words before; a
--- component that takes part already is named twice
+-- the participants that a text names, by component, with those of the words before; a component
+-- that takes part already is named twice
 abbrev pub participants_named : System → List Participant → List (List ℕ × List ℕ)
     → Result (List Participant) BuildFault
-participants_named m before [] = Ok before
+participants_named m before [] = Ok (by_component before)
 participants_named m before (word ∷ words) =
     participant_named m word
     >>= λ q. (if list_any (λ (r : Participant). r.0.0 == q.0.0) before then Err Twice
-    else participants_named m (put_by_component q before) words)
+    else participants_named m (before ++ q ∷ []) words)
 
 -- an interaction joins those of a system
 abbrev pub with_interaction : List ℕ → List Participant → System → Result System BuildFault

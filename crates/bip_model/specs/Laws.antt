@@ -1,6 +1,6 @@
 -- What the definitions mean, in the subject's own words: laws that a reviewer reads.
 use Rattle.std.specs.Prelude.{◌≤◌, ◌⊎◌, Any, Ok, map, min, sum_by}
-use Rattle.std.specs.List.Sorted.{IsStrictlyIncreasing}
+use Rattle.std.specs.List.Sorted.{IsPermutation, IsStrictlyIncreasing}
 use Rattle.std.specs.Prelude.{◌≡◌, ◌↔◌, ℕ, ◌<◌, false, true, [], ◌∷◌, ◌++◌, List, length, Some}
 use Rattle.std.specs.Prelude.{slice_get, All, Contains, ◌⊎◌, IfSome}
 use Rattle.bip_model.specs.Drafts.{participant_named, participants_named}
@@ -165,16 +165,23 @@ pub record IsInOrder (count : ℕ) (class ordered : List InterId) : Type 0 where
   pub rising : IsStrictlyIncreasing (numbers_in ordered)
   pub members : (a : ℕ) → a < count → times_in ordered a ≡ min 1 (times_in class a)
 
--- the participants that words name: they rise by component, are as many as the words, and each word
--- names one of them
+-- the participants that words name, one each, by component
 pub record AreNamed (m : System) (words : List (List ℕ × List ℕ)) (qs : List Participant)
     : Type 0 where
+  pub named : List Participant
+  pub one_each : map (participant_named m) words ≡ map Ok named
+  pub these : IsPermutation named qs
   pub rising : IsStrictlyIncreasing (components_in qs)
-  pub count : length qs ≡ length words
-  pub each : All (λ word. (q : Participant) × (participant_named m word ≡ Ok q) × Contains qs q)
-      words
 
+-- words are participants exactly where they name them
 abbrev pub NamesParticipants : Type 0
 NamesParticipants =
     (m : System) (words : List (List ℕ × List ℕ)) (qs : List Participant)
-    → participants_named m [] words ≡ Ok qs → AreNamed m words qs
+    → (participants_named m [] words ≡ Ok qs) ↔ AreNamed m words qs
+
+-- the order of the words doesn't count
+abbrev pub NamesInAnyOrder : Type 0
+NamesInAnyOrder =
+    (m : System) (words others : List (List ℕ × List ℕ)) (qs : List Participant)
+    → IsPermutation words others
+    → participants_named m [] words ≡ Ok qs → participants_named m [] others ≡ Ok qs

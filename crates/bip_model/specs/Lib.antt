@@ -5,6 +5,7 @@ pub mod Laws
 pub mod Lines
 pub mod Moves
 pub mod Naming
+pub mod Numbering
 pub mod Outcomes
 pub mod Padding
 pub mod Partitions

@@ -1,10 +1,10 @@
 //! What the lines of a model's text have said so far, and what one more line says.
-ghost use Rattle.std.specs.Prelude.{◌≡◌, ◌==◌, [], false, nat_lt, position, IsSome, IsNone};
+ghost use Rattle.std.specs.Prelude.{◌≡◌, ◌==◌, [], false, IsSome, IsNone};
 ghost use Rattle.std.specs.Prelude.{IsSomeAnd, OnErr};
 ghost use Rattle.smallvec.specs.SmallVec.{HasRoomFor};
 ghost use Rattle.bip_model.specs.Drafts.{component_line, empty_draft, end_line, inside};
 ghost use Rattle.bip_model.specs.Drafts.{interaction_line, is_taken, loc_line, no_component};
-ghost use Rattle.bip_model.specs.Drafts.{participant_named, participants_named, put_by_component};
+ghost use Rattle.bip_model.specs.Drafts.{participant_named, participants_named};
 ghost use Rattle.bip_model.specs.Drafts.{port_line, trans_line, with_interaction, with_transition};
 ghost use Rattle.bip_model.specs.Naming.{is_known};
 ghost use Rattle.bip_model.specs.Outcomes.{Answers, new_or_fault};
@@ -159,8 +159,9 @@ impl System {
             if takes_part(found.as_slice(), participant.0) {
                 return Err(BuildFault::Twice);
             }
-            put_by_component(&mut found, participant);
+            found.push_reserved(participant);
         }
+        found.sort_unstable_by_key(|participant| participant.0.0);
         Ok(found)
     }
 }
@@ -203,29 +204,6 @@ fn takes_part(participants: &[(CompId, PortId)], comp: CompId) -> bool
     ensures { result ≡ list_any (λ (q : Participant). q.0.0 == comp.0) participants.now }
 {
     participants.iter().any(|q| q.0 == comp)
-}
-
-fn first_above(participants: &[(CompId, PortId)], comp: CompId) -> Option<usize>
-    ensures { result ≡ position (λ (q : Participant). nat_lt comp.0 q.0.0) participants.now }
-{
-    participants.iter().position(|q| comp < q.0)
-}
-
-fn put_by_component(
-    participants: &mut SmallVec<(CompId, PortId), 64>,
-    participant: (CompId, PortId),
-)
-    requires { HasRoomFor participants.old 1 }
-    ensures items { participants.new.items ≡ put_by_component participant participants.old.items }
-    ensures room { participants.new.capacity ≡ participants.old.capacity }
-{
-    match first_above(participants.as_slice(), participant.0) {
-        None => participants.push_reserved(participant),
-        Some(place) => match participants.insert(place, participant) {
-            Ok(()) => {}
-            Err(_) => unreachable!(),
-        },
-    }
 }
 
 impl Draft {

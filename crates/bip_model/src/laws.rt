@@ -12,7 +12,8 @@ ghost use Rattle.bip_model.specs.Parts.{IsSystem};
 ghost use Rattle.bip_model.specs.Wants.{IsFresh, raised};
 ghost use Rattle.bip_model.specs.declared.drafts.Draft.{Draft};
 ghost use Rattle.bip_model.specs.Laws.{HistoryGoesOn, IsInOrder, MovedIsWanted};
-ghost use Rattle.bip_model.specs.Laws.{NamesParticipants, PartsOrMisplaces, UsedGoesOn};
+ghost use Rattle.bip_model.specs.Laws.{NamesInAnyOrder, NamesParticipants, PartsOrMisplaces};
+ghost use Rattle.bip_model.specs.Laws.{UsedGoesOn};
 ghost use Rattle.bip_model.specs.Partitions.{in_order};
 ghost use Rattle.bip_model.specs.declared.grants.Grant.{Grant};
 ghost use Rattle.bip_model.specs.declared.numbering.InterId.{InterId};
@@ -33,7 +34,8 @@ pub fn step_laws()
 
 /// A line that is taken keeps all that earlier lines said: names, components, interactions, and
 /// what the component that is begun has declared. The participants of an interaction are just what
-/// its words name, by component (docs/DEFINITIONS.md, "Model lines").
+/// its words name, one each, by component, so the order of the words doesn't count
+/// (docs/DEFINITIONS.md, "Model lines").
 pub fn builder_laws()
     ensures component { (d e : Draft) (name : List ℕ) → IsNone d.begun
         → component_line d name ≡ Ok e → KeepsDraft d e }
@@ -47,6 +49,7 @@ pub fn builder_laws()
         → IsNone d.begun
         → interaction_line d name words ≡ Ok e → KeepsDraft d e }
     ensures participants { NamesParticipants }
+    ensures any_order { NamesInAnyOrder }
 {}
 
 /// What wants move; what grants use up, all that they do and one more; that a used number is the

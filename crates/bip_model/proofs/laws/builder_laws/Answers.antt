@@ -1,6 +1,6 @@
 use Rattle.bip_model.specs.Drafts.{loc_line, port_line, trans_line}
 use Rattle.bip_model.proofs.GrowthLemmas.{component_grows, end_grows, inside_grows, interaction_grows, loc_grows, port_grows, trans_grows}
-use Rattle.bip_model.proofs.ParticipantLemmas.{names_participants}
+use Rattle.bip_model.proofs.ParticipantLemmas.{names_in_any_order, names_participants}
 use Rattle.bip_model.proofs.laws.builder_laws.Goals as goal
 
 pub returns-clause-component : goal.returns-clause-component
@@ -23,3 +23,6 @@ returns-clause-interaction c = interaction_grows
 
 pub returns-clause-participants : goal.returns-clause-participants
 returns-clause-participants c = names_participants
+
+pub returns-clause-any_order : goal.returns-clause-any_order
+returns-clause-any_order c = names_in_any_order
