@@ -1,43 +1,24 @@
 -- There is always an answer: a text is the trace of a run, or has a first fault.
-use Rattle.std.proofs.Common.{◌≡◌, ℕ, ◌+◌, List, [], ◌∷◌, ◌++◌, length, Option, None, Some, Result, Ok, Err, refl, ap, subst, inl, inr, ◌⊎◌}
+use Rattle.std.proofs.Common.{◌≡◌, ℕ, ◌+◌, List, [], ◌∷◌, ◌++◌, length, Option, None, Some, Result, Ok, Err, refl, ap, inl, inr, ◌⊎◌}
 use Rattle.std.specs.Prelude.{⊤}
-use Rattle.std.specs.Option.{option_and_then, option_map, option_map_or}
 use Rattle.bip_model.specs.States.{State}
 use Rattle.bip_model.specs.Steps.{after, start_of}
 use Rattle.bip_model.specs.Parts.{IsSystem}
 use Rattle.bip_model.specs.Texts.{lines}
-use Rattle.bip_model.specs.Wants.{IsWants, raised}
+use Rattle.bip_model.specs.Wants.{raised}
 use Rattle.bip_model.specs.declared.grants.Grant.{Grant}
-use Rattle.bip_model.specs.declared.wants.Want.{Want}
 use Rattle.bip_model.specs.declared.parts.System.{System}
 use Rattle.bip_replay.specs.declared.faults.LineFault.{LineFault}
 use Rattle.bip_replay.specs.declared.faults.LineFault.TheVariants.{Syntax, Unknown}
 use Rattle.bip_replay.specs.declared.faults.ReplayFault.{ReplayFault}
 use Rattle.bip_replay.specs.declared.faults.ReplayFault.TheVariants as replay
 use Rattle.bip_replay.specs.Faults.{of_step}
-use Rattle.bip_replay.specs.Lines.{NamedGrant, grant_on, looked_up, named_on, wants_known}
+use Rattle.bip_replay.specs.Lines.{grant_on}
 use Rattle.bip_replay.specs.Replays.{IsFirstFault, IsLineFault, IsRunOf}
 use Rattle.bip_replay.specs.Runs.{IsNext}
 use Rattle.bip_replay.proofs.ExactLemmas.{LeadTo}
-use Rattle.bip_replay.proofs.KnownLemmas.{known-IsWants}
+use Rattle.bip_replay.proofs.GrantLemmas.{grant_line}
 use Rattle.bip_replay.proofs.LawLemmas.{NextOrFault, next_or_fault}
-use Rattle.bip_replay.proofs.NamedLemmas.{named_on-stand}
-
--- the wants of a line's grant are wants
-grant_on-wants : (m : System) (line : List ℕ) (g : Grant) → grant_on m line ≡ Ok (Some g) → IsWants g.wants
-grant_on-wants m line g says = by_named (named_on line) refl says
-  where
-    by_known : (h : NamedGrant) → named_on line ≡ Ok (Some h) → (a : Option ℕ) → (o : Option (List Want)) → wants_known m.component_names [] h.wants ≡ o → option_map_or (λ k. Ok (Some k)) (option_and_then (λ (n : ℕ). option_map (λ (ws : List Want). record { inter = record { 0 = n }; wants = ws }) o) a) (Err Unknown) ≡ Ok (Some g) → IsWants g.wants
-    by_known h named None o are s = cc
-    by_known h named (Some n) None are s = cc
-    by_known h named (Some n) (Some ws) are s =
-        let same : record { inter = record { 0 = n }; wants = ws } ≡ g = cc in
-        subst (λ (k : Grant). IsWants k.wants) same (known-IsWants m.component_names h.wants ws (named_on-stand line h named) are)
-
-    by_named : (r : Result (Option NamedGrant) LineFault) → named_on line ≡ r → looked_up m r ≡ Ok (Some g) → IsWants g.wants
-    by_named (Err e) is s = cc
-    by_named (Ok None) is s = cc
-    by_named (Ok (Some h)) is s = by_known h is _ (wants_known m.component_names [] h.wants) refl s
 
 -- the first of some lines that is at fault where those before it lead
 pub record StopsAt (m : System) (s : State) (used : ℕ → ℕ) (n : ℕ) (ls : List (List ℕ)) : Type 0 where
@@ -106,7 +87,7 @@ answer m s used n (line ∷ ls) valid = by_line (λ t u. answer m t u (n + 1) ls
     by_line later (Err Syntax) says = stops_here m s used n line ls replay.Syntax says
     by_line later (Err Unknown) says = stops_here m s used n line ls replay.Unknown says
     by_line later (Ok None) says = over says (later s used)
-    by_line later (Ok (Some g)) says = by_step later g says (next_or_fault m s used g valid (grant_on-wants m line g says).rising)
+    by_line later (Ok (Some g)) says = by_step later g says (next_or_fault m s used g valid (grant_line m line g says).rising)
 
 -- every text is the trace of a run, or has a first fault
 pub run_or_fault : (m : System) (base : ℕ) (text : List ℕ) → IsSystem m → ((count : ℕ) × IsRunOf m base text count) ⊎ ((number : ℕ) × (fault : ReplayFault) × IsFirstFault m base text number fault)

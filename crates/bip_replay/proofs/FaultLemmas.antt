@@ -21,7 +21,7 @@ use Rattle.bip_model.specs.Steps.{IsEnabled, MayRun, participants_of}
 use Rattle.bip_model.specs.Parts.{IsInteraction, IsPortIn, IsSystem, Participant, components_in}
 use Rattle.bip_model.specs.Wants.{components_of}
 use Rattle.bip_replay.specs.Faults.{IsLowestWrong, KnownAreRight}
-use Rattle.bip_replay.specs.Private.{has_next_number, is_party, is_wrong}
+use Rattle.bip_replay.specs.Runs.{has_next_number, is_party, is_wrong}
 use Rattle.bip_replay.specs.Runs.{HasItsParties, HasNextNumber, IsNext, last_number}
 use Rattle.bip_replay.proofs.PartyLemmas.{AreParties, parties-from_test, test-from_parties}
 

@@ -1,193 +1,107 @@
--- The wants of known components, put by component: their components rise.
-use Rattle.std.proofs.Common.{◌≡◌, ◌≢◌, ℕ, zero, suc, ◌+◌, ◌<◌, ◌≤◌, Bool, true, false, cond, ◌||◌, eqb, eq-eqb, List, [], ◌∷◌, length, get_or, Option, None, Some, refl, sym, ap, ◌∙◌, subst, arith, position}
-use Rattle.std.specs.Prelude.{All, nat_lt, slice_index}
-use Rattle.std.specs.List.{list_any}
-use Rattle.std.specs.Option.{option_and_then}
-use Rattle.std.specs.List.Sorted.{IsStrictlyIncreasing}
+-- Wants by names, as those of a model: different names are different components.
+use Rattle.std.proofs.Common.{◌≡◌, ℕ, Bool, true, false, eqb, List, [], ◌∷◌, ◌++◌, get_or, Some, refl, sym, ap, ◌∙◌, inl, inr, position}
+use Rattle.std.specs.List.{AllByRecursion, AllZip, IsDistinct}
+use Rattle.std.specs.List.Sorted.{IsNonDecreasingBy, IsPermutation}
 use Rattle.std.specs.Cmp.Lexicographic as texts
-use Rattle.std.proofs.lemmas.Bool.{ltb-true, ltb-false, and_from, both_ways}
-use Rattle.std.proofs.lemmas.List.Elements.{All-nil, All-cons, All-head, All-tail, All-weaker}
+use Rattle.std.proofs.lemmas.Bool.Decides.{eqb_tells}
+use Rattle.std.proofs.lemmas.Cmp.{nat_list_eq_equiv}
+use Rattle.std.proofs.lemmas.List.{append_assoc, append-nil}
 use Rattle.std.proofs.lemmas.List.Quantifiers.{position-Some}
-use Rattle.bip_model.specs.Naming.{same_text}
-use Rattle.bip_model.specs.Wants.{IsWants, components_of, is_moved}
+use Rattle.std.proofs.lemmas.List.Sorted.{IsPermutation-sym, IsPermutation-trans}
+use Rattle.std.proofs.lemmas.Option.{option_and_then_some}
+use Rattle.bip_model.proofs.ListLemmas.{neither}
+use Rattle.bip_model.specs.Naming.{AreApart, is_known, same_text}
+use Rattle.bip_model.specs.Wants.{components_of}
 use Rattle.bip_model.specs.declared.wants.Want.{Want}
-use Rattle.bip_replay.specs.Lines.{put_in_order, wants_known}
+use Rattle.bip_replay.specs.Lines.{names_of, numbered_want, wants_by_component, wants_known}
 use Rattle.bip_replay.specs.declared.lines.NamedWant.{NamedWant}
-use Rattle.bip_replay.proofs.NamedLemmas.{Apart, Numbered, Stand, Unlike, some_moved}
+use Rattle.bip_model.proofs.NumberingLemmas.{AreNumbered, by_number-IsPermutation, numbered_moved, sorted-is}
 
--- a want of a higher component
-abbrev pub Above : ℕ → Want → Type 0
-Above c v = c < v.comp.0
+-- the number of a want's component
+abbrev pub comp_of : Want → ℕ
+comp_of w = w.comp.0
 
--- wants whose components rise
-abbrev pub Rises : List Want → Type 0
-Rises [] = Unit {0}
-Rises (w ∷ ws) = All (Above w.comp.0) ws × Rises ws
+-- a want by names is this one, of the component with its name
+pub record Numbers (names : List (List ℕ)) (v : NamedWant) (w : Want) : Type 0 where
+  pub place : position (same_text v.name) names ≡ Some w.comp.0
+  pub number : v.number ≡ w.number
+  pub role : v.role ≡ w.role
 
--- a want of another component
-abbrev pub IsElse : ℕ → Want → Type 0
-IsElse c v = v.comp.0 ≢ c
+-- a name that is found is the one with that number
+pub name_at : (names : List (List ℕ)) (name : List ℕ) (c : ℕ) → position (same_text name) names ≡ Some c → name ≡ get_or names c []
+name_at names name c at = texts.same_text name (get_or names c []) (sym (position-Some (same_text name) names c [] at).1)
 
-pub All-put : (P : Want → Type 0) (w : Want) (ws : List Want) → P w → All P ws → All P (put_in_order w ws)
-All-put P w [] here all = All-cons P w [] here all
-All-put P w (v ∷ vs) here all = by_test (All-put P w vs here (All-tail P v vs all)) (nat_lt w.comp.0 v.comp.0)
+-- different names are different components
+tests_agree : (names : List (List ℕ)) (v x : NamedWant) (w y : Want) → Numbers names v w → Numbers names x y → same_text v.name x.name ≡ eqb w.comp.0 y.comp.0
+tests_agree names v x w y is are = elim (eqb_tells w.comp.0 y.comp.0) [
+  | inl same ↦ rw (same.0, name_at names v.name w.comp.0 is.place, same.1, name_at names x.name y.comp.0 are.place) (nat_list_eq_equiv.refl (get_or names y.comp.0 []))
+  | inr other ↦ rw other.0 (by_test (same_text v.name x.name) refl other.1)
+]
   where
-    by_test : All P (put_in_order w vs) → (b : Bool) → All P (cond b (w ∷ v ∷ vs) (v ∷ put_in_order w vs))
-    by_test rest true = All-cons P w (v ∷ vs) here all
-    by_test rest false = All-cons P v (put_in_order w vs) (All-head P v vs all) rest
+    by_test : (b : Bool) → same_text v.name x.name ≡ b → (w.comp.0 ≡ y.comp.0 → ⊥) → b ≡ false
+    by_test true e differ =
+        let s : Some w.comp.0 ≡ Some y.comp.0 = sym is.place ∙ (ap (λ n. position (same_text n) names) (texts.same_text v.name x.name (sym e)) ∙ are.place) in
+        absurd (differ cc)
+    by_test false e differ = refl
 
-Rises-put : (w : Want) (ws : List Want) → Rises ws → All (IsElse w.comp.0) ws → Rises (put_in_order w ws)
-Rises-put w [] rises other = (All-nil (Above w.comp.0), tt)
-Rises-put w (v ∷ vs) rises other = by_test (Rises-put w vs rises.1 (All-tail (IsElse w.comp.0) v vs other)) (nat_lt w.comp.0 v.comp.0) refl
+-- wants whose names are apart are of different components, and back
+pub numbered_from_apart : (names : List (List ℕ)) (vs : List NamedWant) (ws : List Want) → AllZip (Numbers names) vs ws → AreApart (names_of vs) → AreNumbered comp_of ws
+unfolding IsDistinct
+numbered_from_apart names [] [] zip apart = tt
+numbered_from_apart names [] (w ∷ ws) zip apart = absurd zip
+numbered_from_apart names (v ∷ vs) [] zip apart = absurd zip
+numbered_from_apart names (v ∷ vs) (w ∷ ws) zip apart = (others vs ws zip.1 apart.0, numbered_from_apart names vs ws zip.1 apart.1)
   where
-    by_test : Rises (put_in_order w vs) → (b : Bool) → nat_lt w.comp.0 v.comp.0 ≡ b → Rises (cond b (w ∷ v ∷ vs) (v ∷ put_in_order w vs))
-    by_test rest true e =
-        let below : w.comp.0 < v.comp.0 = ltb-true w.comp.0 v.comp.0 e in
-        (All-cons (Above w.comp.0) v vs below (All-weaker (Above v.comp.0) (Above w.comp.0) (λ u above. omega arith) vs rises.0), rises)
-    by_test rest false e =
-        let most : v.comp.0 ≤ w.comp.0 = ltb-false w.comp.0 v.comp.0 e in
-        let differs : v.comp.0 ≢ w.comp.0 = All-head (IsElse w.comp.0) v vs other in
-        (All-put (Above v.comp.0) w vs (omega arith) rises.0, rest)
+    others : (xs : List NamedWant) (ys : List Want) → AllZip (Numbers names) xs ys → is_known v.name (names_of xs) ≡ false → AllByRecursion (λ c. eqb w.comp.0 c ≡ false) (components_of ys)
+    others [] [] zip' none = tt
+    others [] (y ∷ ys) zip' none = absurd zip'
+    others (x ∷ xs) [] zip' none = absurd zip'
+    others (x ∷ xs) (y ∷ ys) zip' none =
+        let parts = neither (same_text v.name x.name) (is_known v.name (names_of xs)) none in
+        (sym (tests_agree names v x w y zip.0 zip'.0) ∙ parts.0, others xs ys zip'.1 parts.1)
 
--- a named want isn't of a component that is there
-abbrev pub IsNew : List (List ℕ) → NamedWant → Want → Type 0
-IsNew names w v = position (same_text w.name) names ≢ Some v.comp.0
-
-abbrev pub AreNew : List (List ℕ) → List Want → NamedWant → Type 0
-AreNew names before w = All (IsNew names w) before
-
-pub same_text-refl : (text : List ℕ) → same_text text text ≡ true
-same_text-refl [] = refl
-same_text-refl (b ∷ bs) = and_from (eqb b b) (same_text bs bs) (eq-eqb b b refl) (same_text-refl bs)
-
--- two names of one component are the same
-same_place : (names : List (List ℕ)) (u w : List ℕ) (c : ℕ) → position (same_text u) names ≡ Some c → position (same_text w) names ≡ Some c → same_text u w ≡ true
-same_place names u w c first second =
-    let one : u ≡ get_or names c [] = texts.same_text u (get_or names c []) (sym (position-Some (same_text u) names c [] first).1) in
-    let two : w ≡ get_or names c [] = texts.same_text w (get_or names c []) (sym (position-Some (same_text w) names c [] second).1) in
-    rw (one, two) (same_text-refl (get_or names c []))
-
--- the wants that are known rise
-pub wants_known-rise : (names : List (List ℕ)) (before : List Want) (named : List NamedWant) (wants : List Want) → Rises before → Apart named → All (AreNew names before) named → wants_known names before named ≡ Some wants → Rises wants
-wants_known-rise names before [] wants rises apart new is = let same : before ≡ wants = cc in subst Rises same rises
-wants_known-rise names before (w ∷ ws) wants rises apart new is =
-    by_place (λ b. wants_known-rise names b ws wants) (position (same_text w.name) names) refl is
+pub apart_from_numbered : (names : List (List ℕ)) (vs : List NamedWant) (ws : List Want) → AllZip (Numbers names) vs ws → AreNumbered comp_of ws → AreApart (names_of vs)
+unfolding IsDistinct
+apart_from_numbered names [] ws zip apart = tt
+apart_from_numbered names (v ∷ vs) [] zip apart = absurd zip
+apart_from_numbered names (v ∷ vs) (w ∷ ws) zip apart = (others vs ws zip.1 apart.0, apart_from_numbered names vs ws zip.1 apart.1)
   where
-    fresh : (c : ℕ) → position (same_text w.name) names ≡ Some c → (v : Want) → IsNew names w v → IsElse c v
-    fresh c at v other same = other (at ∙ ap (λ (k : ℕ). Some k) (sym same))
+    others : (xs : List NamedWant) (ys : List Want) → AllZip (Numbers names) xs ys → AllByRecursion (λ c. eqb w.comp.0 c ≡ false) (components_of ys) → is_known v.name (names_of xs) ≡ false
+    others [] ys zip' none = refl
+    others (x ∷ xs) [] zip' none = absurd zip'
+    others (x ∷ xs) (y ∷ ys) zip' none = rw (tests_agree names v x w y zip.0 zip'.0 ∙ none.0) (others xs ys zip'.1 none.1)
 
-    later : (c : ℕ) → position (same_text w.name) names ≡ Some c → (u : NamedWant) → Unlike w u → (x : Want) → x.comp.0 ≡ c → IsNew names u x
-    later c at u unlike x same place = both_ways (same_text u.name w.name) unlike (same_place names u.name w.name c (place ∙ ap (λ (k : ℕ). Some k) same) at)
+-- the wants that are found for names, and those before, are by component what is known
+pub record AreFound (names : List (List ℕ)) (before : List Want) (named : List NamedWant) (wants : List Want) : Type 0 where
+  pub found : List Want
+  pub each : AllZip (Numbers names) named found
+  pub all : wants_by_component (before ++ found) ≡ wants
 
-    by_place : ((b : List Want) → Rises b → Apart ws → All (AreNew names b) ws → wants_known names b ws ≡ Some wants → Rises wants) → (o : Option ℕ) → position (same_text w.name) names ≡ o → option_and_then (λ c. wants_known names (put_in_order (record { comp = record { 0 = c }; number = w.number; role = w.role }) before) ws) o ≡ Some wants → Rises wants
-    by_place rest None at s = cc
-    by_place rest (Some c) at s =
-        let x : Want = record { comp = record { 0 = c }; number = w.number; role = w.role } in
-        rest (put_in_order x before)
-        (Rises-put x before rises (All-weaker (IsNew names w) (IsElse c) (fresh c at) before (All-head (AreNew names before) w ws new)))
-        apart.1
-        (λ k d within. All-put (IsNew names (get_or ws k d)) x before (later c at (get_or ws k d) (apart.0 k d within) x refl) (All-tail (AreNew names before) w ws new k d within))
-        s
-
-rises_at : (w v : Want) (vs : List Want) → Rises (w ∷ v ∷ vs) → IsStrictlyIncreasing (components_of (v ∷ vs)) → (k : ℕ) → k + 1 < length (components_of (w ∷ v ∷ vs)) → slice_index (components_of (w ∷ v ∷ vs)) k < slice_index (components_of (w ∷ v ∷ vs)) (k + 1)
-rises_at w v vs rises later zero within = All-head (Above w.comp.0) v vs rises.0
-rises_at w v vs rises later (suc k) within = let e : suc k + 1 ≡ suc (k + 1) = omega arith in rw e (later k (omega arith))
-
--- wants that rise, as numbers that rise
-pub rising-from_Rises : (ws : List Want) → Rises ws → IsStrictlyIncreasing (components_of ws)
-rising-from_Rises [] rises = λ k within. absurd (omega arith)
-rising-from_Rises (w ∷ []) rises = λ k within. absurd (omega arith)
-rising-from_Rises (w ∷ v ∷ vs) rises = rises_at w v vs rises (rising-from_Rises (v ∷ vs) rises.1)
-
--- whether one of the wants moves its component
-abbrev pub one_moves : List Want → Bool
-one_moves wants = list_any (λ (w : Want). is_moved w.role) wants
-
-abbrev pub HasNumber : Want → Type 0
-HasNumber w = 1 ≤ w.number
-
-length-put : (w : Want) (ws : List Want) → length (put_in_order w ws) ≡ length ws + 1
-length-put w [] = refl
-length-put w (v ∷ vs) = by_test (length-put w vs) (nat_lt w.comp.0 v.comp.0)
-  where
-    by_test : length (put_in_order w vs) ≡ length vs + 1 → (b : Bool) → length (cond b (w ∷ v ∷ vs) (v ∷ put_in_order w vs)) ≡ length (v ∷ vs) + 1
-    by_test rest true = omega arith
-    by_test rest false = omega arith
-
-or_true : (x : Bool) → (x || true) ≡ true
-or_true true = refl
-or_true false = refl
-
--- a want that is put, or one of those before, moves its component
-one_moves-put : (w : Want) (ws : List Want) → (is_moved w.role || one_moves ws) ≡ true → one_moves (put_in_order w ws) ≡ true
-one_moves-put w [] moves = moves
-one_moves-put w (v ∷ vs) moves = by_test (one_moves-put w vs) (nat_lt w.comp.0 v.comp.0)
-  where
-    later : ((is_moved w.role || one_moves vs) ≡ true → one_moves (put_in_order w vs) ≡ true) → (a b : Bool) → is_moved w.role ≡ a → is_moved v.role ≡ b → (a || (b || one_moves vs)) ≡ true → (b || one_moves (put_in_order w vs)) ≡ true
-    later rest a true e f m = refl
-    later rest true false e f m = rest (rw e refl)
-    later rest false false e f m = rest (rw e m)
-
-    by_test : ((is_moved w.role || one_moves vs) ≡ true → one_moves (put_in_order w vs) ≡ true) → (b : Bool) → one_moves (cond b (w ∷ v ∷ vs) (v ∷ put_in_order w vs)) ≡ true
-    by_test rest true = moves
-    by_test rest false = later rest (is_moved w.role) (is_moved v.role) refl refl moves
-
--- what the wants that are known keep of those that were named
-pub record AreKept (before : List Want) (named : List NamedWant) (wants : List Want) : Type 0 where
-  pub many : length wants ≡ length before + length named
-  pub numbered : All HasNumber before → All Numbered named → All HasNumber wants
-  pub moving : (one_moves before || some_moved named) ≡ true → one_moves wants ≡ true
-
-or_swap : (a b c : Bool) → (a || (b || c)) ≡ true → ((b || a) || c) ≡ true
-or_swap true true c e = refl
-or_swap true false c e = refl
-or_swap false true c e = refl
-or_swap false false c e = e
-
-or_left : (a b : Bool) → a ≡ true → (a || b) ≡ true
-or_left a b e = rw e refl
-
-pub wants_known-kept : (names : List (List ℕ)) (before : List Want) (named : List NamedWant) (wants : List Want) → wants_known names before named ≡ Some wants → AreKept before named wants
-wants_known-kept names before [] wants is =
-    let same : before ≡ wants = cc in
-    subst (λ (ws : List Want). AreKept before [] ws) same (record { many = omega arith; numbered = λ all _. all; moving = λ m. or_end (one_moves before) m })
-  where
-    or_end : (a : Bool) → (a || false) ≡ true → a ≡ true
-    or_end true e = refl
-    or_end false e = e
-wants_known-kept names before (w ∷ ws) wants is = by_place (λ b. wants_known-kept names b ws wants) (position (same_text w.name) names) is
-  where
-    moving_on : (x : Want) → is_moved x.role ≡ is_moved w.role → AreKept (put_in_order x before) ws wants → (one_moves before || (is_moved w.role || some_moved ws)) ≡ true → one_moves wants ≡ true
-    moving_on x same kept m = by_moves (is_moved w.role || one_moves before) refl
-      where
-        by_moves : (b : Bool) → (is_moved w.role || one_moves before) ≡ b → one_moves wants ≡ true
-        by_moves true e = kept.moving (or_left (one_moves (put_in_order x before)) (some_moved ws) (one_moves-put x before (rw same e)))
-        by_moves false e =
-            let rest : some_moved ws ≡ true = rw e at (or_swap (one_moves before) (is_moved w.role) (some_moved ws) m) in
-            kept.moving (rw rest (or_true (one_moves (put_in_order x before))))
-
-    by_place : ((b : List Want) → wants_known names b ws ≡ Some wants → AreKept b ws wants) → (o : Option ℕ) → option_and_then (λ c. wants_known names (put_in_order (record { comp = record { 0 = c }; number = w.number; role = w.role }) before) ws) o ≡ Some wants → AreKept before (w ∷ ws) wants
-    by_place rest None s = cc
-    by_place rest (Some c) s =
-        let x : Want = record { comp = record { 0 = c }; number = w.number; role = w.role } in
-        let kept = rest (put_in_order x before) s in
-        let many : length wants ≡ length (put_in_order x before) + length ws = kept.many in
-        let put : length (put_in_order x before) ≡ length before + 1 = length-put x before in
-        record {
-          many = omega arith;
-          numbered = λ all numbers. kept.numbered (All-put HasNumber x before (All-head Numbered w ws numbers) all) (All-tail Numbered w ws numbers);
-          moving = moving_on x refl kept;
-        }
-
--- the wants of a line, by component, can be those of a grant
-pub known-IsWants : (names : List (List ℕ)) (named : List NamedWant) (wants : List Want) → Stand named → wants_known names [] named ≡ Some wants → IsWants wants
-known-IsWants names named wants stand is =
-    let kept = wants_known-kept names [] named wants is in
-    let many : length wants ≡ 0 + length named = kept.many in
-    let few : length named ≤ 32 = stand.0.few in
+pub found_for : (names : List (List ℕ)) (before : List Want) (named : List NamedWant) (wants : List Want) → wants_known names before named ≡ Some wants → AreFound names before named wants
+found_for names before [] wants is =
+    let s : Some (wants_by_component before) ≡ Some wants = is in
+    record { found = []; each = tt; all = ap wants_by_component (append-nil before) ∙ cc }
+found_for names before (v ∷ vs) wants is =
+    option_and_then_some (λ c. wants_known names (before ++ numbered_want c v ∷ []) vs) (position (same_text v.name) names) wants is (λ c at rest.
+    let more = found_for names (before ++ numbered_want c v ∷ []) vs wants rest in
     record {
-      few = omega arith;
-      rising = rising-from_Rises wants (wants_known-rise names [] named wants tt stand.0.apart (λ k d within. All-nil (IsNew names (get_or named k d))) is);
-      numbered = kept.numbered (All-nil HasNumber) stand.0.numbered;
-      moving = kept.moving stand.1;
-    }
+      found = numbered_want c v ∷ more.found;
+      each = (record { place = at; number = refl; role = refl }, more.each);
+      all = rw (append_assoc before (numbered_want c v ∷ []) more.found) at more.all;
+    })
+
+pub known_from : (names : List (List ℕ)) (before : List Want) (named : List NamedWant) (found : List Want) → AllZip (Numbers names) named found → wants_known names before named ≡ Some (wants_by_component (before ++ found))
+known_from names before [] [] zip = rw (append-nil before) refl
+known_from names before [] (w ∷ ws) zip = absurd zip
+known_from names before (v ∷ vs) [] zip = absurd zip
+known_from names before (v ∷ vs) (w ∷ ws) zip =
+    let same : numbered_want w.comp.0 v ≡ w = rw (zip.0.number, zip.0.role) refl in
+    rw (zip.0.place, same) (known_from names (before ++ w ∷ []) vs ws zip.1 ∙ ap (λ (us : List Want). Some (wants_by_component us)) (append_assoc before (w ∷ []) ws))
+
+-- what a sort leaves of the wants for names that are apart
+pub sorted_wants : (names : List (List ℕ)) (named : List NamedWant) (items sorted : List Want) → AreApart (names_of named) → wants_known names [] named ≡ Some (wants_by_component items) → IsPermutation items sorted → IsNonDecreasingBy comp_of sorted → wants_by_component items ≡ sorted
+sorted_wants names named items sorted apart known moved up =
+    let are = found_for names [] named (wants_by_component items) known in
+    let across : IsPermutation are.found (wants_by_component items) = rw are.all at (by_number-IsPermutation comp_of are.found) in
+    let back = IsPermutation-trans are.found (wants_by_component items) items across (IsPermutation-sym items (wants_by_component items) (by_number-IsPermutation comp_of items)) in
+    sorted-is comp_of items sorted moved up (numbered_moved comp_of are.found items back (numbered_from_apart names named are.found are.each apart))

@@ -10,7 +10,7 @@ use Rattle.std.proofs.lemmas.List.Elements.{All-head, All-tail, filter-append}
 use Rattle.std.proofs.lemmas.List.Sums.{AllPass-from_list_all, list_all-from_AllPass}
 use Rattle.bip_model.proofs.ListLemmas.{All-slice_get}
 use Rattle.bip_model.specs.States.{State}
-use Rattle.bip_model.specs.Steps.{IsEnabled, IsRun, MayRun, after, end_of, offered, participants_of, start_of}
+use Rattle.bip_model.specs.Steps.{IsEnabled, MayRun, after, end_of, offered, participants_of, start_of}
 use Rattle.bip_model.specs.Parts.{IsInteraction, IsSystem, components_in}
 use Rattle.bip_model.specs.Wants.{components_of, is_moved, moved_in, raised}
 use Rattle.bip_model.specs.declared.grants.Grant.{Grant}
@@ -22,25 +22,10 @@ use Rattle.bip_replay.specs.declared.faults.StepFault.{StepFault}
 use Rattle.bip_replay.specs.declared.faults.StepFault.TheVariants.{NotEnabled, Number, Parties}
 use Rattle.bip_replay.specs.Faults.{IsFaultOf, expected_after}
 use Rattle.bip_replay.specs.Laws.{times_moved}
-use Rattle.bip_replay.specs.Private.{is_party, is_wrong}
+use Rattle.bip_replay.specs.Runs.{is_party, is_wrong}
 use Rattle.bip_replay.specs.Runs.{HasNextNumber, IsModelRun, IsNext, IsRunFrom, interactions_of, state_after, used_after}
 use Rattle.bip_replay.proofs.FaultLemmas.{lowest_wrong, may_run, next_from_tests, none_wrong, not_parties}
 use Rattle.bip_replay.proofs.RunLemmas.{IsRunFrom-beginning, IsRunFrom-last, IsRunFrom-push}
-
-pub ends-back : (m : System) (s : State) (front : List ℕ) (a : ℕ) → end_of m s (front ++ a ∷ []) ≡ after m (end_of m s front) a
-ends-back m s [] a = refl
-ends-back m s (b ∷ front) a = ends-back m (after m s b) front a
-
-runs-push : (m : System) (s : State) (front : List ℕ) (a : ℕ) → IsRun m s front → MayRun m (end_of m s front) a → IsRun m s (front ++ a ∷ [])
-runs-push m s [] a run may = (may, tt)
-runs-push m s (b ∷ front) a run may = (run.0, runs-push m (after m s b) front a run.1 may)
-
-runs-pop : (m : System) (s : State) (front : List ℕ) (a : ℕ) → IsRun m s (front ++ a ∷ []) → IsRun m s front × MayRun m (end_of m s front) a
-runs-pop m s [] a run = (tt, run.0)
-runs-pop m s (b ∷ front) a run = let rest = runs-pop m (after m s b) front a run.1 in ((run.0, rest.0), rest.1)
-
-pub runs-back : (m : System) (s : State) (front : List ℕ) (a : ℕ) → IsRun m s (front ++ a ∷ []) ↔ (IsRun m s front × MayRun m (end_of m s front) a)
-runs-back m s front a = (runs-pop m s front a, λ both. runs-push m s front a both.0 both.1)
 
 pub grants-back : (m : System) (base : ℕ) (gs : List Grant) (g : Grant) → IsModelRun m base (gs ++ g ∷ []) ↔ (IsModelRun m base gs × IsNext m (state_after m gs) (used_after base gs) g)
 grants-back m base gs g = (

@@ -1,6 +1,7 @@
 pub mod AnswerLemmas
 pub mod ExactLemmas
 pub mod FaultLemmas
+pub mod GrantLemmas
 pub mod KnownLemmas
 pub mod LawLemmas
 pub mod LineLemmas
@@ -8,7 +9,6 @@ pub mod NamedLemmas
 pub mod OneFaultLemmas
 pub mod PartyLemmas
 pub mod PositionLemmas
-pub mod PutLemmas
 pub mod ReadingLemmas
 pub mod ReplayLemmas
 pub mod RunLemmas

@@ -1,186 +1,185 @@
--- The wants that a line names: they are few, of different components, each with a number, and one
--- at least is moved.
-use Rattle.std.proofs.Common.{◌≡◌, ℕ, ◌^◌, ◌<◌, ◌≤◌, Bool, true, false, cond, ◌&&◌, ◌||◌, eqb, List, [], ◌∷◌, ◌++◌, length, Option, None, Some, Ok, Err, refl, sym, ap, subst, arith, inl, inr, ◌⊎◌, length-append}
-use Rattle.std.specs.Prelude.{All, nat_lt, nat_le, codes}
-use Rattle.std.specs.List.{list_any}
-use Rattle.std.specs.Option.{option_and_then, option_map, option_map_or}
-use Rattle.std.specs.Str.Parse.{digits_value}
-use Rattle.std.proofs.lemmas.Bool.{and_parts, ltb-true, leb-false, both_ways}
-use Rattle.std.proofs.lemmas.List.Elements.{All-nil, All-push}
-use Rattle.std.proofs.lemmas.List.Folds.{list_any-append}
-use Rattle.bip_model.specs.Naming.{is_name, same_text}
-use Rattle.bip_model.specs.Texts.{is_numeral, number_of, pair_of, words_said}
+-- The wants that words name, from the words and back.
+use Rattle.std.proofs.Common.{◌≡◌, ℕ, ◌+◌, ◌<◌, ◌≤◌, Bool, true, false, cond, ◌&&◌, ◌||◌, eqb, List, [], ◌∷◌, ◌++◌, length, Option, None, Some, refl, sym, ap, ◌∙◌, subst, arith}
+use Rattle.std.specs.Prelude.{nat_le, codes}
+use Rattle.std.specs.List.{AllZip}
+use Rattle.std.specs.Option.{option_and_then}
+use Rattle.std.specs.Cmp.Lexicographic as texts
+use Rattle.std.proofs.lemmas.Bool.{leb-false, lt-leb, ne_eqb}
+use Rattle.std.proofs.lemmas.Cmp.{nat_list_eq_equiv}
+use Rattle.std.proofs.lemmas.List.{append_assoc, append-nil, length-append, map-append}
+use Rattle.std.proofs.lemmas.Option.{option_and_then_some}
+use Rattle.bip_model.proofs.ListLemmas.{neither}
+use Rattle.bip_model.proofs.NameLemmas.{apart_push}
+use Rattle.bip_model.proofs.PartitionLemmas.{list_any-named}
+use Rattle.bip_model.specs.Naming.{AreApart, is_known, same_text}
 use Rattle.bip_model.specs.Wants.{is_moved}
 use Rattle.bip_model.specs.declared.wants.Role.{Role}
 use Rattle.bip_model.specs.declared.wants.Role.TheVariants.{Moved, Seen}
-use Rattle.bip_replay.specs.declared.faults.LineFault.TheVariants.{Syntax}
-use Rattle.bip_replay.specs.Lines.{NamedGrant, is_named, named_on, said, want_said, wants_said, with_want}
+use Rattle.bip_replay.specs.Lines.{is_named, names_of, want_said, wants_said, with_want}
+use Rattle.bip_replay.specs.Writing.{behind_see}
 use Rattle.bip_replay.specs.declared.lines.NamedWant.{NamedWant}
 
--- a later want is of another component
-abbrev pub Unlike : NamedWant → NamedWant → Type 0
-Unlike v w = same_text w.name v.name ≡ false
+-- what is there unless a test passes
+unless_some : {X : Type 0} (b : Bool) (o : Option X) (x : X) → cond b None o ≡ Some x → (b ≡ false) × (o ≡ Some x)
+unless_some true o x is = cc
+unless_some false o x is = (refl, is)
 
--- each want is of another component than those before
-abbrev pub Apart : List NamedWant → Type 0
-Apart [] = Unit {0}
-Apart (v ∷ vs) = All (Unlike v) vs × Apart vs
+-- words that say these wants with a role, one each
+abbrev pub Say : Role → List (List ℕ) → List NamedWant → Type 0
+Say role words named = AllZip (λ word v. want_said role word ≡ Some v) words named
 
-abbrev pub Numbered : NamedWant → Type 0
-Numbered w = 1 ≤ w.number
-
-pub record AreNamed (named : List NamedWant) : Type 0 where
+-- wants that one line can name: no component twice, and few
+pub record AreFit (named : List NamedWant) : Type 0 where
+  pub apart : AreApart (names_of named)
   pub few : length named ≤ 32
-  pub apart : Apart named
-  pub numbered : All Numbered named
 
--- whether one of the wants moves its component
-abbrev pub some_moved : List NamedWant → Bool
-some_moved named = list_any (λ (w : NamedWant). is_moved w.role) named
+is_named-known : (v : NamedWant) (named : List NamedWant) → is_known v.name (names_of named) ≡ is_named v.name named
+is_named-known v named = list_any-named (λ (w : NamedWant). w.name) v.name named
 
--- wants so far: there is none, and the next is moved, or one is moved
-abbrev pub Begun : Role → List NamedWant → Type 0
-Begun role before = ((before ≡ []) × (is_moved role ≡ true)) ⊎ (some_moved before ≡ true)
+-- a want that joined others
+joined : (before : List NamedWant) (v : NamedWant) (after : List NamedWant) → AreFit before → with_want before v ≡ Some after → (before ++ v ∷ [] ≡ after) × AreFit (before ++ v ∷ [])
+joined before v after fit is =
+    let at = unless_some (is_named v.name before || nat_le 32 (length before)) (Some (before ++ v ∷ [])) after is in
+    let parts = neither (is_named v.name before) (nat_le 32 (length before)) at.0 in
+    let room : length before < 32 = leb-false 32 (length before) parts.1 in
+    let s : Some (before ++ v ∷ []) ≡ Some after = at.1 in
+    (cc, record { apart = simp map-append (apart_push v.name (names_of before) (is_named-known v before ∙ parts.0) fit.apart); few = simp length-append (omega arith) })
 
-pub none_named : AreNamed []
-none_named = record { few = omega arith; apart = tt; numbered = All-nil Numbered }
-
-or_parts : (x y : Bool) → (x || y) ≡ false → (x ≡ false) × (y ≡ false)
-or_parts true y e = cc
-or_parts false y e = (refl, e)
-
-apart-push : (vs : List NamedWant) (w : NamedWant) → Apart vs → is_named w.name vs ≡ false → Apart (vs ++ w ∷ [])
-apart-push [] w apart other = (All-nil (Unlike w), tt)
-apart-push (v ∷ vs) w apart other =
-    let parts = or_parts (same_text w.name v.name) (is_named w.name vs) other in
-    (All-push (Unlike v) vs w apart.0 parts.0, apart-push vs w apart.1 parts.1)
-
--- a want that joins is of a component that isn't there, and there is room for it
-with_want-some : (before : List NamedWant) (w : NamedWant) (after : List NamedWant) → with_want before w ≡ Some after → (is_named w.name before ≡ false) × (length before < 32) × (after ≡ before ++ w ∷ [])
-with_want-some before w after joins = by_test (is_named w.name before || nat_le 32 (length before)) refl
+-- of names that are apart, one isn't among those before it
+unknown : (name : List ℕ) (before rest : List (List ℕ)) → AreApart (before ++ name ∷ rest) → is_known name before ≡ false
+unknown name [] rest apart = refl
+unknown name (n ∷ ns) rest apart = rw (nat_list_eq_equiv.symm name n ∙ other ns apart.0) (unknown name ns rest apart.1)
   where
-    by_test : (b : Bool) → (is_named w.name before || nat_le 32 (length before)) ≡ b → (is_named w.name before ≡ false) × (length before < 32) × (after ≡ before ++ w ∷ [])
-    by_test true e = let s : None ≡ Some after = rw e at joins in cc
-    by_test false e =
-        let parts = or_parts (is_named w.name before) (nat_le 32 (length before)) e in
-        let s : Some (before ++ w ∷ []) ≡ Some after = rw e at joins in
-        (parts.0, leb-false 32 (length before) parts.1, cc)
+    other : (others : List (List ℕ)) → is_known n (others ++ name ∷ rest) ≡ false → same_text n name ≡ false
+    other [] none = (neither (same_text n name) (is_known n rest) none).0
+    other (o ∷ os) none = other os (neither (same_text n o) (is_known n (os ++ name ∷ rest)) none).1
 
--- a number that a word spells isn't 0
-number_of-some : (word : List ℕ) (n : ℕ) → number_of word ≡ Some n → (1 ≤ n) × (n < 2 ^ 64)
-number_of-some word n spells = by_test (is_numeral 20 word && nat_lt 0 (digits_value 10 word) && nat_lt (digits_value 10 word) (2 ^ 64)) refl
+-- a want joins those before it, where all fit
+joins : (before : List NamedWant) (v : NamedWant) (rest : List NamedWant) → AreFit (before ++ v ∷ rest) → with_want before v ≡ Some (before ++ v ∷ [])
+joins before v rest fit =
+    let new : is_named v.name before ≡ false = sym (is_named-known v before) ∙ unknown v.name (names_of before) (names_of rest) (simp map-append at fit.apart) in
+    let few : length before + length (v ∷ rest) ≤ 32 = simp length-append at fit.few in
+    rw (new, lt-leb 32 (length before) (omega arith)) refl
+
+-- the word of a want isn't `see`
+not_see : (role : Role) (word : List ℕ) (v : NamedWant) → want_said role word ≡ Some v → same_text word (codes "see") ≡ false
+not_see role word v says = by_test (same_text word (codes "see")) refl
   where
-    by_test : (b : Bool) → (is_numeral 20 word && nat_lt 0 (digits_value 10 word) && nat_lt (digits_value 10 word) (2 ^ 64)) ≡ b → (1 ≤ n) × (n < 2 ^ 64)
+    by_test : (b : Bool) → same_text word (codes "see") ≡ b → b ≡ false
     by_test true e =
-        let s : Some (digits_value 10 word) ≡ Some n = rw e at spells in
-        let same : digits_value 10 word ≡ n = cc in
-        let parts = and_parts (is_numeral 20 word && nat_lt 0 (digits_value 10 word)) (nat_lt (digits_value 10 word) (2 ^ 64)) e in
-        let more = and_parts (is_numeral 20 word) (nat_lt 0 (digits_value 10 word)) parts.0 in
-        let low : 0 < digits_value 10 word = ltb-true 0 (digits_value 10 word) more.1 in
-        let high : digits_value 10 word < 2 ^ 64 = ltb-true (digits_value 10 word) (2 ^ 64) parts.1 in
-        (omega arith, subst (λ (k : ℕ). k < 2 ^ 64) same high)
-    by_test false e = let s : None ≡ Some n = rw e at spells in cc
+        let same : word ≡ codes "see" = texts.same_text word (codes "see") (sym e) in
+        let none : None ≡ Some v = subst (λ (w : List ℕ). want_said role w ≡ Some v) same says in
+        cc
+    by_test false e = refl
 
--- a want that a word says has a number, and its role
-want_said-some : (role : Role) (word : List ℕ) (w : NamedWant) → want_said role word ≡ Some w → (1 ≤ w.number) × (w.role ≡ role)
-want_said-some role word w says = by_pair (pair_of 58 word) says
+-- words of wants, and more behind them
+said-run : (role : Role) (before : List NamedWant) (words : List (List ℕ)) (vs : List NamedWant) (behind : List (List ℕ)) (more : List NamedWant) → Say role words vs → AreFit (before ++ (vs ++ more)) → wants_said role before (words ++ behind) ≡ wants_said role (before ++ vs) behind
+said-run role before [] [] behind more say fit = rw (append-nil before) refl
+said-run role before [] (v ∷ vs) behind more say fit = absurd say
+said-run role before (word ∷ words) [] behind more say fit = absurd say
+said-run role before (word ∷ words) (v ∷ vs) behind more say fit =
+    rw (not_see role word v say.0, and_false (is_moved role), say.0, joins before v (vs ++ more) fit)
+    (said-run role (before ++ v ∷ []) words vs behind more say.1 (rw (append_assoc before (v ∷ []) (vs ++ more)) fit)
+    ∙ ap (λ (us : List NamedWant). wants_said role us behind) (append_assoc before (v ∷ []) vs))
   where
-    by_number : (parts : List ℕ × List ℕ) (o : Option ℕ) → number_of parts.1 ≡ o → option_map (λ n. record { name = parts.0; number = n; role = role }) o ≡ Some w → (1 ≤ w.number) × (w.role ≡ role)
-    by_number parts None e s = cc
-    by_number parts (Some n) e s =
-        let low : 1 ≤ n = (number_of-some parts.1 n e).0 in
-        let same : record { name = parts.0; number = n; role = role } ≡ w = cc in
-        (subst (λ (v : NamedWant). 1 ≤ v.number) same low, ap (λ (v : NamedWant). v.role) (sym same))
+    and_false : (b : Bool) → (b && false) ≡ false
+    and_false true = refl
+    and_false false = refl
 
-    by_name : (parts : List ℕ × List ℕ) (b : Bool) → cond b (option_map (λ n. record { name = parts.0; number = n; role = role }) (number_of parts.1)) None ≡ Some w → (1 ≤ w.number) × (w.role ≡ role)
-    by_name parts true s = by_number parts (number_of parts.1) refl s
-    by_name parts false s = cc
+-- where the words of wants end: at the line's end, or at `see`
+abbrev Ends : Role → List NamedWant → List (List ℕ) → List NamedWant → Type 0
+Ends role here [] named = (eqb (length here) 0 ≡ false) × (here ≡ named)
+Ends role here (word ∷ rest) named =
+    ((is_moved role && same_text word (codes "see")) ≡ true) × (eqb (length here) 0 ≡ false) × (eqb (length rest) 0 ≡ false) × (wants_said Seen here rest ≡ Some named)
 
-    by_pair : (o : Option (List ℕ × List ℕ)) → option_and_then (λ parts. cond (is_name parts.0) (option_map (λ n. record { name = parts.0; number = n; role = role }) (number_of parts.1)) None) o ≡ Some w → (1 ≤ w.number) × (w.role ≡ role)
-    by_pair None s = cc
-    by_pair (Some parts) s = by_name parts (is_name parts.0) s
+-- words of wants that join those before, up to where they end
+record Ran (role : Role) (before : List NamedWant) (ws : List (List ℕ)) (named : List NamedWant) : Type 0 where
+  words : List (List ℕ)
+  vs : List NamedWant
+  rest : List (List ℕ)
+  split : ws ≡ words ++ rest
+  say : Say role words vs
+  fit : AreFit (before ++ vs)
+  ends : Ends role (before ++ vs) rest named
 
--- what is known of wants that stand
-abbrev pub Stand : List NamedWant → Type 0
-Stand named = AreNamed named × (some_moved named ≡ true)
-
-joined : (role : Role) (before : List NamedWant) (w : NamedWant) (after : List NamedWant) → AreNamed before → (1 ≤ w.number) → with_want before w ≡ Some after → AreNamed after
-joined role before w after named low joins =
-    let parts = with_want-some before w after joins in
-    let short : length before < 32 = parts.1 in
-    rw parts.2
-    (record {
-      few = simp length-append (omega arith);
-      apart = apart-push before w named.apart parts.0;
-      numbered = All-push Numbered before w named.numbered low;
-    })
-
-begun_more : (role : Role) (before : List NamedWant) (w : NamedWant) (after : List NamedWant) → Begun role before → w.role ≡ role → with_want before w ≡ Some after → some_moved after ≡ true
-begun_more role before w after (inl empty) same joins =
-    let parts = with_want-some before w after joins in
-    rw (parts.2, empty.0, same, empty.1) refl
-begun_more role before w after (inr moved) same joins =
-    let parts = with_want-some before w after joins in
-    rw (parts.2, list_any-append (λ (v : NamedWant). is_moved v.role) before (w ∷ []), moved) refl
-
--- the wants that words say stand
-pub wants_said-stand : (role : Role) (before : List NamedWant) (ws : List (List ℕ)) (named : List NamedWant) → AreNamed before → Begun role before → wants_said role before ws ≡ Some named → Stand named
-wants_said-stand role before [] named good begun says = by_test (eqb (length before) 0) refl says begun
+ran : (role : Role) (before : List NamedWant) (ws : List (List ℕ)) (named : List NamedWant) → AreFit before → wants_said role before ws ≡ Some named → Ran role before ws named
+ran role before [] named fit says =
+    let at = unless_some (eqb (length before) 0) (Some before) named says in
+    let s : Some before ≡ Some named = at.1 in
+    record { words = []; vs = []; rest = []; split = refl; say = tt; fit = rw (append-nil before) fit; ends = rw (append-nil before) (at.0, cc) }
+ran role before (word ∷ rest) named fit says =
+    by_see (is_moved role && same_text word (codes "see")) refl says (λ b f s. ran role b rest named f s)
   where
-    by_test : (b : Bool) → eqb (length before) 0 ≡ b → cond b None (Some before) ≡ Some named → Begun role before → Stand named
-    by_test true e s g = cc
-    by_test false e s (inl empty) = absurd (both_ways (eqb (length before) 0) e (rw empty.0 refl))
-    by_test false e s (inr moved) =
-        let same : before ≡ named = cc in
-        subst Stand same (good, moved)
-wants_said-stand role before (word ∷ rest) named good begun says =
-    by_see (λ r b. wants_said-stand r b rest named) (is_moved role && same_text word (codes "see")) says
+    by_see : (b : Bool) → (is_moved role && same_text word (codes "see")) ≡ b → cond b (cond (eqb (length before) 0 || eqb (length rest) 0) None (wants_said Seen before rest)) (option_and_then (λ wants. wants_said role wants rest) (option_and_then (with_want before) (want_said role word))) ≡ Some named
+        → ((b : List NamedWant) → AreFit b → wants_said role b rest ≡ Some named → Ran role b rest named) → Ran role before (word ∷ rest) named
+    by_see true see s later =
+        let at = unless_some (eqb (length before) 0 || eqb (length rest) 0) (wants_said Seen before rest) named s in
+        let some = neither (eqb (length before) 0) (eqb (length rest) 0) at.0 in
+        record { words = []; vs = []; rest = word ∷ rest; split = refl; say = tt; fit = rw (append-nil before) fit; ends = rw (append-nil before) (see, some.0, some.1, at.1) }
+    by_see false see s later =
+        option_and_then_some (λ wants. wants_said role wants rest) (option_and_then (with_want before) (want_said role word)) named s (λ after joining behind.
+        option_and_then_some (with_want before) (want_said role word) after joining (λ v said joining'.
+        let j = joined before v after fit joining' in
+        let r = later (before ++ v ∷ []) j.1 (rw (sym j.0) at behind) in
+        let e = append_assoc before (v ∷ []) r.vs in
+        record { words = word ∷ r.words; vs = v ∷ r.vs; rest = r.rest; split = ap (λ (us : List (List ℕ)). word ∷ us) r.split; say = (said, r.say); fit = rw e at r.fit; ends = rw e at r.ends }))
+
+-- what stands behind the interaction: words of moved wants, and perhaps `see` with those of seen ones
+pub record AreSaid (ws : List (List ℕ)) (named : List NamedWant) : Type 0 where
+  pub moved_words : List (List ℕ)
+  pub seen_words : List (List ℕ)
+  pub moved : List NamedWant
+  pub seen : List NamedWant
+  pub split : ws ≡ moved_words ++ behind_see seen_words
+  pub moves : Say Moved moved_words moved
+  pub sees : Say Seen seen_words seen
+  pub some : 0 < length moved
+  pub all : moved ++ seen ≡ named
+  pub fit : AreFit named
+
+some_of : {X : Type 0} (xs : List X) → eqb (length xs) 0 ≡ false → 0 < length xs
+some_of [] none = cc
+some_of (x ∷ xs) some = omega arith
+
+pub said_wants : (ws : List (List ℕ)) (named : List NamedWant) → wants_said Moved [] ws ≡ Some named → AreSaid ws named
+said_wants ws named says = let r = ran Moved [] ws named (record { apart = tt; few = omega arith }) says in by_end r.words r.vs r.rest r.split r.say r.fit r.ends
   where
-    moved_before : Begun role before → eqb (length before) 0 ≡ false → some_moved before ≡ true
-    moved_before (inl empty) e = absurd (both_ways (eqb (length before) 0) e (rw empty.0 refl))
-    moved_before (inr moved) e = moved
+    by_seen : (words : List (List ℕ)) (vs : List NamedWant) (rest : List (List ℕ)) → ws ≡ words ++ behind_see rest → Say Moved words vs → eqb (length vs) 0 ≡ false → Ran Seen vs rest named → AreSaid ws named
+    by_seen words vs rest split say some r = last r.rest r.split r.ends
+      where
+        last : (more : List (List ℕ)) → rest ≡ r.words ++ more → Ends Seen (vs ++ r.vs) more named → AreSaid ws named
+        last [] e ends =
+            let whole : rest ≡ r.words = e ∙ append-nil r.words in
+            record { moved_words = words; seen_words = r.words; moved = vs; seen = r.vs; split = rw whole at split; moves = say; sees = r.say; some = some_of vs some; all = ends.1; fit = rw ends.1 at r.fit }
+        last (word ∷ more) e ends = cc
 
-    by_end : ((r : Role) (b : List NamedWant) → AreNamed b → Begun r b → wants_said r b rest ≡ Some named → Stand named) → (b : Bool) → (eqb (length before) 0 || eqb (length rest) 0) ≡ b → cond b None (wants_said Seen before rest) ≡ Some named → Stand named
-    by_end later true e s = cc
-    by_end later false e s =
-        let parts = or_parts (eqb (length before) 0) (eqb (length rest) 0) e in
-        later Seen before good (inr (moved_before begun parts.0)) s
+    by_end : (words : List (List ℕ)) (vs : List NamedWant) (rest : List (List ℕ)) → ws ≡ words ++ rest → Say Moved words vs → AreFit vs → Ends Moved vs rest named → AreSaid ws named
+    by_end words vs [] split say fit ends =
+        record { moved_words = words; seen_words = []; moved = vs; seen = []; split = split; moves = say; sees = tt; some = some_of vs ends.0; all = append-nil vs ∙ ends.1; fit = rw ends.1 at fit }
+    by_end words vs (word ∷ []) split say fit ends = cc
+    by_end words vs (word ∷ next ∷ rest) split say fit ends =
+        let see : word ≡ codes "see" = texts.same_text word (codes "see") (sym ends.0) in
+        by_seen words vs (next ∷ rest) (rw see at split) say ends.1 (ran Seen vs (next ∷ rest) named fit ends.3)
 
-    by_join : ((r : Role) (b : List NamedWant) → AreNamed b → Begun r b → wants_said r b rest ≡ Some named → Stand named) → (w : NamedWant) → (1 ≤ w.number) → w.role ≡ role → (o : Option (List NamedWant)) → with_want before w ≡ o → option_and_then (λ wants. wants_said role wants rest) o ≡ Some named → Stand named
-    by_join later w low same None e s = cc
-    by_join later w low same (Some after) e s = later role after (joined role before w after good low e) (inr (begun_more role before w after begun same e)) s
+not_none : {X : Type 0} (xs : List X) → 0 < length xs → eqb (length xs) 0 ≡ false
+not_none xs some = ne_eqb (length xs) 0 (λ e. omega arith)
 
-    by_want : ((r : Role) (b : List NamedWant) → AreNamed b → Begun r b → wants_said r b rest ≡ Some named → Stand named) → (o : Option NamedWant) → want_said role word ≡ o → option_and_then (λ wants. wants_said role wants rest) (option_and_then (with_want before) o) ≡ Some named → Stand named
-    by_want later None e s = cc
-    by_want later (Some w) e s =
-        let known = want_said-some role word w e in
-        by_join later w known.0 known.1 (with_want before w) refl s
+at_see : (before : List NamedWant) (word : List ℕ) (words : List (List ℕ)) → eqb (length before) 0 ≡ false → wants_said Moved before (codes "see" ∷ word ∷ words) ≡ wants_said Seen before (word ∷ words)
+at_see before word words some =
+    let more : eqb (length (word ∷ words)) 0 ≡ false = not_none (word ∷ words) (omega arith) in
+    ap (λ b. cond (b || eqb (length (word ∷ words)) 0) None (wants_said Seen before (word ∷ words))) some ∙ ap (λ b. cond b None (wants_said Seen before (word ∷ words))) more
 
-    by_see : ((r : Role) (b : List NamedWant) → AreNamed b → Begun r b → wants_said r b rest ≡ Some named → Stand named) → (b : Bool) → cond b (cond (eqb (length before) 0 || eqb (length rest) 0) None (wants_said Seen before rest)) (option_and_then (λ wants. wants_said role wants rest) (option_and_then (with_want before) (want_said role word))) ≡ Some named → Stand named
-    by_see later true s = by_end later (eqb (length before) 0 || eqb (length rest) 0) refl s
-    by_see later false s = by_want later (want_said role word) refl s
-
--- the wants of a grant that words say stand
-said-stand : (ws : List (List ℕ)) (g : NamedGrant) → said ws ≡ Ok (Some g) → Stand g.wants
-said-stand [] g says = cc
-said-stand (word ∷ []) g says = cc
-said-stand (word ∷ inter ∷ rest) g says = by_form (same_text word (codes "grant") && is_name inter) says
+-- the words are read as these wants
+pub wants_said-from : (ws : List (List ℕ)) (named : List NamedWant) → AreSaid ws named → wants_said Moved [] ws ≡ Some named
+wants_said-from ws named are =
+    rw (are.split, ← are.all)
+    (said-run Moved [] are.moved_words are.moved (behind_see are.seen_words) are.seen are.moves (rw (← are.all) at are.fit)
+    ∙ by_seen are.seen_words are.seen are.sees (rw (← are.all) at are.fit))
   where
-    by_wants : (o : Option (List NamedWant)) → wants_said Moved [] rest ≡ o → option_map_or (λ wants. Ok (Some (record { inter = inter; wants = wants }))) o (Err Syntax) ≡ Ok (Some g) → Stand g.wants
-    by_wants None e s = cc
-    by_wants (Some wants) e s =
-        let grant : NamedGrant = record { inter = inter; wants = wants } in
-        let same : grant ≡ g = cc in
-        subst (λ (h : NamedGrant). Stand h.wants) same (wants_said-stand Moved [] rest wants none_named (inl (refl, refl)) e)
-
-    by_form : (b : Bool) → cond b (option_map_or (λ wants. Ok (Some (record { inter = inter; wants = wants }))) (wants_said Moved [] rest) (Err Syntax)) (Err Syntax) ≡ Ok (Some g) → Stand g.wants
-    by_form true s = by_wants (wants_said Moved [] rest) refl s
-    by_form false s = cc
-
--- the wants of a grant that a line says stand
-pub named_on-stand : (line : List ℕ) (g : NamedGrant) → named_on line ≡ Ok (Some g) → Stand g.wants
-named_on-stand line g says = by_words (words_said line) says
-  where
-    by_words : (o : Option (List (List ℕ))) → option_map_or said o (Err Syntax) ≡ Ok (Some g) → Stand g.wants
-    by_words None s = cc
-    by_words (Some ws) s = said-stand ws g s
+    by_seen : (words : List (List ℕ)) (vs : List NamedWant) → Say Seen words vs → AreFit (are.moved ++ vs) → wants_said Moved are.moved (behind_see words) ≡ Some (are.moved ++ vs)
+    by_seen [] [] say fit = rw (append-nil are.moved, not_none are.moved are.some) refl
+    by_seen [] (v ∷ vs) say fit = absurd say
+    by_seen (word ∷ words) vs say fit =
+        at_see are.moved word words (not_none are.moved are.some)
+        ∙ (ap (wants_said Seen are.moved) (sym (append-nil (word ∷ words)))
+        ∙ (said-run Seen are.moved (word ∷ words) vs [] [] say (rw (append-nil vs) fit) ∙ rw (not_none (are.moved ++ vs) (let some : 0 < length are.moved = are.some in simp length-append (omega arith))) refl))

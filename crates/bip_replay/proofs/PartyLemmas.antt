@@ -12,7 +12,7 @@ use Rattle.bip_model.specs.declared.wants.Role.TheVariants.{Moved, Seen}
 use Rattle.bip_model.specs.declared.wants.Want.{Want}
 use Rattle.bip_model.specs.Parts.{Participant, components_in}
 use Rattle.bip_model.specs.Wants.{components_of, is_moved}
-use Rattle.bip_replay.specs.Private.{is_party}
+use Rattle.bip_replay.specs.Runs.{is_party}
 use Rattle.bip_replay.specs.Runs.{IsWanted}
 
 -- what the test says of wants beside participants

@@ -1,14 +1,13 @@
 -- What is written, read again: lines, words, numbers and names.
-use Rattle.std.proofs.Common.{◌≡◌, ◌≢◌, ℕ, zero, suc, ◌∙◌, position, ◌+◌, ◌^◌, ◌<◌, ◌≤◌, Bool, true, false, not, ◌&&◌, ◌||◌, eqb, leb, List, [], ◌∷◌, ◌++◌, length, get_or, Some, refl, sym, ap, subst, arith, inl, inr}
-use Rattle.std.specs.Prelude.{All, nat_lt, codes}
+use Rattle.std.proofs.Common.{◌≡◌, ◌≢◌, ℕ, zero, suc, ◌∙◌, position, ◌+◌, ◌^◌, ◌<◌, ◌≤◌, Bool, true, false, not, ◌||◌, eqb, leb, List, [], ◌∷◌, ◌++◌, length, get_or, Some, refl, ap, arith, inl, inr}
+use Rattle.std.specs.Prelude.{All, nat_lt}
 use Rattle.std.specs.Char.{is_ascii_alphanumeric, is_ascii_digit, is_ascii_graphic}
 use Rattle.std.specs.Int.{is_in_range}
 use Rattle.std.specs.Fmt.{decimal}
 use Rattle.std.specs.List.{flat_map, list_all, position_or_len}
 use Rattle.std.specs.Str.Parse.{AllDigits}
-use Rattle.std.specs.Cmp.Lexicographic as texts
 use Rattle.std.proofs.Math.Seq.{take-append_seam, drop-append-add}
-use Rattle.std.proofs.lemmas.Bool.{and_parts, and_from, or_cases, or_from, or_left, both_ways, leb-true, le-leb, lt-ltb, ne_eqb, eqb-true, not-true}
+use Rattle.std.proofs.lemmas.Bool.{and_parts, and_from, or_cases, or_from, or_left, leb-true, le-leb, lt-ltb, ne_eqb, eqb-true, not-true}
 use Rattle.std.proofs.lemmas.Cmp.{nat_list_eq_equiv}
 use Rattle.std.proofs.lemmas.Fmt.{decimal_is_IsNumeral, length-decimal-le}
 use Rattle.std.proofs.lemmas.List.{append-nil, length-append}
@@ -21,7 +20,6 @@ use Rattle.bip_model.proofs.ListLemmas.{neither}
 use Rattle.bip_model.specs.Naming.{AreApart, IsName, is_known, is_name, is_name_byte, same_text}
 use Rattle.bip_model.specs.Texts.{is_blank, is_line_feed, is_longer, is_plain, lines, number_of, onto_first_line, pair_of, words}
 use Rattle.bip_replay.specs.Writing.{name_in, spaced}
-use Rattle.bip_replay.proofs.KnownLemmas.{same_text-refl}
 
 -- each byte of a text can be seen
 abbrev pub is_inked : List ℕ → Bool
@@ -176,25 +174,6 @@ pair-word name n is high = (first name (name-word name is).0, rw (list_all-appen
     first [] some = refl
     first (b ∷ bs) some = refl
 
--- a word with a colon isn't `see`
-pub pair-not_see : (name : List ℕ) (n : ℕ) → same_text (name ++ 58 ∷ decimal n) (codes "see") ≡ false
-pair-not_see name n = by_test (same_text (name ++ 58 ∷ decimal n) (codes "see")) refl
-  where
-    colon : (bs : List ℕ) → list_all is_name_byte (bs ++ 58 ∷ decimal n) ≡ false
-    colon [] = refl
-    colon (b ∷ bs) = rw (colon bs) (and_false (is_name_byte b))
-      where
-        and_false : (t : Bool) → (t && false) ≡ false
-        and_false true = refl
-        and_false false = refl
-
-    by_test : (b : Bool) → same_text (name ++ 58 ∷ decimal n) (codes "see") ≡ b → b ≡ false
-    by_test true e =
-        let same : name ++ 58 ∷ decimal n ≡ codes "see" = texts.same_text (name ++ 58 ∷ decimal n) (codes "see") (sym e) in
-        let none : list_all is_name_byte (codes "see") ≡ false = subst (λ (t : List ℕ). list_all is_name_byte t ≡ false) same (colon name) in
-        absurd (both_ways true none refl)
-    by_test false e = refl
-
 -- a name that isn't among names is none of them
 unknown_at : (name : List ℕ) (names : List (List ℕ)) (c : ℕ) → is_known name names ≡ false → c < length names → same_text name (name_in names c) ≡ false
 unknown_at name [] c unknown within = absurd (omega arith)
@@ -204,7 +183,7 @@ unknown_at name (n ∷ ns) (suc c) unknown within = unknown_at name ns c (neithe
 -- the first of names that are apart that is the same as one of them is that one
 place_of : (names : List (List ℕ)) (c : ℕ) → AreApart names → c < length names → position_or_len (same_text (name_in names c)) names ≡ c
 place_of [] c apart within = absurd (omega arith)
-place_of (n ∷ ns) zero apart within = rw (same_text-refl n) refl
+place_of (n ∷ ns) zero apart within = rw (nat_list_eq_equiv.refl n) refl
 place_of (n ∷ ns) (suc c) apart within =
     let other : same_text (name_in ns c) n ≡ false = nat_list_eq_equiv.symm (name_in ns c) n ∙ unknown_at n ns c apart.0 (omega arith) in
     let later : position_or_len (same_text (name_in ns c)) ns ≡ c = place_of ns c apart.1 (omega arith) in
@@ -213,14 +192,3 @@ place_of (n ∷ ns) (suc c) apart within =
 -- a name is found at its number
 pub position-name : (names : List (List ℕ)) (c : ℕ) → AreApart names → c < length names → position (same_text (name_in names c)) names ≡ Some c
 position-name names c apart within = rw (place_of names c apart within, lt-ltb c (length names) within) refl
-
--- two numbers have two names
-pub names-apart : (names : List (List ℕ)) (a b : ℕ) → AreApart names → a < length names → b < length names → a ≢ b → same_text (name_in names a) (name_in names b) ≡ false
-names-apart names a b apart first second differ = by_test (same_text (name_in names a) (name_in names b)) refl
-  where
-    by_test : (t : Bool) → same_text (name_in names a) (name_in names b) ≡ t → t ≡ false
-    by_test true e =
-        let same : name_in names a ≡ name_in names b = texts.same_text (name_in names a) (name_in names b) (sym e) in
-        let at : position_or_len (same_text (name_in names a)) names ≡ b = rw same (place_of names b apart second) in
-        absurd (differ (sym (place_of names a apart first) ∙ at))
-    by_test false e = refl

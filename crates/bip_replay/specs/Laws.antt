@@ -1,47 +1,35 @@
 -- What runs, faults and texts of grants mean, in the subject's own words.
-use Rattle.std.specs.Prelude.{◌≡◌, ◌↔◌, ◌⊎◌, ℕ, ◌+◌, ◌<◌, nat_lt, List, [], ◌∷◌, ◌++◌, length}
-use Rattle.std.specs.Prelude.{filter, Ok, Some, All, slice_index_or}
-use Rattle.std.specs.List.Sorted.{IsStrictlyIncreasing}
+use Rattle.std.specs.Prelude.{◌≡◌, ◌↔◌, ◌⊎◌, ℕ, ◌+◌, ◌<◌, ◌≤◌, nat_lt, List, [], ◌∷◌, ◌++◌, length}
+use Rattle.std.specs.Prelude.{filter, Ok, Some, All, IsTrue, codes, slice_get, slice_index_or}
+use Rattle.std.specs.List.{AllZip}
+use Rattle.std.specs.List.Sorted.{IsPermutation, IsStrictlyIncreasing}
 use Rattle.bip_model.specs.Grants.{IsHistory, MovesOnceEach}
 use Rattle.bip_model.specs.States.{State}
-use Rattle.bip_model.specs.Steps.{IsRun, MayRun, after, end_of, start_of}
+use Rattle.bip_model.specs.Steps.{IsRun, after, start_of}
 use Rattle.bip_model.specs.Parts.{IsSystem}
-use Rattle.bip_model.specs.Texts.{said_in, words}
-use Rattle.bip_model.specs.Wants.{components_of, moved_in, raised}
+use Rattle.bip_model.specs.Naming.{IsName}
+use Rattle.bip_model.specs.Texts.{is_plain, number_of, said_in, words}
+use Rattle.bip_model.specs.Wants.{components_of, moved_in}
 use Rattle.bip_model.specs.declared.grants.Grant.{Grant}
+use Rattle.bip_model.specs.declared.wants.Role.TheVariants.{Moved, Seen}
+use Rattle.bip_model.specs.declared.wants.Role.{Role}
+use Rattle.bip_model.specs.declared.wants.TheConstants.{MOST_WANTS}
+use Rattle.bip_model.specs.declared.wants.Want.{Want}
 use Rattle.bip_model.specs.declared.parts.System.{System}
 use Rattle.bip_replay.specs.Faults.{IsFaultOf}
-use Rattle.bip_replay.specs.Lines.{grant_on}
+use Rattle.bip_replay.specs.Lines.{colon, grant_on}
 use Rattle.bip_replay.specs.Replays.{IsFirstFault, IsRunOf}
 use Rattle.bip_replay.specs.Runs.{IsModelRun, IsNext, interactions_of, state_after, used_after}
 use Rattle.bip_replay.specs.Traces.{grants_of}
-use Rattle.bip_replay.specs.Writing.{IsGrantOf, name_in}
+use Rattle.bip_replay.specs.Writing.{IsGrantOf, behind_see, name_in}
 use Rattle.bip_replay.specs.declared.faults.ReplayFault.{ReplayFault}
 use Rattle.bip_replay.specs.declared.faults.StepFault.{StepFault}
-
--- one interaction more leads from where those before it lead
-abbrev pub EndsFromTheBack : Type 0
-EndsFromTheBack =
-    (m : System) (s : State) (front : List ℕ) (a : ℕ)
-    → end_of m s (front ++ a ∷ []) ≡ after m (end_of m s front) a
-
--- interactions and one more are a run exactly where they are one and it may run at their end
-abbrev pub RunsFromTheBack : Type 0
-RunsFromTheBack =
-    (m : System) (s : State) (front : List ℕ) (a : ℕ)
-    → IsRun m s (front ++ a ∷ []) ↔ (IsRun m s front × MayRun m (end_of m s front) a)
 
 -- one grant more leads from the state to which those before it lead
 abbrev pub StatesFromTheBack : Type 0
 StatesFromTheBack =
     (m : System) (gs : List Grant) (g : Grant)
     → state_after m (gs ++ g ∷ []) ≡ after m (state_after m gs) g.inter.0
-
--- one grant more raises the used numbers of those before it
-abbrev pub NumbersFromTheBack : Type 0
-NumbersFromTheBack =
-    (base : ℕ) (gs : List Grant) (g : Grant)
-    → used_after base (gs ++ g ∷ []) ≡ raised (used_after base gs) g.wants
 
 -- grants and one more are a run exactly where they are one and it can be next where they lead
 abbrev pub GrantsFromTheBack : Type 0
@@ -141,6 +129,46 @@ abbrev pub SameGrants : Type 0
 SameGrants =
     (m : System) (a b : List ℕ) → said_in a ≡ said_in b
     → (gs : List Grant) → grants_of m a ≡ Ok gs → grants_of m b ≡ Ok gs
+
+-- a text is the name with this number
+pub record IsNameOf (names : List (List ℕ)) (text : List ℕ) (number : ℕ) : Type 0 where
+  pub name : IsName text
+  pub known : slice_get names number ≡ Some text
+
+-- a word `C:N` spells a want with a role: C is its component's name, and N spells its number
+pub record Spells (m : System) (role : Role) (word : List ℕ) (w : Want) : Type 0 where
+  pub component : List ℕ
+  pub numeral : List ℕ
+  pub parts : word ≡ component ++ colon ∷ numeral
+  pub names : IsNameOf m.component_names component w.comp.0
+  pub number : number_of numeral ≡ Some w.number
+  pub by_place : w.role ≡ role
+
+-- the line of a grant: `grant`, its interaction's name, words that spell its moved wants, and
+-- perhaps `see` with words that spell its seen ones; each want has its word, in whatever order, and
+-- the grant has them by component, none of which stands twice
+pub record IsGrantLine (m : System) (line : List ℕ) (g : Grant) : Type 0 where
+  pub interaction : List ℕ
+  pub moved_words : List (List ℕ)
+  pub seen_words : List (List ℕ)
+  pub moved : List Want
+  pub seen : List Want
+  pub plain : IsTrue (is_plain line)
+  pub says : words line
+      ≡ codes "grant" ∷ interaction ∷ (moved_words ++ behind_see seen_words)
+  pub named : IsNameOf m.interaction_names interaction g.inter.0
+  pub moves : AllZip (Spells m Moved) moved_words moved
+  pub sees : AllZip (Spells m Seen) seen_words seen
+  pub some : 0 < length moved
+  pub few : length g.wants ≤ MOST_WANTS
+  pub wants : IsPermutation (moved ++ seen) g.wants
+  pub rising : IsStrictlyIncreasing (components_of g.wants)
+
+-- a line reads as a grant exactly where it is that grant's line
+abbrev pub ReadsGrantLines : Type 0
+ReadsGrantLines =
+    (m : System) (line : List ℕ) (g : Grant) → IsSystem m
+    → (grant_on m line ≡ Ok (Some g)) ↔ IsGrantLine m line g
 
 -- the second word of a grant's line is the name of its interaction
 abbrev pub NamesItsInteraction : Type 0

@@ -2,7 +2,6 @@ pub mod Book
 pub mod Faults
 pub mod Laws
 pub mod Lines
-pub mod Private
 pub mod Replays
 pub mod Runs
 pub mod Traces

@@ -2,9 +2,10 @@
 use Rattle.std.specs.List.{list_any}
 use Rattle.std.specs.Option.{option_and_then, option_map, option_map_or}
 use Rattle.std.specs.Prelude.{Bool, Err, List, None, Ok, Option, Result, Some, [], codes}
-use Rattle.std.specs.Prelude.{if◌then◌else◌, length, nat_le, nat_lt, position, ℕ, ◌&&◌, ◌++◌, ◌==◌}
+use Rattle.std.specs.Prelude.{if◌then◌else◌, length, map, nat_le, position, ℕ, ◌&&◌, ◌++◌, ◌==◌}
 use Rattle.std.specs.Prelude.{◌||◌, ◌∷◌}
 use Rattle.bip_model.specs.Naming.{is_name, same_text}
+use Rattle.bip_model.specs.Numbering.{by_number}
 use Rattle.bip_model.specs.Texts.{number_of, pair_of, words_said}
 use Rattle.bip_model.specs.Wants.{is_moved}
 use Rattle.bip_model.specs.declared.grants.Grant.{Grant}
@@ -71,21 +72,20 @@ said (word ∷ inter ∷ rest) =
 abbrev pub named_on : List ℕ → Result (Option NamedGrant) LineFault
 named_on line = option_map_or said (words_said line) (Err Syntax)
 
--- a want among others by component
-abbrev pub put_in_order : Want → List Want → List Want
-put_in_order w [] = w ∷ []
-put_in_order w (v ∷ vs) = if nat_lt w.comp.0 v.comp.0 then w ∷ v ∷ vs else v ∷ put_in_order w vs
-
 -- a named want, of the component with this number
 abbrev pub numbered_want : ℕ → NamedWant → Want
 numbered_want c w = record { comp = record { 0 = c }; number = w.number; role = w.role }
 
--- wants by the numbers of their components, by component, put among those before; none where a
--- component isn't known
+-- wants by component
+abbrev pub wants_by_component : List Want → List Want
+wants_by_component wants = by_number (λ (w : Want). w.comp.0) wants
+
+-- named wants as those of a model, by component, with those before; none where a component isn't
+-- known
 abbrev pub wants_known : List (List ℕ) → List Want → List NamedWant → Option (List Want)
-wants_known names before [] = Some before
+wants_known names before [] = Some (wants_by_component before)
 wants_known names before (w ∷ ws) =
-    option_and_then (λ c. wants_known names (put_in_order (numbered_want c w) before) ws)
+    option_and_then (λ c. wants_known names (before ++ numbered_want c w ∷ []) ws)
     (position (same_text w.name) names)
 
 -- the grant that a line names, of a model; none where the model lacks one of its names
@@ -106,3 +106,16 @@ looked_up m (Ok (Some g)) = option_map_or (λ h. Ok (Some h)) (known m g) (Err U
 -- the grant of a line, or its fault; none of a line that says nothing
 abbrev pub grant_on : System → List ℕ → Result (Option Grant) LineFault
 grant_on m line = looked_up m (named_on line)
+
+-- What contracts of private functions say.
+
+-- the components that wants name, in the order of the wants
+abbrev pub names_of : List NamedWant → List (List ℕ)
+names_of wants = map (λ (w : NamedWant). w.name) wants
+
+-- the answer of a reader of one line, and the wants that it left, as what the line says
+abbrev pub as_said :
+    Result (Option (List ℕ)) LineFault → List NamedWant → Result (Option NamedGrant) LineFault
+as_said (Err fault) wants = Err fault
+as_said (Ok None) wants = Ok None
+as_said (Ok (Some inter)) wants = Ok (Some (record { inter = inter; wants = wants }))

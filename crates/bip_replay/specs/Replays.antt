@@ -1,12 +1,14 @@
 -- Replays: a trace as a run, or its first line at fault.
-use Rattle.std.specs.Prelude.{Err, List, Ok, Some, length, ℕ, ◌++◌, ◌+◌, ◌∷◌, ◌≡◌}
+use Rattle.std.specs.Prelude.{Bool, Err, List, None, Ok, Result, Some, false, length, true, ℕ, ◌++◌}
+use Rattle.std.specs.Prelude.{◌+◌, ◌∷◌, ◌≡◌}
 use Rattle.bip_model.specs.States.{State}
 use Rattle.bip_model.specs.Texts.{lines}
 use Rattle.bip_model.specs.declared.grants.Grant.{Grant}
 use Rattle.bip_model.specs.declared.parts.System.{System}
 use Rattle.bip_replay.specs.Faults.{IsFaultOf, of_step}
 use Rattle.bip_replay.specs.Lines.{grant_on}
-use Rattle.bip_replay.specs.Runs.{IsModelRun, state_after, used_after}
+use Rattle.bip_replay.specs.Runs.{IsModelRun, IsNextAt, Standing, standing_on, state_after}
+use Rattle.bip_replay.specs.Runs.{used_after}
 use Rattle.bip_replay.specs.Traces.{IsOutOfMemory, grants_from, grants_of}
 use Rattle.bip_replay.specs.declared.faults.LineFault.TheVariants as line_fault
 use Rattle.bip_replay.specs.declared.faults.ReplayFault.TheVariants.{Memory, NotARun, Syntax}
@@ -57,3 +59,19 @@ pub record IsRunOf (m : System) (base : ℕ) (text : List ℕ) (count : ℕ) : T
   pub reads : grants_of m text ≡ Ok grants
   pub run : IsModelRun m base grants
   pub counted : length grants ≡ count
+
+-- What contracts of private functions say.
+
+-- a line's grant takes a run on
+pub record TakesOn (p : Standing) (line : List ℕ) (q : Standing) : Type 0 where
+  pub grant : Grant
+  pub reads : grant_on p.model line ≡ Ok (Some grant)
+  pub next : IsNextAt p grant
+  pub on : q ≡ standing_on p grant
+
+-- what a line does to a run: its grant takes it on, a line that says nothing leaves it, or the line
+-- is at fault
+abbrev pub Takes : Standing → List ℕ → Result Bool ReplayFault → Standing → Type 0
+Takes p line (Ok true) q = TakesOn p line q
+Takes p line (Ok false) q = (grant_on p.model line ≡ Ok None) × (q ≡ p)
+Takes p line (Err fault) q = IsLineFault p.model p.state p.used line fault

@@ -1,11 +1,14 @@
 -- Runs of a model with exact numbers: which grant may come next, what a list of grants leads to,
 -- and where a run stands.
-use Rattle.std.specs.Prelude.{All, Any, IsTrue, List, [], map, slice_index_or, ℕ, ⊤, ◌+◌, ◌↔◌, ◌∷◌}
+use Rattle.std.specs.List.{list_all, zip}
+use Rattle.std.specs.Prelude.{All, Any, Bool, IsTrue, List, [], if◌then◌else◌, length, map, max}
+use Rattle.std.specs.Prelude.{nat_lt, not, slice_index_or, ℕ, ⊤, ◌&&◌, ◌+◌, ◌↔◌, ◌<◌, ◌==◌, ◌∷◌}
 use Rattle.std.specs.Prelude.{◌≡◌, ◌≤◌}
 use Rattle.bip_model.specs.Grants.{used_by}
 use Rattle.bip_model.specs.States.{State, state_of}
 use Rattle.bip_model.specs.Steps.{MayRun, after, end_of, moves, start_of}
-use Rattle.bip_model.specs.Wants.{raised}
+use Rattle.bip_model.specs.Parts.{Participant}
+use Rattle.bip_model.specs.Wants.{is_moved, raised}
 use Rattle.bip_model.specs.declared.grants.Grant.{Grant}
 use Rattle.bip_model.specs.declared.wants.Role.TheVariants.{Moved, Seen}
 use Rattle.bip_model.specs.declared.wants.Role.{Role}
@@ -106,3 +109,36 @@ IsNextAt p g = IsNext p.model p.state p.used g
 pub record StandsAfter (m : System) (base : ℕ) (gs : List Grant) (p : Standing) : Type 0 where
   pub run : IsModelRun m base gs
   pub there : p ≡ standing_after m base gs
+
+-- What contracts of private functions say.
+
+-- whether a want has the number of its component's next move
+abbrev pub has_next_number : (ℕ → ℕ) → Want → Bool
+has_next_number used w = nat_lt (used w.comp.0) last_number && (used w.comp.0 + 1 == w.number)
+
+-- whether a want is of one of so many components, and hasn't the number of its next move
+abbrev pub is_wrong : ℕ → (ℕ → ℕ) → Want → Bool
+is_wrong known used w = nat_lt w.comp.0 known && not (has_next_number used w)
+
+-- whether a want moves the component of a participant
+abbrev pub is_party : Want × Participant → Bool
+is_party pair = is_moved pair.0.role && (pair.0.comp.0 == pair.1.0.0)
+
+-- whether wants move just the participants, one each and in order
+abbrev pub are_parties : List Want → List Participant → Bool
+are_parties wants participants =
+    (length wants == length participants) && list_all is_party (zip wants participants)
+
+-- the used numbers that a list keeps above a base
+abbrev pub used_in : List ℕ → ℕ → ℕ → ℕ
+used_in used base c = slice_index_or used c base
+
+-- used numbers after one want
+abbrev pub used_up : Want → (ℕ → ℕ) → ℕ → ℕ
+used_up w used c =
+    if (w.comp.0 == c) && is_moved w.role then max (used c) w.number else used c
+
+-- the components that wants move are among so many
+abbrev pub AreMovedWithin : ℕ → List Want → Type 0
+AreMovedWithin count wants =
+    All (λ (w : Want). IsTrue (is_moved w.role) → w.comp.0 < count) wants

@@ -1,6 +1,6 @@
 -- Which grants a text is, and why it is none.
 use Rattle.std.specs.Prelude.{Err, IsOk, List, None, Ok, Option, Result, Some, [], take, ℕ, ◌+◌}
-use Rattle.std.specs.Prelude.{◌∷◌, ◌≡◌, ◌≤◌}
+use Rattle.std.specs.Prelude.{◌++◌, ◌∷◌, ◌≡◌, ◌≤◌}
 use Rattle.bip_model.specs.Texts.{last_line, lines}
 use Rattle.bip_model.specs.declared.grants.Grant.{Grant}
 use Rattle.bip_model.specs.declared.parts.System.{System}
@@ -40,3 +40,19 @@ abbrev pub IsTraceFault : System → List ℕ → ℕ → TraceFault → Type 0
 IsTraceFault m text number Syntax = grants_of m text ≡ Err (number, line_fault.Syntax)
 IsTraceFault m text number Unknown = grants_of m text ≡ Err (number, line_fault.Unknown)
 IsTraceFault m text number Memory = IsOutOfMemory m text number
+
+-- What contracts of private functions say.
+
+-- grants, and then that of a line that says one
+abbrev pub one_more : List Grant → Option Grant → List Grant
+one_more gs None = gs
+one_more gs (Some g) = gs ++ g ∷ []
+
+-- what a reader of one line did to the grants before it: it put the line's grant last, or the line
+-- is at fault, or there was no memory
+abbrev pub Reads : System → List Grant → List ℕ → Result (Unit {0}) TraceFault → List Grant → Type 0
+Reads m old line (Ok u) new =
+    (said : Option Grant) × (grant_on m line ≡ Ok said) × (new ≡ one_more old said)
+Reads m old line (Err Syntax) new = grant_on m line ≡ Err line_fault.Syntax
+Reads m old line (Err Unknown) new = grant_on m line ≡ Err line_fault.Unknown
+Reads m old line (Err Memory) new = (said : Option Grant) × (grant_on m line ≡ Ok said)

@@ -1,9 +1,9 @@
 -- The one spelling of traces: moved components, then the seen ones, each by component; one space
 -- between words, and a line feed after each line.
 use Rattle.std.specs.Fmt.{decimal}
-use Rattle.std.specs.List.{flat_map, list_any}
-use Rattle.std.specs.Prelude.{All, Bool, IsTrue, List, Ok, Some, [], codes, filter, if◌then◌else◌}
-use Rattle.std.specs.Prelude.{length, map, not, slice_index_or, ℕ, ◌++◌, ◌<◌, ◌^◌, ◌∷◌, ◌≡◌}
+use Rattle.std.specs.List.{flat_map}
+use Rattle.std.specs.Prelude.{All, Bool, IsTrue, List, Ok, Some, [], codes, filter, length, map, not}
+use Rattle.std.specs.Prelude.{slice_index_or, ℕ, ◌++◌, ◌<◌, ◌^◌, ◌∷◌, ◌≡◌}
 use Rattle.bip_model.specs.Naming.{IsName}
 use Rattle.bip_model.specs.Texts.{line_feed, is_plain}
 use Rattle.bip_model.specs.Wants.{is_moved}
@@ -36,15 +36,16 @@ has_role Seen w = not (is_moved w.role)
 abbrev pub want_words : System → Role → List Want → List (List ℕ)
 want_words m role wants = map (want_word m) (filter (has_role role) wants)
 
--- `see C:N ..`, where a component is seen
-abbrev pub seen_words : System → List Want → List (List ℕ)
-seen_words m wants =
-    if list_any (has_role Seen) wants then codes "see" ∷ want_words m Seen wants else []
+-- words behind `see`, where there are any
+abbrev pub behind_see : List (List ℕ) → List (List ℕ)
+behind_see [] = []
+behind_see (word ∷ words) = codes "see" ∷ word ∷ words
 
 -- what stands behind the word `grant`
 abbrev pub words_behind : System → Grant → List (List ℕ)
 words_behind m g =
-    name_in m.interaction_names g.inter.0 ∷ (want_words m Moved g.wants ++ seen_words m g.wants)
+    name_in m.interaction_names g.inter.0
+    ∷ (want_words m Moved g.wants ++ behind_see (want_words m Seen g.wants))
 
 abbrev pub space : ℕ
 space = 32

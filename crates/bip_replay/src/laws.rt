@@ -1,23 +1,25 @@
 //! What runs, faults and traces mean.
 ghost use Rattle.bip_replay.specs.Laws.{AreOfModel, AtMostOneFault, AtMostOneFirstFault};
-ghost use Rattle.bip_replay.specs.Laws.{BeginningsAreRuns, EndsFromTheBack, FaultsAreExact};
-ghost use Rattle.bip_replay.specs.Laws.{FirstFaultsAreExact, GrantsFromTheBack, IsNextOrFaulty};
-ghost use Rattle.bip_replay.specs.Laws.{IsRunOrFaulty, MovesAreNumbered, NamesItsInteraction};
-ghost use Rattle.bip_replay.specs.Laws.{NumbersCountMoves, NumbersFromTheBack, RunsAreHistories};
-ghost use Rattle.bip_replay.specs.Laws.{RunsFromTheBack, RunsMoveOnceEach, RunsStepByStep};
-ghost use Rattle.bip_replay.specs.Laws.{SameGrants, StatesFromTheBack, StepsAreARun};
+ghost use Rattle.bip_model.specs.Laws.{EndsAfterItsLast, GoesOnByWhatMayRun, UsedGoesOn};
+ghost use Rattle.bip_model.specs.declared.parts.System.{System};
+ghost use Rattle.bip_replay.specs.Laws.{BeginningsAreRuns, FaultsAreExact, FirstFaultsAreExact};
+ghost use Rattle.bip_replay.specs.Laws.{GrantsFromTheBack, IsNextOrFaulty, IsRunOrFaulty};
+ghost use Rattle.bip_replay.specs.Laws.{MovesAreNumbered, NamesItsInteraction, NumbersCountMoves};
+ghost use Rattle.bip_replay.specs.Laws.{ReadsGrantLines, RunsAreHistories, RunsMoveOnceEach};
+ghost use Rattle.bip_replay.specs.Laws.{RunsStepByStep, SameGrants, StatesFromTheBack};
+ghost use Rattle.bip_replay.specs.Laws.{StepsAreARun};
 
-use bip_model::history_laws;
+use bip_model::{history_laws, step_laws};
 
 /// Runs from the back: a run goes on by each grant that can be next where it leads, and by no
 /// other. Each grant of a run is a next step after those before it. The k-th move of a component
 /// has the base and k as its number. A run is a history, and moves no component twice with one
 /// number (docs/DEFINITIONS.md, "Runs with exact numbers").
 pub fn run_laws()
-    ensures ends { EndsFromTheBack }
-    ensures runs { RunsFromTheBack }
+    ensures ends { (m : System) → EndsAfterItsLast m }
+    ensures runs { (m : System) → GoesOnByWhatMayRun m }
     ensures states { StatesFromTheBack }
-    ensures numbers { NumbersFromTheBack }
+    ensures numbers { UsedGoesOn }
     ensures grants { GrantsFromTheBack }
     ensures beginnings { BeginningsAreRuns }
     ensures by_steps { RunsStepByStep }
@@ -27,6 +29,7 @@ pub fn run_laws()
     ensures counts { NumbersCountMoves }
     ensures numbered { MovesAreNumbered }
 {
+    step_laws();
     history_laws();
 }
 
@@ -43,10 +46,13 @@ pub fn fault_laws()
     ensures answered { IsRunOrFaulty }
 {}
 
-/// Texts that say the same words, line by line, are the same grants, whatever blanks and skipped
-/// lines are between them; the second word of a grant's line is the name of its interaction; and
-/// what is read are grants of the model (docs/DEFINITIONS.md, "Traces").
+/// A line reads as a grant exactly where it is that grant's line: its words are `grant`, the name
+/// of the interaction, a word for each moved want, and perhaps `see` with a word for each seen one,
+/// in any order. Texts that say the same words, line by line, are the same grants, whatever blanks
+/// and skipped lines are between them; the second word of a grant's line is the name of its
+/// interaction; and what is read are grants of the model (docs/DEFINITIONS.md, "Traces").
 pub fn trace_laws()
+    ensures lines { ReadsGrantLines }
     ensures same { SameGrants }
     ensures named { NamesItsInteraction }
     ensures of_model { AreOfModel }

@@ -1,21 +1,19 @@
 //! What a line of a trace says: a grant by names, and the grant of a model.
-ghost use Rattle.std.specs.Prelude.{◌≡◌, ◌+◌, ◌<◌, ◌≤◌, [], ◌∷◌, None, Some, length, nat_le};
-ghost use Rattle.std.specs.Prelude.{nat_lt, not, ◌||◌, position, if◌then◌else◌};
+ghost use Rattle.std.specs.Prelude.{◌≡◌, ◌≤◌, [], ◌∷◌, None, Some, length, nat_le, not, ◌||◌};
+ghost use Rattle.std.specs.Prelude.{if◌then◌else◌};
 ghost use Rattle.std.specs.Option.{option_and_then};
-ghost use Rattle.arrayvec.specs.ArrayVec.{array_vec_len};
-ghost use Rattle.bip_model.specs.Naming.{is_name, same_text};
+ghost use Rattle.bip_model.specs.Naming.{AreApart, is_name, same_text};
 ghost use Rattle.bip_model.specs.Texts.{words};
 ghost use Rattle.bip_model.specs.declared.wants.Role.TheVariants.{Moved};
 ghost use Rattle.bip_model.specs.declared.wants.TheConstants.{MOST_WANTS};
-ghost use Rattle.bip_replay.specs.Lines.{is_named, named_on, put_in_order, said, want_said};
+ghost use Rattle.bip_replay.specs.Lines.{as_said, is_named, named_on, names_of, said, want_said};
 ghost use Rattle.bip_replay.specs.Lines.{wants_known, wants_said, with_want};
-ghost use Rattle.bip_replay.specs.Private.{as_said};
 
 use crate::faults::LineFault;
 use arrayvec::ArrayVec;
 use bip_model::{
-    CompId, Line, MOST_WANTS, Model, Name, Number, Role, Want, parse_number, read_words,
-    split_pair, split_word,
+    Line, MOST_WANTS, Model, Name, Number, Role, Want, parse_number, read_words, split_pair,
+    split_word,
 };
 
 /// A want as a line names it: a component, its number, and whether it is moved.
@@ -161,7 +159,8 @@ pub(crate) fn look_up(
     model: &Model,
     named: &[NamedWant],
 ) -> bool
-    requires { length named.now ≤ MOST_WANTS }
+    requires few { length named.now ≤ MOST_WANTS }
+    requires apart { AreApart (names_of named.now) }
     ensures known { wants_known model.now.component_names [] named.now
         ≡ (if result then Some wants.new.items else None) }
 {
@@ -170,30 +169,14 @@ pub(crate) fn look_up(
         let Some(comp) = model.component(&want.name) else {
             return false;
         };
-        let known = Want {
+        wants.push(Want {
             comp,
             number: want.number,
             role: want.role,
-        };
-        put_in_order(wants, known);
+        });
     }
+    wants.sort_unstable_by_key(|want| want.comp.0);
     true
-}
-
-fn put_in_order(wants: &mut ArrayVec<Want, MOST_WANTS>, want: Want)
-    requires { array_vec_len wants.old < MOST_WANTS }
-    ensures put { wants.new.items ≡ put_in_order want wants.old.items }
-    ensures len { array_vec_len wants.new ≡ array_vec_len wants.old + 1 }
-{
-    let end = wants.len();
-    let at = first_above(wants.as_slice(), want.comp).unwrap_or(end);
-    wants.insert(at, want);
-}
-
-fn first_above(wants: &[Want], comp: CompId) -> Option<usize>
-    ensures { result ≡ position (λ w. nat_lt comp.0 w.comp.0) wants.now }
-{
-    wants.iter().position(|want| comp < want.comp)
 }
 
 fn is_text(text: &[u8], word: &[u8]) -> bool

@@ -5,8 +5,8 @@ ghost use Rattle.std.specs.List.{list_all, zip};
 ghost use Rattle.std.specs.List.Sorted.{IsStrictlyIncreasing};
 ghost use Rattle.bip_model.specs.Wants.{components_of, is_moved, raised};
 ghost use Rattle.bip_model.specs.declared.wants.Want.{Want};
-ghost use Rattle.bip_replay.specs.Private.{AreMovedWithin, are_parties, is_party, used_in, used_up};
-ghost use Rattle.bip_replay.specs.Runs.{StandsAfter, last_number, standing_of};
+ghost use Rattle.bip_replay.specs.Runs.{AreMovedWithin, StandsAfter, are_parties, is_party};
+ghost use Rattle.bip_replay.specs.Runs.{last_number, standing_of, used_in, used_up};
 
 use crate::{GrantRef, StepFault};
 use bip_model::{CompId, Model, Number, PortId, Role, Seq, State, Want};
@@ -116,7 +116,7 @@ impl<'m> Position<'m> {
 
 impl<'m> Position<'m> {
     ghost use Rattle.bip_replay.specs.Faults.{expected_after};
-    ghost use Rattle.bip_replay.specs.Private.{has_next_number, is_wrong};
+    ghost use Rattle.bip_replay.specs.Runs.{has_next_number, is_wrong};
 
     /// The first want of one of so many components whose number isn't the one that its next move
     /// has.

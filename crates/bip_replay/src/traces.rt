@@ -1,8 +1,6 @@
 //! Reading and writing traces.
 ghost use Rattle.std.specs.Prelude.{◌≡◌, Ok, IfOk, IfErr};
-ghost use Rattle.bip_replay.specs.Private.{Reads};
-ghost use Rattle.bip_replay.specs.Traces.{IsTraceFault, grants_of};
-ghost use Rattle.bip_replay.specs.Laws.{AreOfModel, NamesItsInteraction, SameGrants};
+ghost use Rattle.bip_replay.specs.Traces.{IsTraceFault, Reads, grants_of};
 
 use crate::TraceFault;
 use crate::rooms::Room;

@@ -5,8 +5,8 @@ ghost use Rattle.std.specs.List.{flat_map, list_any};
 ghost use Rattle.bip_model.specs.declared.wants.Role.TheVariants.{Seen};
 ghost use Rattle.bip_model.specs.declared.wants.Want.{Want};
 ghost use Rattle.bip_replay.specs.Traces.{grants_of};
-ghost use Rattle.bip_replay.specs.Writing.{IsGrantOf, IsSpelled, ReadsBack, has_role, line_of};
-ghost use Rattle.bip_replay.specs.Writing.{seen_words, spaced, text_of, want_word, want_words};
+ghost use Rattle.bip_replay.specs.Writing.{IsGrantOf, IsSpelled, ReadsBack, behind_see, has_role};
+ghost use Rattle.bip_replay.specs.Writing.{line_of, spaced, text_of, want_word, want_words};
 
 use bip_model::{Grant, Model, Role, Want};
 use itoa::Buffer;
@@ -44,7 +44,7 @@ fn write_line(text: &mut Vec<u8>, model: &Model, grant: &Grant) -> Result<(), Al
 fn write_seen(text: &mut Vec<u8>, model: &Model, wants: &[Want]) -> Result<(), AllocError>
     requires { All (λ (w : Want). w.comp.0 < length model.now.component_names) wants.now }
     ensures { OnOk result
-        (text.new.items ≡ text.old.items ++ flat_map spaced (seen_words model.now wants.now)) }
+        (text.new.items ≡ text.old.items ++ flat_map spaced (behind_see (want_words model.now Seen wants.now))) }
 {
     if look(wants) {
         write_word(text, b"see")?;

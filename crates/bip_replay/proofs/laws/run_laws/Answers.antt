@@ -1,15 +1,15 @@
 use Rattle.bip_model.specs.Steps.{start_of}
-use Rattle.bip_replay.proofs.LawLemmas.{by_steps, counts_moves, ends-back, grants-back, numbered, runs-back}
+use Rattle.bip_replay.proofs.LawLemmas.{by_steps, counts_moves, grants-back, numbered}
 use Rattle.bip_replay.proofs.RunLemmas.{IsHistory-from_run, IsRun-from_grants, IsRunFrom-beginning, end_of-push}
 use Rattle.bip_replay.proofs.laws.run_laws.Goals as goal
 
 pub returns : goal.returns
 returns c =
     record {
-      ends = ends-back;
-      runs = runs-back;
+      ends = c.step_laws.ensures.end;
+      runs = c.step_laws.ensures.run;
       states = λ m. end_of-push m (start_of m);
-      numbers = λ base. c.history_laws.ensures.used (λ _. base);
+      numbers = c.history_laws.ensures.used_on;
       grants = grants-back;
       beginnings = λ m base. IsRunFrom-beginning m (start_of m) (λ _. base);
       by_steps = by_steps;

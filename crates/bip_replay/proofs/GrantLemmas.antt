@@ -1,0 +1,332 @@
+-- Lines of grants: what is read of one is what its words spell, and back.
+use Rattle.std.proofs.Common.{◌≡◌, ℕ, suc, ◌+◌, ◌<◌, ◌≤◌, ◌^◌, Bool, true, false, cond, ◌&&◌, eqb, List, [], ◌∷◌, ◌++◌, length, take, drop, drop-cons, get_or, position, Option, None, Some, Result, Ok, Err, refl, sym, ap, ◌∙◌, subst, arith, eqb-true}
+use Rattle.std.specs.Prelude.{All, codes, nat_lt}
+use Rattle.std.specs.List.{AllZip, list_any}
+use Rattle.std.specs.Str.Parse.{digits_value}
+use Rattle.std.specs.List.Sorted.{IsPermutation}
+use Rattle.std.specs.Option.{option_map, option_map_or}
+use Rattle.std.specs.Cmp.Lexicographic as texts
+use Rattle.std.proofs.lemmas.Bool.{and_parts, leb-true, ltb-true}
+use Rattle.std.proofs.lemmas.List.{take-append-drop}
+use Rattle.std.proofs.lemmas.List.Quantifiers.{position-Some}
+use Rattle.std.proofs.lemmas.List.Elements.{All-append, All-cons, All-nil}
+use Rattle.std.proofs.lemmas.List.Folds.{list_any_at}
+use Rattle.std.proofs.lemmas.List.Sorted.{All-permutation, Contains-permutation, IsPermutation-sym, length_permutation}
+use Rattle.std.proofs.lemmas.Option.{cond_some, get_or_from_slice_get, option_and_then_some, slice_get-get_or, slice_get_within}
+use Rattle.bip_model.proofs.NumberingLemmas.{AreNumbered, apart_from_rises, by_number-IsPermutation, by_number-is, by_number-rises, increasing_from_rises, numbered_moved, rises_from_increasing}
+use Rattle.bip_model.specs.Naming.{AreApart, is_name, same_text}
+use Rattle.bip_model.specs.Parts.{IsSystem}
+use Rattle.bip_model.specs.Texts.{is_comment, is_numeral, is_plain, number_of, pair_of, words, words_said}
+use Rattle.bip_model.specs.Wants.{IsWants, components_of, is_moved}
+use Rattle.bip_model.specs.declared.grants.Grant.{Grant}
+use Rattle.bip_model.specs.declared.parts.System.{System}
+use Rattle.bip_model.specs.declared.wants.Role.{Role}
+use Rattle.bip_model.specs.declared.wants.Role.TheVariants.{Moved, Seen}
+use Rattle.bip_model.specs.declared.wants.Want.{Want}
+use Rattle.bip_replay.specs.Laws.{IsGrantLine, IsNameOf, ReadsGrantLines, Spells}
+use Rattle.bip_replay.specs.Lines.{NamedGrant, colon, grant_on, known, looked_up, named_on, said, want_of, want_said, wants_known, wants_said}
+use Rattle.bip_replay.specs.Writing.{IsGrantOf, behind_see}
+use Rattle.bip_replay.specs.declared.faults.LineFault.{LineFault}
+use Rattle.bip_replay.specs.declared.faults.LineFault.TheVariants.{Syntax, Unknown}
+use Rattle.bip_replay.specs.declared.lines.NamedWant.{NamedWant}
+use Rattle.bip_replay.proofs.KnownLemmas.{Numbers, apart_from_numbered, comp_of, found_for, known_from, name_at, numbered_from_apart}
+use Rattle.bip_replay.proofs.NamedLemmas.{AreFit, AreSaid, Say, said_wants, wants_said-from}
+use Rattle.bip_replay.proofs.WordLemmas.{is_name-from, name-bytes, pair_of-name, position-name}
+
+-- what is there where a test passes, and what there is of what is there
+when_some : {X : Type 0} (b : Bool) (o : Option X) (x : X) → cond b o None ≡ Some x → (b ≡ true) × (o ≡ Some x)
+when_some true o x is = (refl, is)
+when_some false o x is = cc
+
+when_ok : {X E : Type 0} (b : Bool) (r : Result X E) (e : E) (x : X) → cond b r (Err e) ≡ Ok x → (b ≡ true) × (r ≡ Ok x)
+when_ok true r e x is = (refl, is)
+when_ok false r e x is = cc
+
+map_some : {X Y : Type 0} (f : X → Y) (o : Option X) (y : Y) → option_map f o ≡ Some y → (x : X) × (o ≡ Some x) × (f x ≡ y)
+map_some f None y is = cc
+map_some f (Some x) y is = (x, refl, cc)
+
+map_or_ok : {X Y E : Type 0} (f : X → Result Y E) (o : Option X) (e : E) (y : Y) → option_map_or f o (Err e) ≡ Ok y → (x : X) × (o ≡ Some x) × (f x ≡ Ok y)
+map_or_ok f None e y is = cc
+map_or_ok f (Some x) e y is = (x, refl, is)
+
+-- the parts of a word with a colon
+parts_of : (word : List ℕ) (parts : List ℕ × List ℕ) → pair_of colon word ≡ Some parts → word ≡ parts.0 ++ colon ∷ parts.1
+parts_of word parts is =
+    let at = map_some (λ i. (take i word, drop (i + 1) word)) (position (λ b. eqb b 58) word) parts is in
+    let i : ℕ = at.0 in
+    let here = position-Some (λ b. eqb b 58) word i 0 at.1 in
+    let byte : get_or word i 0 ≡ 58 = eqb-true (get_or word i 0) 58 here.1 in
+    let next : suc i ≡ i + 1 = omega arith in
+    let behind : drop i word ≡ 58 ∷ drop (i + 1) word = rw (drop-cons word i 0 here.0, byte, next) refl in
+    sym (take-append-drop i word) ∙ (rw behind (ap (λ (p : List ℕ × List ℕ). p.0 ++ 58 ∷ p.1) at.2))
+
+-- a name that is found, as the name with its number, and back
+name_of-place : (names : List (List ℕ)) (text : List ℕ) (c : ℕ) → is_name text ≡ true → position (same_text text) names ≡ Some c → IsNameOf names text c
+name_of-place names text c named at =
+    let spelled = and_parts _ _ named in
+    let short = and_parts _ _ spelled.0 in
+    let here = slice_get-get_or names c [] (position-Some (same_text text) names c [] at).0 in
+    record { name = (short.0, leb-true (length text) 32 short.1, spelled.1); known = here ∙ ap (λ (t : List ℕ). Some t) (sym (name_at names text c at)) }
+
+place-name_of : (names : List (List ℕ)) (text : List ℕ) (c : ℕ) → AreApart names → IsNameOf names text c → position (same_text text) names ≡ Some c
+place-name_of names text c apart is =
+    rw (sym (get_or_from_slice_get names c text [] is.known)) (position-name names c apart (slice_get_within names c text is.known))
+
+-- a word that says a want of a model spells it
+spells_from : (m : System) (role : Role) (word : List ℕ) (v : NamedWant) (w : Want) → want_said role word ≡ Some v → Numbers m.component_names v w → Spells m role word w
+spells_from m role word v w says is =
+    option_and_then_some (want_of role) (pair_of colon word) v says (λ parts split of_parts.
+    let at = when_some (is_name parts.0) (option_map (λ n. record { name = parts.0; number = n; role = role }) (number_of parts.1)) v of_parts in
+    let n = map_some (λ n. record { name = parts.0; number = n; role = role }) (number_of parts.1) v at.1 in
+    let name : parts.0 ≡ v.name = ap (λ (u : NamedWant). u.name) n.2 in
+    let number : n.0 ≡ w.number = ap (λ (u : NamedWant). u.number) n.2 ∙ is.number in
+    record {
+      component = parts.0;
+      numeral = parts.1;
+      parts = parts_of word parts split;
+      names = name_of-place m.component_names parts.0 w.comp.0 at.0 (rw name is.place);
+      number = n.1 ∙ ap (λ (k : ℕ). Some k) number;
+      by_place = sym is.role ∙ sym (ap (λ (u : NamedWant). u.role) n.2);
+    })
+
+-- a word that spells a want says it by names
+says_from : (m : System) (role : Role) (word : List ℕ) (w : Want) → AreApart m.component_names → Spells m role word w → (v : NamedWant) × (want_said role word ≡ Some v) × Numbers m.component_names v w
+says_from m role word w apart s = (
+  record { name = s.component; number = w.number; role = role },
+  rw (s.parts, pair_of-name s.component s.numeral (name-bytes s.component s.names.name), is_name-from s.component s.names.name, s.number) refl,
+  record { place = place-name_of m.component_names s.component w.comp.0 apart s.names; number = refl; role = sym s.by_place },
+)
+
+all_spell : (m : System) (role : Role) (words : List (List ℕ)) (vs : List NamedWant) (ws : List Want) → Say role words vs → AllZip (Numbers m.component_names) vs ws → AllZip (Spells m role) words ws
+all_spell m role [] [] [] say are = tt
+all_spell m role [] [] (w ∷ ws) say are = absurd are
+all_spell m role [] (v ∷ vs) ws say are = absurd say
+all_spell m role (word ∷ words) [] ws say are = absurd say
+all_spell m role (word ∷ words) (v ∷ vs) [] say are = absurd are
+all_spell m role (word ∷ words) (v ∷ vs) (w ∷ ws) say are = (spells_from m role word v w say.0 are.0, all_spell m role words vs ws say.1 are.1)
+
+all_say : (m : System) (role : Role) (words : List (List ℕ)) (ws : List Want) → AreApart m.component_names → AllZip (Spells m role) words ws → (vs : List NamedWant) × Say role words vs × AllZip (Numbers m.component_names) vs ws
+all_say m role [] [] apart spell = ([], tt, tt)
+all_say m role [] (w ∷ ws) apart spell = absurd spell
+all_say m role (word ∷ words) [] apart spell = absurd spell
+all_say m role (word ∷ words) (w ∷ ws) apart spell =
+    let first = says_from m role word w apart spell.0 in
+    let rest = all_say m role words ws apart spell.1 in
+    (first.0 ∷ rest.0, (first.1, rest.1), (first.2, rest.2))
+
+-- two lists side by side, one behind the other
+module _ {X Y : Type 0} (R : X → Y → Type 0) where
+  zip_split : (xs us : List X) (zs : List Y) → AllZip R (xs ++ us) zs → (ys : List Y) × (vs : List Y) × (ys ++ vs ≡ zs) × AllZip R xs ys × AllZip R us vs
+  zip_split [] us zs zip = ([], zs, refl, tt, zip)
+  zip_split (x ∷ xs) us [] zip = absurd zip
+  zip_split (x ∷ xs) us (z ∷ zs) zip = let rest = zip_split xs us zs zip.1 in (z ∷ rest.0, rest.1, ap (λ (ys : List Y). z ∷ ys) rest.2, (zip.0, rest.3), rest.4)
+
+  zip_join : (xs us : List X) (ys vs : List Y) → AllZip R xs ys → AllZip R us vs → AllZip R (xs ++ us) (ys ++ vs)
+  zip_join [] us [] vs zip more = more
+  zip_join [] us (y ∷ ys) vs zip more = absurd zip
+  zip_join (x ∷ xs) us [] vs zip more = absurd zip
+  zip_join (x ∷ xs) us (y ∷ ys) vs zip more = (zip.0, zip_join xs us ys vs zip.1 more)
+
+  zip_long : (xs : List X) (ys : List Y) → AllZip R xs ys → length xs ≡ length ys
+  zip_long [] [] zip = refl
+  zip_long [] (y ∷ ys) zip = absurd zip
+  zip_long (x ∷ xs) [] zip = absurd zip
+  zip_long (x ∷ xs) (y ∷ ys) zip = ap suc (zip_long xs ys zip.1)
+
+-- what is read of a line with a grant, part by part
+pub record IsRead (m : System) (line : List ℕ) (g : Grant) : Type 0 where
+  pub inter : List ℕ
+  pub behind : List (List ℕ)
+  pub named : List NamedWant
+  pub plain : is_plain line ≡ true
+  pub split : words line ≡ codes "grant" ∷ inter ∷ behind
+  pub name : is_name inter ≡ true
+  pub said : wants_said Moved [] behind ≡ Some named
+  pub place : position (same_text inter) m.interaction_names ≡ Some g.inter.0
+  pub known : wants_known m.component_names [] named ≡ Some g.wants
+
+-- the words of a grant by names
+said_parts : (ws : List (List ℕ)) (h : NamedGrant) → said ws ≡ Ok (Some h) → (behind : List (List ℕ)) × (ws ≡ codes "grant" ∷ h.inter ∷ behind) × (is_name h.inter ≡ true) × (wants_said Moved [] behind ≡ Some h.wants)
+said_parts [] h is = cc
+said_parts (word ∷ []) h is = cc
+said_parts (word ∷ inter ∷ behind) h is =
+    let at = when_ok (same_text word (codes "grant") && is_name inter) (option_map_or (λ wants. Ok (Some (record { inter = inter; wants = wants }))) (wants_said Moved [] behind) (Err Syntax)) Syntax (Some h) is in
+    let tests = and_parts (same_text word (codes "grant")) (is_name inter) at.0 in
+    let found = map_or_ok (λ wants. Ok (Some (record { inter = inter; wants = wants }))) (wants_said Moved [] behind) Syntax (Some h) at.1 in
+    let s : Ok (Some (record { inter = inter; wants = found.0 })) ≡ Ok (Some h) = found.2 in
+    let same : record { inter = inter; wants = found.0 } ≡ h = cc in
+    subst (λ (g : NamedGrant). (rest : List (List ℕ)) × (word ∷ inter ∷ behind ≡ codes "grant" ∷ g.inter ∷ rest) × (is_name g.inter ≡ true) × (wants_said Moved [] rest ≡ Some g.wants)) same
+    (behind, ap (λ (w : List ℕ). w ∷ inter ∷ behind) (texts.same_text word (codes "grant") (sym tests.0)), tests.1, found.1)
+
+looked_up-some : (m : System) (r : Result (Option NamedGrant) LineFault) (g : Grant) → looked_up m r ≡ Ok (Some g) → (h : NamedGrant) × (r ≡ Ok (Some h)) × (known m h ≡ Some g)
+looked_up-some m (Err fault) g is = cc
+looked_up-some m (Ok None) g is = cc
+looked_up-some m (Ok (Some h)) g is =
+    let found = map_or_ok (λ (k : Grant). Ok (Some k)) (known m h) Unknown (Some g) is in
+    let s : Ok (Some found.0) ≡ Ok (Some g) = found.2 in
+    let same : found.0 ≡ g = cc in
+    (h, refl, found.1 ∙ ap (λ (k : Grant). Some k) same)
+
+-- the grant by names of a line
+named_parts : (line : List ℕ) (h : NamedGrant) → named_on line ≡ Ok (Some h) → (is_plain line ≡ true) × (said (words line) ≡ Ok (Some h))
+named_parts line h is =
+    let found = map_or_ok said (words_said line) Syntax (Some h) is in
+    let at = cond_some (is_plain line) (cond (is_comment (words line)) [] (words line)) found.0 found.1 in
+    (at.0, no_comment (is_comment (words line)) (rw at.1 found.2))
+  where
+    no_comment : (b : Bool) → said (cond b [] (words line)) ≡ Ok (Some h) → said (words line) ≡ Ok (Some h)
+    no_comment true s = cc
+    no_comment false s = s
+
+-- the wants that a line names fit
+pub named_fit : (line : List ℕ) (h : NamedGrant) → named_on line ≡ Ok (Some h) → AreFit h.wants
+named_fit line h is = let parts = said_parts (words line) h (named_parts line h is).1 in (said_wants parts.0 h.wants parts.3).fit
+
+pub is_read : (m : System) (line : List ℕ) (g : Grant) → grant_on m line ≡ Ok (Some g) → IsRead m line g
+is_read m line g reads =
+    let up = looked_up-some m (named_on line) g reads in
+    let h : NamedGrant = up.0 in
+    let here = named_parts line h up.1 in
+    let parts = said_parts (words line) h here.1 in
+    option_and_then_some (λ a. option_map (λ ws. record { inter = record { 0 = a }; wants = ws }) (wants_known m.component_names [] h.wants)) (position (same_text h.inter) m.interaction_names) g up.2 (λ a at rest.
+    let found = map_some (λ (ws : List Want). record { inter = record { 0 = a }; wants = ws }) (wants_known m.component_names [] h.wants) g rest in
+    record {
+      inter = h.inter;
+      behind = parts.0;
+      named = h.wants;
+      plain = here.0;
+      split = parts.1;
+      name = parts.2;
+      said = parts.3;
+      place = at ∙ ap (λ (k : Grant). Some k.inter.0) found.2;
+      known = found.1 ∙ ap (λ (k : Grant). Some k.wants) found.2;
+    })
+
+pub grant_on-from : (m : System) (line : List ℕ) (g : Grant) → IsRead m line g → grant_on m line ≡ Ok (Some g)
+grant_on-from m line g is = rw (is.plain, is.split, is.name, is.said, is.place, is.known) refl
+
+-- a line that reads as a grant is its line
+pub grant_line : (m : System) (line : List ℕ) (g : Grant) → grant_on m line ≡ Ok (Some g) → IsGrantLine m line g
+grant_line m line g reads =
+    let is = is_read m line g reads in
+    let are = said_wants is.behind is.named is.said in
+    let known = found_for m.component_names [] is.named g.wants is.known in
+    let apart = numbered_from_apart m.component_names is.named known.found known.each are.fit.apart in
+    let both = zip_split (Numbers m.component_names) are.moved are.seen known.found (subst (λ (vs : List NamedWant). AllZip (Numbers m.component_names) vs known.found) (sym are.all) known.each) in
+    let moves = all_spell m Moved are.moved_words are.moved both.0 are.moves both.3 in
+    let moved : IsPermutation known.found g.wants = rw known.all at (by_number-IsPermutation comp_of known.found) in
+    let long : length g.wants ≡ length known.found = length_permutation known.found g.wants moved in
+    let same : length is.named ≡ length known.found = zip_long (Numbers m.component_names) is.named known.found known.each in
+    let few : length is.named ≤ 32 = are.fit.few in
+    let some : 0 < length are.moved = are.some in
+    let beside : length are.moved ≡ length both.0 = zip_long (Numbers m.component_names) are.moved both.0 both.3 in
+    record {
+      interaction = is.inter;
+      moved_words = are.moved_words;
+      seen_words = are.seen_words;
+      moved = both.0;
+      seen = both.1;
+      plain = is.plain;
+      says = rw are.split at is.split;
+      named = name_of-place m.interaction_names is.inter g.inter.0 is.name is.place;
+      moves = moves;
+      sees = all_spell m Seen are.seen_words are.seen both.1 are.sees both.4;
+      some = omega arith;
+      few = omega arith;
+      wants = rw (sym both.2) at moved;
+      rising = increasing_from_rises (components_of g.wants) (rw known.all at (by_number-rises comp_of known.found apart));
+    }
+
+-- the line of a grant of a model reads as it
+pub line_reads : (m : System) (line : List ℕ) (g : Grant) → IsSystem m → IsGrantLine m line g → grant_on m line ≡ Ok (Some g)
+line_reads m line g valid is =
+    let apart = valid.so_far.components_apart in
+    let moves = all_say m Moved is.moved_words is.moved apart is.moves in
+    let sees = all_say m Seen is.seen_words is.seen apart is.sees in
+    let each = zip_join (Numbers m.component_names) moves.0 sees.0 is.moved is.seen moves.2 sees.2 in
+    let rises = rises_from_increasing (components_of g.wants) is.rising in
+    let numbered : AreNumbered comp_of (is.moved ++ is.seen) = numbered_moved comp_of g.wants (is.moved ++ is.seen) (IsPermutation-sym (is.moved ++ is.seen) g.wants is.wants) (apart_from_rises (components_of g.wants) rises) in
+    let long : length g.wants ≡ length (is.moved ++ is.seen) = length_permutation (is.moved ++ is.seen) g.wants is.wants in
+    let same : length (moves.0 ++ sees.0) ≡ length (is.moved ++ is.seen) = zip_long (Numbers m.component_names) (moves.0 ++ sees.0) (is.moved ++ is.seen) each in
+    let few : length g.wants ≤ 32 = is.few in
+    let some : 0 < length is.moved = is.some in
+    let beside : length moves.0 ≡ length is.moved = zip_long (Numbers m.component_names) moves.0 is.moved moves.2 in
+    let are : AreSaid (is.moved_words ++ behind_see is.seen_words) (moves.0 ++ sees.0) = record {
+      moved_words = is.moved_words;
+      seen_words = is.seen_words;
+      moved = moves.0;
+      seen = sees.0;
+      split = refl;
+      moves = moves.1;
+      sees = sees.1;
+      some = omega arith;
+      all = refl;
+      fit = record { apart = apart_from_numbered m.component_names (moves.0 ++ sees.0) (is.moved ++ is.seen) each numbered; few = omega arith };
+    } in
+    grant_on-from m line g (record {
+      inter = is.interaction;
+      behind = is.moved_words ++ behind_see is.seen_words;
+      named = moves.0 ++ sees.0;
+      plain = is.plain;
+      split = is.says;
+      name = is_name-from is.interaction is.named.name;
+      said = wants_said-from (is.moved_words ++ behind_see is.seen_words) (moves.0 ++ sees.0) are;
+      place = place-name_of m.interaction_names is.interaction g.inter.0 valid.so_far.interactions_apart is.named;
+      known = known_from m.component_names [] (moves.0 ++ sees.0) (is.moved ++ is.seen) each ∙ ap (λ (ws : List Want). Some ws) (by_number-is comp_of (is.moved ++ is.seen) g.wants is.wants rises);
+    })
+
+pub reads_grant_lines : ReadsGrantLines
+reads_grant_lines m line g valid = (grant_line m line g, line_reads m line g valid)
+
+-- what side by side says of the one list holds of all of it
+all_beside : {X Y : Type 0} (R : X → Y → Type 0) (P : Y → Type 0) → ((x : X) (y : Y) → R x y → P y) → (xs : List X) (ys : List Y) → AllZip R xs ys → All P ys
+all_beside R P tells [] [] zip = All-nil P
+all_beside R P tells [] (y ∷ ys) zip = absurd zip
+all_beside R P tells (x ∷ xs) [] zip = absurd zip
+all_beside R P tells (x ∷ xs) (y ∷ ys) zip = All-cons P y ys (tells x y zip.0) (all_beside R P tells xs ys zip.1)
+
+-- what each word that spells a want tells of it holds of a line's wants
+of_spelled : (m : System) (line : List ℕ) (g : Grant) (P : Want → Type 0) → ((role : Role) (word : List ℕ) (w : Want) → Spells m role word w → P w) → IsGrantLine m line g → All P g.wants
+of_spelled m line g P tells is =
+    All-permutation P (is.moved ++ is.seen) g.wants is.wants
+    (All-append P is.moved is.seen (all_beside (Spells m Moved) P (tells Moved) is.moved_words is.moved is.moves) (all_beside (Spells m Seen) P (tells Seen) is.seen_words is.seen is.sees))
+
+-- a line's grant is one of the model
+pub grant_of_model : (m : System) (line : List ℕ) (g : Grant) → IsGrantLine m line g → IsGrantOf m g
+grant_of_model m line g is =
+    record {
+      inter = slice_get_within m.interaction_names g.inter.0 is.interaction is.named.known;
+      components = of_spelled m line g (λ (w : Want). w.comp.0 < length m.component_names) (λ role word w s. slice_get_within m.component_names w.comp.0 s.component s.names.known) is;
+    }
+
+-- a number that a word spells isn't 0
+number_of-low : (word : List ℕ) (n : ℕ) → number_of word ≡ Some n → 1 ≤ n
+number_of-low word n is =
+    let at = cond_some (is_numeral 20 word && nat_lt 0 (digits_value 10 word) && nat_lt (digits_value 10 word) (2 ^ 64)) (digits_value 10 word) n is in
+    let tests = and_parts (is_numeral 20 word && nat_lt 0 (digits_value 10 word)) (nat_lt (digits_value 10 word) (2 ^ 64)) at.0 in
+    let low : 0 < digits_value 10 word = ltb-true 0 (digits_value 10 word) (and_parts (is_numeral 20 word) (nat_lt 0 (digits_value 10 word)) tests.0).1 in
+    let same : digits_value 10 word ≡ n = at.1 in
+    omega arith
+
+-- the wants of a line can be those of a grant
+pub line_wants : (m : System) (line : List ℕ) (g : Grant) → IsGrantLine m line g → IsWants g.wants
+line_wants m line g is =
+    record {
+      few = is.few;
+      rising = is.rising;
+      numbered = of_spelled m line g (λ (w : Want). 1 ≤ w.number) (λ role word w s. number_of-low s.numeral w.number s.number) is;
+      moving = moving is.moved_words is.moved is.some is.moves is.wants;
+    }
+  where
+    moving : (words : List (List ℕ)) (ws : List Want) → 0 < length ws → AllZip (Spells m Moved) words ws → IsPermutation (ws ++ is.seen) g.wants → list_any (λ (w : Want). is_moved w.role) g.wants ≡ true
+    moving words [] some zip moved = absurd (omega arith)
+    moving [] (w ∷ ws) some zip moved = absurd zip
+    moving (word ∷ words) (w ∷ ws) some zip moved =
+        let there = Contains-permutation ((w ∷ ws) ++ is.seen) g.wants w moved (0, omega arith, refl) in
+        list_any_at (λ (v : Want). is_moved v.role) g.wants there.0 w there.1 (rw there.2 (ap is_moved zip.0.by_place))
+
+pub wants_valid : (m : System) (line : List ℕ) (h : NamedGrant) (a : ℕ) (wants : List Want) → named_on line ≡ Ok (Some h) → position (same_text h.inter) m.interaction_names ≡ Some a → wants_known m.component_names [] h.wants ≡ Some wants → IsWants wants
+wants_valid m line h a wants named place known =
+    let g : Grant = record { inter = record { 0 = a }; wants = wants } in
+    line_wants m line g (grant_line m line g (rw (named, place, known) refl))
