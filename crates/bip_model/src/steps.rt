@@ -61,8 +61,18 @@ impl Model {
         if !self.enabled(state, inter) {
             return Err(NotNow::NotEnabled);
         }
-        self.lead_all(state, self.participants(inter));
+        self.run(state, inter);
         Ok(())
+    }
+
+    /// The same for who knows already that the interaction may run.
+    pub fn run(&self, state: &mut State, inter: InterId)
+        requires { MayRun self.now (state_of state.old) inter.0 }
+        ensures fired { state_of state.new ≡ after self.now (state_of state.old) inter.0 }
+        ensures of_model { IsStateOf self.now (state_of state.old)
+            → IsStateOf self.now (state_of state.new) }
+    {
+        self.lead_all(state, self.participants(inter));
     }
 
     /// The ports that a component offers in a local state: bit p is port p.
