@@ -1,5 +1,5 @@
 -- What calls answered, beside what is said.
-use Rattle.std.proofs.Common.{◌≡◌, ◌≢◌, true, Option, None, Some, Result, Ok, Err, refl, ap, sym}
+use Rattle.std.proofs.Common.{◌≡◌, ◌≢◌, true, Option, None, Some, Result, Ok, Err, refl, arith}
 use Rattle.std.specs.Prelude.{is_some}
 use Rattle.std.specs.Option.{ok_or}
 use Rattle.bip_model.specs.Outcomes.{Answers, new_or_fault}
@@ -14,17 +14,7 @@ want_told (Some x) fault why e is = is
 -- a call that didn't want memory answered what is said
 pub said_unless : {A : Type 0} (said : Result A Why) (result : Result (Unit {0}) Why) (new : A) → Answers Memory said (new_or_fault result new)
     → result ≢ Err Memory → said ≡ new_or_fault result new
-said_unless (Ok x) (Ok u) new h other = cc
-said_unless (Ok x) (Err why) new h other = absurd (other (ap Err h))
-said_unless (Err fault) (Ok u) new h other = absurd h
-said_unless (Err fault) (Err why) new h other = ap Err (sym h)
-
--- a call that wanted memory hides no fault but that
-pub hidden_none : {A : Type 0} (said : Result A Why) (result : Result (Unit {0}) Why) (new : A) (why : Why) → Answers Memory said (new_or_fault result new)
-    → result ≡ Err Memory → said ≡ Err why → why ≡ Memory
-hidden_none (Ok x) result new why h wants e = absurd (cc)
-hidden_none (Err fault) (Ok u) new why h wants e = absurd h
-hidden_none (Err fault) (Err other) new why h wants e = cc
+said_unless said result new h other = grind arith
 
 pub err_same : {A : Type 0} (x y : Why) → ◌≡◌ {A = Result A Why} (Err x) (Err y) → x ≡ y
 err_same x y e = cc

@@ -1,8 +1,9 @@
 -- Why texts that say the same words mean the same.
-use Rattle.std.proofs.Common.{◌≡◌, ℕ, ◌+◌, Bool, true, false, cond, List, [], ◌∷◌, ◌++◌, map, Option, None, Some, Result, Ok, Err, refl, ap, ◌∙◌, sym, inl, inr}
-use Rattle.std.specs.Prelude.{filter, ◌⊎◌}
+use Rattle.std.proofs.Common.{◌≡◌, ℕ, ◌+◌, Bool, true, false, cond, List, [], ◌∷◌, ◌++◌, map, Option, None, Some, Result, Ok, Err, refl, ap, ◌∙◌, sym, arith}
+use Rattle.std.specs.Prelude.{filter}
 use Rattle.bip_model.specs.Outcomes.{◌>>=◌}
 use Rattle.bip_model.specs.Texts.{is_line_feed, lines, onto_first_line, said_in, says_something, words_said}
+use Rattle.bip_reader.specs.declared.faults.ReadFault.{ReadFault}
 use Rattle.bip_reader.specs.declared.faults.Why.{Why}
 use Rattle.bip_reader.specs.declared.reading.Reading.{Reading}
 use Rattle.bip_reader.specs.Laws.{NoLastLineFeed, SameMeaning}
@@ -14,30 +15,20 @@ abbrev reading_after_all : List (Option (List (List ℕ))) → Reading → Resul
 reading_after_all [] r = Ok r
 reading_after_all (ws ∷ rest) r = reading_after_words ws r >>= reading_after_all rest
 
-without_number : (n : ℕ) (said : Result Reading Why) (ls : List (List ℕ)) (new : Reading)
-    → ((r : Reading) → reading_after_lines (n + 1) ls r ≡ Ok new → reading_after_all (map words_said ls) r ≡ Ok new)
-    → at_line n said >>= reading_after_lines (n + 1) ls ≡ Ok new → said >>= reading_after_all (map words_said ls) ≡ Ok new
-without_number n (Ok r) ls new h e = h r e
-without_number n (Err why) ls new h e = absurd (cc)
+-- what lines say, or their first fault without its number
+abbrev unnumbered : Result Reading ReadFault → Result Reading Why
+unnumbered (Ok r) = Ok r
+unnumbered (Err fault) = Err fault.why
 
-with_number : (n : ℕ) (said : Result Reading Why) (ls : List (List ℕ)) (new : Reading)
-    → ((r : Reading) → reading_after_all (map words_said ls) r ≡ Ok new → reading_after_lines (n + 1) ls r ≡ Ok new)
-    → said >>= reading_after_all (map words_said ls) ≡ Ok new → at_line n said >>= reading_after_lines (n + 1) ls ≡ Ok new
-with_number n (Ok r) ls new h e = h r e
-with_number n (Err why) ls new h e = absurd (cc)
-
-same_ok : {A E : Type 0} (x y : A) (said : Result A E) → said ≡ Ok x → said ≡ Ok y → x ≡ y
-same_ok x y said e f = cc
-
-lines_to_words : (n : ℕ) (ls : List (List ℕ)) (r new : Reading) → reading_after_lines n ls r ≡ Ok new → reading_after_all (map words_said ls) r ≡ Ok new
+lines_say : (n : ℕ) (ls : List (List ℕ)) (r : Reading) → unnumbered (reading_after_lines n ls r) ≡ reading_after_all (map words_said ls) r
 unfolding reading_after
-lines_to_words n [] r new e = ap Ok (same_ok r new (Ok r) refl e)
-lines_to_words n (line ∷ ls) r new e = without_number n (reading_after_words (words_said line) r) ls new (λ s. lines_to_words (n + 1) ls s new) e
-
-words_to_lines : (n : ℕ) (ls : List (List ℕ)) (r new : Reading) → reading_after_all (map words_said ls) r ≡ Ok new → reading_after_lines n ls r ≡ Ok new
-unfolding reading_after
-words_to_lines n [] r new e = ap Ok (same_ok r new (Ok r) refl e)
-words_to_lines n (line ∷ ls) r new e = with_number n (reading_after_words (words_said line) r) ls new (λ s. words_to_lines (n + 1) ls s new) e
+lines_say n [] r = refl
+lines_say n (line ∷ ls) r = first (reading_after_words (words_said line) r) (lines_say (n + 1) ls)
+  where
+    first : (said : Result Reading Why) → ((s : Reading) → unnumbered (reading_after_lines (n + 1) ls s) ≡ reading_after_all (map words_said ls) s)
+        → unnumbered (at_line n said >>= reading_after_lines (n + 1) ls) ≡ said >>= reading_after_all (map words_said ls)
+    first (Ok s) later = later s
+    first (Err why) later = refl
 
 same_after : (said : Result Reading Why) (f g : Reading → Result Reading Why) → ((r : Reading) → f r ≡ g r) → said >>= f ≡ said >>= g
 same_after (Ok r) f g h = h r
@@ -49,43 +40,37 @@ skipped_aside (None ∷ rest) r = refl
 skipped_aside (Some [] ∷ rest) r = skipped_aside rest r
 skipped_aside (Some (word ∷ words) ∷ rest) r = same_after (reading_after_words (Some (word ∷ words)) r) (reading_after_all (filter says_something rest)) (reading_after_all rest) (skipped_aside rest)
 
-same_lines : (a b : List ℕ) (r : Reading) → said_in a ≡ said_in b → reading_after_lines 1 (lines a) empty_reading ≡ Ok r → reading_after_lines 1 (lines b) empty_reading ≡ Ok r
-same_lines a b r same e =
-    words_to_lines 1 (lines b) empty_reading r
-    (sym (skipped_aside (map words_said (lines b)) empty_reading) ∙ ap (λ (said : List (Option (List (List ℕ)))). reading_after_all said empty_reading) (sym same) ∙ skipped_aside (map words_said (lines a)) empty_reading
-    ∙ lines_to_words 1 (lines a) empty_reading r e)
+is_read : (said : Result Reading ReadFault) (r : Reading) → unnumbered said ≡ Ok r → said ≡ Ok r
+is_read said r e = grind arith
 
 pub same_meaning : SameMeaning
 unfolding reading_of
-same_meaning a b same m classes h = record {
-  read = h.read;
-  said = same_lines a b h.read same h.said;
-  declares = h.declares;
-}
+same_meaning a b same m classes h =
+    let read_by : (text : List ℕ) → unnumbered (reading_of text) ≡ reading_after_all (said_in text) empty_reading =
+    λ text. lines_say 1 (lines text) empty_reading ∙ sym (skipped_aside (map words_said (lines text)) empty_reading)
+    in
+    record { read = h.read; said = is_read _ h.read (read_by b ∙ rw (← same) (sym (read_by a) ∙ ap unnumbered h.said)); declares = h.declares }
 
--- a line feed more at the end: the lines are as they were, or one more is empty
-abbrev HasLineMore : List ℕ → Type 0
-HasLineMore text = (lines (text ++ 10 ∷ []) ≡ lines text) ⊎ (lines (text ++ 10 ∷ []) ≡ lines text ++ [] ∷ [])
+-- lines, and the same lines with perhaps an empty one more at the end
+data IsLonger : List (List ℕ) → List (List ℕ) → Type 0 where
+  same : {ls : List (List ℕ)} → IsLonger ls ls
+  one_more : IsLonger [] ([] ∷ [])
+  behind : {l : List ℕ} {ls ms : List (List ℕ)} → IsLonger ls ms → IsLonger (l ∷ ls) (l ∷ ms)
 
-onto_more : (b : ℕ) (ls : List (List ℕ)) → (onto_first_line b (ls ++ [] ∷ []) ≡ onto_first_line b ls) ⊎ (onto_first_line b (ls ++ [] ∷ []) ≡ onto_first_line b ls ++ [] ∷ [])
-onto_more b [] = inl refl
-onto_more b (l ∷ ls) = inr refl
+onto_longer : (b : ℕ) {ls ms : List (List ℕ)} → IsLonger ls ms → IsLonger (onto_first_line b ls) (onto_first_line b ms)
+onto_longer b same = same
+onto_longer b one_more = same
+onto_longer b (behind h) = behind h
 
-one_more : (feed : Bool) (b : ℕ) (bs : List ℕ) → HasLineMore bs
-    → (cond feed ([] ∷ lines (bs ++ 10 ∷ [])) (onto_first_line b (lines (bs ++ 10 ∷ []))) ≡ cond feed ([] ∷ lines bs) (onto_first_line b (lines bs)))
-    ⊎ (cond feed ([] ∷ lines (bs ++ 10 ∷ [])) (onto_first_line b (lines (bs ++ 10 ∷ []))) ≡ cond feed ([] ∷ lines bs) (onto_first_line b (lines bs)) ++ [] ∷ [])
-one_more true b bs (inl e) = inl (ap (λ (ls : List (List ℕ)). [] ∷ ls) e)
-one_more true b bs (inr e) = inr (ap (λ (ls : List (List ℕ)). [] ∷ ls) e)
-one_more false b bs (inl e) = inl (ap (onto_first_line b) e)
-one_more false b bs (inr e) =
-    elim (onto_more b (lines bs)) [
-      | inl same ↦ inl (ap (onto_first_line b) e ∙ same)
-      | inr more ↦ inr (ap (onto_first_line b) e ∙ more)
-    ]
-
-line_more : (text : List ℕ) → HasLineMore text
-line_more [] = inr refl
-line_more (b ∷ bs) = one_more (is_line_feed b) b bs (line_more bs)
+-- a line feed at the end
+longer : (text : List ℕ) → IsLonger (lines text) (lines (text ++ 10 ∷ []))
+longer [] = one_more
+longer (b ∷ bs) = by_feed (is_line_feed b) (longer bs)
+  where
+    by_feed : (feed : Bool) → IsLonger (lines bs) (lines (bs ++ 10 ∷ []))
+        → IsLonger (cond feed ([] ∷ lines bs) (onto_first_line b (lines bs))) (cond feed ([] ∷ lines (bs ++ 10 ∷ [])) (onto_first_line b (lines (bs ++ 10 ∷ []))))
+    by_feed true h = behind h
+    by_feed false h = onto_longer b h
 
 one_before : (ws : Option (List (List ℕ))) (xs ys : List (Option (List (List ℕ)))) → filter says_something xs ≡ filter says_something ys
     → filter says_something (ws ∷ xs) ≡ filter says_something (ws ∷ ys)
@@ -93,13 +78,10 @@ one_before None xs ys e = ap (λ (zs : List (Option (List (List ℕ)))). None �
 one_before (Some []) xs ys e = e
 one_before (Some (word ∷ words)) xs ys e = ap (λ (zs : List (Option (List (List ℕ)))). Some (word ∷ words) ∷ zs) e
 
-nothing_more : (ls : List (List ℕ)) → filter says_something (map words_said (ls ++ [] ∷ [])) ≡ filter says_something (map words_said ls)
-nothing_more [] = refl
-nothing_more (l ∷ ls) = one_before (words_said l) (map words_said (ls ++ [] ∷ [])) (map words_said ls) (nothing_more ls)
+nothing_more : {ls ms : List (List ℕ)} → IsLonger ls ms → filter says_something (map words_said ms) ≡ filter says_something (map words_said ls)
+nothing_more same = refl
+nothing_more one_more = refl
+nothing_more (behind {l} {ls} {ms} h) = one_before (words_said l) (map words_said ms) (map words_said ls) (nothing_more h)
 
 pub no_last_line_feed : NoLastLineFeed
-no_last_line_feed text =
-    elim (line_more text) [
-      | inl same ↦ ap (λ (ls : List (List ℕ)). filter says_something (map words_said ls)) same
-      | inr more ↦ ap (λ (ls : List (List ℕ)). filter says_something (map words_said ls)) more ∙ nothing_more (lines text)
-    ]
+no_last_line_feed text = nothing_more (longer text)

@@ -1,24 +1,21 @@
 -- Lemmas on what lines say.
-use Rattle.std.proofs.Common.{◌≡◌, ◌≢◌, ℕ, Bool, true, false, ◌||◌, List, [], ◌∷◌, length, map, Option, None, Some, Result, Ok, Err, refl, ap, ◌∙◌, sym}
+use Rattle.std.proofs.Common.{◌≡◌, ℕ, Bool, true, false, ◌||◌, List, [], ◌∷◌, length, map, Option, None, Some, Ok, Err, refl, ap, sym, arith}
 use Rattle.std.specs.Prelude.{◌≤◌, is_some}
-use Rattle.std.proofs.lemmas.Bool.{le-leb}
+use Rattle.std.proofs.lemmas.Bool.Decides.{nat_tests}
 use Rattle.std.specs.List.{list_all, list_any}
 use Rattle.std.specs.Option.{ok_or}
 use Rattle.bip_model.specs.Naming.{same_text}
-use Rattle.bip_model.specs.Outcomes.{◌>>=◌, Answers}
+use Rattle.bip_model.specs.Outcomes.{Answers}
 use Rattle.bip_model.specs.declared.partitions.TheConstants.{MOST_CLASSES}
 use Rattle.bip_model.specs.declared.drafts.Draft.{Draft}
 use Rattle.bip_model.specs.declared.faults.BuildFault.{BuildFault}
 use Rattle.bip_model.specs.declared.faults.BuildFault.TheVariants as build_fault
-use Rattle.bip_reader.specs.declared.faults.Why.{Why}
 use Rattle.bip_reader.specs.declared.faults.Why.TheVariants.{Syntax, Unknown, TooMany, Memory}
 use Rattle.bip_reader.specs.declared.reading.Reading.{Reading}
 use Rattle.bip_reader.specs.declared.statements.Statement.{Statement}
 use Rattle.bip_reader.specs.declared.statements.Statement.TheVariants as statement
 use Rattle.bip_reader.specs.Faults.{why_of_build}
 use Rattle.bip_reader.specs.Reading.{class_line, draft_of, draft_with, interaction_named, reading_with, with_draft}
-use Rattle.bip_reader.specs.Statements.{each_of}
-use Rattle.bip_reader.proofs.FaultLemmas.{fault_of_statement}
 use Rattle.bip_reader.proofs.StatementLemmas.{all_are_each}
 
 -- whether an element's image passes a test
@@ -31,20 +28,10 @@ pub stated : (o : Option Statement) (s : Statement) → Answers Memory (ok_or o 
 stated None s h = absurd h
 stated (Some t) s h = ap Some (sym h)
 
--- memory was wanting for a statement in its place, which has no fault of syntax
-pub hides : (o : Option Statement) (r : Reading) (why fault : Why) → Answers {X = Statement} Memory (ok_or o Syntax) (Err why) → why ≡ Memory
-    → ok_or o Syntax >>= (λ s. reading_with s r) ≡ Err fault → fault ≢ Syntax
-hides None r why fault h wants f = absurd (cc)
-hides (Some s) r why fault h wants f = (fault_of_statement s r fault f).0
-
 -- what the builder answered to a statement is what is said to the draft
 pub answered : (r : Reading) (s : Statement) (d : Draft) (fault : BuildFault) → r.builder ≡ Some d → Answers {X = Draft} build_fault.Memory (draft_with s d) (Err fault)
     → Answers {X = Reading} Memory (with_draft r (draft_with s (draft_of r))) (Err (why_of_build fault))
-answered r s d fault is h = rw is (told (draft_with s d) h)
-  where
-    told : (said : Result Draft BuildFault) → Answers {X = Draft} build_fault.Memory said (Err fault) → Answers {X = Reading} Memory (with_draft r said) (Err (why_of_build fault))
-    told (Ok e) h' = ap why_of_build h'
-    told (Err other) h' = ap why_of_build h'
+answered r s d fault is h = grind arith
 
 -- a statement that is neither `bip 1` nor a class is said to the draft
 pub is_said_to_draft : (s : Statement) (r : Reading) → (s ≡ statement.Header → ⊥) → ((name : List ℕ) (interactions : List (List ℕ)) → s ≡ statement.Class name interactions → ⊥)
@@ -53,32 +40,14 @@ is_said_to_draft statement.Header r no_header no_class = absurd (no_header refl)
 is_said_to_draft (statement.Class name interactions) r no_header no_class = absurd (no_class name interactions refl)
 is_said_to_draft s r no_header no_class = refl
 
-found : {A : Type 0} (o : Option A) → is_some o ≡ true → (x : A) × (o ≡ Some x)
-found None e = absurd (cc)
-found (Some x) e = (x, refl)
+-- a class whose name is that of no class so far
+module _ (name : List ℕ) (names : List (List ℕ)) (r : Reading) (free : list_any (λ class. same_text name class.0) r.classes ≡ false) where
+  -- a class names an interaction that isn't there
+  pub class_unknown : list_all (λ name. is_some (interaction_named (draft_of r) name)) names ≡ false → class_line name names r ≡ Err Unknown
+  unfolding class_line
+  class_unknown unknown = let all = all_are_each (interaction_named (draft_of r)) [] names in grind arith
 
-not_found : {A : Type 0} (o : Option A) → is_some o ≡ false → o ≡ None
-not_found None e = refl
-not_found (Some x) e = absurd (cc)
-
--- whether a name is that of no class so far
-abbrev pub is_free : List ℕ → Reading → Type 0
-is_free name r = list_any (λ class. same_text name class.0) r.classes ≡ false
-
--- whether all names are those of interactions
-abbrev pub are_named : List (List ℕ) → Reading → Bool
-are_named names r = list_all (λ name. is_some (interaction_named (draft_of r) name)) names
-
--- a class names an interaction that isn't there
-pub class_unknown : (name : List ℕ) (names : List (List ℕ)) (r : Reading) → is_free name r → are_named names r ≡ false → class_line name names r ≡ Err Unknown
-unfolding class_line
-class_unknown name names r free unknown =
-    let none = not_found (each_of (interaction_named (draft_of r)) [] names) (all_are_each (interaction_named (draft_of r)) [] names ∙ unknown) in
-    rw (free, none) refl
-
--- a class too many
-pub class_past : (name : List ℕ) (names : List (List ℕ)) (r : Reading) → is_free name r → are_named names r ≡ true → MOST_CLASSES ≤ length r.classes → class_line name names r ≡ Err TooMany
-unfolding class_line
-class_past name names r free known full =
-    let all = found (each_of (interaction_named (draft_of r)) [] names) (all_are_each (interaction_named (draft_of r)) [] names ∙ known) in
-    rw (free, all.1, le-leb MOST_CLASSES (length r.classes) full) refl
+  -- a class too many
+  pub class_past : list_all (λ name. is_some (interaction_named (draft_of r) name)) names ≡ true → MOST_CLASSES ≤ length r.classes → class_line name names r ≡ Err TooMany
+  unfolding class_line
+  class_past known full = let all = all_are_each (interaction_named (draft_of r)) [] names in grind (arith, nat_tests)

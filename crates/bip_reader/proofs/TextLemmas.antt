@@ -24,12 +24,6 @@ pub reading-append : (n : ℕ) (xs ys : List (List ℕ)) (r : Reading) → readi
 reading-append n [] ys r = let e : n + 0 ≡ n = omega arith in rw e refl
 reading-append n (x ∷ xs) ys r = reading-after n x xs ys (at_line n (reading_after x r)) (reading-append (n + 1) xs ys)
 
-same_fault : {A E : Type 0} (x y : E) (said : Result A E) → said ≡ Err x → said ≡ Err y → x ≡ y
-same_fault x y said e f = cc
-
-not_both : {A E : Type 0} (x : A) (y : E) (said : Result A E) → said ≡ Ok x → said ≡ Err y → ⊥
-not_both x y said e f = cc
-
 -- how far reading has come: these lines are read, and led to what is read; the rest is still to be read
 pub record IsAt (text : List ℕ) (read : ℕ) (r : Reading) (rest : List ℕ) : Type 0 where
   pub before : List (List ℕ)
@@ -84,8 +78,7 @@ unfolding reading_of
 all_said text read r rest h e = ap (λ (ls : List (List ℕ)). reading_after_lines 1 ls empty_reading) (all_before text read r rest h e) ∙ h.said
 
 is_ok_first : {A B E : Type 0} (said : Result A E) (f : A → Result B E) (y : B) → said >>= f ≡ Ok y → IsOk said
-is_ok_first (Ok x) f y e = refl
-is_ok_first (Err d) f y e = absurd (cc)
+is_ok_first said f y e = grind arith
 
 -- the last line is reached where no line is at fault
 pub last_reached : (text : List ℕ) (r : Reading) → reading_of text ≡ Ok r → IsReached text (last_line text)
@@ -108,15 +101,12 @@ lacks_last text r e =
     let all : reading_after_lines 1 (take (last_line text) (lines text)) empty_reading ≡ Ok r = rw (take_all (last_line text) (lines text) long) e in
     record {
       reached = last_reached text r e;
-      hidden = λ fault f. absurd (not_both r fault (reading_after_lines 1 (take (last_line text) (lines text)) empty_reading) all f);
+      hidden = λ fault f. absurd (let both = rw all at f in cc);
     }
 
 -- the fault of lines with but one is that of the line
 only_fault : (n : ℕ) (said : Result Reading Why) (fault : ReadFault) → at_line n said >>= reading_after_lines (n + 1) [] ≡ Err fault → said ≡ Err fault.why
-only_fault n (Ok r) fault e = absurd (cc)
-only_fault n (Err why) fault e =
-    let same : record { line = n; why = why } ≡ fault = same_fault (record { line = n; why = why }) fault (Err (record { line = n; why = why })) refl e in
-    ap (λ (f : ReadFault). Err f.why) same
+only_fault n said fault e = grind arith
 
 seam : (xs ys : List (List ℕ)) (y : List ℕ) → slice_get (xs ++ y ∷ ys) (length xs) ≡ Some y
 seam [] ys y = refl

@@ -111,6 +111,7 @@ impl Reading {
     }
 
     /// Reads what a line says that begins with a word.
+    #[tactic(auto, using(crate::proofs::FaultLemmas::reading_faults))]
     fn read_statement(&mut self, alloc: Global, word: &[u8], rest: &[u8]) -> Result<(), Why>
         ensures said { result ≢ Err Memory → new_or_fault result self.new
             ≡ reading_after_words (Some (word.now ∷ words rest.now)) self.old }
