@@ -52,19 +52,6 @@ at_fault text read r rest line after why h e s =
     ap (λ (ls : List (List ℕ)). reading_after_lines 1 ls empty_reading) (h.whole ∙ ap (λ (ls : List (List ℕ)). h.before ++ ls) e)
     ∙ reading-append 1 h.before (line ∷ lines after) empty_reading ∙ rw (h.said, s, place) refl
 
--- the next line is reached
-pub reached : (text : List ℕ) (read : ℕ) (r : Reading) (rest line after : List ℕ) → IsAt text read r rest → lines rest ≡ line ∷ lines after → IsReached text (read + 1)
-reached text read r rest line after h e =
-    let back : read + 1 - 1 ≡ length h.before = omega arith in
-    let front : take (read + 1 - 1) (lines text) ≡ h.before = rw (back, h.whole) (take-append_seam h.before (lines rest)) in
-    let many : length (lines text) ≡ length h.before + length (lines rest) = ap length h.whole ∙ length-append h.before (lines rest) in
-    let some : length (lines rest) ≡ length (line ∷ lines after) = ap length e in
-    record {
-      first = omega arith;
-      last = omega arith;
-      clear = rw (front, h.said) refl;
-    }
-
 lines_of_nothing : (rest : List ℕ) → length rest ≡ 0 → lines rest ≡ []
 lines_of_nothing [] e = refl
 lines_of_nothing (b ∷ bs) e = absurd (omega arith)
@@ -118,14 +105,16 @@ pub lacks_next : (text : List ℕ) (read : ℕ) (r : Reading) (rest line after :
 lacks_next text read r rest line after h e hides =
     let back : read + 1 - 1 ≡ length h.before = omega (arith, h.counted) in
     let whole : lines text ≡ h.before ++ line ∷ lines after = h.whole ∙ ap (λ (ls : List (List ℕ)). h.before ++ ls) e in
+    let many : length (lines text) ≡ length h.before + length (line ∷ lines after) = ap length whole ∙ length-append h.before (line ∷ lines after) in
     let here : slice_get (lines text) (read + 1 - 1) ≡ Some line = rw (back, whole) (seam h.before (lines after) line) in
+    let front : take (read + 1 - 1) (lines text) ≡ h.before = rw (back, whole) (take-append_seam h.before (line ∷ lines after)) in
     let parts : lines text ≡ (h.before ++ line ∷ []) ++ lines after = whole ∙ sym (append_assoc h.before (line ∷ []) (lines after)) in
     let count : read + 1 ≡ length (h.before ++ line ∷ []) = omega (arith, h.counted, length-append h.before (line ∷ [])) in
-    let front : take (read + 1) (lines text) ≡ h.before ++ line ∷ [] = rw (count, parts) (take-append_seam (h.before ++ line ∷ []) (lines after)) in
+    let down_to : take (read + 1) (lines text) ≡ h.before ++ line ∷ [] = rw (count, parts) (take-append_seam (h.before ++ line ∷ []) (lines after)) in
     let said : reading_after_lines 1 (take (read + 1) (lines text)) empty_reading ≡ at_line (1 + length h.before) (reading_after line r) >>= reading_after_lines (1 + length h.before + 1) [] =
-    rw front (reading-append 1 h.before (line ∷ []) empty_reading ∙ rw h.said refl)
+    rw down_to (reading-append 1 h.before (line ∷ []) empty_reading ∙ rw h.said refl)
     in
     record {
-      reached = reached text read r rest line after h e;
+      reached = record { first = omega arith; last = omega arith; clear = rw (front, h.said) refl };
       hidden = λ fault f. rw here (hides fault.why (only_fault (1 + length h.before) (reading_after line r) fault (sym said ∙ f)));
     }

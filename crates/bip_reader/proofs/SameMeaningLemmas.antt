@@ -30,15 +30,16 @@ lines_say n (line ∷ ls) r = first (reading_after_words (words_said line) r) (l
     first (Ok s) later = later s
     first (Err why) later = refl
 
-same_after : (said : Result Reading Why) (f g : Reading → Result Reading Why) → ((r : Reading) → f r ≡ g r) → said >>= f ≡ said >>= g
-same_after (Ok r) f g h = h r
-same_after (Err why) f g h = refl
-
 skipped_aside : (said : List (Option (List (List ℕ)))) (r : Reading) → reading_after_all (filter says_something said) r ≡ reading_after_all said r
 skipped_aside [] r = refl
 skipped_aside (None ∷ rest) r = refl
 skipped_aside (Some [] ∷ rest) r = skipped_aside rest r
-skipped_aside (Some (word ∷ words) ∷ rest) r = same_after (reading_after_words (Some (word ∷ words)) r) (reading_after_all (filter says_something rest)) (reading_after_all rest) (skipped_aside rest)
+skipped_aside (Some (word ∷ words) ∷ rest) r = behind_it (reading_after_words (Some (word ∷ words)) r) (skipped_aside rest)
+  where
+    behind_it : (said : Result Reading Why) → ((s : Reading) → reading_after_all (filter says_something rest) s ≡ reading_after_all rest s)
+        → said >>= reading_after_all (filter says_something rest) ≡ said >>= reading_after_all rest
+    behind_it (Ok s) later = later s
+    behind_it (Err why) later = refl
 
 is_read : (said : Result Reading ReadFault) (r : Reading) → unnumbered said ≡ Ok r → said ≡ Ok r
 is_read said r e = grind arith
@@ -52,25 +53,25 @@ same_meaning a b same m classes h =
     record { read = h.read; said = is_read _ h.read (read_by b ∙ rw (← same) (sym (read_by a) ∙ ap unnumbered h.said)); declares = h.declares }
 
 -- lines, and the same lines with perhaps an empty one more at the end
-data IsLonger : List (List ℕ) → List (List ℕ) → Type 0 where
-  same : {ls : List (List ℕ)} → IsLonger ls ls
-  one_more : IsLonger [] ([] ∷ [])
-  behind : {l : List ℕ} {ls ms : List (List ℕ)} → IsLonger ls ms → IsLonger (l ∷ ls) (l ∷ ms)
+data HasLineMore : List (List ℕ) → List (List ℕ) → Type 0 where
+  same : {ls : List (List ℕ)} → HasLineMore ls ls
+  one_more : HasLineMore [] ([] ∷ [])
+  behind : {l : List ℕ} {ls ms : List (List ℕ)} → HasLineMore ls ms → HasLineMore (l ∷ ls) (l ∷ ms)
 
-onto_longer : (b : ℕ) {ls ms : List (List ℕ)} → IsLonger ls ms → IsLonger (onto_first_line b ls) (onto_first_line b ms)
-onto_longer b same = same
-onto_longer b one_more = same
-onto_longer b (behind h) = behind h
+onto_more : (b : ℕ) {ls ms : List (List ℕ)} → HasLineMore ls ms → HasLineMore (onto_first_line b ls) (onto_first_line b ms)
+onto_more b same = same
+onto_more b one_more = same
+onto_more b (behind h) = behind h
 
 -- a line feed at the end
-longer : (text : List ℕ) → IsLonger (lines text) (lines (text ++ 10 ∷ []))
-longer [] = one_more
-longer (b ∷ bs) = by_feed (is_line_feed b) (longer bs)
+line_more : (text : List ℕ) → HasLineMore (lines text) (lines (text ++ 10 ∷ []))
+line_more [] = one_more
+line_more (b ∷ bs) = by_feed (is_line_feed b) (line_more bs)
   where
-    by_feed : (feed : Bool) → IsLonger (lines bs) (lines (bs ++ 10 ∷ []))
-        → IsLonger (cond feed ([] ∷ lines bs) (onto_first_line b (lines bs))) (cond feed ([] ∷ lines (bs ++ 10 ∷ [])) (onto_first_line b (lines (bs ++ 10 ∷ []))))
+    by_feed : (feed : Bool) → HasLineMore (lines bs) (lines (bs ++ 10 ∷ []))
+        → HasLineMore (cond feed ([] ∷ lines bs) (onto_first_line b (lines bs))) (cond feed ([] ∷ lines (bs ++ 10 ∷ [])) (onto_first_line b (lines (bs ++ 10 ∷ []))))
     by_feed true h = behind h
-    by_feed false h = onto_longer b h
+    by_feed false h = onto_more b h
 
 one_before : (ws : Option (List (List ℕ))) (xs ys : List (Option (List (List ℕ)))) → filter says_something xs ≡ filter says_something ys
     → filter says_something (ws ∷ xs) ≡ filter says_something (ws ∷ ys)
@@ -78,10 +79,10 @@ one_before None xs ys e = ap (λ (zs : List (Option (List (List ℕ)))). None �
 one_before (Some []) xs ys e = e
 one_before (Some (word ∷ words)) xs ys e = ap (λ (zs : List (Option (List (List ℕ)))). Some (word ∷ words) ∷ zs) e
 
-nothing_more : {ls ms : List (List ℕ)} → IsLonger ls ms → filter says_something (map words_said ms) ≡ filter says_something (map words_said ls)
+nothing_more : {ls ms : List (List ℕ)} → HasLineMore ls ms → filter says_something (map words_said ms) ≡ filter says_something (map words_said ls)
 nothing_more same = refl
 nothing_more one_more = refl
 nothing_more (behind {l} {ls} {ms} h) = one_before (words_said l) (map words_said ms) (map words_said ls) (nothing_more h)
 
 pub no_last_line_feed : NoLastLineFeed
-no_last_line_feed text = nothing_more (longer text)
+no_last_line_feed text = nothing_more (line_more text)

@@ -1,8 +1,8 @@
 use Rattle.std.proofs.Common.{sym}
 use Rattle.bip_reader.specs.Reading.{reading_with}
 use Rattle.bip_reader.proofs.AnswerLemmas.{said_unless}
-use Rattle.bip_reader.proofs.ReadingLemmas.{stated}
-use Rattle.bip_reader.proofs.reading.Reading.read_statement.Goals as goal
+use Rattle.bip_reader.proofs.AnswerLemmas.{stated}
+use Rattle.bip_reader.proofs.reading.Reading.take_words.Goals as goal
 
 pub returns-clause-said : goal.returns-clause-said
 returns-clause-said c = λ other.
