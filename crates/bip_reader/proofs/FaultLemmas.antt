@@ -1,5 +1,5 @@
 -- The faults that a statement can have in its place.
-use Rattle.std.proofs.Common.{◌≡◌, ◌≢◌, ℕ, Bool, true, false, List, [], ◌∷◌, Result, Ok, Err, refl, arith}
+use Rattle.std.proofs.Common.{◌≡◌, ℕ, Bool, true, false, List, [], ◌∷◌, Result, Ok, Err, refl, arith}
 use Rattle.bip_model.specs.Drafts.{interaction_line, participant_named, participants_named}
 use Rattle.bip_model.specs.Parts.{Participant}
 use Rattle.bip_model.specs.declared.drafts.Draft.{Draft}
@@ -51,15 +51,10 @@ class_faults : (name : List ℕ) (interactions : List (List ℕ)) (r : Reading) 
 unfolding class_line
 class_faults name interactions r = grind arith
 
+-- a statement in its place has only such faults
 pub reading_faults : (s : Statement) (r : Reading) → is_among is_of_statement (reading_with s r) ≡ true
 reading_faults (statement.Class name interactions) r = class_faults name interactions r
 reading_faults s r = let said = draft_faults s (draft_of r) in grind arith
-
--- a statement in its place has no fault of syntax, and it wants no memory
-pub fault_of_statement : (s : Statement) (r : Reading) (why : Why) → reading_with s r ≡ Err why → (why ≢ Syntax) × (why ≢ Memory)
-fault_of_statement s r why e =
-    let fair = rw e at (reading_faults s r) in
-    (λ same. absurd (let not = rw same at fair in cc), λ same. absurd (let not = rw same at fair in cc))
 
 -- they are faults that a text can have
 pub fair_more : (why : Why) → is_of_statement why ≡ true → is_of_text why ≡ true

@@ -1,4 +1,4 @@
--- What lines lead to is a draft of the builder's, so what a text means is a valid model with classes of it.
+-- Lines lead to a draft of the builder's or to a fault that a text can have, so what a text means is a valid model.
 use Rattle.std.proofs.Common.{rules, ◌≡◌, ℕ, ◌+◌, Bool, true, false, not, cond, ◌==◌, List, [], ◌∷◌, length, Option, None, Some, Result, Ok, Err, refl, ap, ◌∙◌, subst, sym, arith, inl, inr, option_and_then}
 use Rattle.std.specs.Prelude.{IsNone, MatchResult, is_some, nat_lt, unwrap_or}
 use Rattle.std.specs.Option.{IsSomeAnd, ok_or, option_map, option_zip}

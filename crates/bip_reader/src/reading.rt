@@ -106,12 +106,13 @@ impl Reading {
         match read_words(line) {
             Line::BadByte => Err(Why::Syntax),
             Line::Nothing => Ok(()),
-            Line::Words(word, rest) => self.read_statement(alloc, word, rest),
+            Line::Words(word, rest) => self.take_words(alloc, word, rest),
         }
     }
 
-    /// Reads what a line says that begins with a word.
-    fn read_statement(&mut self, alloc: Global, word: &[u8], rest: &[u8]) -> Result<(), Why>
+    /// Takes what the words of a line say.
+    #[tactic(auto, using(crate::proofs::FaultLemmas::reading_faults))]
+    fn take_words(&mut self, alloc: Global, word: &[u8], rest: &[u8]) -> Result<(), Why>
         ensures said { result ≢ Err Memory → new_or_fault result self.new
             ≡ reading_after_words (Some (word.now ∷ words rest.now)) self.old }
         ensures memory { result ≡ Err Memory → (why : Why)

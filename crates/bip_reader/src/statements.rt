@@ -36,15 +36,15 @@ pub(crate) enum Keyword {
 
 /// What a word of a line can be, by itself.
 pub(crate) trait Word: Drop {
-    ghost said: { List ℕ → Option Self };
+    ghost read_as: { List ℕ → Option Self };
 
     /// What the word is; none where it is no such thing.
     fn read(word: &[u8]) -> Option<Self>
-        ensures { result ≡ said word.now };
+        ensures { result ≡ read_as word.now };
 }
 
 impl Word for Name {
-    ghost said = { name_of };
+    ghost read_as = { name_of };
 
     #[tactic(auto, unfolding(crate::specs::Statements::name_of))]
     fn read(word: &[u8]) -> Option<Name> {
@@ -54,7 +54,7 @@ impl Word for Name {
 
 /// A participant: a component and one of its ports.
 impl Word for (Name, Name) {
-    ghost said = { participant_of };
+    ghost read_as = { participant_of };
 
     fn read(word: &[u8]) -> Option<(Name, Name)> {
         let (component, port) = split_pair(word, PORT_MARK)?;
@@ -91,7 +91,7 @@ impl<W: Word> OneOrMore<W> {
     /// What the words of a line are, each by itself. All are looked at before one is stored.
     #[tactic(auto, using(crate::proofs::StatementLemmas::as_many))]
     fn read(alloc: Global, line: &[u8]) -> Result<OneOrMore<W>, Why>
-        ensures { Answers Memory (ok_or (one_or_more_of W.said (words line.now)) Syntax) result }
+        ensures { Answers Memory (ok_or (one_or_more_of W.read_as (words line.now)) Syntax) result }
     {
         if !are_all::<W>(line) {
             return Err(Why::Syntax);
@@ -109,7 +109,7 @@ impl<W: Word> OneOrMore<W> {
 /// Whether a line has words, and each of them can be read.
 #[tactic(auto, using(crate::proofs::StatementLemmas::all_are_each))]
 fn are_all<W: Word>(line: &[u8]) -> bool
-    ensures { result ≡ is_some (one_or_more_of W.said (words line.now)) }
+    ensures { result ≡ is_some (one_or_more_of W.read_as (words line.now)) }
 {
     let mut rest = line;
     while let Some((word, after)) = split_word(rest) {

@@ -1,7 +1,7 @@
 use Rattle.bip_reader.proofs.DecisionLemmas.{meaning_or_fault}
 use Rattle.bip_reader.proofs.ValidLemmas.{means_valid, text_faults}
 use Rattle.bip_reader.proofs.FirstLemmas.{first_fault, nothing_past}
-use Rattle.bip_reader.proofs.LawLemmas.{no_last_line_feed, same_meaning}
+use Rattle.bip_reader.proofs.SameMeaningLemmas.{no_last_line_feed, same_meaning}
 use Rattle.bip_reader.proofs.laws.meaning_laws.Goals as goal
 
 pub returns-clause-same : goal.returns-clause-same

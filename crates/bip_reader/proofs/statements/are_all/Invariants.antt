@@ -4,7 +4,7 @@ use Rattle.bip_model.specs.Texts.{words}
 use Rattle.bip_reader.proofs.statements.are_all.Given as goal
 
 abbrev pub invariant-loop-word : goal.invariant-loop-word
-invariant-loop-word g l = list_all (λ word. is_some (g.W.Word.said word)) (words l.rest) ≡ list_all (λ word. is_some (g.W.Word.said word)) (words l.line)
+invariant-loop-word g l = list_all (λ word. is_some (g.W.Word.read_as word)) (words l.rest) ≡ list_all (λ word. is_some (g.W.Word.read_as word)) (words l.line)
 
 abbrev pub decreases-loop-word : goal.decreases-loop-word
 decreases-loop-word g l = length l.rest

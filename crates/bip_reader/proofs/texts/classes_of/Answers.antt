@@ -1,5 +1,5 @@
 use Rattle.std.proofs.Common.{Err, ap, refl}
-use Rattle.bip_reader.proofs.MeaningLemmas.{made, parts, parts_as_seen}
+use Rattle.bip_reader.proofs.PartedLemmas.{made, parts, parts_as_seen}
 use Rattle.bip_reader.proofs.texts.classes_of.Goals as goal
 
 pub returns-in-Ok-clause-parted : goal.returns-in-Ok-clause-parted
