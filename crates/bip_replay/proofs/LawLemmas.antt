@@ -1,5 +1,5 @@
 -- Runs from the back and step by step, the numbers of moves, and that there is always an answer.
-use Rattle.std.proofs.Common.{◌≡◌, ℕ, ◌+◌, ◌<◌, Bool, true, false, cond, ◌&&◌, eqb, List, [], ◌∷◌, ◌++◌, length, Option, None, Some, find, refl, sym, ap, ◌∙◌, subst, arith, eqb-true, append_assoc, inl, inr, ◌⊎◌}
+use Rattle.std.proofs.Common.{◌≡◌, ℕ, ◌+◌, ◌<◌, Bool, true, false, cond, ◌&&◌, eqb, List, [], ◌∷◌, ◌++◌, length, Option, None, Some, find, refl, ap, ◌∙◌, subst, arith, eqb-true, inl, inr, ◌⊎◌}
 use Rattle.std.specs.Prelude.{◌↔◌, All, filter, nat_lt, slice_get}
 use Rattle.std.specs.List.{list_all, zip}
 use Rattle.std.specs.List.Sorted.{IsStrictlyIncreasing}
@@ -25,19 +25,13 @@ use Rattle.bip_replay.specs.Laws.{times_moved}
 use Rattle.bip_replay.specs.Runs.{is_party, is_wrong}
 use Rattle.bip_replay.specs.Runs.{HasNextNumber, IsModelRun, IsNext, IsRunFrom, interactions_of, state_after, used_after}
 use Rattle.bip_replay.proofs.FaultLemmas.{lowest_wrong, may_run, next_from_tests, none_wrong, not_parties}
-use Rattle.bip_replay.proofs.RunLemmas.{IsRunFrom-beginning, IsRunFrom-last, IsRunFrom-push}
+use Rattle.bip_replay.proofs.RunLemmas.{IsRunFrom-beginning, IsRunFrom-last, IsRunFrom-push, next_at}
 
 pub grants-back : (m : System) (base : ℕ) (gs : List Grant) (g : Grant) → IsModelRun m base (gs ++ g ∷ []) ↔ (IsModelRun m base gs × IsNext m (state_after m gs) (used_after base gs) g)
 grants-back m base gs g = (
   λ run. (IsRunFrom-beginning m (start_of m) (λ _. base) gs (g ∷ []) run, IsRunFrom-last m (start_of m) (λ _. base) gs g run),
   λ both. IsRunFrom-push m (start_of m) (λ _. base) gs g both.0 both.1,
 )
-
--- the grant behind a beginning is next there
-pub next_at : (m : System) (base : ℕ) (front rest : List Grant) (g : Grant) → IsModelRun m base (front ++ g ∷ rest) → IsNext m (state_after m front) (used_after base front) g
-next_at m base front rest g run =
-    let whole : IsModelRun m base ((front ++ g ∷ []) ++ rest) = subst (λ (gs : List Grant). IsModelRun m base gs) (sym (append_assoc front (g ∷ []) rest)) run in
-    IsRunFrom-last m (start_of m) (λ _. base) front g (IsRunFrom-beginning m (start_of m) (λ _. base) (front ++ g ∷ []) rest whole)
 
 -- each grant behind a beginning of grants is next there
 abbrev EachNext : System → State → (ℕ → ℕ) → List Grant → Type 0

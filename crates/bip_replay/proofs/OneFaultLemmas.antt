@@ -1,5 +1,5 @@
 -- One fault: a line has at most one fault in a state, and a trace at most one first fault.
-use Rattle.std.proofs.Common.{◌≡◌, ℕ, suc, ◌+◌, ◌<◌, List, [], ◌∷◌, ◌++◌, length, Option, None, Some, Result, Ok, Err, refl, sym, ap, ◌∙◌, subst, arith, ◌⊎◌, inl, inr}
+use Rattle.std.proofs.Common.{◌≡◌, ℕ, ◌+◌, ◌<◌, List, [], ◌∷◌, ◌++◌, length, Some, Ok, refl, sym, ap, ◌∙◌, subst, arith, ◌⊎◌, inl, inr}
 use Rattle.std.proofs.lemmas.Bool.{cases_order}
 use Rattle.std.specs.Prelude.{All, Any}
 use Rattle.bip_model.specs.declared.grants.Grant.{Grant}
@@ -8,18 +8,17 @@ use Rattle.bip_model.specs.declared.numbering.CompId.{CompId}
 use Rattle.bip_model.specs.declared.numbering.InterId.{InterId}
 use Rattle.bip_model.specs.declared.parts.System.{System}
 use Rattle.bip_model.specs.States.{State}
-use Rattle.bip_model.specs.Steps.{IsLowestAbove, MayRun, after, start_of}
-use Rattle.bip_model.specs.Wants.{raised}
-use Rattle.bip_replay.specs.declared.faults.LineFault.{LineFault}
+use Rattle.bip_model.specs.Steps.{IsLowestAbove, MayRun}
 use Rattle.bip_replay.specs.declared.faults.ReplayFault.{ReplayFault}
 use Rattle.bip_replay.specs.declared.faults.ReplayFault.TheVariants.{Syntax, Unknown, NotARun, Memory}
 use Rattle.bip_replay.specs.declared.faults.StepFault.{StepFault}
 use Rattle.bip_replay.specs.declared.faults.StepFault.TheVariants.{NotEnabled, Below, Number, Parties}
 use Rattle.bip_replay.specs.Faults.{IsFaultOf, IsLowestWrong, expected_after, of_step}
 use Rattle.bip_replay.specs.Replays.{IsFirstFault, IsLineFault}
-use Rattle.bip_replay.specs.Runs.{HasNextNumber}
+use Rattle.bip_replay.specs.Runs.{HasNextNumber, state_after, used_after}
 use Rattle.bip_replay.specs.Lines.{grant_on}
-use Rattle.bip_replay.proofs.ExactLemmas.{LeadOn, LeadTo, leads-nowhere, leads-on, led, stays}
+use Rattle.bip_replay.specs.Traces.{grants_from}
+use Rattle.bip_replay.proofs.ExactLemmas.{stops}
 
 -- no want of a component is wrong where those below a higher one are right
 not_wrong : (used : ℕ → ℕ) (ws : List Want) (c k : ℕ) → Any (λ (w : Want). (w.comp.0 ≡ c) × ¬ HasNextNumber used w) ws → All (λ (w : Want). w.comp.0 < k → HasNextNumber used w) ws → c < k → ⊥
@@ -101,46 +100,32 @@ one_line m s used line (NotARun v) (NotARun w) one other =
 one_line m s used line (NotARun v) Memory one other = absurd other
 one_line m s used line Memory h one other = absurd one
 
--- one place and one fault: the lines before it are as many, and the fault is the same
-abbrev AreOne : List (List ℕ) → List (List ℕ) → ReplayFault → ReplayFault → Type 0
-AreOne front before f h = (length front ≡ length before) × (f ≡ h)
-
--- lines lead to a place where a line is at fault
-abbrev LeadToFault : System → State → (ℕ → ℕ) → ℕ → List (List ℕ) → List ℕ → ReplayFault → Type 0
-LeadToFault m s used n front line fault = LeadTo m s used n front (λ t u. IsLineFault m t u line fault)
-
--- the same, after a line that says this
-abbrev LeadOnToFault : System → State → (ℕ → ℕ) → ℕ → List (List ℕ) → List ℕ → ReplayFault → Result (Option Grant) LineFault → Type 0
-LeadOnToFault m s used n front line fault r = LeadOn m s used n front (λ t u. IsLineFault m t u line fault) r
-
--- of the same lines at most one is the first at fault
-one_place : (m : System) (s : State) (used : ℕ → ℕ) (n : ℕ) (front before rest more : List (List ℕ)) (line other : List ℕ) (f h : ReplayFault) → front ++ line ∷ rest ≡ before ++ other ∷ more → LeadToFault m s used n front line f → LeadToFault m s used n before other h → AreOne front before f h
-one_place m s used n [] [] rest more line other f h split at there =
-    let same : line ≡ other = cc in
-    let here = subst (λ (l : List ℕ). IsLineFault m s used l f) same (leads-nowhere m s used n (λ t u. IsLineFault m t u line f) at) in
-    (refl, one_line m s used other f h here (leads-nowhere m s used n (λ t u. IsLineFault m t u other h) there))
-one_place m s used n [] (y ∷ before) rest more line other f h split at there =
-    let same : line ≡ y = cc in
-    let here = subst (λ (l : List ℕ). IsLineFault m s used l f) same (leads-nowhere m s used n (λ t u. IsLineFault m t u line f) at) in
-    absurd (stays m s used n y before (λ t u. IsLineFault m t u other h) f here there)
-one_place m s used n (x ∷ front) [] rest more line other f h split at there =
-    let same : other ≡ x = cc in
-    let here = subst (λ (l : List ℕ). IsLineFault m s used l h) same (leads-nowhere m s used n (λ t u. IsLineFault m t u other h) there) in
-    absurd (stays m s used n x front (λ t u. IsLineFault m t u line f) h here at)
-one_place m s used n (x ∷ front) (y ∷ before) rest more line other f h split at there =
-    let first : y ≡ x = cc in
-    let tails : front ++ line ∷ rest ≡ before ++ other ∷ more = cc in
-    let mine = subst (λ (l : List ℕ). LeadToFault m s used n (l ∷ before) other h) first there in
-    by_first (grant_on m x) (λ t u a b. one_place m t u (n + 1) front before rest more line other f h tails a b) (leads-on m s used n x front (λ t u. IsLineFault m t u line f) at) (leads-on m s used n x before (λ t u. IsLineFault m t u other h) mine)
-  where
-    by_first : (r : Result (Option Grant) LineFault) → ((t : State) (u : ℕ → ℕ) → LeadToFault m t u (n + 1) front line f → LeadToFault m t u (n + 1) before other h → AreOne front before f h) → LeadOnToFault m s used n front line f r → LeadOnToFault m s used n before other h r → AreOne (x ∷ front) (y ∷ before) f h
-    by_first (Err e) later a b = absurd a
-    by_first (Ok None) later a b = let found = later s used a b in (ap suc found.0, found.1)
-    by_first (Ok (Some g)) later a b = let found = later (after m s g.inter.0) (raised used g.wants) a.1 b.1 in (ap suc found.0, found.1)
+-- of two ways to part a list at one of its items, one is before the other, or they are the same
+parted : {X : Type 0} (xs ys us vs : List X) (x y : X) → xs ++ x ∷ us ≡ ys ++ y ∷ vs → ((more : List X) × (ys ≡ xs ++ x ∷ more)) ⊎ (((xs ≡ ys) × (x ≡ y)) ⊎ ((more : List X) × (xs ≡ ys ++ y ∷ more)))
+parted [] [] us vs x y e = inr (inl (refl, cc))
+parted [] (b ∷ ys) us vs x y e = let same : b ≡ x = cc in inl (ys, cc)
+parted (a ∷ xs) [] us vs x y e = let same : a ≡ y = cc in inr (inr (xs, cc))
+parted (a ∷ xs) (b ∷ ys) us vs x y e =
+    let same : a ≡ b = cc in
+    let rest : xs ++ x ∷ us ≡ ys ++ y ∷ vs = cc in
+    elim (parted xs ys us vs x y rest) [
+      | inl before ↦ inl (before.0, let s : ys ≡ xs ++ x ∷ before.0 = before.1 in cc)
+      | inr (inl here) ↦ inr (inl (let s : xs ≡ ys = here.0 in cc, here.1))
+      | inr (inr behind) ↦ inr (inr (behind.0, let s : xs ≡ ys ++ y ∷ behind.0 = behind.1 in cc))
+    ]
 
 -- a trace has one first fault at most
 pub one_first : (m : System) (base : ℕ) (text : List ℕ) (n k : ℕ) (f g : ReplayFault) → IsFirstFault m base text n f → IsFirstFault m base text k g → (n ≡ k) × (f ≡ g)
-one_first m base text n k f g one other =
-    let split : one.front ++ one.line ∷ one.rest ≡ other.front ++ other.line ∷ other.rest = sym one.split ∙ other.split in
-    let found = one_place m (start_of m) (λ _. base) 1 one.front other.front one.rest other.rest one.line other.line f g split (led m base text n f one) (led m base text k g other) in
-    (one.numbered ∙ (ap (λ (i : ℕ). i + 1) found.0 ∙ sym other.numbered), found.1)
+one_first m base text n k f g one other = by_place (parted one.front other.front one.rest other.rest one.line other.line (sym one.split ∙ other.split))
+  where
+    reads_with : (ls ks : List (List ℕ)) (gs : List Grant) → ls ≡ ks → grants_from m 1 ls ≡ Ok gs → grants_from m 1 ks ≡ Ok gs
+    reads_with ls ks gs e reads = rw (← e) reads
+
+    by_place : ((more : List (List ℕ)) × (other.front ≡ one.front ++ one.line ∷ more)) ⊎ (((one.front ≡ other.front) × (one.line ≡ other.line)) ⊎ ((more : List (List ℕ)) × (one.front ≡ other.front ++ other.line ∷ more))) → (n ≡ k) × (f ≡ g)
+    by_place (inl before) = absurd (stops m base one.front before.0 one.line one.grants other.grants f one.reads one.why (reads_with other.front (one.front ++ one.line ∷ before.0) other.grants before.1 other.reads) other.run)
+    by_place (inr (inr behind)) = absurd (stops m base other.front behind.0 other.line other.grants one.grants g other.reads other.why (reads_with one.front (other.front ++ other.line ∷ behind.0) one.grants behind.1 one.reads) one.run)
+    by_place (inr (inl here)) =
+        let s : Ok one.grants ≡ Ok other.grants = sym (reads_with one.front other.front one.grants here.0 one.reads) ∙ other.reads in
+        let same : one.grants ≡ other.grants = cc in
+        let there = subst (λ (l : List ℕ). IsLineFault m (state_after m other.grants) (used_after base other.grants) l f) here.1 (subst (λ (gs : List Grant). IsLineFault m (state_after m gs) (used_after base gs) one.line f) same one.why) in
+        (one.numbered ∙ (ap (λ (ls : List (List ℕ)). length ls + 1) here.0 ∙ sym other.numbered), one_line m (state_after m other.grants) (used_after base other.grants) other.line f g there other.why)

@@ -2,8 +2,8 @@
 -- between words, and a line feed after each line.
 use Rattle.std.specs.Fmt.{decimal}
 use Rattle.std.specs.List.{flat_map}
-use Rattle.std.specs.Prelude.{All, Bool, IsTrue, List, Ok, Some, [], codes, filter, length, map, not}
-use Rattle.std.specs.Prelude.{slice_index_or, ℕ, ◌++◌, ◌<◌, ◌^◌, ◌∷◌, ◌≡◌}
+use Rattle.std.specs.Prelude.{All, Bool, IsTrue, List, Ok, Some, [], codes, filter, length, map}
+use Rattle.std.specs.Prelude.{not, slice_index_or, ℕ, ◌++◌, ◌<◌, ◌^◌, ◌∷◌, ◌≡◌}
 use Rattle.bip_model.specs.Naming.{IsName}
 use Rattle.bip_model.specs.Texts.{line_feed, is_plain}
 use Rattle.bip_model.specs.Wants.{is_moved}
