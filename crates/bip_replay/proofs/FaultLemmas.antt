@@ -5,11 +5,10 @@ use Rattle.std.specs.Option.{option_map_or}
 use Rattle.std.specs.List.{list_all, zip}
 use Rattle.std.specs.List.Sorted.{IsStrictlyIncreasing}
 use Rattle.std.proofs.lemmas.Bool.{and_parts, and_from, ltb-true, lt-ltb, both_ways, not-true}
-use Rattle.std.proofs.lemmas.List.{get_or-map, length-map}
-use Rattle.std.proofs.lemmas.List.Elements.{All-nil, All-cons, All-weaker, All-from_get_or, Contains-get_or}
+use Rattle.std.proofs.lemmas.List.Elements.{All-nil, All-cons, All-weaker, Contains-get_or}
 use Rattle.std.proofs.lemmas.List.Folds.{Any-from_list_any}
-use Rattle.std.proofs.lemmas.List.Kept.{AllPairs-from_increasing}
-use Rattle.bip_model.proofs.ListLemmas.{All-slice_get}
+use Rattle.bip_model.proofs.ListLemmas.{All-slice_get, below_later}
+use Rattle.bip_model.proofs.NumberingLemmas.{increasing_tail}
 use Rattle.bip_model.specs.declared.grants.Grant.{Grant}
 use Rattle.bip_model.specs.declared.wants.Role.{Role}
 use Rattle.bip_model.specs.declared.wants.Role.TheVariants.{Moved, Seen}
@@ -47,18 +46,6 @@ right m used w test known = by_test (has_next_number used w) refl
     by_test false e =
         absurd (both_ways (is_wrong (length m.components) used w) test (and_from (nat_lt w.comp.0 (length m.components)) (not (has_next_number used w)) (lt-ltb w.comp.0 (length m.components) known) (rw e refl)))
 
--- later components are higher
-pub rising-head : (w : Want) (ws : List Want) → IsStrictlyIncreasing (components_of (w ∷ ws)) → All (λ (v : Want). w.comp.0 < v.comp.0) ws
-rising-head w ws rising =
-    All-from_get_or (λ (v : Want). w.comp.0 < v.comp.0) ws w (λ i within.
-    let mapped : i < length (components_of ws) = simp length-map within in
-    let later : w.comp.0 < get_or (components_of ws) i 0 = AllPairs-from_increasing (components_of (w ∷ ws)) rising 0 (suc i) 0 (omega arith) (omega arith) in
-    let e : get_or (components_of ws) i 0 ≡ (get_or ws i w).comp.0 = get_or-map (λ (v : Want). v.comp.0) ws i w 0 within in
-    omega arith)
-
-pub rising-tail : (w : Want) (ws : List Want) → IsStrictlyIncreasing (components_of (w ∷ ws)) → IsStrictlyIncreasing (components_of ws)
-rising-tail w ws rising = λ k within. AllPairs-from_increasing (components_of (w ∷ ws)) rising (suc k) (suc (k + 1)) 0 (omega arith) (omega arith)
-
 -- a want of a component below another is right
 abbrev RightBelow : (ℕ → ℕ) → ℕ → Want → Type 0
 RightBelow used c w = w.comp.0 < c → HasNextNumber used w
@@ -70,7 +57,7 @@ lowest_here m used x xs rising test =
       known = ltb-true x.comp.0 (length m.components) parts.0;
       wrong = (0, x, omega arith, refl, (refl, λ has. both_ways (has_next_number used x) (not-true (has_next_number used x) parts.1) (has_next-from used x has)));
       lower = All-cons (RightBelow used x.comp.0) x xs (λ below. absurd (omega arith))
-          (All-weaker (λ (v : Want). x.comp.0 < v.comp.0) (RightBelow used x.comp.0) (λ v above below. absurd (omega arith)) xs (rising-head x xs rising));
+          (All-weaker (λ (v : Want). x.comp.0 < v.comp.0) (RightBelow used x.comp.0) (λ v above below. absurd (omega arith)) xs (λ k d within. below_later (λ (v : Want). v.comp.0) (x ∷ xs) rising 0 (suc k) d (omega arith) (omega arith)));
     }
 
 lowest_later : (m : System) (used : ℕ → ℕ) (x : Want) (xs : List Want) (c : ℕ) → is_wrong (length m.components) used x ≡ false → IsLowestWrong m used xs c → IsLowestWrong m used (x ∷ xs) c
@@ -87,7 +74,7 @@ lowest_later m used x xs c test r =
 -- the first want that is wrong is of the lowest component that is
 pub lowest_wrong : (m : System) (used : ℕ → ℕ) (ws : List Want) (w : Want) → IsStrictlyIncreasing (components_of ws) → find (is_wrong (length m.components) used) ws ≡ Some w → IsLowestWrong m used ws w.comp.0
 lowest_wrong m used [] w rising found = cc
-lowest_wrong m used (x ∷ xs) w rising found = by_test (lowest_wrong m used xs w (rising-tail x xs rising)) (is_wrong (length m.components) used x) refl
+lowest_wrong m used (x ∷ xs) w rising found = by_test (lowest_wrong m used xs w (increasing_tail x.comp.0 (components_of xs) rising)) (is_wrong (length m.components) used x) refl
   where
     by_test : (find (is_wrong (length m.components) used) xs ≡ Some w → IsLowestWrong m used xs w.comp.0) → (b : Bool) → is_wrong (length m.components) used x ≡ b → IsLowestWrong m used (x ∷ xs) w.comp.0
     by_test rest true e =

@@ -1,21 +1,19 @@
 -- Runs from the back and step by step, the numbers of moves, and that there is always an answer.
 use Rattle.std.proofs.Common.{◌≡◌, ℕ, ◌+◌, ◌<◌, Bool, true, false, cond, ◌&&◌, eqb, List, [], ◌∷◌, ◌++◌, length, Option, None, Some, find, refl, ap, ◌∙◌, subst, arith, eqb-true, inl, inr, ◌⊎◌}
-use Rattle.std.specs.Prelude.{◌↔◌, All, filter, nat_lt, slice_get}
+use Rattle.std.specs.Prelude.{◌↔◌, All, filter, nat_lt}
 use Rattle.std.specs.List.{list_all, zip}
 use Rattle.std.specs.List.Sorted.{IsStrictlyIncreasing}
-use Rattle.std.specs.Option.{option_map_or}
 use Rattle.std.proofs.lemmas.Bool.{and_parts, both_ways, ltb-true, lt-ltb}
 use Rattle.std.proofs.lemmas.List.{length-append}
 use Rattle.std.proofs.lemmas.List.Elements.{All-head, All-tail, filter-append}
 use Rattle.std.proofs.lemmas.List.Sums.{AllPass-from_list_all, list_all-from_AllPass}
-use Rattle.bip_model.proofs.ListLemmas.{All-slice_get}
+use Rattle.bip_model.proofs.LawLemmas.{rising_of}
 use Rattle.bip_model.specs.States.{State}
 use Rattle.bip_model.specs.Steps.{IsEnabled, MayRun, after, end_of, offered, participants_of, start_of}
-use Rattle.bip_model.specs.Parts.{IsInteraction, IsSystem, components_in}
+use Rattle.bip_model.specs.Parts.{IsSystem}
 use Rattle.bip_model.specs.Wants.{components_of, is_moved, moved_in, raised}
 use Rattle.bip_model.specs.declared.grants.Grant.{Grant}
 use Rattle.bip_model.specs.declared.wants.Want.{Want}
-use Rattle.bip_model.specs.declared.parts.Interaction.{Interaction}
 use Rattle.bip_model.specs.declared.parts.System.{System}
 use Rattle.bip_model.specs.Grants.{used_by}
 use Rattle.bip_replay.specs.declared.faults.StepFault.{StepFault}
@@ -92,14 +90,6 @@ numbered m base front rest g c run moves = by_move (moved-next (used_after base 
     by_move (inl none) = absurd (omega arith)
     by_move (inr next) = omega (arith, before, one_more)
 
--- the participants of an interaction are by component
-participants_rise : (m : System) (a : ℕ) → IsSystem m → IsStrictlyIncreasing (components_in (participants_of m a))
-participants_rise m a valid = by_look (slice_get m.interactions a) refl
-  where
-    by_look : (o : Option Interaction) → slice_get m.interactions a ≡ o → IsStrictlyIncreasing (components_in (option_map_or (λ (i : Interaction). i.participants) o []))
-    by_look None e = λ k within. absurd (omega arith)
-    by_look (Some i) e = (All-slice_get (IsInteraction m.components) m.interactions a i valid.so_far.interactions e).rising
-
 -- an interaction is enabled, or it isn't
 is_enabled : (m : System) (s : State) (a : ℕ) → IsEnabled m s a ⊎ (¬ IsEnabled m s a)
 is_enabled m s a = by_number (nat_lt a (length m.interactions)) refl
@@ -121,7 +111,7 @@ next_or_fault m s used g valid rising = by_enabled (is_enabled m s g.inter.0)
   where
     by_parties : MayRun m s g.inter.0 → find (is_wrong (length m.components) used) g.wants ≡ None → (b : Bool) → (eqb (length g.wants) (length (participants_of m g.inter.0)) && list_all is_party (zip g.wants (participants_of m g.inter.0))) ≡ b → NextOrFault m s used g
     by_parties may none true e = inl (next_from_tests m s used g (participants_of m g.inter.0) valid refl may none e)
-    by_parties may none false e = inr (Parties, (may, none_wrong m used g.wants none, not_parties m s g (participants_of m g.inter.0) refl rising (participants_rise m g.inter.0 valid) e))
+    by_parties may none false e = inr (Parties, (may, none_wrong m used g.wants none, not_parties m s g (participants_of m g.inter.0) refl rising (rising_of m g.inter.0 valid) e))
 
     by_wrong : MayRun m s g.inter.0 → (o : Option Want) → find (is_wrong (length m.components) used) g.wants ≡ o → NextOrFault m s used g
     by_wrong may (Some w) e = inr (Number w.comp (expected_after (used w.comp.0)), (may, lowest_wrong m used g.wants w rising e, refl))

@@ -1,12 +1,13 @@
 -- Parties: the test of wants beside participants, and what it says of components.
-use Rattle.std.proofs.Common.{◌≡◌, ℕ, zero, suc, ◌<◌, Bool, true, eqb, List, [], ◌∷◌, length, map, get_or, refl, sym, ap, ◌∙◌, subst, arith, zip, eqb-true, eq-eqb, ◌⊎◌, inl, inr}
-use Rattle.std.specs.Prelude.{◌↔◌, All, AllPairs, Any}
-use Rattle.std.specs.List.{list_all, list_any}
+use Rattle.std.proofs.Common.{◌≡◌, ◌≢◌, ℕ, ◌<◌, ◌≤◌, ◌||◌, Bool, true, false, eqb, List, [], ◌∷◌, length, map, get_or, refl, sym, ap, ◌∙◌, subst, arith, zip, eqb-true, eq-eqb, ◌⊎◌, inl, inr}
+use Rattle.std.specs.Prelude.{◌↔◌, All, Contains}
+use Rattle.std.specs.List.{AllByRecursion, list_all, list_any}
 use Rattle.std.specs.List.Sorted.{IsStrictlyIncreasing}
-use Rattle.std.proofs.lemmas.Bool.{and_parts, and_from, false≢true}
-use Rattle.std.proofs.lemmas.List.Elements.{All-head, All-tail}
+use Rattle.std.proofs.lemmas.Bool.{and_parts, and_from, cases_order, false≢true, ne_eqb}
+use Rattle.std.proofs.lemmas.Bool.Decides.{eqb_tells}
+use Rattle.std.proofs.lemmas.List.Elements.{All-cons, All-head, All-nil, All-tail, Contains-get_or}
 use Rattle.std.proofs.lemmas.List.Folds.{Any-from_list_any, list_any-from_Any}
-use Rattle.bip_model.proofs.ListLemmas.{below_later}
+use Rattle.bip_model.proofs.NumberingLemmas.{Rises, rises_from_increasing}
 use Rattle.bip_model.specs.declared.wants.Role.{Role}
 use Rattle.bip_model.specs.declared.wants.Role.TheVariants.{Moved, Seen}
 use Rattle.bip_model.specs.declared.wants.Want.{Want}
@@ -37,121 +38,80 @@ pub moved_role : (r : Role) → is_moved r ≡ true → r ≡ Moved
 moved_role Moved is = refl
 moved_role Seen is = absurd (false≢true is)
 
--- an element is what stands at its place, whatever stands in for a missing one
-again : {X : Type 0} (xs : List X) (k : ℕ) (d : X) → get_or xs k (get_or xs k d) ≡ get_or xs k d
-again [] k d = refl
-again (x ∷ xs) zero d = refl
-again (x ∷ xs) (suc k) d = again xs k d
+-- numbers are above what is no more than one that all are above
+none_below : (c low : ℕ) (ns : List ℕ) → c ≤ low → AllByRecursion (λ n. low < n) ns → list_any (λ n. eqb n c) ns ≡ false
+none_below c low [] below all = refl
+none_below c low (n ∷ ns) below all = let less : low < n = all.0 in rw (ne_eqb n c (λ e. omega arith)) (none_below c low ns below all.1)
 
--- where the test passes, each want moves the participant beside it
-beside : (ws : List Want) (qs : List Participant) (k : ℕ) (w : Want) (q : Participant) → Passes ws qs → k < length ws → ((get_or ws k w).role ≡ Moved) × ((get_or ws k w).comp.0 ≡ (get_or qs k q).0.0)
-beside [] qs k w q passes within = absurd (omega arith)
-beside (v ∷ vs) [] k w q passes within = let same : length (v ∷ vs) ≡ 0 = passes.0 in absurd (omega arith)
-beside (v ∷ vs) (p ∷ ps) zero w q passes within =
-    let here = and_parts (is_party (v, p)) (list_all is_party (zip vs ps)) passes.1 in
-    let party = and_parts (is_moved v.role) (eqb v.comp.0 p.0.0) here.0 in
-    (moved_role v.role party.0, eqb-true v.comp.0 p.0.0 party.1)
-beside (v ∷ vs) (p ∷ ps) (suc k) w q passes within =
-    let here = and_parts (is_party (v, p)) (list_all is_party (zip vs ps)) passes.1 in
-    let same : length (v ∷ vs) ≡ length (p ∷ ps) = passes.0 in
-    beside vs ps k w q (omega arith, here.1) (omega arith)
+has_first : (c : ℕ) (ns : List ℕ) → list_any (λ n. eqb n c) (c ∷ ns) ≡ true
+has_first c ns = rw (eq-eqb c c refl) refl
+
+-- which numbers there are
+abbrev SameNumbers : List ℕ → List ℕ → Type 0
+SameNumbers xs ys = (c : ℕ) → list_any (λ n. eqb n c) xs ≡ list_any (λ n. eqb n c) ys
+
+lower_first : (x y : ℕ) (xs ys : List ℕ) → AllByRecursion (λ n. y < n) ys → SameNumbers (x ∷ xs) (y ∷ ys) → x < y → ⊥
+lower_first x y xs ys over same less =
+    let none : list_any (λ n. eqb n x) (y ∷ ys) ≡ false = rw (ne_eqb y x (λ e. omega arith)) (none_below x y ys (omega arith) over) in
+    let e : true ≡ false = sym (has_first x xs) ∙ same x ∙ none in
+    cc
+
+-- numbers that rise are told by which there are
+same_numbers : (xs ys : List ℕ) → Rises xs → Rises ys → SameNumbers xs ys → xs ≡ ys
+same_numbers [] [] up climbs same = refl
+same_numbers [] (y ∷ ys) up climbs same = let e : false ≡ true = same y ∙ has_first y ys in cc
+same_numbers (x ∷ xs) [] up climbs same = let e : true ≡ false = sym (has_first x xs) ∙ same x in cc
+same_numbers (x ∷ xs) (y ∷ ys) up climbs same =
+    let first = by_order (cases_order x y) in
+    let rest = same_numbers xs ys up.1 climbs.1 (λ c. behind first c (eqb_tells x c)) in
+    cc
+  where
+    by_order : (x ≡ y) ⊎ ((x < y) ⊎ (y < x)) → x ≡ y
+    by_order (inl e) = e
+    by_order (inr (inl less)) = absurd (lower_first x y xs ys climbs.0 same less)
+    by_order (inr (inr more)) = absurd (lower_first y x ys xs up.0 (λ c. sym (same c)) more)
+
+    behind : x ≡ y → (c : ℕ) → ((eqb x c ≡ true) × (x ≡ c)) ⊎ ((eqb x c ≡ false) × (x ≢ c)) → list_any (λ n. eqb n c) xs ≡ list_any (λ n. eqb n c) ys
+    behind first c (inl here) = let at : x ≡ c = here.1 in none_below c x xs (omega arith) up.0 ∙ sym (none_below c y ys (omega arith) climbs.0)
+    behind first c (inr other) = rw (other.0, ap (λ n. eqb n c) (sym first) ∙ other.0) at (same c)
+
+has-map : {X : Type 0} (f : X → ℕ) (xs : List X) (c : ℕ) → list_any (λ n. eqb n c) (map f xs) ≡ list_any (λ x. eqb (f x) c) xs
+has-map f [] c = refl
+has-map f (x ∷ xs) c = ap (λ b. eqb (f x) c || b) (has-map f xs c)
+
+-- where all wants move, a component is wanted as moved exactly where one is of it
+wanted : (ws : List Want) (c : ℕ) → All Moves ws → IsWanted Moved ws c ↔ (list_any (λ (w : Want). eqb w.comp.0 c) ws ≡ true)
+wanted ws c moves = (
+  λ at. list_any-from_Any (λ (w : Want). eqb w.comp.0 c) ws (at.0, at.1, at.2, at.3, eq-eqb at.1.comp.0 c at.4.0),
+  λ is. let at = Any-from_list_any (λ (w : Want). eqb w.comp.0 c) ws is in (at.0, at.1, at.2, at.3, (eqb-true at.1.comp.0 c at.4, subst Moves at.3 (moves at.0 at.1 at.2))),
+)
+
+-- wants that pass the test move the components of the participants, one each and in order
+in_order : (ws : List Want) (qs : List Participant) → Passes ws qs → (components_of ws ≡ components_in qs) × All Moves ws
+in_order [] [] passes = (refl, All-nil Moves)
+in_order [] (q ∷ qs) passes = let same : 0 ≡ length (q ∷ qs) = passes.0 in absurd (omega arith)
+in_order (w ∷ ws) [] passes = let same : length (w ∷ ws) ≡ 0 = passes.0 in absurd (omega arith)
+in_order (w ∷ ws) (q ∷ qs) passes =
+    let here = and_parts (is_party (w, q)) (list_all is_party (zip ws qs)) passes.1 in
+    let party = and_parts (is_moved w.role) (eqb w.comp.0 q.0.0) here.0 in
+    let long : length (w ∷ ws) ≡ length (q ∷ qs) = passes.0 in
+    let first : w.comp.0 ≡ q.0.0 = eqb-true w.comp.0 q.0.0 party.1 in
+    let rest = in_order ws qs (omega arith, here.1) in
+    let same : components_of ws ≡ components_in qs = rest.0 in
+    (cc, All-cons Moves w ws (moved_role w.role party.0) rest.1)
 
 -- wants that pass the test are those of the parties
 pub parties-from_test : (ws : List Want) (qs : List Participant) → Passes ws qs → AreParties ws qs
-parties-from_test ws qs passes = record { moved = λ c. (to_participant c, to_want c); seen = λ c. unseen c }
+parties-from_test ws qs passes = record { moved = λ c. (λ at. sym (same c) ∙ (wanted ws c is.1).0 at, λ has. (wanted ws c is.1).1 (same c ∙ has)); seen = unseen }
   where
-    same : length ws ≡ length qs
-    same = passes.0
+    is : (components_of ws ≡ components_in qs) × All Moves ws
+    is = in_order ws qs passes
 
-    to_participant : (c : ℕ) → IsWanted Moved ws c → list_any (is_of c) qs ≡ true
-    to_participant c at =
-        let within : at.0 < length ws = at.2 in
-        let q : Participant = (at.1.comp, record { 0 = 0 }) in
-        let pair = beside ws qs at.0 at.1 q passes at.2 in
-        let comp : (get_or ws at.0 at.1).comp.0 ≡ c = ap (λ (w : Want). w.comp.0) at.3 ∙ at.4.0 in
-        list_any-from_Any (is_of c) qs (at.0, get_or qs at.0 q, omega arith, again qs at.0 q, eq-eqb (get_or qs at.0 q).0.0 c (sym pair.1 ∙ comp))
-
-    to_want : (c : ℕ) → list_any (is_of c) qs ≡ true → IsWanted Moved ws c
-    to_want c is =
-        let at = Any-from_list_any (is_of c) qs is in
-        let there : at.0 < length qs = at.2 in
-        let within : at.0 < length ws = omega arith in
-        let w : Want = record { comp = record { 0 = c }; number = 0; role = Moved } in
-        let pair = beside ws qs at.0 w at.1 passes within in
-        let comp : (get_or qs at.0 at.1).0.0 ≡ c = ap (λ (q : Participant). q.0.0) at.3 ∙ eqb-true at.1.0.0 c at.4 in
-        (at.0, get_or ws at.0 w, within, again ws at.0 w, (pair.1 ∙ comp, pair.0))
+    same : (c : ℕ) → list_any (λ (w : Want). eqb w.comp.0 c) ws ≡ list_any (is_of c) qs
+    same c = sym (has-map (λ (w : Want). w.comp.0) ws c) ∙ (ap (list_any (λ n. eqb n c)) is.0 ∙ has-map (λ (q : Participant). q.0.0) qs c)
 
     unseen : (c : ℕ) → IsWanted Seen ws c → ⊥
-    unseen c at =
-        let q : Participant = (at.1.comp, record { 0 = 0 }) in
-        let pair = beside ws qs at.0 at.1 q passes at.2 in
-        let role : Moved ≡ Seen = sym pair.0 ∙ (ap (λ (w : Want). w.role) at.3 ∙ at.4.1) in
-        cc
-
--- one of a list has this number
-abbrev Has : {X : Type 0} → (X → ℕ) → List X → ℕ → Type 0
-Has f xs c = Any (λ x. f x ≡ c) xs
-
--- numbers rise from one to all behind it
-abbrev Climbs : {X : Type 0} → (X → ℕ) → List X → Type 0
-Climbs f xs = AllPairs (λ x y. f x < f y) xs
-
-has_cases : {X : Type 0} (f : X → ℕ) (x : X) (xs : List X) (c k : ℕ) (y : X) → k < length (x ∷ xs) → get_or (x ∷ xs) k y ≡ y → f y ≡ c → (f x ≡ c) ⊎ Has f xs c
-has_cases f x xs c zero y within at is = inl (ap f at ∙ is)
-has_cases f x xs c (suc k) y within at is = inr (k, y, omega arith, at, is)
-
-has_first : {X : Type 0} (f : X → ℕ) (x : X) (xs : List X) → Has f (x ∷ xs) (f x)
-has_first f x xs = (0, x, omega arith, refl, refl)
-
-has_later : {X : Type 0} (f : X → ℕ) (x : X) (xs : List X) (c : ℕ) → Has f xs c → Has f (x ∷ xs) c
-has_later f x xs c at = let within : at.0 < length xs = at.2 in (suc at.0, at.1, omega arith, at.3, at.4)
-
--- what stands behind is above
-behind_above : {X : Type 0} (f : X → ℕ) (x : X) (xs : List X) (c : ℕ) → Climbs f (x ∷ xs) → Has f xs c → f x < c
-behind_above f x xs c climbs at =
-    let within : at.0 < length xs = at.2 in
-    let above : f x < f (get_or xs at.0 at.1) = climbs 0 (suc at.0) at.1 (omega arith) (omega arith) in
-    let is : f (get_or xs at.0 at.1) ≡ c = ap f at.3 ∙ at.4 in
-    omega arith
-
-climbs_behind : {X : Type 0} (f : X → ℕ) (x : X) (xs : List X) → Climbs f (x ∷ xs) → Climbs f xs
-climbs_behind f x xs climbs = λ i j d before within. climbs (suc i) (suc j) d (omega arith) (omega arith)
-
--- of two lists whose numbers rise, where each number of the one is one of the other, the first are
--- the same
-same_first : {X Y : Type 0} (f : X → ℕ) (g : Y → ℕ) (x : X) (xs : List X) (y : Y) (ys : List Y) → Climbs f (x ∷ xs) → Climbs g (y ∷ ys) → Has g (y ∷ ys) (f x) → Has f (x ∷ xs) (g y) → f x ≡ g y
-same_first f g x xs y ys up climbs there here =
-    elim (has_cases g y ys (f x) there.0 there.1 there.2 there.3 there.4) [
-      | inl same ↦ sym same
-      | inr later ↦
-          let above : g y < f x = behind_above g y ys (f x) climbs later in
-          elim (has_cases f x xs (g y) here.0 here.1 here.2 here.3 here.4) [
-            | inl same ↦ same
-            | inr behind ↦ let below : f x < g y = behind_above f x xs (g y) up behind in absurd (omega arith)
-          ]
-    ]
-
--- a number behind the first of one list stands behind the first of the other
-still_has : {X Y : Type 0} (f : X → ℕ) (g : Y → ℕ) (x : X) (xs : List X) (y : Y) (ys : List Y) (c : ℕ) → Climbs f (x ∷ xs) → f x ≡ g y → Has f xs c → Has g (y ∷ ys) c → Has g ys c
-still_has f g x xs y ys c up same here there =
-    let above : f x < c = behind_above f x xs c up here in
-    elim (has_cases g y ys c there.0 there.1 there.2 there.3 there.4) [
-      | inl first ↦ let is : g y ≡ c = first in absurd (omega arith)
-      | inr later ↦ later
-    ]
-
--- lists whose numbers rise, and which have the same numbers, have them in the same order
-same_numbers : {X Y : Type 0} (f : X → ℕ) (g : Y → ℕ) (xs : List X) (ys : List Y) → Climbs f xs → Climbs g ys → ((c : ℕ) → Has f xs c → Has g ys c) → ((c : ℕ) → Has g ys c → Has f xs c) → map f xs ≡ map g ys
-same_numbers f g [] [] up climbs to from = refl
-same_numbers f g [] (y ∷ ys) up climbs to from = let at = from (g y) (has_first g y ys) in let within : at.0 < 0 = at.2 in absurd (omega arith)
-same_numbers f g (x ∷ xs) [] up climbs to from = let at = to (f x) (has_first f x xs) in let within : at.0 < 0 = at.2 in absurd (omega arith)
-same_numbers f g (x ∷ xs) (y ∷ ys) up climbs to from =
-    let same : f x ≡ g y = same_first f g x xs y ys up climbs (to (f x) (has_first f x xs)) (from (g y) (has_first g y ys)) in
-    let rest : map f xs ≡ map g ys =
-    same_numbers f g xs ys (climbs_behind f x xs up) (climbs_behind g y ys climbs)
-    (λ c at. still_has f g x xs y ys c up same at (to c (has_later f x xs c at)))
-    (λ c at. still_has g f y ys x xs c climbs (sym same) at (from c (has_later g y ys c at))) in
-    cc
+    unseen c at = let role : Moved ≡ Seen = sym (subst Moves at.3 (is.1 at.0 at.1 at.2)) ∙ at.4.1 in cc
 
 -- wants that move the components of participants, one each and in order, pass the test
 in_order_pass : (ws : List Want) (qs : List Participant) → components_of ws ≡ components_in qs → All Moves ws → Passes ws qs
@@ -166,27 +126,25 @@ in_order_pass (w ∷ ws) (q ∷ qs) same moves =
     let role : is_moved w.role ≡ true = ap is_moved (All-head Moves w ws moves) in
     (omega arith, and_from (is_party (w, q)) (list_all is_party (zip ws qs)) (and_from (is_moved w.role) (eqb w.comp.0 q.0.0) role (eq-eqb w.comp.0 q.0.0 first)) later.1)
 
+same_bool : (a b : Bool) → (a ≡ true → b ≡ true) → (b ≡ true → a ≡ true) → a ≡ b
+same_bool true b to from = sym (to refl)
+same_bool false true to from = from refl
+same_bool false false to from = refl
+
 -- wants by component that are those of the parties pass the test
 pub test-from_parties : (ws : List Want) (qs : List Participant) → IsStrictlyIncreasing (components_of ws) → IsStrictlyIncreasing (components_in qs) → AreParties ws qs → Passes ws qs
 test-from_parties ws qs rising climbing are =
-    in_order_pass ws qs
-    (same_numbers (λ (w : Want). w.comp.0) (λ (q : Participant). q.0.0) ws qs (λ i j d. below_later (λ (w : Want). w.comp.0) ws rising i j d) (λ i j d. below_later (λ (q : Participant). q.0.0) qs climbing i j d) to_participant to_want)
-    moves
+    in_order_pass ws qs (same_numbers (components_of ws) (components_in qs) (rises_from_increasing (components_of ws) rising) (rises_from_increasing (components_in qs) climbing) same) moves
   where
     moves : All Moves ws
-    moves = λ k d within. by_role k d within (get_or ws k d).role refl
+    moves = λ k d within. by_role (get_or ws k d) (Contains-get_or ws k d within) (get_or ws k d).role refl
       where
-        by_role : (k : ℕ) (d : Want) → k < length ws → (r : Role) → (get_or ws k d).role ≡ r → (get_or ws k d).role ≡ Moved
-        by_role k d within Moved is = is
-        by_role k d within Seen is = absurd (are.seen (get_or ws k d).comp.0 (k, get_or ws k d, within, again ws k d, (refl, is)))
+        by_role : (w : Want) → Contains ws w → (r : Role) → w.role ≡ r → w.role ≡ Moved
+        by_role w at Moved is = is
+        by_role w at Seen is = absurd (are.seen w.comp.0 (at.0, w, at.1, at.2, (refl, is)))
 
-    to_participant : (c : ℕ) → Has (λ (w : Want). w.comp.0) ws c → Has (λ (q : Participant). q.0.0) qs c
-    to_participant c at =
-        let role : at.1.role ≡ Moved = subst Moves at.3 (moves at.0 at.1 at.2) in
-        let found = Any-from_list_any (is_of c) qs ((are.moved c).0 (at.0, at.1, at.2, at.3, (at.4, role))) in
-        (found.0, found.1, found.2, found.3, eqb-true found.1.0.0 c found.4)
-
-    to_want : (c : ℕ) → Has (λ (q : Participant). q.0.0) qs c → Has (λ (w : Want). w.comp.0) ws c
-    to_want c at =
-        let found = (are.moved c).1 (list_any-from_Any (is_of c) qs (at.0, at.1, at.2, at.3, eq-eqb at.1.0.0 c at.4)) in
-        (found.0, found.1, found.2, found.3, found.4.0)
+    same : SameNumbers (components_of ws) (components_in qs)
+    same c =
+        has-map (λ (w : Want). w.comp.0) ws c
+        ∙ (same_bool (list_any (λ (w : Want). eqb w.comp.0 c) ws) (list_any (is_of c) qs) (λ is. (are.moved c).0 ((wanted ws c moves).1 is)) (λ is. (wanted ws c moves).0 ((are.moved c).1 is))
+        ∙ sym (has-map (λ (q : Participant). q.0.0) qs c))
