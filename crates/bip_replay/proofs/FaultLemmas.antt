@@ -1,14 +1,17 @@
 -- Faults: the first want that is wrong, and what it means that none is.
-use Rattle.std.proofs.Common.{◌≡◌, ℕ, suc, ◌+◌, ◌<◌, ◌≤◌, Bool, true, false, not, ◌&&◌, eqb, List, [], ◌∷◌, length, get_or, Option, None, Some, find, refl, sym, subst, arith, eqb-true, eq-eqb}
+use Rattle.std.proofs.Common.{◌≡◌, ℕ, ◌+◌, ◌<◌, ◌≤◌, Bool, true, false, not, ◌&&◌, eqb, List, [], length, get_or, Option, None, Some, find, refl, sym, ap, ◌∙◌, subst, inl, inr, ◌⊎◌, arith, eqb-true, eq-eqb}
 use Rattle.std.specs.Prelude.{All, Contains, slice_get, nat_lt}
 use Rattle.std.specs.Option.{option_map_or}
 use Rattle.std.specs.List.{list_all, zip}
 use Rattle.std.specs.List.Sorted.{IsStrictlyIncreasing}
-use Rattle.std.proofs.lemmas.Bool.{and_parts, and_from, ltb-true, lt-ltb, both_ways, not-true}
-use Rattle.std.proofs.lemmas.List.Elements.{All-nil, All-cons, All-weaker, Contains-get_or}
-use Rattle.std.proofs.lemmas.List.Folds.{Any-from_list_any}
+use Rattle.std.proofs.lemmas.Bool.{and_parts, and_from, cases_lt, cases_order, ltb-true, lt-ltb, both_ways, not-true}
+use Rattle.std.proofs.lemmas.List.Elements.{All-nil, All-weaker, Contains-get_or}
+use Rattle.std.proofs.lemmas.List.Folds.{Any-from_list_any, find_at}
+use Rattle.std.proofs.lemmas.List.Quantifiers.{position-Some}
+use Rattle.std.proofs.lemmas.List.Sums.{fails_before_first}
+use Rattle.std.proofs.lemmas.Option.{get_or_from_slice_get, none-some, slice_get-get_or, slice_get_within}
+use Rattle.std.specs.List.{position_or_len}
 use Rattle.bip_model.proofs.ListLemmas.{All-slice_get, below_later}
-use Rattle.bip_model.proofs.NumberingLemmas.{increasing_tail}
 use Rattle.bip_model.specs.declared.grants.Grant.{Grant}
 use Rattle.bip_model.specs.declared.wants.Role.{Role}
 use Rattle.bip_model.specs.declared.wants.Role.TheVariants.{Moved, Seen}
@@ -46,54 +49,43 @@ right m used w test known = by_test (has_next_number used w) refl
     by_test false e =
         absurd (both_ways (is_wrong (length m.components) used w) test (and_from (nat_lt w.comp.0 (length m.components)) (not (has_next_number used w)) (lt-ltb w.comp.0 (length m.components) known) (rw e refl)))
 
--- a want of a component below another is right
-abbrev RightBelow : (ℕ → ℕ) → ℕ → Want → Type 0
-RightBelow used c w = w.comp.0 < c → HasNextNumber used w
+-- whether a want of a component of the model is wrong, and the place of the first that is
+abbrev wrong_in : System → (ℕ → ℕ) → Want → Bool
+wrong_in m used = is_wrong (length m.components) used
 
-lowest_here : (m : System) (used : ℕ → ℕ) (x : Want) (xs : List Want) → IsStrictlyIncreasing (components_of (x ∷ xs)) → is_wrong (length m.components) used x ≡ true → IsLowestWrong m used (x ∷ xs) x.comp.0
-lowest_here m used x xs rising test =
-    let parts = and_parts (nat_lt x.comp.0 (length m.components)) (not (has_next_number used x)) test in
-    record {
-      known = ltb-true x.comp.0 (length m.components) parts.0;
-      wrong = (0, x, omega arith, refl, (refl, λ has. both_ways (has_next_number used x) (not-true (has_next_number used x) parts.1) (has_next-from used x has)));
-      lower = All-cons (RightBelow used x.comp.0) x xs (λ below. absurd (omega arith))
-          (All-weaker (λ (v : Want). x.comp.0 < v.comp.0) (RightBelow used x.comp.0) (λ v above below. absurd (omega arith)) xs (λ k d within. below_later (λ (v : Want). v.comp.0) (x ∷ xs) rising 0 (suc k) d (omega arith) (omega arith)));
-    }
-
-lowest_later : (m : System) (used : ℕ → ℕ) (x : Want) (xs : List Want) (c : ℕ) → is_wrong (length m.components) used x ≡ false → IsLowestWrong m used xs c → IsLowestWrong m used (x ∷ xs) c
-lowest_later m used x xs c test r =
-    let known : c < length m.components = r.known in
-    let at = r.wrong in
-    let within : at.0 < length xs = at.2 in
-    record {
-      known = r.known;
-      wrong = (suc at.0, at.1, omega arith, at.3, at.4);
-      lower = All-cons (RightBelow used c) x xs (λ below. right m used x test (omega arith)) r.lower;
-    }
+abbrev first_wrong : System → (ℕ → ℕ) → List Want → ℕ
+first_wrong m used ws = position_or_len (wrong_in m used) ws
 
 -- the first want that is wrong is of the lowest component that is
 pub lowest_wrong : (m : System) (used : ℕ → ℕ) (ws : List Want) (w : Want) → IsStrictlyIncreasing (components_of ws) → find (is_wrong (length m.components) used) ws ≡ Some w → IsLowestWrong m used ws w.comp.0
-lowest_wrong m used [] w rising found = cc
-lowest_wrong m used (x ∷ xs) w rising found = by_test (lowest_wrong m used xs w (increasing_tail x.comp.0 (components_of xs) rising)) (is_wrong (length m.components) used x) refl
+lowest_wrong m used ws w rising found =
+    let i : ℕ = first_wrong m used ws in
+    let at : slice_get ws i ≡ Some w = sym (find_at (wrong_in m used) ws) ∙ found in
+    let here = position-Some (wrong_in m used) ws i w (rw (lt-ltb i (length ws) (slice_get_within ws i w at)) refl) in
+    let parts = and_parts (nat_lt w.comp.0 (length m.components)) (not (has_next_number used w)) (rw (get_or_from_slice_get ws i w w at) at here.1) in
+    let known : w.comp.0 < length m.components = ltb-true w.comp.0 (length m.components) parts.0 in
+    record {
+      known = known;
+      wrong = (i, w, here.0, get_or_from_slice_get ws i w w at, (refl, λ has. both_ways (has_next_number used w) (not-true (has_next_number used w) parts.1) (has_next-from used w has)));
+      lower = λ k d within below. right m used (get_or ws k d) (fails_before_first (wrong_in m used) ws k d (earlier i at k d within below (cases_order k i))) (omega arith);
+    }
   where
-    by_test : (find (is_wrong (length m.components) used) xs ≡ Some w → IsLowestWrong m used xs w.comp.0) → (b : Bool) → is_wrong (length m.components) used x ≡ b → IsLowestWrong m used (x ∷ xs) w.comp.0
-    by_test rest true e =
-        let same : x ≡ w = let f : Some x ≡ Some w = rw e at found in cc in
-        subst (λ (v : Want). IsLowestWrong m used (x ∷ xs) v.comp.0) same (lowest_here m used x xs rising e)
-    by_test rest false e = lowest_later m used x xs w.comp.0 e (rest (rw e at found))
-
--- a want is right where its component is one of the model
-abbrev RightWhereKnown : System → (ℕ → ℕ) → Want → Type 0
-RightWhereKnown m used w = w.comp.0 < length m.components → HasNextNumber used w
+    earlier : (i : ℕ) → slice_get ws i ≡ Some w → (k : ℕ) (d : Want) → k < length ws → (get_or ws k d).comp.0 < w.comp.0 → (k ≡ i) ⊎ ((k < i) ⊎ (i < k)) → k < i
+    earlier i at k d within below (inl same) = let e : (get_or ws k d).comp.0 ≡ w.comp.0 = ap (λ n. (get_or ws n d).comp.0) same ∙ ap (λ (v : Want). v.comp.0) (get_or_from_slice_get ws i w d at) in absurd (omega arith)
+    earlier i at k d within below (inr (inl before)) = before
+    earlier i at k d within below (inr (inr behind)) =
+        let is : (get_or ws i d).comp.0 ≡ w.comp.0 = ap (λ (v : Want). v.comp.0) (get_or_from_slice_get ws i w d at) in
+        let above : (get_or ws i d).comp.0 < (get_or ws k d).comp.0 = below_later (λ (v : Want). v.comp.0) ws rising i k d behind within in
+        absurd (omega arith)
 
 -- where no want is wrong, each of a component of the model is right
 pub none_wrong : (m : System) (used : ℕ → ℕ) (ws : List Want) → find (is_wrong (length m.components) used) ws ≡ None → KnownAreRight m used ws
-none_wrong m used [] found = All-nil (RightWhereKnown m used)
-none_wrong m used (x ∷ xs) found = by_test (none_wrong m used xs) (is_wrong (length m.components) used x) refl
+none_wrong m used ws found =
+    λ k d within known. right m used (get_or ws k d) (fails_before_first (wrong_in m used) ws k d (past k d within (cases_lt (first_wrong m used ws) (length ws)))) known
   where
-    by_test : (find (is_wrong (length m.components) used) xs ≡ None → KnownAreRight m used xs) → (b : Bool) → is_wrong (length m.components) used x ≡ b → KnownAreRight m used (x ∷ xs)
-    by_test rest true e = let f : Some x ≡ None = rw e at found in cc
-    by_test rest false e = All-cons (RightWhereKnown m used) x xs (right m used x e) (rest (rw e at found))
+    past : (k : ℕ) (d : Want) → k < length ws → (first_wrong m used ws < length ws) ⊎ (length ws ≤ first_wrong m used ws) → k < first_wrong m used ws
+    past k d within (inl here) = absurd (none-some (get_or ws (first_wrong m used ws) d) (sym found ∙ (find_at (wrong_in m used) ws ∙ slice_get-get_or ws (first_wrong m used ws) d here)))
+    past k d within (inr all) = omega arith
 
 -- the component of a participant is one of the model
 abbrev KnownIn : System → Participant → Type 0

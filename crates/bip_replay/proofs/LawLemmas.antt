@@ -23,11 +23,11 @@ use Rattle.bip_replay.specs.Laws.{times_moved}
 use Rattle.bip_replay.specs.Runs.{is_party, is_wrong}
 use Rattle.bip_replay.specs.Runs.{HasNextNumber, IsModelRun, IsNext, IsRunFrom, interactions_of, state_after, used_after}
 use Rattle.bip_replay.proofs.FaultLemmas.{lowest_wrong, may_run, next_from_tests, none_wrong, not_parties}
-use Rattle.bip_replay.proofs.RunLemmas.{IsRunFrom-beginning, IsRunFrom-last, IsRunFrom-push, next_at}
+use Rattle.bip_replay.proofs.RunLemmas.{IsRunFrom-parts, IsRunFrom-push, next_at}
 
 pub grants-back : (m : System) (base : ℕ) (gs : List Grant) (g : Grant) → IsModelRun m base (gs ++ g ∷ []) ↔ (IsModelRun m base gs × IsNext m (state_after m gs) (used_after base gs) g)
 grants-back m base gs g = (
-  λ run. (IsRunFrom-beginning m (start_of m) (λ _. base) gs (g ∷ []) run, IsRunFrom-last m (start_of m) (λ _. base) gs g run),
+  λ run. ((IsRunFrom-parts m (start_of m) (λ _. base) gs (g ∷ []) run).0, next_at m base gs [] g run),
   λ both. IsRunFrom-push m (start_of m) (λ _. base) gs g both.0 both.1,
 )
 
@@ -78,7 +78,7 @@ pub numbered : (m : System) (base : ℕ) (front rest : List Grant) (g : Grant) (
 numbered m base front rest g c run moves = by_move (moved-next (used_after base front) g.wants c (next_at m base front rest g run).numbers)
   where
     before : used_after base front c ≡ base + times_moved front c
-    before = counts_moves m base front c (IsRunFrom-beginning m (start_of m) (λ _. base) front (g ∷ rest) run)
+    before = counts_moves m base front c (IsRunFrom-parts m (start_of m) (λ _. base) front (g ∷ rest) run).0
 
     one_more : times_moved (front ++ g ∷ []) c ≡ times_moved front c + 1
     one_more =

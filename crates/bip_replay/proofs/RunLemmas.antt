@@ -1,5 +1,5 @@
 -- Runs: one grant more, the beginning of a run, and the history that a run is.
-use Rattle.std.proofs.Common.{◌≡◌, ℕ, ◌+◌, ◌<◌, List, [], ◌∷◌, ◌++◌, append_assoc, refl, sym, subst, arith}
+use Rattle.std.proofs.Common.{◌≡◌, ℕ, ◌+◌, ◌<◌, List, [], ◌∷◌, ◌++◌, refl, arith}
 use Rattle.std.proofs.lemmas.List.Elements.{All-weaker}
 use Rattle.bip_model.specs.declared.grants.Grant.{Grant}
 use Rattle.bip_model.specs.declared.wants.Want.{Want}
@@ -14,19 +14,14 @@ pub IsRunFrom-push : (m : System) (s : State) (used : ℕ → ℕ) (gs : List Gr
 IsRunFrom-push m s used [] g run next = (next, tt)
 IsRunFrom-push m s used (h ∷ gs) g run next = (run.0, IsRunFrom-push m (after m s h.inter.0) (raised used h.wants) gs g run.1 next)
 
-pub IsRunFrom-last : (m : System) (s : State) (used : ℕ → ℕ) (gs : List Grant) (g : Grant) → IsRunFrom m s used (gs ++ g ∷ []) → IsNext m (end_of m s (interactions_of gs)) (used_by used gs) g
-IsRunFrom-last m s used [] g run = run.0
-IsRunFrom-last m s used (h ∷ gs) g run = IsRunFrom-last m (after m s h.inter.0) (raised used h.wants) gs g run.1
-
-pub IsRunFrom-beginning : (m : System) (s : State) (used : ℕ → ℕ) (gs hs : List Grant) → IsRunFrom m s used (gs ++ hs) → IsRunFrom m s used gs
-IsRunFrom-beginning m s used [] hs run = tt
-IsRunFrom-beginning m s used (g ∷ gs) hs run = (run.0, IsRunFrom-beginning m (after m s g.inter.0) (raised used g.wants) gs hs run.1)
+-- a run in two parts: the second goes on where the first ends
+pub IsRunFrom-parts : (m : System) (s : State) (used : ℕ → ℕ) (gs hs : List Grant) → IsRunFrom m s used (gs ++ hs) → IsRunFrom m s used gs × IsRunFrom m (end_of m s (interactions_of gs)) (used_by used gs) hs
+IsRunFrom-parts m s used [] hs run = (tt, run)
+IsRunFrom-parts m s used (g ∷ gs) hs run = let rest = IsRunFrom-parts m (after m s g.inter.0) (raised used g.wants) gs hs run.1 in ((run.0, rest.0), rest.1)
 
 -- the grant behind a beginning is next there
 pub next_at : (m : System) (base : ℕ) (front rest : List Grant) (g : Grant) → IsModelRun m base (front ++ g ∷ rest) → IsNext m (state_after m front) (used_after base front) g
-next_at m base front rest g run =
-    let whole : IsModelRun m base ((front ++ g ∷ []) ++ rest) = subst (λ (gs : List Grant). IsModelRun m base gs) (sym (append_assoc front (g ∷ []) rest)) run in
-    IsRunFrom-last m (start_of m) (λ _. base) front g (IsRunFrom-beginning m (start_of m) (λ _. base) (front ++ g ∷ []) rest whole)
+next_at m base front rest g run = (IsRunFrom-parts m (start_of m) (λ _. base) front (g ∷ rest) run).1.0
 
 pub end_of-push : (m : System) (s : State) (gs : List Grant) (g : Grant) → end_of m s (interactions_of (gs ++ g ∷ [])) ≡ after m (end_of m s (interactions_of gs)) g.inter.0
 end_of-push m s [] g = refl
