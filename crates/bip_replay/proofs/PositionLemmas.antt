@@ -10,7 +10,7 @@ use Rattle.bip_model.specs.Wants.{raised}
 use Rattle.bip_replay.specs.declared.faults.StepFault.{StepFault}
 use Rattle.bip_replay.specs.Faults.{IsFaultAt}
 use Rattle.bip_replay.specs.Runs.{IsModelRun, IsNextAt, StandsAfter, Standing, standing_after, standing_on, state_after, used_after}
-use Rattle.bip_replay.proofs.ExactLemmas.{not_next}
+use Rattle.bip_replay.proofs.FaultLawLemmas.{not_next}
 use Rattle.bip_replay.proofs.RunLemmas.{IsRunFrom-push, end_of-push, next_at}
 
 -- what can be next where grants lead goes on from them

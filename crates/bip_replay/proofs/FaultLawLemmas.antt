@@ -1,24 +1,69 @@
--- One fault: a line has at most one fault in a state, and a trace at most one first fault.
-use Rattle.std.proofs.Common.{◌≡◌, ℕ, ◌+◌, ◌<◌, List, [], ◌∷◌, ◌++◌, length, Some, Ok, refl, sym, ap, ◌∙◌, subst, arith, ◌⊎◌, inl, inr}
+-- Faults are exact, there is one at most, and there is always an answer.
+use Rattle.std.proofs.Common.{◌≡◌, ℕ, ◌+◌, List, [], ◌∷◌, ◌++◌, length, ◌∙◌, Option, None, Some, Result, Ok, Err, refl, sym, subst, ◌<◌, ap, arith, ◌⊎◌, inl, inr}
 use Rattle.std.proofs.lemmas.Bool.{cases_order}
 use Rattle.std.specs.Prelude.{All, Any}
+use Rattle.std.proofs.lemmas.List.{append_assoc, append-nil}
 use Rattle.bip_model.specs.declared.grants.Grant.{Grant}
 use Rattle.bip_model.specs.declared.wants.Want.{Want}
-use Rattle.bip_model.specs.declared.numbering.CompId.{CompId}
-use Rattle.bip_model.specs.declared.numbering.InterId.{InterId}
 use Rattle.bip_model.specs.declared.parts.System.{System}
 use Rattle.bip_model.specs.States.{State}
-use Rattle.bip_model.specs.Steps.{IsLowestAbove, MayRun}
+use Rattle.bip_model.specs.declared.numbering.CompId.{CompId}
+use Rattle.bip_model.specs.declared.numbering.InterId.{InterId}
+use Rattle.bip_model.specs.Steps.{IsLowestAbove, MayRun, start_of}
+use Rattle.bip_model.specs.Parts.{IsSystem}
+use Rattle.bip_model.specs.Texts.{lines}
+use Rattle.bip_replay.specs.declared.faults.LineFault.{LineFault}
 use Rattle.bip_replay.specs.declared.faults.ReplayFault.{ReplayFault}
-use Rattle.bip_replay.specs.declared.faults.ReplayFault.TheVariants.{Syntax, Unknown, NotARun, Memory}
 use Rattle.bip_replay.specs.declared.faults.StepFault.{StepFault}
 use Rattle.bip_replay.specs.declared.faults.StepFault.TheVariants.{NotEnabled, Below, Number, Parties}
 use Rattle.bip_replay.specs.Faults.{IsFaultOf, IsLowestWrong, expected_after, of_step}
-use Rattle.bip_replay.specs.Replays.{IsFirstFault, IsLineFault}
-use Rattle.bip_replay.specs.Runs.{HasNextNumber, state_after, used_after}
+use Rattle.bip_replay.specs.Replays.{IsFirstFault, IsLineFault, IsRunOf}
+use Rattle.bip_replay.specs.Runs.{HasNextNumber, IsModelRun, IsNext, state_after, used_after}
 use Rattle.bip_replay.specs.Lines.{grant_on}
-use Rattle.bip_replay.specs.Traces.{grants_from}
-use Rattle.bip_replay.proofs.ExactLemmas.{stops}
+use Rattle.bip_replay.specs.Traces.{grants_from, grants_of, one_more}
+use Rattle.bip_replay.specs.declared.faults.ReplayFault.TheVariants.{Syntax, Unknown, NotARun, Memory}
+use Rattle.bip_replay.specs.declared.faults.LineFault.TheVariants as line_fault
+use Rattle.bip_replay.specs.declared.faults.ReplayFault.TheVariants as replay
+use Rattle.bip_replay.proofs.ReadingLemmas.{first_read, grants_from-append, onto, grants_from-push}
+use Rattle.bip_replay.proofs.RunLemmas.{next_at, IsRunFrom-push}
+use Rattle.bip_replay.proofs.GrantLemmas.{grant_line}
+use Rattle.bip_replay.proofs.LawLemmas.{NextOrFault, next_or_fault}
+
+-- a grant with a fault isn't next
+pub not_next : (m : System) (s : State) (used : ℕ → ℕ) (g : Grant) (fault : StepFault) → IsFaultOf m s used g fault → IsNext m s used g → ⊥
+not_next m s used g NotEnabled why next = why next.may.enabled
+not_next m s used g (Below b) why next = next.may.clear b.0 why.1.above why.1.enabled
+not_next m s used g (Number c expected) why next =
+    let at = why.1.wrong in
+    at.4.1 (subst (λ (w : Want). HasNextNumber used w) at.3 (next.numbers at.0 at.1 at.2))
+not_next m s used g Parties why next = why.2 next.parties
+
+-- grants with more behind them
+onto_some : (gs all : List Grant) (r : Result (List Grant) (ℕ × LineFault)) → onto gs r ≡ Ok all → (hs : List Grant) × (r ≡ Ok hs) × (gs ++ hs ≡ all)
+onto_some gs all (Ok hs) is = (hs, refl, cc)
+onto_some gs all (Err e) is = cc
+
+-- lines of which one is at fault where those before it lead are no run
+pub stops : (m : System) (base : ℕ) (front rest : List (List ℕ)) (line : List ℕ) (gs all : List Grant) (fault : ReplayFault) → grants_from m 1 front ≡ Ok gs → IsLineFault m (state_after m gs) (used_after base gs) line fault → grants_from m 1 (front ++ line ∷ rest) ≡ Ok all → IsModelRun m base all → ⊥
+stops m base front rest line gs all fault reads why whole run =
+    let behind = onto_some gs all (grants_from m (1 + length front) (line ∷ rest)) (sym (grants_from-append m 1 front (line ∷ rest) gs reads) ∙ whole) in
+    let at = first_read (1 + length front) (grant_on m line) (grants_from m (1 + length front + 1) rest) behind.0 behind.1 in
+    by_fault fault why at.0 at.1 at.2 (subst (λ (hs : List Grant). IsModelRun m base (gs ++ hs)) (sym at.4) (subst (IsModelRun m base) (sym behind.2) run))
+  where
+    by_fault : (f : ReplayFault) → IsLineFault m (state_after m gs) (used_after base gs) line f → (o : Option Grant) (hs : List Grant) → grant_on m line ≡ Ok o → IsModelRun m base (gs ++ (one_more [] o ++ hs)) → ⊥
+    by_fault replay.Syntax says o hs reads' on = cc
+    by_fault replay.Unknown says o hs reads' on = cc
+    by_fault (replay.NotARun w) says None hs reads' on = let e : grant_on m line ≡ Ok (Some says.2.grant) = says.2.reads in cc
+    by_fault (replay.NotARun w) says (Some g) hs reads' on =
+        let e : grant_on m line ≡ Ok (Some says.2.grant) = says.2.reads in
+        let same : says.2.grant ≡ g = cc in
+        not_next m (state_after m gs) (used_after base gs) g says.0 (subst (λ (h : Grant). IsFaultOf m (state_after m gs) (used_after base gs) h says.0) same says.2.why) (next_at m base gs hs g on)
+    by_fault replay.Memory says o hs reads' on = says
+
+-- a trace with a first fault is no run
+pub no_run : (m : System) (base : ℕ) (text : List ℕ) (number : ℕ) (fault : ReplayFault) → IsFirstFault m base text number fault → (gs : List Grant) → grants_of m text ≡ Ok gs → IsModelRun m base gs → ⊥
+no_run m base text number fault first gs reads run =
+    stops m base first.front first.rest first.line first.grants gs fault first.reads first.why (subst (λ (ls : List (List ℕ)). grants_from m 1 ls ≡ Ok gs) first.split reads) run
 
 -- no want of a component is wrong where those below a higher one are right
 not_wrong : (used : ℕ → ℕ) (ws : List Want) (c k : ℕ) → Any (λ (w : Want). (w.comp.0 ≡ c) × ¬ HasNextNumber used w) ws → All (λ (w : Want). w.comp.0 < k → HasNextNumber used w) ws → c < k → ⊥
@@ -129,3 +174,37 @@ one_first m base text n k f g one other = by_place (parted one.front other.front
         let same : one.grants ≡ other.grants = cc in
         let there = subst (λ (l : List ℕ). IsLineFault m (state_after m other.grants) (used_after base other.grants) l f) here.1 (subst (λ (gs : List Grant). IsLineFault m (state_after m gs) (used_after base gs) one.line f) same one.why) in
         (one.numbered ∙ (ap (λ (ls : List (List ℕ)). length ls + 1) here.0 ∙ sym other.numbered), one_line m (state_after m other.grants) (used_after base other.grants) other.line f g there other.why)
+
+-- a text is the trace of a run, or has a first fault
+abbrev Answered : System → ℕ → List ℕ → Type 0
+Answered m base text = ((count : ℕ) × IsRunOf m base text count) ⊎ ((number : ℕ) × (fault : ReplayFault) × IsFirstFault m base text number fault)
+
+-- the answer, where lines in front of the text read as grants that are a run
+answer : (m : System) (base : ℕ) (text : List ℕ) (front rest : List (List ℕ)) (gs : List Grant) → IsSystem m → lines text ≡ front ++ rest → grants_from m 1 front ≡ Ok gs → IsModelRun m base gs → Answered m base text
+answer m base text front [] gs valid split reads run =
+    inl (length gs, record { grants = gs; reads = rw (split ∙ append-nil front) reads; run = run; counted = refl })
+answer m base text front (line ∷ rest) gs valid split reads run = by_line (grant_on m line) refl (λ hs. answer m base text (front ++ line ∷ []) rest hs valid more)
+  where
+    more : lines text ≡ (front ++ line ∷ []) ++ rest
+    more = split ∙ sym (append_assoc front (line ∷ []) rest)
+
+    stopped : (fault : ReplayFault) → IsLineFault m (state_after m gs) (used_after base gs) line fault → Answered m base text
+    stopped fault why =
+        inr (length front + 1, fault, record { front = front; line = line; rest = rest; grants = gs; split = split; numbered = refl; reads = reads; run = run; why = why })
+
+    on : (o : Option Grant) → grant_on m line ≡ Ok o → grants_from m 1 (front ++ line ∷ []) ≡ Ok (one_more gs o)
+    on o says = grants_from-push m 1 front line gs o reads says
+
+    by_step : (g : Grant) → grant_on m line ≡ Ok (Some g) → ((hs : List Grant) → grants_from m 1 (front ++ line ∷ []) ≡ Ok hs → IsModelRun m base hs → Answered m base text) → NextOrFault m (state_after m gs) (used_after base gs) g → Answered m base text
+    by_step g says later (inl next) = later (gs ++ g ∷ []) (on (Some g) says) (IsRunFrom-push m (start_of m) (λ _. base) gs g run next)
+    by_step g says later (inr wrong) = stopped (replay.NotARun (of_step wrong.0)) (wrong.0, refl, record { grant = g; reads = says; why = wrong.1 })
+
+    by_line : (r : Result (Option Grant) LineFault) → grant_on m line ≡ r → ((hs : List Grant) → grants_from m 1 (front ++ line ∷ []) ≡ Ok hs → IsModelRun m base hs → Answered m base text) → Answered m base text
+    by_line (Err line_fault.Syntax) says later = stopped replay.Syntax says
+    by_line (Err line_fault.Unknown) says later = stopped replay.Unknown says
+    by_line (Ok None) says later = later gs (on None says) run
+    by_line (Ok (Some g)) says later = by_step g says later (next_or_fault m (state_after m gs) (used_after base gs) g valid (grant_line m line g says).rising)
+
+-- every text is the trace of a run, or has a first fault
+pub run_or_fault : (m : System) (base : ℕ) (text : List ℕ) → IsSystem m → Answered m base text
+run_or_fault m base text valid = answer m base text [] (lines text) [] valid refl refl tt
