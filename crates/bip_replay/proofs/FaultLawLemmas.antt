@@ -25,9 +25,8 @@ use Rattle.bip_replay.specs.declared.faults.ReplayFault.TheVariants.{Syntax, Unk
 use Rattle.bip_replay.specs.declared.faults.LineFault.TheVariants as line_fault
 use Rattle.bip_replay.specs.declared.faults.ReplayFault.TheVariants as replay
 use Rattle.bip_replay.proofs.ReadingLemmas.{first_read, grants_from-append, onto, grants_from-push}
-use Rattle.bip_replay.proofs.RunLemmas.{next_at, IsRunFrom-push}
+use Rattle.bip_replay.proofs.RunLemmas.{IsRunFrom-push, NextOrFault, next_at, next_or_fault}
 use Rattle.bip_replay.proofs.GrantLemmas.{grant_line}
-use Rattle.bip_replay.proofs.LawLemmas.{NextOrFault, next_or_fault}
 
 -- a grant with a fault isn't next
 pub not_next : (m : System) (s : State) (used : ℕ → ℕ) (g : Grant) (fault : StepFault) → IsFaultOf m s used g fault → IsNext m s used g → ⊥

@@ -28,8 +28,7 @@ use Rattle.bip_replay.specs.Writing.{IsGrantOf, behind_see}
 use Rattle.bip_replay.specs.declared.faults.LineFault.{LineFault}
 use Rattle.bip_replay.specs.declared.faults.LineFault.TheVariants.{Syntax, Unknown}
 use Rattle.bip_replay.specs.declared.lines.NamedWant.{NamedWant}
-use Rattle.bip_replay.proofs.KnownLemmas.{Numbers, apart_from_numbered, comp_of, found_for, known_from, name_at, numbered_from_apart}
-use Rattle.bip_replay.proofs.NamedLemmas.{AreFit, AreSaid, Say, said_wants, wants_said-from}
+use Rattle.bip_replay.proofs.NamedLemmas.{AreFit, AreSaid, Numbers, Say, apart_from_numbered, comp_of, found_for, known_from, name_at, numbered_from_apart, said_wants, wants_said-from}
 use Rattle.bip_replay.proofs.WordLemmas.{is_name-from, name-bytes, pair_of-name, position-name}
 
 -- what is there where a test passes, and what there is of what is there

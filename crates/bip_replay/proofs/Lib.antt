@@ -1,10 +1,7 @@
 pub mod FaultLawLemmas
 pub mod FaultLemmas
 pub mod GrantLemmas
-pub mod KnownLemmas
-pub mod LawLemmas
 pub mod NamedLemmas
-pub mod PartyLemmas
 pub mod PositionLemmas
 pub mod ReadingLemmas
 pub mod ReplayLemmas

@@ -6,7 +6,6 @@ use Rattle.bip_model.specs.declared.parts.System.{System}
 use Rattle.bip_model.specs.States.{State}
 use Rattle.bip_model.specs.Steps.{start_of}
 use Rattle.bip_model.specs.Wants.{raised}
-use Rattle.bip_model.specs.Wants.{raised}
 use Rattle.bip_replay.specs.declared.faults.StepFault.{StepFault}
 use Rattle.bip_replay.specs.Faults.{IsFaultAt}
 use Rattle.bip_replay.specs.Runs.{IsModelRun, IsNextAt, StandsAfter, Standing, standing_after, standing_on, state_after, used_after}

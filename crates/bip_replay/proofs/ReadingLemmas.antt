@@ -9,8 +9,7 @@ use Rattle.bip_replay.specs.declared.faults.TraceFault.{TraceFault}
 use Rattle.bip_replay.specs.declared.faults.TraceFault.TheVariants.{Syntax, Unknown, Memory}
 use Rattle.std.specs.Prelude.{IsOk, take}
 use Rattle.std.proofs.Math.Seq.{take-append_seam}
-use Rattle.bip_replay.specs.Traces.{Reads, one_more}
-use Rattle.bip_replay.specs.Traces.{IsOutOfMemory, IsTraceFault, before_rest, grants_from, grants_of}
+use Rattle.bip_replay.specs.Traces.{IsOutOfMemory, IsTraceFault, Reads, before_rest, grants_from, grants_of, one_more}
 use Rattle.bip_replay.specs.Lines.{grant_on}
 
 -- what a line and those behind it read as

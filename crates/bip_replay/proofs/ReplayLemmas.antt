@@ -9,8 +9,7 @@ use Rattle.bip_replay.specs.declared.faults.ReplayFault.{ReplayFault}
 use Rattle.bip_replay.specs.declared.faults.ReplayFault.TheVariants.{Syntax, Unknown, NotARun, Memory}
 use Rattle.bip_replay.specs.Faults.{replay_of_line}
 use Rattle.bip_replay.specs.Runs.{StandsAfter, Standing, state_after, used_after}
-use Rattle.bip_replay.specs.Replays.{Takes}
-use Rattle.bip_replay.specs.Replays.{IsFirstFault, IsLineFault, IsReplayFault, IsRunOf}
+use Rattle.bip_replay.specs.Replays.{IsFirstFault, IsLineFault, IsReplayFault, IsRunOf, Takes}
 use Rattle.bip_replay.specs.Lines.{grant_on}
 use Rattle.bip_replay.proofs.ReadingLemmas.{HasRead, has_read-end, has_read-more, has_read-none, memory_at}
 use Rattle.bip_replay.proofs.PositionLemmas.{leads_on}

@@ -1,6 +1,5 @@
 use Rattle.bip_model.specs.Steps.{start_of}
-use Rattle.bip_replay.proofs.LawLemmas.{by_steps, counts_moves, grants-back, numbered}
-use Rattle.bip_replay.proofs.RunLemmas.{IsHistory-from_run, IsRun-from_grants, IsRunFrom-parts, end_of-push}
+use Rattle.bip_replay.proofs.RunLemmas.{IsHistory-from_run, IsRun-from_grants, IsRunFrom-parts, by_steps, counts_moves, end_of-push, grants-back, numbered}
 use Rattle.bip_replay.proofs.laws.run_laws.Goals as goal
 
 pub returns : goal.returns
