@@ -47,6 +47,7 @@ words_behind m g =
     name_in m.interaction_names g.inter.0
     ∷ (want_words m Moved g.wants ++ behind_see (want_words m Seen g.wants))
 
+-- what parts the words of a line that is written
 abbrev pub space : ℕ
 space = 32
 
