@@ -1,29 +1,163 @@
--- Faults: the first want that is wrong, and what it means that none is.
-use Rattle.std.proofs.Common.{◌≡◌, ℕ, suc, ◌+◌, ◌<◌, ◌≤◌, Bool, true, false, not, ◌&&◌, eqb, List, [], ◌∷◌, length, get_or, Option, None, Some, find, refl, sym, subst, arith, eqb-true, eq-eqb}
-use Rattle.std.specs.Prelude.{All, Contains, slice_get, nat_lt}
-use Rattle.std.specs.Option.{option_map_or}
-use Rattle.std.specs.List.{list_all, zip}
+-- Faults and parties: what the tests of a grant say.
+use Rattle.std.proofs.Common.{◌≡◌, ◌≢◌, ℕ, ◌<◌, ◌≤◌, ◌||◌, Bool, true, false, eqb, List, [], ◌∷◌, length, map, get_or, refl, sym, ap, ◌∙◌, subst, arith, zip, eqb-true, eq-eqb, ◌⊎◌, inl, inr, ◌+◌, not, ◌&&◌, Option, None, Some, find}
+use Rattle.std.specs.Prelude.{◌↔◌, All, Contains, slice_get, nat_lt}
+use Rattle.std.specs.List.{AllByRecursion, list_all, list_any, zip, position_or_len}
 use Rattle.std.specs.List.Sorted.{IsStrictlyIncreasing}
-use Rattle.std.proofs.lemmas.Bool.{and_parts, and_from, ltb-true, lt-ltb, both_ways, not-true}
-use Rattle.std.proofs.lemmas.List.{get_or-map, length-map}
-use Rattle.std.proofs.lemmas.List.Elements.{All-nil, All-cons, All-weaker, All-from_get_or, Contains-get_or}
-use Rattle.std.proofs.lemmas.List.Folds.{Any-from_list_any}
-use Rattle.std.proofs.lemmas.List.Kept.{AllPairs-from_increasing}
-use Rattle.bip_model.proofs.ListLemmas.{All-slice_get}
-use Rattle.bip_model.specs.declared.grants.Grant.{Grant}
+use Rattle.std.proofs.lemmas.Bool.{and_parts, and_from, cases_order, false≢true, ne_eqb, cases_lt, ltb-true, lt-ltb, both_ways, not-true}
+use Rattle.std.proofs.lemmas.Bool.Decides.{eqb_tells}
+use Rattle.std.proofs.lemmas.List.Elements.{All-cons, All-head, All-nil, All-tail, Contains-get_or, All-weaker}
+use Rattle.std.proofs.lemmas.List.Folds.{Any-from_list_any, list_any-from_Any, find_at}
+use Rattle.std.specs.Option.{option_map_or}
+use Rattle.std.proofs.lemmas.List.Quantifiers.{position-Some}
+use Rattle.std.proofs.lemmas.List.Sums.{fails_before_first}
+use Rattle.std.proofs.lemmas.Option.{get_or_from_slice_get, none-some, slice_get-get_or, slice_get_within}
+use Rattle.bip_model.proofs.NumberingLemmas.{Rises, rises_from_increasing}
 use Rattle.bip_model.specs.declared.wants.Role.{Role}
 use Rattle.bip_model.specs.declared.wants.Role.TheVariants.{Moved, Seen}
 use Rattle.bip_model.specs.declared.wants.Want.{Want}
+use Rattle.bip_model.specs.Parts.{Participant, components_in, IsInteraction, IsPortIn, IsSystem}
+use Rattle.bip_model.specs.Wants.{components_of, is_moved}
+use Rattle.bip_model.proofs.ListLemmas.{All-slice_get, below_later}
+use Rattle.bip_model.specs.declared.grants.Grant.{Grant}
 use Rattle.bip_model.specs.declared.parts.Interaction.{Interaction}
 use Rattle.bip_model.specs.declared.parts.System.{System}
 use Rattle.bip_model.specs.States.{State}
 use Rattle.bip_model.specs.Steps.{IsEnabled, MayRun, participants_of}
-use Rattle.bip_model.specs.Parts.{IsInteraction, IsPortIn, IsSystem, Participant, components_in}
-use Rattle.bip_model.specs.Wants.{components_of}
+use Rattle.bip_replay.specs.Runs.{is_party, IsWanted, has_next_number, is_wrong, HasItsParties, HasNextNumber, IsNext, last_number}
 use Rattle.bip_replay.specs.Faults.{IsLowestWrong, KnownAreRight}
-use Rattle.bip_replay.specs.Runs.{has_next_number, is_party, is_wrong}
-use Rattle.bip_replay.specs.Runs.{HasItsParties, HasNextNumber, IsNext, last_number}
-use Rattle.bip_replay.proofs.PartyLemmas.{AreParties, parties-from_test, test-from_parties}
+
+-- what the test says of wants beside participants
+abbrev pub Passes : List Want → List Participant → Type 0
+Passes ws qs = (length ws ≡ length qs) × (list_all is_party (zip ws qs) ≡ true)
+
+-- whether a component is a participant's
+abbrev is_of : ℕ → Participant → Bool
+is_of c q = eqb q.0.0 c
+
+-- wants move just the components of participants, and see none
+pub record AreParties (ws : List Want) (qs : List Participant) : Type 0 where
+  pub moved : (c : ℕ) → IsWanted Moved ws c ↔ (list_any (is_of c) qs ≡ true)
+  pub seen : (c : ℕ) → IsWanted Seen ws c → ⊥
+
+-- a want that moves
+abbrev Moves : Want → Type 0
+Moves w = w.role ≡ Moved
+
+-- the role that is moved
+pub moved_role : (r : Role) → is_moved r ≡ true → r ≡ Moved
+moved_role Moved is = refl
+moved_role Seen is = absurd (false≢true is)
+
+-- numbers are above what is no more than one that all are above
+none_below : (c low : ℕ) (ns : List ℕ) → c ≤ low → AllByRecursion (λ n. low < n) ns → list_any (λ n. eqb n c) ns ≡ false
+none_below c low [] below all = refl
+none_below c low (n ∷ ns) below all = let less : low < n = all.0 in rw (ne_eqb n c (λ e. omega arith)) (none_below c low ns below all.1)
+
+has_first : (c : ℕ) (ns : List ℕ) → list_any (λ n. eqb n c) (c ∷ ns) ≡ true
+has_first c ns = rw (eq-eqb c c refl) refl
+
+-- which numbers there are
+abbrev SameNumbers : List ℕ → List ℕ → Type 0
+SameNumbers xs ys = (c : ℕ) → list_any (λ n. eqb n c) xs ≡ list_any (λ n. eqb n c) ys
+
+lower_first : (x y : ℕ) (xs ys : List ℕ) → AllByRecursion (λ n. y < n) ys → SameNumbers (x ∷ xs) (y ∷ ys) → x < y → ⊥
+lower_first x y xs ys over same less =
+    let none : list_any (λ n. eqb n x) (y ∷ ys) ≡ false = rw (ne_eqb y x (λ e. omega arith)) (none_below x y ys (omega arith) over) in
+    let e : true ≡ false = sym (has_first x xs) ∙ same x ∙ none in
+    cc
+
+-- numbers that rise are told by which there are
+same_numbers : (xs ys : List ℕ) → Rises xs → Rises ys → SameNumbers xs ys → xs ≡ ys
+same_numbers [] [] up climbs same = refl
+same_numbers [] (y ∷ ys) up climbs same = let e : false ≡ true = same y ∙ has_first y ys in cc
+same_numbers (x ∷ xs) [] up climbs same = let e : true ≡ false = sym (has_first x xs) ∙ same x in cc
+same_numbers (x ∷ xs) (y ∷ ys) up climbs same =
+    let first = by_order (cases_order x y) in
+    let rest = same_numbers xs ys up.1 climbs.1 (λ c. behind first c (eqb_tells x c)) in
+    cc
+  where
+    by_order : (x ≡ y) ⊎ ((x < y) ⊎ (y < x)) → x ≡ y
+    by_order (inl e) = e
+    by_order (inr (inl less)) = absurd (lower_first x y xs ys climbs.0 same less)
+    by_order (inr (inr more)) = absurd (lower_first y x ys xs up.0 (λ c. sym (same c)) more)
+
+    behind : x ≡ y → (c : ℕ) → ((eqb x c ≡ true) × (x ≡ c)) ⊎ ((eqb x c ≡ false) × (x ≢ c)) → list_any (λ n. eqb n c) xs ≡ list_any (λ n. eqb n c) ys
+    behind first c (inl here) = let at : x ≡ c = here.1 in none_below c x xs (omega arith) up.0 ∙ sym (none_below c y ys (omega arith) climbs.0)
+    behind first c (inr other) = rw (other.0, ap (λ n. eqb n c) (sym first) ∙ other.0) at (same c)
+
+has-map : {X : Type 0} (f : X → ℕ) (xs : List X) (c : ℕ) → list_any (λ n. eqb n c) (map f xs) ≡ list_any (λ x. eqb (f x) c) xs
+has-map f [] c = refl
+has-map f (x ∷ xs) c = ap (λ b. eqb (f x) c || b) (has-map f xs c)
+
+-- where all wants move, a component is wanted as moved exactly where one is of it
+wanted : (ws : List Want) (c : ℕ) → All Moves ws → IsWanted Moved ws c ↔ (list_any (λ (w : Want). eqb w.comp.0 c) ws ≡ true)
+wanted ws c moves = (
+  λ at. list_any-from_Any (λ (w : Want). eqb w.comp.0 c) ws (at.0, at.1, at.2, at.3, eq-eqb at.1.comp.0 c at.4.0),
+  λ is. let at = Any-from_list_any (λ (w : Want). eqb w.comp.0 c) ws is in (at.0, at.1, at.2, at.3, (eqb-true at.1.comp.0 c at.4, subst Moves at.3 (moves at.0 at.1 at.2))),
+)
+
+-- wants that pass the test move the components of the participants, one each and in order
+in_order : (ws : List Want) (qs : List Participant) → Passes ws qs → (components_of ws ≡ components_in qs) × All Moves ws
+in_order [] [] passes = (refl, All-nil Moves)
+in_order [] (q ∷ qs) passes = let same : 0 ≡ length (q ∷ qs) = passes.0 in absurd (omega arith)
+in_order (w ∷ ws) [] passes = let same : length (w ∷ ws) ≡ 0 = passes.0 in absurd (omega arith)
+in_order (w ∷ ws) (q ∷ qs) passes =
+    let here = and_parts (is_party (w, q)) (list_all is_party (zip ws qs)) passes.1 in
+    let party = and_parts (is_moved w.role) (eqb w.comp.0 q.0.0) here.0 in
+    let long : length (w ∷ ws) ≡ length (q ∷ qs) = passes.0 in
+    let first : w.comp.0 ≡ q.0.0 = eqb-true w.comp.0 q.0.0 party.1 in
+    let rest = in_order ws qs (omega arith, here.1) in
+    let same : components_of ws ≡ components_in qs = rest.0 in
+    (cc, All-cons Moves w ws (moved_role w.role party.0) rest.1)
+
+-- wants that pass the test are those of the parties
+pub parties-from_test : (ws : List Want) (qs : List Participant) → Passes ws qs → AreParties ws qs
+parties-from_test ws qs passes = record { moved = λ c. (λ at. sym (same c) ∙ (wanted ws c is.1).0 at, λ has. (wanted ws c is.1).1 (same c ∙ has)); seen = unseen }
+  where
+    is : (components_of ws ≡ components_in qs) × All Moves ws
+    is = in_order ws qs passes
+
+    same : (c : ℕ) → list_any (λ (w : Want). eqb w.comp.0 c) ws ≡ list_any (is_of c) qs
+    same c = sym (has-map (λ (w : Want). w.comp.0) ws c) ∙ (ap (list_any (λ n. eqb n c)) is.0 ∙ has-map (λ (q : Participant). q.0.0) qs c)
+
+    unseen : (c : ℕ) → IsWanted Seen ws c → ⊥
+    unseen c at = let role : Moved ≡ Seen = sym (subst Moves at.3 (is.1 at.0 at.1 at.2)) ∙ at.4.1 in cc
+
+-- wants that move the components of participants, one each and in order, pass the test
+in_order_pass : (ws : List Want) (qs : List Participant) → components_of ws ≡ components_in qs → All Moves ws → Passes ws qs
+in_order_pass [] [] same moves = (refl, refl)
+in_order_pass [] (q ∷ qs) same moves = cc
+in_order_pass (w ∷ ws) [] same moves = cc
+in_order_pass (w ∷ ws) (q ∷ qs) same moves =
+    let first : w.comp.0 ≡ q.0.0 = cc in
+    let rest : components_of ws ≡ components_in qs = cc in
+    let later = in_order_pass ws qs rest (All-tail Moves w ws moves) in
+    let l : length ws ≡ length qs = later.0 in
+    let role : is_moved w.role ≡ true = ap is_moved (All-head Moves w ws moves) in
+    (omega arith, and_from (is_party (w, q)) (list_all is_party (zip ws qs)) (and_from (is_moved w.role) (eqb w.comp.0 q.0.0) role (eq-eqb w.comp.0 q.0.0 first)) later.1)
+
+same_bool : (a b : Bool) → (a ≡ true → b ≡ true) → (b ≡ true → a ≡ true) → a ≡ b
+same_bool true b to from = sym (to refl)
+same_bool false true to from = from refl
+same_bool false false to from = refl
+
+-- wants by component that are those of the parties pass the test
+pub test-from_parties : (ws : List Want) (qs : List Participant) → IsStrictlyIncreasing (components_of ws) → IsStrictlyIncreasing (components_in qs) → AreParties ws qs → Passes ws qs
+test-from_parties ws qs rising climbing are =
+    in_order_pass ws qs (same_numbers (components_of ws) (components_in qs) (rises_from_increasing (components_of ws) rising) (rises_from_increasing (components_in qs) climbing) same) moves
+  where
+    moves : All Moves ws
+    moves = λ k d within. by_role (get_or ws k d) (Contains-get_or ws k d within) (get_or ws k d).role refl
+      where
+        by_role : (w : Want) → Contains ws w → (r : Role) → w.role ≡ r → w.role ≡ Moved
+        by_role w at Moved is = is
+        by_role w at Seen is = absurd (are.seen w.comp.0 (at.0, w, at.1, at.2, (refl, is)))
+
+    same : SameNumbers (components_of ws) (components_in qs)
+    same c =
+        has-map (λ (w : Want). w.comp.0) ws c
+        ∙ (same_bool (list_any (λ (w : Want). eqb w.comp.0 c) ws) (list_any (is_of c) qs) (λ is. (are.moved c).0 ((wanted ws c moves).1 is)) (λ is. (wanted ws c moves).0 ((are.moved c).1 is))
+        ∙ sym (has-map (λ (q : Participant). q.0.0) qs c))
 
 pub has_next-true : (used : ℕ → ℕ) (w : Want) → has_next_number used w ≡ true → HasNextNumber used w
 has_next-true used w test =
@@ -47,66 +181,43 @@ right m used w test known = by_test (has_next_number used w) refl
     by_test false e =
         absurd (both_ways (is_wrong (length m.components) used w) test (and_from (nat_lt w.comp.0 (length m.components)) (not (has_next_number used w)) (lt-ltb w.comp.0 (length m.components) known) (rw e refl)))
 
--- later components are higher
-pub rising-head : (w : Want) (ws : List Want) → IsStrictlyIncreasing (components_of (w ∷ ws)) → All (λ (v : Want). w.comp.0 < v.comp.0) ws
-rising-head w ws rising =
-    All-from_get_or (λ (v : Want). w.comp.0 < v.comp.0) ws w (λ i within.
-    let mapped : i < length (components_of ws) = simp length-map within in
-    let later : w.comp.0 < get_or (components_of ws) i 0 = AllPairs-from_increasing (components_of (w ∷ ws)) rising 0 (suc i) 0 (omega arith) (omega arith) in
-    let e : get_or (components_of ws) i 0 ≡ (get_or ws i w).comp.0 = get_or-map (λ (v : Want). v.comp.0) ws i w 0 within in
-    omega arith)
+-- whether a want of a component of the model is wrong, and the place of the first that is
+abbrev wrong_in : System → (ℕ → ℕ) → Want → Bool
+wrong_in m used = is_wrong (length m.components) used
 
-pub rising-tail : (w : Want) (ws : List Want) → IsStrictlyIncreasing (components_of (w ∷ ws)) → IsStrictlyIncreasing (components_of ws)
-rising-tail w ws rising = λ k within. AllPairs-from_increasing (components_of (w ∷ ws)) rising (suc k) (suc (k + 1)) 0 (omega arith) (omega arith)
-
--- a want of a component below another is right
-abbrev RightBelow : (ℕ → ℕ) → ℕ → Want → Type 0
-RightBelow used c w = w.comp.0 < c → HasNextNumber used w
-
-lowest_here : (m : System) (used : ℕ → ℕ) (x : Want) (xs : List Want) → IsStrictlyIncreasing (components_of (x ∷ xs)) → is_wrong (length m.components) used x ≡ true → IsLowestWrong m used (x ∷ xs) x.comp.0
-lowest_here m used x xs rising test =
-    let parts = and_parts (nat_lt x.comp.0 (length m.components)) (not (has_next_number used x)) test in
-    record {
-      known = ltb-true x.comp.0 (length m.components) parts.0;
-      wrong = (0, x, omega arith, refl, (refl, λ has. both_ways (has_next_number used x) (not-true (has_next_number used x) parts.1) (has_next-from used x has)));
-      lower = All-cons (RightBelow used x.comp.0) x xs (λ below. absurd (omega arith))
-          (All-weaker (λ (v : Want). x.comp.0 < v.comp.0) (RightBelow used x.comp.0) (λ v above below. absurd (omega arith)) xs (rising-head x xs rising));
-    }
-
-lowest_later : (m : System) (used : ℕ → ℕ) (x : Want) (xs : List Want) (c : ℕ) → is_wrong (length m.components) used x ≡ false → IsLowestWrong m used xs c → IsLowestWrong m used (x ∷ xs) c
-lowest_later m used x xs c test r =
-    let known : c < length m.components = r.known in
-    let at = r.wrong in
-    let within : at.0 < length xs = at.2 in
-    record {
-      known = r.known;
-      wrong = (suc at.0, at.1, omega arith, at.3, at.4);
-      lower = All-cons (RightBelow used c) x xs (λ below. right m used x test (omega arith)) r.lower;
-    }
+abbrev first_wrong : System → (ℕ → ℕ) → List Want → ℕ
+first_wrong m used ws = position_or_len (wrong_in m used) ws
 
 -- the first want that is wrong is of the lowest component that is
 pub lowest_wrong : (m : System) (used : ℕ → ℕ) (ws : List Want) (w : Want) → IsStrictlyIncreasing (components_of ws) → find (is_wrong (length m.components) used) ws ≡ Some w → IsLowestWrong m used ws w.comp.0
-lowest_wrong m used [] w rising found = cc
-lowest_wrong m used (x ∷ xs) w rising found = by_test (lowest_wrong m used xs w (rising-tail x xs rising)) (is_wrong (length m.components) used x) refl
+lowest_wrong m used ws w rising found =
+    let i : ℕ = first_wrong m used ws in
+    let at : slice_get ws i ≡ Some w = sym (find_at (wrong_in m used) ws) ∙ found in
+    let here = position-Some (wrong_in m used) ws i w (rw (lt-ltb i (length ws) (slice_get_within ws i w at)) refl) in
+    let parts = and_parts (nat_lt w.comp.0 (length m.components)) (not (has_next_number used w)) (rw (get_or_from_slice_get ws i w w at) at here.1) in
+    let known : w.comp.0 < length m.components = ltb-true w.comp.0 (length m.components) parts.0 in
+    record {
+      known = known;
+      wrong = (i, w, here.0, get_or_from_slice_get ws i w w at, (refl, λ has. both_ways (has_next_number used w) (not-true (has_next_number used w) parts.1) (has_next-from used w has)));
+      lower = λ k d within below. right m used (get_or ws k d) (fails_before_first (wrong_in m used) ws k d (earlier i at k d within below (cases_order k i))) (omega arith);
+    }
   where
-    by_test : (find (is_wrong (length m.components) used) xs ≡ Some w → IsLowestWrong m used xs w.comp.0) → (b : Bool) → is_wrong (length m.components) used x ≡ b → IsLowestWrong m used (x ∷ xs) w.comp.0
-    by_test rest true e =
-        let same : x ≡ w = let f : Some x ≡ Some w = rw e at found in cc in
-        subst (λ (v : Want). IsLowestWrong m used (x ∷ xs) v.comp.0) same (lowest_here m used x xs rising e)
-    by_test rest false e = lowest_later m used x xs w.comp.0 e (rest (rw e at found))
-
--- a want is right where its component is one of the model
-abbrev RightWhereKnown : System → (ℕ → ℕ) → Want → Type 0
-RightWhereKnown m used w = w.comp.0 < length m.components → HasNextNumber used w
+    earlier : (i : ℕ) → slice_get ws i ≡ Some w → (k : ℕ) (d : Want) → k < length ws → (get_or ws k d).comp.0 < w.comp.0 → (k ≡ i) ⊎ ((k < i) ⊎ (i < k)) → k < i
+    earlier i at k d within below (inl same) = let e : (get_or ws k d).comp.0 ≡ w.comp.0 = ap (λ n. (get_or ws n d).comp.0) same ∙ ap (λ (v : Want). v.comp.0) (get_or_from_slice_get ws i w d at) in absurd (omega arith)
+    earlier i at k d within below (inr (inl before)) = before
+    earlier i at k d within below (inr (inr behind)) =
+        let is : (get_or ws i d).comp.0 ≡ w.comp.0 = ap (λ (v : Want). v.comp.0) (get_or_from_slice_get ws i w d at) in
+        let above : (get_or ws i d).comp.0 < (get_or ws k d).comp.0 = below_later (λ (v : Want). v.comp.0) ws rising i k d behind within in
+        absurd (omega arith)
 
 -- where no want is wrong, each of a component of the model is right
 pub none_wrong : (m : System) (used : ℕ → ℕ) (ws : List Want) → find (is_wrong (length m.components) used) ws ≡ None → KnownAreRight m used ws
-none_wrong m used [] found = All-nil (RightWhereKnown m used)
-none_wrong m used (x ∷ xs) found = by_test (none_wrong m used xs) (is_wrong (length m.components) used x) refl
+none_wrong m used ws found =
+    λ k d within known. right m used (get_or ws k d) (fails_before_first (wrong_in m used) ws k d (past k d within (cases_lt (first_wrong m used ws) (length ws)))) known
   where
-    by_test : (find (is_wrong (length m.components) used) xs ≡ None → KnownAreRight m used xs) → (b : Bool) → is_wrong (length m.components) used x ≡ b → KnownAreRight m used (x ∷ xs)
-    by_test rest true e = let f : Some x ≡ None = rw e at found in cc
-    by_test rest false e = All-cons (RightWhereKnown m used) x xs (right m used x e) (rest (rw e at found))
+    past : (k : ℕ) (d : Want) → k < length ws → (first_wrong m used ws < length ws) ⊎ (length ws ≤ first_wrong m used ws) → k < first_wrong m used ws
+    past k d within (inl here) = absurd (none-some (get_or ws (first_wrong m used ws) d) (sym found ∙ (find_at (wrong_in m used) ws ∙ slice_get-get_or ws (first_wrong m used ws) d here)))
+    past k d within (inr all) = omega arith
 
 -- the component of a participant is one of the model
 abbrev KnownIn : System → Participant → Type 0

@@ -10,8 +10,7 @@ use Rattle.std.proofs.lemmas.Bool.{and_parts, leb-true, ltb-true}
 use Rattle.std.proofs.lemmas.List.{take-append-drop}
 use Rattle.std.proofs.lemmas.List.Quantifiers.{position-Some}
 use Rattle.std.proofs.lemmas.List.Elements.{All-append, All-cons, All-nil}
-use Rattle.std.proofs.lemmas.List.Folds.{list_any_at}
-use Rattle.std.proofs.lemmas.List.Sorted.{All-permutation, Contains-permutation, IsPermutation-sym, length_permutation}
+use Rattle.std.proofs.lemmas.List.Sorted.{All-permutation, IsPermutation-sym, list_any-IsPermutation, length_permutation}
 use Rattle.std.proofs.lemmas.Option.{cond_some, get_or_from_slice_get, option_and_then_some, slice_get-get_or, slice_get_within}
 use Rattle.bip_model.proofs.NumberingLemmas.{AreNumbered, apart_from_rises, by_number-IsPermutation, by_number-is, by_number-rises, increasing_from_rises, numbered_moved, rises_from_increasing}
 use Rattle.bip_model.specs.Naming.{AreApart, is_name, same_text}
@@ -29,8 +28,7 @@ use Rattle.bip_replay.specs.Writing.{IsGrantOf, behind_see}
 use Rattle.bip_replay.specs.declared.faults.LineFault.{LineFault}
 use Rattle.bip_replay.specs.declared.faults.LineFault.TheVariants.{Syntax, Unknown}
 use Rattle.bip_replay.specs.declared.lines.NamedWant.{NamedWant}
-use Rattle.bip_replay.proofs.KnownLemmas.{Numbers, apart_from_numbered, comp_of, found_for, known_from, name_at, numbered_from_apart}
-use Rattle.bip_replay.proofs.NamedLemmas.{AreFit, AreSaid, Say, said_wants, wants_said-from}
+use Rattle.bip_replay.proofs.NamedLemmas.{AreFit, AreSaid, Numbers, Say, apart_from_numbered, comp_of, found_for, known_from, name_at, numbered_from_apart, said_wants, wants_said-from}
 use Rattle.bip_replay.proofs.WordLemmas.{is_name-from, name-bytes, pair_of-name, position-name}
 
 -- what is there where a test passes, and what there is of what is there
@@ -323,8 +321,7 @@ line_wants m line g is =
     moving words [] some zip moved = absurd (omega arith)
     moving [] (w ∷ ws) some zip moved = absurd zip
     moving (word ∷ words) (w ∷ ws) some zip moved =
-        let there = Contains-permutation ((w ∷ ws) ++ is.seen) g.wants w moved (0, omega arith, refl) in
-        list_any_at (λ (v : Want). is_moved v.role) g.wants there.0 w there.1 (rw there.2 (ap is_moved zip.0.by_place))
+        sym (list_any-IsPermutation (λ (v : Want). is_moved v.role) ((w ∷ ws) ++ is.seen) g.wants moved) ∙ rw zip.0.by_place refl
 
 pub wants_valid : (m : System) (line : List ℕ) (h : NamedGrant) (a : ℕ) (wants : List Want) → named_on line ≡ Ok (Some h) → position (same_text h.inter) m.interaction_names ≡ Some a → wants_known m.component_names [] h.wants ≡ Some wants → IsWants wants
 wants_valid m line h a wants named place known =

@@ -1,13 +1,7 @@
-pub mod AnswerLemmas
-pub mod ExactLemmas
+pub mod FaultLawLemmas
 pub mod FaultLemmas
 pub mod GrantLemmas
-pub mod KnownLemmas
-pub mod LawLemmas
-pub mod LineLemmas
 pub mod NamedLemmas
-pub mod OneFaultLemmas
-pub mod PartyLemmas
 pub mod PositionLemmas
 pub mod ReadingLemmas
 pub mod ReplayLemmas

@@ -6,12 +6,11 @@ use Rattle.bip_model.specs.declared.parts.System.{System}
 use Rattle.bip_model.specs.States.{State}
 use Rattle.bip_model.specs.Steps.{start_of}
 use Rattle.bip_model.specs.Wants.{raised}
-use Rattle.bip_model.specs.Wants.{raised}
 use Rattle.bip_replay.specs.declared.faults.StepFault.{StepFault}
 use Rattle.bip_replay.specs.Faults.{IsFaultAt}
 use Rattle.bip_replay.specs.Runs.{IsModelRun, IsNextAt, StandsAfter, Standing, standing_after, standing_on, state_after, used_after}
-use Rattle.bip_replay.proofs.ExactLemmas.{not_next}
-use Rattle.bip_replay.proofs.RunLemmas.{IsRunFrom-last, IsRunFrom-push, end_of-push}
+use Rattle.bip_replay.proofs.FaultLawLemmas.{not_next}
+use Rattle.bip_replay.proofs.RunLemmas.{IsRunFrom-push, end_of-push, next_at}
 
 -- what can be next where grants lead goes on from them
 pub run_on : (m : System) (base : ℕ) (gs : List Grant) (p : Standing) (g : Grant) → StandsAfter m base gs p → IsNextAt p g → IsModelRun m base (gs ++ g ∷ [])
@@ -36,4 +35,4 @@ leads_on m base gs p q g leads next on =
 pub stays_out : (m : System) (base : ℕ) (gs : List Grant) (p : Standing) (g : Grant) (fault : StepFault) → StandsAfter m base gs p → IsFaultAt p g fault → IsModelRun m base (gs ++ g ∷ []) → ⊥
 stays_out m base gs p g fault leads why run =
     not_next m (state_after m gs) (used_after base gs) g fault (subst (λ (q : Standing). IsFaultAt q g fault) leads.there why)
-    (IsRunFrom-last m (start_of m) (λ _. base) gs g run)
+    (next_at m base gs [] g run)

@@ -1,6 +1,6 @@
 -- Readings of traces: the lines read so far, and the first line at fault.
 use Rattle.std.proofs.Common.{◌≡◌, ℕ, ◌+◌, List, [], ◌∷◌, ◌++◌, length, Option, None, Some, Result, Ok, Err, refl, sym, ap, ◌∙◌, subst, arith, append_assoc}
-use Rattle.std.proofs.lemmas.List.{length-append}
+use Rattle.std.proofs.lemmas.List.{append-nil, length-append}
 use Rattle.bip_model.specs.declared.grants.Grant.{Grant}
 use Rattle.bip_model.specs.declared.parts.System.{System}
 use Rattle.bip_model.specs.Texts.{lines}
@@ -9,31 +9,52 @@ use Rattle.bip_replay.specs.declared.faults.TraceFault.{TraceFault}
 use Rattle.bip_replay.specs.declared.faults.TraceFault.TheVariants.{Syntax, Unknown, Memory}
 use Rattle.std.specs.Prelude.{IsOk, take}
 use Rattle.std.proofs.Math.Seq.{take-append_seam}
-use Rattle.bip_replay.specs.Traces.{Reads, one_more}
-use Rattle.bip_replay.specs.Traces.{IsOutOfMemory, IsTraceFault, before_rest, grants_from, grants_of}
+use Rattle.bip_replay.specs.Traces.{IsOutOfMemory, IsTraceFault, Reads, before_rest, grants_from, grants_of, one_more}
 use Rattle.bip_replay.specs.Lines.{grant_on}
+
+-- what a line and those behind it read as
+pub first_read : (n : ℕ) (line : Result (Option Grant) LineFault) (behind : Result (List Grant) (ℕ × LineFault)) (gs : List Grant) → before_rest n line behind ≡ Ok gs
+    → (o : Option Grant) × (hs : List Grant) × (line ≡ Ok o) × (behind ≡ Ok hs) × (one_more [] o ++ hs ≡ gs)
+first_read n (Err e) behind gs is = cc
+first_read n (Ok None) (Ok hs) gs is = (None, hs, refl, refl, cc)
+first_read n (Ok None) (Err e) gs is = cc
+first_read n (Ok (Some g)) (Ok hs) gs is = (Some g, hs, refl, refl, cc)
+first_read n (Ok (Some g)) (Err e) gs is = cc
+
+-- grants, and what lines behind theirs read as
+abbrev pub onto : List Grant → Result (List Grant) (ℕ × LineFault) → Result (List Grant) (ℕ × LineFault)
+onto gs (Ok hs) = Ok (gs ++ hs)
+onto gs (Err e) = Err e
+
+-- what lines read as behind those that read as grants
+pub grants_from-append : (m : System) (n : ℕ) (front rest : List (List ℕ)) (gs : List Grant) → grants_from m n front ≡ Ok gs → grants_from m n (front ++ rest) ≡ onto gs (grants_from m (n + length front) rest)
+grants_from-append m n [] rest gs reads =
+    let none : [] ≡ gs = cc in
+    let same : n ≡ n + 0 = omega arith in
+    ap (λ (k : ℕ). grants_from m k rest) same ∙ (onto_none (grants_from m (n + 0) rest) ∙ ap (λ (hs : List Grant). onto hs (grants_from m (n + 0) rest)) none)
+  where
+    onto_none : (r : Result (List Grant) (ℕ × LineFault)) → r ≡ onto [] r
+    onto_none (Ok hs) = refl
+    onto_none (Err e) = refl
+grants_from-append m n (line ∷ front) rest gs reads =
+    let at = first_read n (grant_on m line) (grants_from m (n + 1) front) gs reads in
+    let later = grants_from-append m (n + 1) front rest at.1 at.3 in
+    let next : n + 1 + length front ≡ n + length (line ∷ front) = omega arith in
+    rw (at.2, later, next) (onto_first at.0 at.1 (grants_from m (n + length (line ∷ front)) rest) ∙ ap (λ (hs : List Grant). onto hs (grants_from m (n + length (line ∷ front)) rest)) at.4)
+  where
+    onto_first : (o : Option Grant) (hs : List Grant) (r : Result (List Grant) (ℕ × LineFault)) → before_rest n (Ok o) (onto hs r) ≡ onto (one_more [] o ++ hs) r
+    onto_first None hs (Ok ks) = refl
+    onto_first None hs (Err e) = refl
+    onto_first (Some g) hs (Ok ks) = refl
+    onto_first (Some g) hs (Err e) = refl
 
 -- the grants of one line more
 pub grants_from-push : (m : System) (n : ℕ) (front : List (List ℕ)) (line : List ℕ) (gs : List Grant) (o : Option Grant) → grants_from m n front ≡ Ok gs → grant_on m line ≡ Ok o → grants_from m n (front ++ line ∷ []) ≡ Ok (one_more gs o)
-grants_from-push m n [] line gs None reads says = rw says (let e : [] ≡ gs = cc in ap (λ (hs : List Grant). Ok hs) e)
-grants_from-push m n [] line gs (Some g) reads says = rw says (let e : [] ≡ gs = cc in ap (λ (hs : List Grant). Ok (hs ++ g ∷ [])) e)
-grants_from-push m n (first ∷ front) line gs o reads says =
-    by_first (λ hs e. grants_from-push m (n + 1) front line hs o e says) (grant_on m first) reads
+grants_from-push m n front line gs o reads says = grants_from-append m n front (line ∷ []) gs reads ∙ rw says (by_said o)
   where
-    by_rest : ((hs : List Grant) → grants_from m (n + 1) front ≡ Ok hs → grants_from m (n + 1) (front ++ line ∷ []) ≡ Ok (one_more hs o)) → (g : Grant) → (r : Result (List Grant) (ℕ × LineFault)) → grants_from m (n + 1) front ≡ r → before_rest n (Ok (Some g)) r ≡ Ok gs → before_rest n (Ok (Some g)) (grants_from m (n + 1) (front ++ line ∷ [])) ≡ Ok (one_more gs o)
-    by_rest later g (Err e) is s = cc
-    by_rest later g (Ok hs) is s =
-        let same : g ∷ hs ≡ gs = cc in
-        rw (later hs is) (grown o ∙ ap (λ (ks : List Grant). Ok (one_more ks o)) same)
-      where
-        grown : (p : Option Grant) → before_rest n (Ok (Some g)) (Ok (one_more hs p)) ≡ Ok (one_more (g ∷ hs) p)
-        grown None = refl
-        grown (Some h) = refl
-
-    by_first : ((hs : List Grant) → grants_from m (n + 1) front ≡ Ok hs → grants_from m (n + 1) (front ++ line ∷ []) ≡ Ok (one_more hs o)) → (r : Result (Option Grant) LineFault) → before_rest n r (grants_from m (n + 1) front) ≡ Ok gs → before_rest n r (grants_from m (n + 1) (front ++ line ∷ [])) ≡ Ok (one_more gs o)
-    by_first later (Err e) s = cc
-    by_first later (Ok None) s = later gs s
-    by_first later (Ok (Some g)) s = by_rest later g (grants_from m (n + 1) front) refl s
+    by_said : (p : Option Grant) → onto gs (before_rest (n + length front) (Ok p) (Ok [])) ≡ Ok (one_more gs p)
+    by_said None = ap (λ (hs : List Grant). Ok hs) (append-nil gs)
+    by_said (Some g) = refl
 
 pub moved_on : (front : List (List ℕ)) (text rest after line : List ℕ) → lines text ≡ front ++ lines rest → lines rest ≡ line ∷ lines after → lines text ≡ (front ++ line ∷ []) ++ lines after
 moved_on front text rest after line split next =
@@ -41,22 +62,6 @@ moved_on front text rest after line split next =
 
 pub numbered_on : (front : List (List ℕ)) (line : List ℕ) (number : ℕ) → length front + 1 ≡ number → length (front ++ line ∷ []) + 1 ≡ number + 1
 numbered_on front line number e = omega (arith, length-append front (line ∷ []))
-
--- a line at fault behind lines that read as grants
-pub grants_from-fault : (m : System) (n k : ℕ) (front rest : List (List ℕ)) (line : List ℕ) (gs : List Grant) (fault : LineFault) → grants_from m n front ≡ Ok gs → grant_on m line ≡ Err fault → k ≡ n + length front → grants_from m n (front ++ line ∷ rest) ≡ Err (k, fault)
-grants_from-fault m n k [] rest line gs fault reads says e =
-    let same : n ≡ k = omega arith in rw says (ap (λ (j : ℕ). Err (j, fault)) same)
-grants_from-fault m n k (first ∷ front) rest line gs fault reads says e =
-    by_first (λ hs r. grants_from-fault m (n + 1) k front rest line hs fault r says (omega arith)) (grant_on m first) reads
-  where
-    by_rest : ((hs : List Grant) → grants_from m (n + 1) front ≡ Ok hs → grants_from m (n + 1) (front ++ line ∷ rest) ≡ Err (k, fault)) → (g : Grant) → (r : Result (List Grant) (ℕ × LineFault)) → grants_from m (n + 1) front ≡ r → before_rest n (Ok (Some g)) r ≡ Ok gs → before_rest n (Ok (Some g)) (grants_from m (n + 1) (front ++ line ∷ rest)) ≡ Err (k, fault)
-    by_rest later g (Err d) is s = cc
-    by_rest later g (Ok hs) is s = rw (later hs is) refl
-
-    by_first : ((hs : List Grant) → grants_from m (n + 1) front ≡ Ok hs → grants_from m (n + 1) (front ++ line ∷ rest) ≡ Err (k, fault)) → (r : Result (Option Grant) LineFault) → before_rest n r (grants_from m (n + 1) front) ≡ Ok gs → before_rest n r (grants_from m (n + 1) (front ++ line ∷ rest)) ≡ Err (k, fault)
-    by_first later (Err d) s = cc
-    by_first later (Ok None) s = later gs s
-    by_first later (Ok (Some g)) s = by_rest later g (grants_from m (n + 1) front) refl s
 
 -- what has been read of a text: the lines in front read as these grants
 pub record HasRead (m : System) (text rest : List ℕ) (grants : List Grant) (number : ℕ) : Type 0 where
@@ -79,12 +84,8 @@ has_read-more m text rest after line old new number u so next reads =
 
 pub has_read-end : (m : System) (text rest : List ℕ) (grants : List Grant) (number : ℕ) → HasRead m text rest grants number → rest ≡ [] → grants_of m text ≡ Ok grants
 has_read-end m text rest grants number so empty =
-    let whole : lines text ≡ so.front = so.split ∙ (ap (λ (r : List ℕ). so.front ++ lines r) empty ∙ append_nil so.front) in
+    let whole : lines text ≡ so.front = so.split ∙ (ap (λ (r : List ℕ). so.front ++ lines r) empty ∙ append-nil so.front) in
     rw whole so.reads
-  where
-    append_nil : (ls : List (List ℕ)) → ls ++ [] ≡ ls
-    append_nil [] = refl
-    append_nil (l ∷ ls) = ap (λ (ks : List (List ℕ)). l ∷ ks) (append_nil ls)
 
 -- memory is wanting at a line that reads, behind lines that read
 pub memory_at : (m : System) (text rest after line : List ℕ) (gs : List Grant) (number : ℕ) (said : Option Grant) → HasRead m text rest gs number → lines rest ≡ line ∷ lines after → grant_on m line ≡ Ok said → IsOutOfMemory m text number
@@ -105,7 +106,8 @@ has_read-fault m text rest after line old new number fault so next reads = by_fa
     at f says =
         let numbered : length so.front + 1 ≡ number = so.numbered in
         let split : lines text ≡ so.front ++ line ∷ lines after = so.split ∙ ap (λ (ls : List (List ℕ)). so.front ++ ls) next in
-        rw split (grants_from-fault m 1 number so.front (lines after) line old f so.reads says (omega arith))
+        let at_last : 1 + length so.front ≡ number = omega arith in
+        rw split (grants_from-append m 1 so.front (line ∷ lines after) old so.reads ∙ rw says (ap (λ (k : ℕ). Err (k, f)) at_last))
 
     by_fault : (f : TraceFault) → Reads m old line (Err f) new → IsTraceFault m text number f
     by_fault Syntax says = at _ says

@@ -9,26 +9,20 @@ use Rattle.bip_replay.specs.declared.faults.ReplayFault.{ReplayFault}
 use Rattle.bip_replay.specs.declared.faults.ReplayFault.TheVariants.{Syntax, Unknown, NotARun, Memory}
 use Rattle.bip_replay.specs.Faults.{replay_of_line}
 use Rattle.bip_replay.specs.Runs.{StandsAfter, Standing, state_after, used_after}
-use Rattle.bip_replay.specs.Replays.{Takes}
-use Rattle.bip_replay.specs.Replays.{IsFirstFault, IsLineFault, IsReplayFault, IsRunOf}
+use Rattle.bip_replay.specs.Replays.{IsFirstFault, IsLineFault, IsReplayFault, IsRunOf, Takes}
 use Rattle.bip_replay.specs.Lines.{grant_on}
-use Rattle.bip_replay.specs.Traces.{grants_from}
-use Rattle.bip_replay.proofs.ReadingLemmas.{grants_from-push, has_read-none, memory_at, moved_on, numbered_on}
+use Rattle.bip_replay.proofs.ReadingLemmas.{HasRead, has_read-end, has_read-more, has_read-none, memory_at}
 use Rattle.bip_replay.proofs.PositionLemmas.{leads_on}
 
--- what has been read of a text: the lines in front read as grants that lead here
+-- what has been read of a text: grants that lead here
 pub record SoFar (m : System) (base : ℕ) (text rest : List ℕ) (p : Standing) (count number : ℕ) : Type 0 where
-  pub front : List (List ℕ)
   pub grants : List Grant
-  pub split : lines text ≡ front ++ lines rest
-  pub reads : grants_from m 1 front ≡ Ok grants
+  pub read : HasRead m text rest grants number
   pub leads : StandsAfter m base grants p
   pub counted : length grants ≡ count
-  pub numbered : length front + 1 ≡ number
 
 pub so_far-none : (m : System) (base : ℕ) (text : List ℕ) (p : Standing) → StandsAfter m base [] p → SoFar m base text text p 0 1
-so_far-none m base text p leads =
-    record { front = []; grants = []; split = refl; reads = refl; leads = leads; counted = refl; numbered = refl }
+so_far-none m base text p leads = record { grants = []; read = has_read-none m text; leads = leads; counted = refl }
 
 -- what a line says to the model of the run
 on_model : (m : System) (base : ℕ) (gs : List Grant) (p : Standing) (line : List ℕ) (r : Result (Option Grant) LineFault) → StandsAfter m base gs p → grant_on p.model line ≡ r → grant_on m line ≡ r
@@ -37,37 +31,27 @@ on_model m base gs p line r leads says = subst (λ (q : Standing). grant_on q.mo
 pub so_far-skip : (m : System) (base : ℕ) (text rest after line : List ℕ) (p q : Standing) (count number : ℕ) → SoFar m base text rest p count number → lines rest ≡ line ∷ lines after → Takes p line (Ok false) q → SoFar m base text after q count (number + 1)
 so_far-skip m base text rest after line p q count number so next takes =
     record {
-      front = so.front ++ line ∷ [];
       grants = so.grants;
-      split = moved_on so.front text rest after line so.split next;
-      reads = grants_from-push m 1 so.front line so.grants None so.reads (on_model m base so.grants p line (Ok None) so.leads takes.0);
+      read = has_read-more m text rest after line so.grants so.grants number tt so.read next (None, on_model m base so.grants p line (Ok None) so.leads takes.0, refl);
       leads = subst (λ (r : Standing). StandsAfter m base so.grants r) (sym takes.1) so.leads;
       counted = so.counted;
-      numbered = numbered_on so.front line number so.numbered;
     }
 
 pub so_far-more : (m : System) (base : ℕ) (text rest after line : List ℕ) (p q : Standing) (count number : ℕ) → SoFar m base text rest p count number → lines rest ≡ line ∷ lines after → Takes p line (Ok true) q → SoFar m base text after q (count + 1) (number + 1)
 so_far-more m base text rest after line p q count number so next takes =
     let counted : length so.grants ≡ count = so.counted in
+    let longer : List Grant = so.grants ++ takes.grant ∷ [] in
     record {
-      front = so.front ++ line ∷ [];
-      grants = so.grants ++ takes.grant ∷ [];
-      split = moved_on so.front text rest after line so.split next;
-      reads = grants_from-push m 1 so.front line so.grants (Some takes.grant) so.reads (on_model m base so.grants p line (Ok (Some takes.grant)) so.leads takes.reads);
+      grants = longer;
+      read = has_read-more m text rest after line so.grants longer number tt so.read next (Some takes.grant, on_model m base so.grants p line (Ok (Some takes.grant)) so.leads takes.reads, refl);
       leads = leads_on m base so.grants p q takes.grant so.leads takes.next takes.on;
       counted = omega (arith, length-append so.grants (takes.grant ∷ []));
-      numbered = numbered_on so.front line number so.numbered;
     }
 
 -- the end of the text: what was read is the run
 pub so_far-end : (m : System) (base : ℕ) (text rest : List ℕ) (p : Standing) (count number : ℕ) → SoFar m base text rest p count number → rest ≡ [] → IsRunOf m base text count
 so_far-end m base text rest p count number so empty =
-    let whole : lines text ≡ so.front = so.split ∙ (ap (λ (r : List ℕ). so.front ++ lines r) empty ∙ append_nil so.front) in
-    record { grants = so.grants; reads = rw whole so.reads; run = so.leads.run; counted = so.counted }
-  where
-    append_nil : (ls : List (List ℕ)) → ls ++ [] ≡ ls
-    append_nil [] = refl
-    append_nil (l ∷ ls) = ap (λ (ks : List (List ℕ)). l ∷ ks) (append_nil ls)
+    record { grants = so.grants; reads = has_read-end m text rest so.grants number so.read empty; run = so.leads.run; counted = so.counted }
 
 -- a line at fault is the first one
 pub so_far-fault : (m : System) (base : ℕ) (text rest after line : List ℕ) (p q : Standing) (count number : ℕ) (fault : ReplayFault) → SoFar m base text rest p count number → lines rest ≡ line ∷ lines after → Takes p line (Err fault) q → IsReplayFault m base text number fault
@@ -79,13 +63,13 @@ so_far-fault m base text rest after line p q count number fault so next takes = 
     first : (f : ReplayFault) → IsLineFault m (state_after m so.grants) (used_after base so.grants) line f → IsFirstFault m base text number f
     first f why =
         record {
-          front = so.front;
+          front = so.read.front;
           line = line;
           rest = lines after;
           grants = so.grants;
-          split = so.split ∙ ap (λ (ls : List (List ℕ)). so.front ++ ls) next;
-          numbered = sym so.numbered;
-          reads = so.reads;
+          split = so.read.split ∙ ap (λ (ls : List (List ℕ)). so.read.front ++ ls) next;
+          numbered = sym so.read.numbered;
+          reads = so.read.reads;
           run = so.leads.run;
           why = why;
         }

@@ -1,26 +1,40 @@
--- Runs: one grant more, the beginning of a run, and the history that a run is.
-use Rattle.std.proofs.Common.{◌≡◌, ℕ, ◌+◌, ◌<◌, List, [], ◌∷◌, ◌++◌, refl, arith}
-use Rattle.std.proofs.lemmas.List.Elements.{All-weaker}
+-- Runs: in parts, step by step, what they are histories of, and the numbers of moves.
+use Rattle.std.proofs.Common.{◌≡◌, ℕ, ◌+◌, ◌<◌, List, [], ◌∷◌, ◌++◌, refl, arith, Bool, true, false, cond, ◌&&◌, eqb, length, Option, None, Some, find, ap, ◌∙◌, subst, eqb-true, inl, inr, ◌⊎◌}
+use Rattle.std.proofs.lemmas.List.Elements.{All-weaker, All-head, All-tail, filter-append}
+use Rattle.std.specs.Prelude.{◌↔◌, All, filter, nat_lt}
+use Rattle.std.specs.List.{list_all, zip}
+use Rattle.std.specs.List.Sorted.{IsStrictlyIncreasing}
+use Rattle.std.proofs.lemmas.Bool.{and_parts, both_ways, ltb-true, lt-ltb}
+use Rattle.std.proofs.lemmas.List.{length-append}
+use Rattle.std.proofs.lemmas.List.Sums.{AllPass-from_list_all, list_all-from_AllPass}
 use Rattle.bip_model.specs.declared.grants.Grant.{Grant}
 use Rattle.bip_model.specs.declared.wants.Want.{Want}
 use Rattle.bip_model.specs.declared.parts.System.{System}
 use Rattle.bip_model.specs.Grants.{IsHistory, used_by}
 use Rattle.bip_model.specs.States.{State}
-use Rattle.bip_model.specs.Steps.{IsRun, after, end_of}
-use Rattle.bip_model.specs.Wants.{raised}
-use Rattle.bip_replay.specs.Runs.{HasNextNumber, IsNext, IsRunFrom, interactions_of}
+use Rattle.bip_model.specs.Steps.{IsRun, after, end_of, start_of, IsEnabled, MayRun, offered, participants_of}
+use Rattle.bip_model.specs.Wants.{raised, components_of, is_moved, moved_in}
+use Rattle.bip_model.proofs.LawLemmas.{rising_of}
+use Rattle.bip_model.specs.Parts.{IsSystem}
+use Rattle.bip_replay.specs.Runs.{HasNextNumber, IsModelRun, IsNext, IsRunFrom, interactions_of, state_after, used_after, is_party, is_wrong}
+use Rattle.bip_replay.specs.declared.faults.StepFault.{StepFault}
+use Rattle.bip_replay.specs.declared.faults.StepFault.TheVariants.{NotEnabled, Number, Parties}
+use Rattle.bip_replay.specs.Faults.{IsFaultOf, expected_after}
+use Rattle.bip_replay.specs.Laws.{times_moved}
+use Rattle.bip_replay.proofs.FaultLemmas.{lowest_wrong, may_run, next_from_tests, none_wrong, not_parties}
 
 pub IsRunFrom-push : (m : System) (s : State) (used : ℕ → ℕ) (gs : List Grant) (g : Grant) → IsRunFrom m s used gs → IsNext m (end_of m s (interactions_of gs)) (used_by used gs) g → IsRunFrom m s used (gs ++ g ∷ [])
 IsRunFrom-push m s used [] g run next = (next, tt)
 IsRunFrom-push m s used (h ∷ gs) g run next = (run.0, IsRunFrom-push m (after m s h.inter.0) (raised used h.wants) gs g run.1 next)
 
-pub IsRunFrom-last : (m : System) (s : State) (used : ℕ → ℕ) (gs : List Grant) (g : Grant) → IsRunFrom m s used (gs ++ g ∷ []) → IsNext m (end_of m s (interactions_of gs)) (used_by used gs) g
-IsRunFrom-last m s used [] g run = run.0
-IsRunFrom-last m s used (h ∷ gs) g run = IsRunFrom-last m (after m s h.inter.0) (raised used h.wants) gs g run.1
+-- a run in two parts: the second goes on where the first ends
+pub IsRunFrom-parts : (m : System) (s : State) (used : ℕ → ℕ) (gs hs : List Grant) → IsRunFrom m s used (gs ++ hs) → IsRunFrom m s used gs × IsRunFrom m (end_of m s (interactions_of gs)) (used_by used gs) hs
+IsRunFrom-parts m s used [] hs run = (tt, run)
+IsRunFrom-parts m s used (g ∷ gs) hs run = let rest = IsRunFrom-parts m (after m s g.inter.0) (raised used g.wants) gs hs run.1 in ((run.0, rest.0), rest.1)
 
-pub IsRunFrom-beginning : (m : System) (s : State) (used : ℕ → ℕ) (gs hs : List Grant) → IsRunFrom m s used (gs ++ hs) → IsRunFrom m s used gs
-IsRunFrom-beginning m s used [] hs run = tt
-IsRunFrom-beginning m s used (g ∷ gs) hs run = (run.0, IsRunFrom-beginning m (after m s g.inter.0) (raised used g.wants) gs hs run.1)
+-- the grant behind a beginning is next there
+pub next_at : (m : System) (base : ℕ) (front rest : List Grant) (g : Grant) → IsModelRun m base (front ++ g ∷ rest) → IsNext m (state_after m front) (used_after base front) g
+next_at m base front rest g run = (IsRunFrom-parts m (start_of m) (λ _. base) front (g ∷ rest) run).1.0
 
 pub end_of-push : (m : System) (s : State) (gs : List Grant) (g : Grant) → end_of m s (interactions_of (gs ++ g ∷ [])) ≡ after m (end_of m s (interactions_of gs)) g.inter.0
 end_of-push m s [] g = refl
@@ -40,3 +54,99 @@ IsHistory-from_run m s used (g ∷ gs) run = (
   All-weaker (HasNextNumber used) (λ (w : Want). used w.comp.0 < w.number) (fresh used) g.wants run.0.numbers,
   IsHistory-from_run m (after m s g.inter.0) (raised used g.wants) gs run.1,
 )
+
+pub grants-back : (m : System) (base : ℕ) (gs : List Grant) (g : Grant) → IsModelRun m base (gs ++ g ∷ []) ↔ (IsModelRun m base gs × IsNext m (state_after m gs) (used_after base gs) g)
+grants-back m base gs g = (
+  λ run. ((IsRunFrom-parts m (start_of m) (λ _. base) gs (g ∷ []) run).0, next_at m base gs [] g run),
+  λ both. IsRunFrom-push m (start_of m) (λ _. base) gs g both.0 both.1,
+)
+
+-- each grant behind a beginning of grants is next there
+abbrev EachNext : System → State → (ℕ → ℕ) → List Grant → Type 0
+EachNext m s used gs = (front rest : List Grant) (g : Grant) → gs ≡ front ++ g ∷ rest → IsNext m (end_of m s (interactions_of front)) (used_by used front) g
+
+run-from_steps : (m : System) (s : State) (used : ℕ → ℕ) (gs : List Grant) → EachNext m s used gs → IsRunFrom m s used gs
+run-from_steps m s used [] each = tt
+run-from_steps m s used (g ∷ gs) each =
+    (each [] gs g refl, run-from_steps m (after m s g.inter.0) (raised used g.wants) gs (λ front rest h e. each (g ∷ front) rest h (ap (λ (hs : List Grant). g ∷ hs) e)))
+
+pub by_steps : (m : System) (base : ℕ) (gs : List Grant) → IsModelRun m base gs ↔ EachNext m (start_of m) (λ _. base) gs
+by_steps m base gs =
+    (λ run front rest g e. next_at m base front rest g (subst (λ (hs : List Grant). IsModelRun m base hs) e run), run-from_steps m (start_of m) (λ _. base) gs)
+
+-- wants with exact numbers move a component with the number behind its used one, or not at all
+moved-next : (used : ℕ → ℕ) (ws : List Want) (c : ℕ) → All (HasNextNumber used) ws → (moved_in ws c ≡ 0) ⊎ (moved_in ws c ≡ used c + 1)
+moved-next used [] c numbers = inl refl
+moved-next used (w ∷ ws) c numbers = by_test (moved-next used ws c (All-tail (HasNextNumber used) w ws numbers)) (eqb w.comp.0 c && is_moved w.role) refl
+  where
+    by_test : (moved_in ws c ≡ 0) ⊎ (moved_in ws c ≡ used c + 1) → (b : Bool) → (eqb w.comp.0 c && is_moved w.role) ≡ b → (cond b w.number (moved_in ws c) ≡ 0) ⊎ (cond b w.number (moved_in ws c) ≡ used c + 1)
+    by_test later true e =
+        let same : w.comp.0 ≡ c = eqb-true w.comp.0 c (and_parts (eqb w.comp.0 c) (is_moved w.role) e).0 in
+        inr ((All-head (HasNextNumber used) w ws numbers).next ∙ ap (λ (k : ℕ). used k + 1) same)
+    by_test later false e = later
+
+-- whether a grant moves a component
+abbrev moves_one : ℕ → Grant → Bool
+moves_one c g = nat_lt 0 (moved_in g.wants c)
+
+-- a grant with exact numbers raises the used number of a component by one, or doesn't move it
+raised-once : (used : ℕ → ℕ) (g : Grant) (gs : List Grant) (c : ℕ) → All (HasNextNumber used) g.wants → raised used g.wants c + times_moved gs c ≡ used c + times_moved (g ∷ gs) c
+raised-once used g gs c numbers = by_move (moved-next used g.wants c numbers)
+  where
+    by_move : (moved_in g.wants c ≡ 0) ⊎ (moved_in g.wants c ≡ used c + 1) → raised used g.wants c + times_moved gs c ≡ used c + times_moved (g ∷ gs) c
+    by_move (inl none) = rw none (omega arith)
+    by_move (inr moves) = rw (moves, lt-ltb 0 (used c + 1) (omega arith)) (omega arith)
+
+used-counts : (m : System) (s : State) (used : ℕ → ℕ) (gs : List Grant) (c : ℕ) → IsRunFrom m s used gs → used_by used gs c ≡ used c + times_moved gs c
+used-counts m s used [] c run = omega arith
+used-counts m s used (g ∷ gs) c run = used-counts m (after m s g.inter.0) (raised used g.wants) gs c run.1 ∙ raised-once used g gs c run.0.numbers
+
+pub counts_moves : (m : System) (base : ℕ) (gs : List Grant) (c : ℕ) → IsModelRun m base gs → used_after base gs c ≡ base + times_moved gs c
+counts_moves m base gs c run = used-counts m (start_of m) (λ _. base) gs c run
+
+pub numbered : (m : System) (base : ℕ) (front rest : List Grant) (g : Grant) (c : ℕ) → IsModelRun m base (front ++ g ∷ rest) → 0 < moved_in g.wants c → moved_in g.wants c ≡ base + times_moved (front ++ g ∷ []) c
+numbered m base front rest g c run moves = by_move (moved-next (used_after base front) g.wants c (next_at m base front rest g run).numbers)
+  where
+    before : used_after base front c ≡ base + times_moved front c
+    before = counts_moves m base front c (IsRunFrom-parts m (start_of m) (λ _. base) front (g ∷ rest) run).0
+
+    one_more : times_moved (front ++ g ∷ []) c ≡ times_moved front c + 1
+    one_more =
+        ap length (filter-append (moves_one c) front (g ∷ []))
+        ∙ (length-append (filter (moves_one c) front) (filter (moves_one c) (g ∷ []))
+        ∙ ap (λ (n : ℕ). length (filter (moves_one c) front) + n) (rw (lt-ltb 0 (moved_in g.wants c) moves) refl))
+
+    by_move : (moved_in g.wants c ≡ 0) ⊎ (moved_in g.wants c ≡ used_after base front c + 1) → moved_in g.wants c ≡ base + times_moved (front ++ g ∷ []) c
+    by_move (inl none) = absurd (omega arith)
+    by_move (inr next) = omega (arith, before, one_more)
+
+-- an interaction is enabled, or it isn't
+is_enabled : (m : System) (s : State) (a : ℕ) → IsEnabled m s a ⊎ (¬ IsEnabled m s a)
+is_enabled m s a = by_number (nat_lt a (length m.interactions)) refl
+  where
+    by_ports : a < length m.interactions → (b : Bool) → list_all (offered m s) (participants_of m a) ≡ b → IsEnabled m s a ⊎ (¬ IsEnabled m s a)
+    by_ports known true e = inl (record { declared = known; offered_all = AllPass-from_list_all (offered m s) (participants_of m a) e })
+    by_ports known false e = inr (λ is. both_ways (list_all (offered m s) (participants_of m a)) e (list_all-from_AllPass (offered m s) (participants_of m a) is.offered_all))
+
+    by_number : (b : Bool) → nat_lt a (length m.interactions) ≡ b → IsEnabled m s a ⊎ (¬ IsEnabled m s a)
+    by_number true e = by_ports (ltb-true a (length m.interactions) e) (list_all (offered m s) (participants_of m a)) refl
+    by_number false e = inr (λ is. both_ways (nat_lt a (length m.interactions)) e (lt-ltb a (length m.interactions) is.declared))
+
+-- a grant is next, or has a fault
+abbrev pub NextOrFault : System → State → (ℕ → ℕ) → Grant → Type 0
+NextOrFault m s used g = IsNext m s used g ⊎ ((fault : StepFault) × IsFaultOf m s used g fault)
+
+pub next_or_fault : (m : System) (s : State) (used : ℕ → ℕ) (g : Grant) → IsSystem m → IsStrictlyIncreasing (components_of g.wants) → NextOrFault m s used g
+next_or_fault m s used g valid rising = by_enabled (is_enabled m s g.inter.0)
+  where
+    by_parties : MayRun m s g.inter.0 → find (is_wrong (length m.components) used) g.wants ≡ None → (b : Bool) → (eqb (length g.wants) (length (participants_of m g.inter.0)) && list_all is_party (zip g.wants (participants_of m g.inter.0))) ≡ b → NextOrFault m s used g
+    by_parties may none true e = inl (next_from_tests m s used g (participants_of m g.inter.0) valid refl may none e)
+    by_parties may none false e = inr (Parties, (may, none_wrong m used g.wants none, not_parties m s g (participants_of m g.inter.0) refl rising (rising_of m g.inter.0 valid) e))
+
+    by_wrong : MayRun m s g.inter.0 → (o : Option Want) → find (is_wrong (length m.components) used) g.wants ≡ o → NextOrFault m s used g
+    by_wrong may (Some w) e = inr (Number w.comp (expected_after (used w.comp.0)), (may, lowest_wrong m used g.wants w rising e, refl))
+    by_wrong may None e = by_parties may e (eqb (length g.wants) (length (participants_of m g.inter.0)) && list_all is_party (zip g.wants (participants_of m g.inter.0))) refl
+
+    by_enabled : IsEnabled m s g.inter.0 ⊎ (¬ IsEnabled m s g.inter.0) → NextOrFault m s used g
+    by_enabled (inl is) = by_wrong (may_run m s g.inter.0 is) (find (is_wrong (length m.components) used) g.wants) refl
+    by_enabled (inr not_now) = inr (NotEnabled, not_now)

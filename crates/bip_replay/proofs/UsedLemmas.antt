@@ -3,9 +3,9 @@ use Rattle.std.proofs.Common.{◌≡◌, ◌≢◌, ℕ, ◌+◌, ◌<◌, Bool,
 use Rattle.std.specs.Prelude.{All}
 use Rattle.std.specs.List.Sorted.{IsStrictlyIncreasing}
 use Rattle.std.proofs.lemmas.Bool.{ne_eqb, eqb-true, and_parts}
-use Rattle.std.proofs.lemmas.List.{get_or-map, get_or-take, length-map, length-take-le, take_more}
+use Rattle.std.proofs.lemmas.List.{get_or-take, length-take-le, take_more}
 use Rattle.std.proofs.lemmas.List.Elements.{All-head, All-tail, All-from_get_or}
-use Rattle.std.proofs.lemmas.List.Kept.{AllPairs-from_increasing}
+use Rattle.bip_model.proofs.ListLemmas.{below_later}
 use Rattle.bip_model.specs.declared.wants.Want.{Want}
 use Rattle.bip_model.specs.Wants.{components_of, is_moved, moved_in}
 
@@ -40,11 +40,7 @@ others_before ws i d rising within =
     let shorter : length (take i ws) ≡ i = length-take-le i ws (omega arith) in
     All-from_get_or (IsOther (get_or ws i d).comp.0) (take i ws) d (λ k below.
     let earlier : k < i = omega arith in
-    let early : k < length ws = omega arith in
-    let mapped : i < length (components_of ws) = simp length-map within in
-    let e : get_or (components_of ws) k 0 ≡ (get_or ws k d).comp.0 = get_or-map (λ (v : Want). v.comp.0) ws k d 0 early in
-    let f : get_or (components_of ws) i 0 ≡ (get_or ws i d).comp.0 = get_or-map (λ (v : Want). v.comp.0) ws i d 0 within in
-    let less : get_or (components_of ws) k 0 < get_or (components_of ws) i 0 = AllPairs-from_increasing (components_of ws) rising k i 0 earlier mapped in
+    let less : (get_or ws k d).comp.0 < (get_or ws i d).comp.0 = below_later (λ (v : Want). v.comp.0) ws rising k i d earlier within in
     rw (get_or-take i ws k d earlier) (λ same. omega arith))
 
 -- used numbers after one more want

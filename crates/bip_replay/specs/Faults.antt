@@ -67,6 +67,7 @@ abbrev pub replay_of_line : LineFault → ReplayFault
 replay_of_line line.Syntax = replay.Syntax
 replay_of_line line.Unknown = replay.Unknown
 
+-- the number of a book's fault
 abbrev pub number_of_book : BookFault → ℕ
 number_of_book book.NotEnabled = 1
 number_of_book (book.Below b) = 2
@@ -74,6 +75,7 @@ number_of_book (book.Number c expected) = 3
 number_of_book book.Parties = 4
 number_of_book book.Memory = 5
 
+-- the words of a book's fault
 abbrev pub text_of_book : BookFault → List ℕ
 text_of_book book.NotEnabled = codes "not enabled"
 text_of_book (book.Below b) = codes "below interaction " ++ decimal b.0
@@ -86,29 +88,35 @@ text_of_book book.Memory = codes "no memory"
 abbrev pub number_of_step : StepFault → ℕ
 number_of_step fault = number_of_book (of_step fault)
 
+-- the words of a step's fault
 abbrev pub text_of_step : StepFault → List ℕ
 text_of_step fault = text_of_book (of_step fault)
 
+-- the words of a line's fault
 abbrev pub text_of_line : LineFault → List ℕ
 text_of_line line.Syntax = codes "syntax"
 text_of_line line.Unknown = codes "unknown name"
 
+-- the number of a trace's fault
 abbrev pub number_of_trace : TraceFault → ℕ
 number_of_trace trace.Syntax = 1
 number_of_trace trace.Unknown = 2
 number_of_trace trace.Memory = 3
 
+-- the words of a trace's fault
 abbrev pub text_of_trace : TraceFault → List ℕ
 text_of_trace trace.Syntax = text_of_line line.Syntax
 text_of_trace trace.Unknown = text_of_line line.Unknown
 text_of_trace trace.Memory = codes "no memory"
 
+-- the number of a replay's fault
 abbrev pub number_of_replay : ReplayFault → ℕ
 number_of_replay replay.Syntax = 1
 number_of_replay replay.Unknown = 2
 number_of_replay (replay.NotARun fault) = 3
 number_of_replay replay.Memory = 4
 
+-- the words of a replay's fault
 abbrev pub text_of_replay : ReplayFault → List ℕ
 text_of_replay replay.Syntax = text_of_line line.Syntax
 text_of_replay replay.Unknown = text_of_line line.Unknown

@@ -2,8 +2,8 @@
 -- between words, and a line feed after each line.
 use Rattle.std.specs.Fmt.{decimal}
 use Rattle.std.specs.List.{flat_map}
-use Rattle.std.specs.Prelude.{All, Bool, IsTrue, List, Ok, Some, [], codes, filter, length, map, not}
-use Rattle.std.specs.Prelude.{slice_index_or, ℕ, ◌++◌, ◌<◌, ◌^◌, ◌∷◌, ◌≡◌}
+use Rattle.std.specs.Prelude.{All, Bool, IsTrue, List, Ok, Some, [], codes, filter, length, map}
+use Rattle.std.specs.Prelude.{not, slice_index_or, ℕ, ◌++◌, ◌<◌, ◌^◌, ◌∷◌, ◌≡◌}
 use Rattle.bip_model.specs.Naming.{IsName}
 use Rattle.bip_model.specs.Texts.{line_feed, is_plain}
 use Rattle.bip_model.specs.Wants.{is_moved}
@@ -47,6 +47,7 @@ words_behind m g =
     name_in m.interaction_names g.inter.0
     ∷ (want_words m Moved g.wants ++ behind_see (want_words m Seen g.wants))
 
+-- what parts the words of a line that is written
 abbrev pub space : ℕ
 space = 32
 

@@ -76,6 +76,19 @@ fn with_third(
     builder.interaction(name(rt, text), &participants)
 }
 
+/// The model of lines that are all taken.
+fn built<F: FnOnce(&mut Builder) -> Result<(), BuildFault>>(
+    rt: &impl Abort,
+    alloc: Global,
+    say: F,
+) -> Model
+    requires { F.IsAlwaysCallable say }
+{
+    let mut builder = Builder::new(alloc).expect(rt, "memory");
+    say(&mut builder).expect(rt, "lines");
+    builder.finish().expect(rt, "a model")
+}
+
 /// Two components that go their own ways, each once.
 fn say_own_ways(rt: &impl Abort, builder: &mut Builder) -> Result<(), BuildFault> {
     switch(rt, builder, "A")?;
@@ -85,9 +98,7 @@ fn say_own_ways(rt: &impl Abort, builder: &mut Builder) -> Result<(), BuildFault
 }
 
 fn own_ways(rt: &impl Abort, alloc: Global) -> Model {
-    let mut builder = Builder::new(alloc).expect(rt, "memory");
-    say_own_ways(rt, &mut builder).expect(rt, "lines");
-    builder.finish().expect(rt, "a model")
+    built(rt, alloc, |builder| say_own_ways(rt, builder))
 }
 
 /// Two components that each move once with a third, which moves once.
@@ -100,9 +111,7 @@ fn say_shared(rt: &impl Abort, builder: &mut Builder) -> Result<(), BuildFault> 
 }
 
 fn shared(rt: &impl Abort, alloc: Global) -> Model {
-    let mut builder = Builder::new(alloc).expect(rt, "memory");
-    say_shared(rt, &mut builder).expect(rt, "lines");
-    builder.finish().expect(rt, "a model")
+    built(rt, alloc, |builder| say_shared(rt, builder))
 }
 
 fn moved(comp: u16, number: Number) -> Want {

@@ -44,7 +44,8 @@ fn write_line(text: &mut Vec<u8>, model: &Model, grant: &Grant) -> Result<(), Al
 fn write_seen(text: &mut Vec<u8>, model: &Model, wants: &[Want]) -> Result<(), AllocError>
     requires { All (λ (w : Want). w.comp.0 < length model.now.component_names) wants.now }
     ensures { OnOk result
-        (text.new.items ≡ text.old.items ++ flat_map spaced (behind_see (want_words model.now Seen wants.now))) }
+        (text.new.items
+        ≡ text.old.items ++ flat_map spaced (behind_see (want_words model.now Seen wants.now))) }
 {
     if look(wants) {
         write_word(text, b"see")?;

@@ -1,7 +1,5 @@
-use Rattle.bip_replay.proofs.AnswerLemmas.{run_or_fault}
-use Rattle.bip_replay.proofs.ExactLemmas.{not_next, no_run}
-use Rattle.bip_replay.proofs.LawLemmas.{next_or_fault}
-use Rattle.bip_replay.proofs.OneFaultLemmas.{one_first, one_step}
+use Rattle.bip_replay.proofs.FaultLawLemmas.{no_run, not_next, one_first, one_step, run_or_fault}
+use Rattle.bip_replay.proofs.RunLemmas.{next_or_fault}
 use Rattle.bip_replay.proofs.laws.fault_laws.Goals as goal
 
 pub returns : goal.returns

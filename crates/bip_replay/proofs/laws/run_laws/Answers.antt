@@ -1,6 +1,5 @@
 use Rattle.bip_model.specs.Steps.{start_of}
-use Rattle.bip_replay.proofs.LawLemmas.{by_steps, counts_moves, grants-back, numbered}
-use Rattle.bip_replay.proofs.RunLemmas.{IsHistory-from_run, IsRun-from_grants, IsRunFrom-beginning, end_of-push}
+use Rattle.bip_replay.proofs.RunLemmas.{IsHistory-from_run, IsRun-from_grants, IsRunFrom-parts, by_steps, counts_moves, end_of-push, grants-back, numbered}
 use Rattle.bip_replay.proofs.laws.run_laws.Goals as goal
 
 pub returns : goal.returns
@@ -11,7 +10,7 @@ returns c =
       states = λ m. end_of-push m (start_of m);
       numbers = c.history_laws.ensures.used_on;
       grants = grants-back;
-      beginnings = λ m base. IsRunFrom-beginning m (start_of m) (λ _. base);
+      beginnings = λ m base gs hs run. (IsRunFrom-parts m (start_of m) (λ _. base) gs hs run).0;
       by_steps = by_steps;
       steps = λ m base. IsRun-from_grants m (start_of m) (λ _. base);
       histories = λ m base. IsHistory-from_run m (start_of m) (λ _. base);

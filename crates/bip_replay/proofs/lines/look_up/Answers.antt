@@ -4,7 +4,7 @@ use Rattle.std.proofs.lemmas.List.Sorted.{IsNonDecreasingBy-from_sort_by_key}
 use Rattle.arrayvec.proofs.ArrayVecLemmas.{items-with_items}
 use Rattle.bip_model.specs.declared.wants.Want.{Want}
 use Rattle.bip_replay.specs.Lines.{wants_by_component, wants_known}
-use Rattle.bip_replay.proofs.KnownLemmas.{comp_of, sorted_wants}
+use Rattle.bip_replay.proofs.NamedLemmas.{comp_of, sorted_wants}
 use Rattle.bip_replay.proofs.lines.look_up.Goals as goal
 
 pub returns : goal.returns

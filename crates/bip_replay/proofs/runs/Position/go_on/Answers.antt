@@ -1,8 +1,7 @@
 use Rattle.std.proofs.Common.{◌≡◌, length, arith}
 use Rattle.std.proofs.lemmas.List.Elements.{Contains-get_or}
 use Rattle.bip_model.specs.States.{state_of}
-use Rattle.bip_replay.proofs.FaultLemmas.{moved_known}
-use Rattle.bip_replay.proofs.PartyLemmas.{moved_role}
+use Rattle.bip_replay.proofs.FaultLemmas.{moved_known, moved_role}
 use Rattle.bip_replay.proofs.runs.Position.go_on.Goals as goal
 
 pub use_up-requires-clause-known : goal.use_up-requires-clause-known
