@@ -48,7 +48,7 @@ module _ {C : Type 0} (v : C → List ℕ × List InterId) (m : System) (cs : Li
 
   -- classes that were made of them
   pub made : (classes : Partition) → classes.count ≡ length m.interactions → classes.names ≡ map (λ c. (v c).0) cs
-      → classes.members ≡ map (λ c. in_order (length m.interactions) (v c).1) cs → classes ≡ classes_of m (map v cs)
+      → classes.members ≡ map (λ c. in_order (v c).1) cs → classes ≡ classes_of m (map v cs)
   made classes count names members = simp map-map (rw (← members, ← names, ← count) refl)
 
 -- the lists that a whole reading has are no partition

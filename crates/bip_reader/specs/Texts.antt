@@ -39,7 +39,7 @@ abbrev pub classes_of : System → ClassList → Partition
 classes_of m list = record {
   count = length m.interactions;
   names = map (λ c. c.0) list;
-  members = map (λ c. in_order (length m.interactions) c.1) list;
+  members = map (λ c. in_order c.1) list;
 }
 
 -- a reading declares a model with classes: it is whole, no interaction stands above itself, the
