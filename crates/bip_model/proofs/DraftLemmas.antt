@@ -1,6 +1,6 @@
 -- Each line leads from a draft that lines lead to, to another one.
 use Rattle.std.proofs.Common.{◌≡◌, ◌≢◌, ℕ, zero, suc, ◌+◌, ◌<◌, ◌≤◌, Bool, true, false, cond, ◌||◌, eqb, leb, ltb, List, [], ◌∷◌, ◌++◌, length, get_or, Option, None, Some, Ok, Err, refl, sym, ap, ◌∙◌, subst, arith}
-use Rattle.bip_model.specs.Outcomes.{Answers, new_or_fault}
+use Rattle.bip_model.specs.Faults.{Answers, new_or_fault}
 use Rattle.std.specs.Prelude.{unwrap_or, IfSome, IsNone, IsSome, OnErr, Result, is_some, slice_get}
 use Rattle.std.specs.List.{list_any}
 use Rattle.std.proofs.lemmas.Bool.{eqb-false, false_from_ne_true, false≢true, leb-false, ltb-false}

@@ -6,10 +6,10 @@ pub mod ListLemmas
 pub mod NameLemmas
 pub mod NumberLemmas
 pub mod NumberingLemmas
-pub mod PaddingLemmas
 pub mod ParticipantLemmas
 pub mod PartitionLemmas
 pub mod PortLemmas
+pub mod SequenceLemmas
 pub mod StateLemmas
 pub mod StepLemmas
 pub mod TextLemmas

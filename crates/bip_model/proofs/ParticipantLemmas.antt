@@ -12,7 +12,7 @@ use Rattle.std.proofs.lemmas.Option.{slice_get_within}
 use Rattle.bip_model.specs.Drafts.{by_component, number_in, participant_named, participants_named}
 use Rattle.bip_model.specs.Laws.{AreNamed, NamesInAnyOrder, NamesParticipants}
 use Rattle.bip_model.specs.Naming.{same_text}
-use Rattle.bip_model.specs.Outcomes.{◌>>=◌}
+use Rattle.bip_model.specs.Faults.{◌>>=◌}
 use Rattle.bip_model.specs.Parts.{IsPortIn, Participant, components_in}
 use Rattle.bip_model.specs.declared.faults.BuildFault.{BuildFault}
 use Rattle.bip_model.specs.declared.faults.BuildFault.TheVariants.{Twice, Unknown}

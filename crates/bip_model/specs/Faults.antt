@@ -1,5 +1,5 @@
--- The numbers and the texts of faults.
-use Rattle.std.specs.Prelude.{ℕ, List, ◌++◌, codes}
+-- What a call answered, the value or a fault; and the numbers and the texts of faults.
+use Rattle.std.specs.Prelude.{◌≡◌, ℕ, List, ◌++◌, codes, Result, Ok, Err}
 use Rattle.std.specs.Fmt.{decimal}
 use Rattle.bip_model.specs.declared.faults.BuildFault.{BuildFault}
 use Rattle.bip_model.specs.declared.faults.BuildFault.TheVariants as build
@@ -7,6 +7,25 @@ use Rattle.bip_model.specs.declared.faults.ClassFault.{ClassFault}
 use Rattle.bip_model.specs.declared.faults.ClassFault.TheVariants as class_fault
 use Rattle.bip_model.specs.declared.faults.NotNow.{NotNow}
 use Rattle.bip_model.specs.declared.faults.NotNow.TheVariants.{NotEnabled, Below}
+
+-- what is said of a thing, and then of what that gave; the first fault is the fault of both
+infixl 10 ◌>>=◌
+abbrev pub ◌>>=◌ : {A B E : Type 0} → Result A E → (A → Result B E) → Result B E
+(Ok x) >>= f = f x
+(Err e) >>= f = Err e
+
+-- what a call that changes a value answered: the new value, or its fault
+abbrev pub new_or_fault : {U X E : Type 0} → Result U E → X → Result X E
+new_or_fault (Ok u) new = Ok new
+new_or_fault (Err e) new = Err e
+
+-- a call answered what is said, the value or the fault; or memory was wanting where there is no
+-- fault
+abbrev pub Answers : {X E : Type 0} → E → Result X E → Result X E → Type 0
+Answers memory (Ok x) (Ok y) = y ≡ x
+Answers memory (Ok x) (Err e) = e ≡ memory
+Answers memory (Err f) (Ok y) = ⊥
+Answers memory (Err f) (Err e) = e ≡ f
 
 abbrev pub number_of_not_now : NotNow → ℕ
 number_of_not_now NotEnabled = 1

@@ -2,14 +2,12 @@ pub mod Drafts
 pub mod Faults
 pub mod Grants
 pub mod Laws
-pub mod Lines
 pub mod Moves
 pub mod Naming
 pub mod Numbering
-pub mod Outcomes
-pub mod Padding
 pub mod Partitions
 pub mod Parts
+pub mod Sequence
 pub mod States
 pub mod Steps
 pub mod Texts

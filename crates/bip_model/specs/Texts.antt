@@ -6,6 +6,9 @@ use Rattle.std.specs.Char.{is_ascii_digit, is_ascii_graphic}
 use Rattle.std.specs.List.{list_all, slice_split}
 use Rattle.std.specs.Option.{option_map}
 use Rattle.std.specs.Str.Parse.{digits_value}
+use Rattle.bip_model.specs.declared.texts.Line.{Line}
+use Rattle.bip_model.specs.declared.texts.TheConstants.{NUMBER_DIGITS}
+use Rattle.bip_model.specs.declared.texts.Line.TheVariants.{BadByte, Nothing, Words}
 
 -- a byte more at the front of the first line
 abbrev pub onto_first_line : ℕ → List (List ℕ) → List (List ℕ)
@@ -26,7 +29,7 @@ lines (b ∷ bs) = if is_line_feed b then [] ∷ lines bs else onto_first_line b
 
 -- a text is a line, its line feed and the rest, or it is a line alone
 unfoldable pub IsLineAndRest : List ℕ → List ℕ → List ℕ → Type 0
-IsLineAndRest text line rest = (text ≡ line ++ 10 ∷ rest) ⊎ ((text ≡ line) × (rest ≡ []))
+IsLineAndRest text line rest = (text ≡ line ++ line_feed ∷ rest) ⊎ ((text ≡ line) × (rest ≡ []))
 
 -- the number of the last line; an empty text has one line
 abbrev pub last_line : List ℕ → ℕ
@@ -55,15 +58,25 @@ IsWordAndRest line word rest =
     (blanks : List ℕ) × All (λ b. IsTrue (is_blank b)) blanks × (line ≡ blanks ++ word ++ rest)
     × ((rest ≡ []) ⊎ IsTrue (is_blank (slice_index rest 0)))
 
+-- the byte that begins a comment
+abbrev pub number_sign : ℕ
+number_sign = 35
+
 -- the first word begins with a number sign
 abbrev pub is_comment : List (List ℕ) → Bool
 is_comment [] = false
-is_comment (word ∷ rest) = slice_index word 0 == 35
+is_comment (word ∷ rest) = slice_index word 0 == number_sign
 
 -- the words that a line says, none of a comment; none at all where a byte can stand in no line
 abbrev pub words_said : List ℕ → Option (List (List ℕ))
 words_said line = if is_plain line then Some (if is_comment (words line) then [] else words line)
     else None
+
+-- the words that were read: none at all where a byte can stand in no line
+abbrev pub words_read : Line → Option (List (List ℕ))
+words_read BadByte = None
+words_read Nothing = Some []
+words_read (Words first rest) = Some (first.now ∷ words rest.now)
 
 -- a line says something: it has words and is no comment, or a byte that can stand in no line
 abbrev pub says_something : Option (List (List ℕ)) → Bool
@@ -85,7 +98,7 @@ is_numeral most word = nat_lt 0 (length word) && nat_le (length word) most
 -- 64 bits
 abbrev pub number_of : List ℕ → Option ℕ
 number_of word =
-    if is_numeral 20 word && nat_lt 0 (digits_value 10 word)
+    if is_numeral NUMBER_DIGITS word && nat_lt 0 (digits_value 10 word)
     && nat_lt (digits_value 10 word) (2 ^ 64) then Some (digits_value 10 word) else None
 
 -- what stands before and after the first such byte of a word

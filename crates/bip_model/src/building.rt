@@ -6,7 +6,7 @@ ghost use Rattle.bip_model.specs.Drafts.{component_line, empty_draft, IsEndFault
 ghost use Rattle.bip_model.specs.Drafts.{end_line, inside, interaction_line, loc_line, port_line};
 ghost use Rattle.bip_model.specs.Drafts.{trans_line};
 ghost use Rattle.bip_model.specs.Naming.{same_text};
-ghost use Rattle.bip_model.specs.Outcomes.{Answers, new_or_fault};
+ghost use Rattle.bip_model.specs.Faults.{Answers, new_or_fault};
 ghost use Rattle.bip_model.specs.Steps.{IsCyclic};
 ghost use Rattle.bip_model.specs.declared.faults.BuildFault.TheVariants.{Memory};
 

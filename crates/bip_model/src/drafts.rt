@@ -7,7 +7,7 @@ ghost use Rattle.bip_model.specs.Drafts.{interaction_line, is_taken, loc_line, n
 ghost use Rattle.bip_model.specs.Drafts.{participant_named, participants_named};
 ghost use Rattle.bip_model.specs.Drafts.{port_line, trans_line, with_interaction, with_transition};
 ghost use Rattle.bip_model.specs.Naming.{is_known};
-ghost use Rattle.bip_model.specs.Outcomes.{Answers, new_or_fault};
+ghost use Rattle.bip_model.specs.Faults.{Answers, new_or_fault};
 ghost use Rattle.bip_model.specs.declared.faults.BuildFault.TheVariants.{Memory};
 ghost use Rattle.bip_model.specs.Parts.{IsComponentSoFar, IsSystemSoFar, Participant, same_start};
 ghost use Rattle.std.specs.List.{list_any};

@@ -11,29 +11,33 @@ use std::alloc::{AllocError, Global};
 use std::hash::{Hash, Hasher};
 use std::marker::Model;
 
+/// How many bytes a name has at most.
+pub(crate) const MOST_NAME_BYTES: usize = 32;
+
 /// A name: a letter or `_`, then letters, digits and `_`, at most 32 bytes in all, and none of the
 /// languages' words (docs/DEFINITIONS.md, "Names"). Contracts see it as its bytes.
 #[derive(Clone, Copy, Debug)]
 pub struct Name {
-    bytes: [u8; 32],
+    bytes: [u8; MOST_NAME_BYTES],
     len: u8,
 }
 
 impl Model for Name {
     ghost use Rattle.std.specs.Prelude.{List, ℕ, take, length};
     ghost use Rattle.bip_model.specs.Naming.{IsName};
-    ghost use Rattle.bip_model.specs.Padding.{IsPadded, padded, remade};
+    ghost use Rattle.bip_model.specs.Sequence.{IsPadded, padded, remade};
+    ghost use Rattle.bip_model.specs.declared.naming.TheConstants.{MOST_NAME_BYTES};
 
     ghost Value = { List ℕ };
 
     ghost view = { λ n. take n.len n.bytes };
 
-    ghost invariant = { λ n. IsPadded 32 n.len n.bytes × IsName (take n.len n.bytes) };
+    ghost invariant = { λ n. IsPadded MOST_NAME_BYTES n.len n.bytes × IsName (take n.len n.bytes) };
 
-    ghost inverse = { λ v. record { bytes = padded 32 v; len = length v } };
+    ghost inverse = { λ v. record { bytes = padded MOST_NAME_BYTES v; len = length v } };
 
     ghost inverse_ok = { λ n h. remade
-        (λ b l. record { bytes = b; len = l }) 32 n.len n.bytes h.0 };
+        (λ b l. record { bytes = b; len = l }) MOST_NAME_BYTES n.len n.bytes h.0 };
 }
 
 impl PartialEq for Name {
@@ -77,10 +81,10 @@ impl Name {
         ensures name { IfSome result (λ name. name ≡ text.now) }
         ensures exact { IsSome result ↔ IsName text.now }
     {
-        if text.len() > 32 || !is_spelled_as_name(text) || is_reserved(text) {
+        if text.len() > MOST_NAME_BYTES || !is_spelled_as_name(text) || is_reserved(text) {
             return None;
         }
-        let mut bytes = [0; 32];
+        let mut bytes = [0; MOST_NAME_BYTES];
         bytes[..text.len()].copy_from_slice(text);
         Some(Name {
             bytes,

@@ -4,28 +4,32 @@ ghost use Rattle.std.specs.Prelude.{◌≡◌, ◌↔◌, ◌≤◌, ℕ, [], le
 use crate::{CompId, LocId};
 use std::marker::Model;
 
+/// How many values a local state has at most.
+pub(crate) const MOST_VALUES: usize = 8;
+
 /// The values of a component's variables, at most eight, in order of their numbers. Contracts see
 /// them as the list.
 #[derive(Clone, Copy, Debug)]
 pub struct Values {
-    values: [u32; 8],
+    values: [u32; MOST_VALUES],
     len: u8,
 }
 
 impl Model for Values {
     ghost use Rattle.std.specs.Prelude.{List, ℕ, take, length};
-    ghost use Rattle.bip_model.specs.Padding.{IsPadded, padded, remade};
+    ghost use Rattle.bip_model.specs.Sequence.{IsPadded, padded, remade};
+    ghost use Rattle.bip_model.specs.declared.states.TheConstants.{MOST_VALUES};
 
     ghost Value = { List ℕ };
 
     ghost view = { λ v. take v.len v.values };
 
-    ghost invariant = { λ v. IsPadded 8 v.len v.values };
+    ghost invariant = { λ v. IsPadded MOST_VALUES v.len v.values };
 
-    ghost inverse = { λ l. record { values = padded 8 l; len = length l } };
+    ghost inverse = { λ l. record { values = padded MOST_VALUES l; len = length l } };
 
     ghost inverse_ok = { λ v h. remade
-        (λ xs n. record { values = xs; len = n }) 8 v.len v.values h };
+        (λ xs n. record { values = xs; len = n }) MOST_VALUES v.len v.values h };
 }
 
 impl Values {
@@ -34,7 +38,7 @@ impl Values {
         ensures { result ≡ [] }
     {
         Values {
-            values: [0; 8],
+            values: [0; MOST_VALUES],
             len: 0,
         }
     }
@@ -42,12 +46,12 @@ impl Values {
     /// The values of a list; none where there are more than eight.
     pub fn of(list: &[u32]) -> Option<Values>
         ensures values { IfSome result (λ values. values ≡ list.now) }
-        ensures exact { IsSome result ↔ (length list.now ≤ 8) }
+        ensures exact { IsSome result ↔ (length list.now ≤ MOST_VALUES) }
     {
-        if list.len() > 8 {
+        if list.len() > MOST_VALUES {
             return None;
         }
-        let mut values = [0; 8];
+        let mut values = [0; MOST_VALUES];
         values[..list.len()].copy_from_slice(list);
         Some(Values {
             values,
@@ -58,7 +62,7 @@ impl Values {
     /// The values, in order.
     pub fn as_slice(&self) -> &[u32]
         ensures values { result.now ≡ self.now }
-        ensures few { length self.now ≤ 8 }
+        ensures few { length self.now ≤ MOST_VALUES }
     {
         &self.values[..self.len as usize]
     }

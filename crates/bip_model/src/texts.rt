@@ -5,7 +5,7 @@ ghost use Rattle.std.specs.Char.{is_ascii_digit};
 ghost use Rattle.std.specs.List.{list_all};
 ghost use Rattle.std.specs.Option.{option_map};
 ghost use Rattle.std.specs.Str.Parse.{digits_value};
-ghost use Rattle.bip_model.specs.Lines.{words_read};
+ghost use Rattle.bip_model.specs.Texts.{words_read};
 ghost use Rattle.bip_model.specs.Texts.{words_said};
 ghost use Rattle.bip_model.specs.Texts.{IsLineAndRest, IsWordAndRest, is_blank, is_line_feed};
 ghost use Rattle.bip_model.specs.Texts.{is_numeral, is_plain, lines, number_of, pair_of, words};
@@ -13,7 +13,7 @@ ghost use Rattle.bip_model.specs.Texts.{is_numeral, is_plain, lines, number_of, 
 use memchr::memchr;
 
 /// The most digits that a participation number is written with.
-const NUMBER_DIGITS: usize = 20;
+pub(crate) const NUMBER_DIGITS: usize = 20;
 
 /// The first line of a text without its line feed, and what follows it.
 pub fn split_line(text: &[u8]) -> (&[u8], &[u8])

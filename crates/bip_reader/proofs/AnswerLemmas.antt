@@ -5,7 +5,7 @@ use Rattle.std.proofs.lemmas.Bool.Decides.{nat_tests}
 use Rattle.std.specs.List.{list_all, list_any}
 use Rattle.std.specs.Option.{ok_or}
 use Rattle.bip_model.specs.Naming.{same_text}
-use Rattle.bip_model.specs.Outcomes.{Answers, new_or_fault}
+use Rattle.bip_model.specs.Faults.{Answers, new_or_fault}
 use Rattle.bip_model.specs.declared.partitions.TheConstants.{MOST_CLASSES}
 use Rattle.bip_model.specs.declared.drafts.Draft.{Draft}
 use Rattle.bip_model.specs.declared.faults.BuildFault.{BuildFault}

@@ -2,7 +2,7 @@
 use Rattle.std.proofs.Common.{◌≡◌, ℕ, suc, ◌+◌, ◌-◌, ◌<◌, List, [], ◌∷◌, length, take, drop, Result, Ok, Err, refl, ap, ◌∙◌, subst, sym, arith, inl, inr}
 use Rattle.std.specs.Prelude.{IsOk}
 use Rattle.std.proofs.lemmas.List.{take-append-drop}
-use Rattle.bip_model.specs.Outcomes.{◌>>=◌}
+use Rattle.bip_model.specs.Faults.{◌>>=◌}
 use Rattle.bip_model.specs.Texts.{lines}
 use Rattle.bip_reader.specs.declared.faults.ReadFault.{ReadFault}
 use Rattle.bip_reader.specs.declared.faults.Why.{Why}

@@ -1,5 +1,5 @@
 -- Partitions of lists that are seen in another way, and what a whole reading lacks.
-use Rattle.std.proofs.Common.{◌≡◌, ℕ, ◌<◌, List, length, map, refl, ap, ◌∙◌, subst, sym}
+use Rattle.std.proofs.Common.{◌≡◌, ◌≢◌, ℕ, ◌<◌, List, length, map, refl, ap, ◌∙◌, subst, sym}
 use Rattle.std.specs.Prelude.{All, sum, sum_by}
 use Rattle.std.proofs.lemmas.List.{get_or-map, length-map}
 use Rattle.std.proofs.lemmas.List.Elements.{All-map}
@@ -8,11 +8,14 @@ use Rattle.std.proofs.lemmas.Simd.{map-map}
 use Rattle.bip_model.specs.Naming.{AreApart}
 use Rattle.bip_model.specs.Partitions.{IsPartition, in_order, times_in}
 use Rattle.bip_model.specs.Steps.{IsCyclic}
+use Rattle.bip_model.specs.declared.faults.ClassFault.{ClassFault}
+use Rattle.bip_model.specs.declared.faults.ClassFault.TheVariants as class_fault
 use Rattle.bip_model.specs.declared.numbering.InterId.{InterId}
 use Rattle.bip_model.specs.declared.partitions.Partition.{Partition}
 use Rattle.bip_model.specs.declared.parts.System.{System}
+use Rattle.bip_reader.specs.Faults.{why_of_class}
 use Rattle.bip_reader.specs.declared.faults.Why.{Why}
-use Rattle.bip_reader.specs.declared.faults.Why.TheVariants.{NotAPartition}
+use Rattle.bip_reader.specs.declared.faults.Why.TheVariants.{Memory, NotAPartition}
 use Rattle.bip_reader.specs.declared.reading.Reading.{Reading}
 use Rattle.bip_reader.specs.Reading.{ClassList}
 use Rattle.bip_reader.specs.Texts.{IsFaultAtEnd, IsParted, IsWholeReading, classes_of, system_of}
@@ -55,3 +58,9 @@ module _ {C : Type 0} (v : C → List ℕ × List InterId) (m : System) (cs : Li
 pub unparted : (r : Reading) (m : System) (listed : ClassList) (why : Why) → m ≡ system_of r → listed ≡ r.classes → IsWholeReading r → ¬ IsCyclic (system_of r)
     → (why ≡ NotAPartition) × ¬ IsParted m listed → IsFaultAtEnd r why
 unparted r m listed why is_model is_listed whole acyclic h = rw h.0 (whole, acyclic, rw (← is_model, ← is_listed) h.1)
+
+-- classes that were refused are told as no partition, unless memory was wanting
+pub told : (fault : ClassFault) (why : Why) → why ≡ why_of_class fault
+    → (why ≢ Memory → (why ≡ NotAPartition) × (fault ≡ class_fault.NotAPartition)) × (why ≡ Memory → fault ≡ class_fault.Memory)
+told class_fault.NotAPartition why is = (λ other. (is, refl), λ wants. cc)
+told class_fault.Memory why is = (λ other. absurd (other is), λ wants. refl)

@@ -1,7 +1,7 @@
 -- Why texts that say the same words mean the same.
 use Rattle.std.proofs.Common.{◌≡◌, ℕ, ◌+◌, Bool, true, false, cond, List, [], ◌∷◌, ◌++◌, map, Option, None, Some, Result, Ok, Err, refl, ap, ◌∙◌, sym, arith}
 use Rattle.std.specs.Prelude.{filter}
-use Rattle.bip_model.specs.Outcomes.{◌>>=◌}
+use Rattle.bip_model.specs.Faults.{◌>>=◌}
 use Rattle.bip_model.specs.Texts.{is_line_feed, lines, onto_first_line, said_in, says_something, words_said}
 use Rattle.bip_reader.specs.declared.faults.ReadFault.{ReadFault}
 use Rattle.bip_reader.specs.declared.faults.Why.{Why}

@@ -3,7 +3,7 @@ use Rattle.std.proofs.Common.{◌≡◌, ℕ, ◌+◌, ◌-◌, ◌≤◌, ◌<�
 use Rattle.std.specs.Prelude.{IsOk, Some, slice_get}
 use Rattle.std.proofs.lemmas.List.{append-nil, take-append-drop, take_all}
 use Rattle.std.proofs.Math.Seq.{take-append_seam}
-use Rattle.bip_model.specs.Outcomes.{◌>>=◌}
+use Rattle.bip_model.specs.Faults.{◌>>=◌}
 use Rattle.bip_model.specs.Texts.{last_line, lines}
 use Rattle.bip_reader.specs.declared.faults.ReadFault.{ReadFault}
 use Rattle.bip_reader.specs.declared.faults.Why.{Why}

@@ -4,7 +4,7 @@ use Rattle.std.specs.Prelude.{IsNone, MatchResult, is_some, nat_lt, unwrap_or}
 use Rattle.std.specs.Option.{IsSomeAnd, ok_or, option_map, option_zip}
 use Rattle.std.proofs.lemmas.Bool.Decides.{nat_tests}
 use Rattle.bip_model.specs.Drafts.{IsDraft, IsWhole, empty_draft, loc_line, port_line, trans_line}
-use Rattle.bip_model.specs.Outcomes.{◌>>=◌}
+use Rattle.bip_model.specs.Faults.{◌>>=◌}
 use Rattle.bip_model.specs.Partitions.{IsClasses}
 use Rattle.bip_model.specs.Parts.{IsSystem}
 use Rattle.bip_model.specs.Texts.{lines, words_said}

@@ -7,7 +7,7 @@ use Rattle.std.specs.Option.{ok_or, option_map, option_map_or}
 use Rattle.bip_model.specs.Drafts.{component_line, empty_draft, end_line, inside, interaction_line}
 use Rattle.bip_model.specs.Drafts.{loc_line, port_line, trans_line}
 use Rattle.bip_model.specs.Naming.{same_text}
-use Rattle.bip_model.specs.Outcomes.{◌>>=◌}
+use Rattle.bip_model.specs.Faults.{◌>>=◌}
 use Rattle.bip_model.specs.Texts.{words_said}
 use Rattle.bip_model.specs.declared.drafts.Draft.{Draft}
 use Rattle.bip_model.specs.declared.faults.BuildFault.{BuildFault}

@@ -3,7 +3,7 @@ ghost use Rattle.std.specs.Prelude.{◌≡◌, ◌<◌, is_some, length, Err, If
 ghost use Rattle.std.specs.Prelude.{Option};
 ghost use Rattle.std.specs.Option.{ok_or};
 ghost use Rattle.bip_model.specs.Naming.{same_text};
-ghost use Rattle.bip_model.specs.Outcomes.{Answers};
+ghost use Rattle.bip_model.specs.Faults.{Answers};
 ghost use Rattle.bip_model.specs.Texts.{words};
 ghost use Rattle.bip_reader.specs.declared.faults.Why.TheVariants.{Memory, Syntax};
 ghost use Rattle.bip_reader.specs.declared.statements.Keyword.TheVariants as keyword_is;

@@ -9,7 +9,7 @@ ghost use Rattle.bip_reader.specs.Texts.{Means, classes_of, reading_of};
 
 use crate::reading::{ClassLines, Reading};
 use crate::{ReadFault, Why};
-use bip_model::{ClassFault, Classes, Model, split_line};
+use bip_model::{Classes, Model, split_line};
 use std::alloc::Global;
 
 /// The model and the classes that a text means, or its first fault: the one of the lowest line, and
@@ -63,8 +63,7 @@ fn classes_of(alloc: Global, model: &Model, listed: ClassLines) -> Result<Classe
 {
     match Classes::of(alloc, model, listed.into_vec()) {
         Ok(classes) => Ok(classes),
-        Err(ClassFault::NotAPartition) => Err(Why::NotAPartition),
-        Err(ClassFault::Memory) => Err(Why::Memory),
+        Err(fault) => Err(Why::from(fault)),
     }
 }
 

@@ -6,6 +6,7 @@ use Rattle.clap.specs.declared.error.kind.ErrorKind.TheVariants as parsing
 use Rattle.std.specs.IoError.{error_kind}
 use Rattle.std.specs.declared.io.Error as io_error
 use Rattle.std.specs.declared.io.ErrorKind.TheVariants as io
+use Rattle.bip_model.specs.Texts.{line_feed}
 use Rattle.bipr.specs.Answers.{complaining, saying}
 use Rattle.bipr.specs.Stops.{out_of_memory}
 use Rattle.bipr.specs.Wording.{complaint_text}
@@ -18,13 +19,16 @@ bad_command_line why = complaining BadCommandLine (complaint_text (codes "bad co
 
 -- what is said where the base is out of range
 abbrev pub bad_base : Answer
-bad_base = bad_command_line (codes "error: --base is 0 to 18446744073709551614" ++ 10 ∷ [])
+bad_base = bad_command_line (codes "error: --base is 0 to 18446744073709551614" ++ line_feed ∷ [])
+
+-- what is said of an argument that is no text
+abbrev pub not_text : Answer
+not_text = bad_command_line (codes "error: an argument is not UTF-8" ++ line_feed ∷ [])
 
 -- what is said where the words can't be had: memory is out, or one is no text
 pub data IsWordsAnswer (error : io_error.Error) : Answer → Type 0 where
   lacking : error_kind error ≡ io.OutOfMemory → IsWordsAnswer error out_of_memory
-  no_text : error_kind error ≢ io.OutOfMemory
-      → IsWordsAnswer error (bad_command_line (codes "error: an argument is not UTF-8" ++ 10 ∷ []))
+  no_text : error_kind error ≢ io.OutOfMemory → IsWordsAnswer error not_text
 
 -- the library's error is a mistake in the words, and no request for help or the version
 abbrev pub IsMistake : Error → Type 0

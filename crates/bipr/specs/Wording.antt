@@ -1,7 +1,7 @@
 -- What the program writes: verdicts on standard output, complaints on standard error.
 use Rattle.std.specs.Prelude.{ℕ, List, [], ◌∷◌, ◌++◌, ◌-◌, codes, slice_index_or}
 use Rattle.std.specs.Fmt.{decimal}
-use Rattle.bip_model.specs.Texts.{lines, words}
+use Rattle.bip_model.specs.Texts.{line_feed, lines, words}
 use Rattle.bip_model.specs.declared.parts.System.{System}
 use Rattle.bip_reader.specs.Faults.{text_of_fault}
 use Rattle.bip_reader.specs.declared.faults.ReadFault.{ReadFault}
@@ -14,7 +14,7 @@ use Rattle.bip_replay.specs.declared.faults.ReplayFault.{ReplayFault}
 
 -- `run N`
 abbrev pub run_text : ℕ → List ℕ
-run_text count = codes "run " ++ (decimal count ++ 10 ∷ [])
+run_text count = codes "run " ++ (decimal count ++ line_feed ∷ [])
 
 -- the word behind `grant` on the line of a trace with this number, which names the interaction
 abbrev pub interaction_on : List ℕ → ℕ → List ℕ
@@ -34,11 +34,11 @@ step_text m inter Memory = codes "no memory"
 abbrev pub verdict_text : System → List ℕ → ℕ → BookFault → List ℕ
 verdict_text m trace number fault =
     codes "line " ++ (decimal number
-    ++ (codes ": " ++ (step_text m (interaction_on trace number) fault ++ 10 ∷ [])))
+    ++ (codes ": " ++ (step_text m (interaction_on trace number) fault ++ line_feed ∷ [])))
 
 -- `bipr: ..`
 abbrev pub complaint_text : List ℕ → List ℕ
-complaint_text why = codes "bipr: " ++ (why ++ 10 ∷ [])
+complaint_text why = codes "bipr: " ++ (why ++ line_feed ∷ [])
 
 -- a model's text is refused
 abbrev pub model_refusal : ReadFault → List ℕ

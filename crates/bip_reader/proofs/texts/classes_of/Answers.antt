@@ -1,5 +1,6 @@
-use Rattle.std.proofs.Common.{Err, ap, refl}
-use Rattle.bip_reader.proofs.PartedLemmas.{made, parts, parts_as_seen}
+use Rattle.std.proofs.Common.{◌≡◌, Err, ap}
+use Rattle.bip_reader.specs.declared.faults.Why.TheVariants.{Memory}
+use Rattle.bip_reader.proofs.PartedLemmas.{made, parts, parts_as_seen, told}
 use Rattle.bip_reader.proofs.texts.classes_of.Goals as goal
 
 pub returns-in-Ok-clause-parted : goal.returns-in-Ok-clause-parted
@@ -10,10 +11,13 @@ returns-in-Ok-clause-ordered c =
     rw (← c.into_vec.ensures)
     (made (λ class. (class.0, class.1.items)) c.args.model.now c.into_vec.result.items c.in-Ok.classes c.in-Ok.ensures.of_model c.in-Ok.ensures.names c.in-Ok.ensures.members)
 
-pub returns-in-Err-NotAPartition-clause-fault : goal.returns-in-Err-NotAPartition-clause-fault
-returns-in-Err-NotAPartition-clause-fault c = λ other.
-    (refl, rw (← c.into_vec.ensures) (λ parted. c.in-Err-NotAPartition.ensures.refused (ap Err c.in-Err-NotAPartition.field-0-is) (parts_as_seen (λ class. (class.0, class.1.items)) c.args.model.now c.into_vec.result.items parted)))
+pub returns-in-Err-clause-fault : goal.returns-in-Err-clause-fault
+returns-in-Err-clause-fault c = λ other.
+    let is = (told c.in-Err.fault c.from.result c.from.ensures).0 other in
+    (is.0, rw (← c.into_vec.ensures) (λ parted. c.in-Err.ensures.refused (ap Err is.1) (parts_as_seen (λ class. (class.0, class.1.items)) c.args.model.now c.into_vec.result.items parted)))
 
-pub returns-in-Err-Memory-clause-memory : goal.returns-in-Err-Memory-clause-memory
-returns-in-Err-Memory-clause-memory c = λ wants.
-    rw (← c.into_vec.ensures) (parts (λ class. (class.0, class.1.items)) c.args.model.now c.into_vec.result.items (c.in-Err-Memory.ensures.memory (ap Err c.in-Err-Memory.field-0-is)))
+pub returns-in-Err-clause-memory : goal.returns-in-Err-clause-memory
+returns-in-Err-clause-memory c = λ wants.
+    let lacks : c.from.result ≡ Memory = cc in
+    let is = (told c.in-Err.fault c.from.result c.from.ensures).1 lacks in
+    rw (← c.into_vec.ensures) (parts (λ class. (class.0, class.1.items)) c.args.model.now c.into_vec.result.items (c.in-Err.ensures.memory (ap Err is)))

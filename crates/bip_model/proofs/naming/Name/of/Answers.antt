@@ -1,6 +1,6 @@
 use Rattle.std.proofs.Common.{◌≡◌, ◌≤◌, length, rules, arith}
 use Rattle.bip_model.specs.Naming.{IsName}
-use Rattle.bip_model.proofs.PaddingLemmas.{IsPadded-copied, take-copied}
+use Rattle.bip_model.proofs.SequenceLemmas.{IsPadded-copied, take-copied}
 use Rattle.bip_model.proofs.naming.Name.of.Goals as goal
 
 pub invariant_of-result : goal.invariant_of-result

@@ -1,5 +1,5 @@
 use Rattle.std.proofs.Common.{◌≡◌, ◌≤◌, length, rules, arith}
-use Rattle.bip_model.proofs.PaddingLemmas.{IsPadded-copied}
+use Rattle.bip_model.proofs.SequenceLemmas.{IsPadded-copied}
 use Rattle.bip_model.proofs.states.Values.of.Goals as goal
 
 pub invariant_of-result : goal.invariant_of-result

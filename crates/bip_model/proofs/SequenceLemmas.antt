@@ -2,7 +2,7 @@
 use Rattle.std.proofs.Common.{◌≡◌, ℕ, ◌≤◌, List, ◌++◌, length, take, drop, replicate, ◌∙◌, arith, length-append, length-drop}
 use Rattle.std.proofs.Math.Seq.{drop-append_seam, take-append_seam}
 use Rattle.std.proofs.lemmas.List.{drop-replicate, length-replicate}
-use Rattle.bip_model.specs.Padding.{IsPadded}
+use Rattle.bip_model.specs.Sequence.{IsPadded}
 
 -- the array of room places after a copy to its front
 abbrev pub copied : ℕ → List ℕ → List ℕ
