@@ -1,14 +1,15 @@
 -- Lines and words, taken off the front of a text.
-use Rattle.std.proofs.Common.{◌≡◌, ℕ, zero, suc, ◌<◌, Bool, true, false, not, List, [], ◌∷◌, ◌++◌, length, get_or, take, drop, drop-cons, None, refl, sym, ap, ◌∙◌, inl, inr, arith, eqb-true}
+use Rattle.std.proofs.Common.{◌≡◌, ℕ, zero, suc, ◌<◌, Bool, true, false, not, List, [], ◌∷◌, ◌++◌, length, get_or, take, drop, drop-cons, Option, None, Some, refl, sym, ap, ◌∙◌, inl, inr, arith, eqb-true}
 use Rattle.std.specs.Prelude.{All, IsTrue, filter, position}
 use Rattle.std.specs.List.{slice_split}
 use Rattle.std.specs.List.{position_or_len}
-use Rattle.std.proofs.lemmas.Bool.{cases_lt, lt-ltb}
-use Rattle.std.proofs.lemmas.List.Sums.{fails_before_first}
+use Rattle.std.proofs.lemmas.Bool.{cases_lt, false_from_ne_true, le-ltb, lt-ltb}
+use Rattle.std.proofs.lemmas.List.Sums.{fails_before_first, position_or_len_is}
 use Rattle.std.proofs.lemmas.Option.{none-some}
 use Rattle.std.proofs.lemmas.List.{get_or-take, length-take-le, take-append-drop}
 use Rattle.std.proofs.lemmas.List.Elements.{All-from_get_or}
 use Rattle.std.proofs.lemmas.List.Splits.{slice_split_at, slice_split_none}
+use Rattle.memchr.specs.Find.{IsFirstByte, is_byte}
 use Rattle.bip_model.specs.Texts.{is_blank, is_line_feed, lines, is_longer, onto_first_line, words}
 
 -- what is not blank
@@ -104,3 +105,13 @@ words_at b bs i within blank inked =
     early k below =
         let shorter : length (take (suc i) (b ∷ bs)) ≡ suc i = length-take-le (suc i) (b ∷ bs) (omega arith) in
         rw (get_or-take (suc i) (b ∷ bs) k 0 (omega arith)) (inked k (omega arith))
+
+-- the first byte that is a line feed, by its place
+pub first_is_position : (text : List ℕ) (found : Option ℕ) → IsFirstByte (is_byte 10) text found → found ≡ position is_line_feed text
+first_is_position text None none =
+    let at = position_or_len_is is_line_feed text (length text) 0 (omega arith) (λ k below. false_from_ne_true (is_line_feed (get_or text k 0)) (none k (omega arith) below)) (λ within. absurd (omega arith)) in
+    rw (at, le-ltb (length text) (length text) (omega arith)) refl
+first_is_position text (Some i) first =
+    let within : i < length text = first.0.high in
+    let at = position_or_len_is is_line_feed text i 0 (omega arith) (λ k below. false_from_ne_true (is_line_feed (get_or text k 0)) (first.0.before k (omega arith) below)) (λ within'. first.1) in
+    rw (at, lt-ltb i (length text) within) refl

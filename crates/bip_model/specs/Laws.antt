@@ -1,5 +1,5 @@
 -- What the definitions mean, in the subject's own words: laws that a reviewer reads.
-use Rattle.std.specs.Prelude.{◌≤◌, ◌⊎◌, Any, Ok, map, min, sum_by}
+use Rattle.std.specs.Prelude.{◌≤◌, Any, Ok, map, sum_by}
 use Rattle.std.specs.List.Sorted.{IsPermutation, IsStrictlyIncreasing}
 use Rattle.std.specs.Prelude.{◌≡◌, ◌↔◌, ℕ, ◌<◌, false, true, [], ◌∷◌, ◌++◌, List, length, Some}
 use Rattle.std.specs.Prelude.{slice_get, All, Contains, ◌⊎◌, IfSome}
@@ -160,10 +160,10 @@ PartsOrMisplaces =
     → IsPartition (λ c. c.0) (λ c. c.1) count classes
     ⊎ ((a : ℕ) × IsMisplaced (λ c. c.1) count classes a)
 
--- in order, a class rises, and has each of its members below the count once
-pub record IsInOrder (count : ℕ) (class ordered : List InterId) : Type 0 where
+-- in order, a class has the same interactions, and they rise
+pub record IsInOrder (class ordered : List InterId) : Type 0 where
+  pub these : IsPermutation class ordered
   pub rising : IsStrictlyIncreasing (numbers_in ordered)
-  pub members : (a : ℕ) → a < count → times_in ordered a ≡ min 1 (times_in class a)
 
 -- the participants that words name, one each, by component
 pub record AreNamed (m : System) (words : List (List ℕ × List ℕ)) (qs : List Participant)

@@ -7,6 +7,7 @@ use Rattle.bip_model.specs.declared.numbering.PortId.{PortId}
 use Rattle.bip_model.specs.declared.parts.Component.{Component}
 use Rattle.bip_model.specs.declared.parts.Transition.{Transition}
 use Rattle.bip_model.specs.declared.states.LocalState.{LocalState}
+use Rattle.bip_model.specs.States.{at_location}
 
 -- the transition of a component with a port from a location; a valid component has at most one
 abbrev pub transition_for : Component → LocId → PortId → Option Transition
@@ -20,8 +21,7 @@ offers_at component local port = is_some (transition_for component local.locatio
 -- where a component's transition with a port leads from a local state
 abbrev pub moved : Component → LocalState → PortId → Option LocalState
 moved component local port =
-    option_map (λ t. record local { location = t.target })
-    (transition_for component local.location port)
+    option_map (λ t. at_location t.target local) (transition_for component local.location port)
 
 -- bits that say, each for the port of its number, whether a component offers it in a local state
 abbrev pub AreOffered : Component → LocalState → ℕ → Type 0

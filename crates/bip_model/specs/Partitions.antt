@@ -1,9 +1,9 @@
 -- Partitions of the interactions of a model into classes.
-use Rattle.std.specs.Prelude.{◌≡◌, ℕ, ◌≤◌, ◌<◌, ◌==◌, List, length, map, filter, count_by, sum_by}
+use Rattle.std.specs.Prelude.{◌≡◌, ℕ, ◌≤◌, ◌<◌, ◌==◌, List, length, map, count_by, sum_by}
 use Rattle.std.specs.Prelude.{All}
-use Rattle.std.specs.List.{list_any, range_with_len}
 use Rattle.std.specs.List.Sorted.{IsStrictlyIncreasing}
 use Rattle.bip_model.specs.Naming.{AreApart}
+use Rattle.bip_model.specs.Numbering.{by_number}
 use Rattle.bip_model.specs.declared.numbering.InterId.{InterId}
 use Rattle.bip_model.specs.declared.partitions.Partition.{Partition}
 use Rattle.bip_model.specs.declared.parts.System.{System}
@@ -12,6 +12,10 @@ use Rattle.bip_model.specs.declared.partitions.TheConstants.{MOST_CLASSES}
 -- how often an interaction stands in a list
 abbrev pub times_in : List InterId → ℕ → ℕ
 times_in list a = count_by (λ (b : InterId). b.0 == a) list
+
+-- no interaction stands twice in a list
+abbrev pub AreDifferent : List InterId → Type 0
+AreDifferent list = (a : ℕ) → times_in list a ≤ 1
 
 -- classes, each with a name and members, that are a partition of so many interactions: each stands
 -- in exactly one of them, once
@@ -42,12 +46,6 @@ pub record IsClasses (kept : Partition) : Type 0 where
 abbrev pub AreClassesOf : System → Partition → Type 0
 AreClassesOf m kept = kept.count ≡ length m.interactions
 
--- the interactions of a model, in order of number
-abbrev pub interactions_below : ℕ → List InterId
-interactions_below count = map (λ a. record { 0 = a }) (range_with_len 0 count)
-
 -- the interactions of a class, in order of number
-abbrev pub in_order : ℕ → List InterId → List InterId
-in_order count class =
-    filter (λ (a : InterId). list_any (λ (b : InterId). b.0 == a.0) class)
-    (interactions_below count)
+abbrev pub in_order : List InterId → List InterId
+in_order class = by_number (λ (a : InterId). a.0) class

@@ -14,6 +14,10 @@ State = ℕ → Option LocalState
 abbrev pub state_of : List LocalState → State
 state_of locals c = slice_get locals c
 
+-- a local state at a location, with the same values
+abbrev pub at_location : LocId → LocalState → LocalState
+at_location location local = record local { location = location }
+
 -- a location with values, as a local state
 abbrev pub local_of : LocId × List ℕ → LocalState
 local_of p = record { location = p.0; values = p.1 }

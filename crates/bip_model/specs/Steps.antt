@@ -5,10 +5,11 @@ use Rattle.std.specs.List.{list_any}
 use Rattle.std.specs.Option.{option_map, option_map_or, option_and_then}
 use Rattle.bip_model.specs.declared.faults.NotNow.{NotNow}
 use Rattle.bip_model.specs.declared.faults.NotNow.TheVariants.{NotEnabled, Below}
+use Rattle.bip_model.specs.declared.numbering.LocId.{LocId}
 use Rattle.bip_model.specs.declared.numbering.PortId.{PortId}
 use Rattle.bip_model.specs.declared.parts.System.{System}
 use Rattle.bip_model.specs.declared.states.LocalState.{LocalState}
-use Rattle.bip_model.specs.Moves.{offers_at, moved}
+use Rattle.bip_model.specs.Moves.{offers_at, moved, transition_for}
 use Rattle.bip_model.specs.Parts.{Participant}
 use Rattle.bip_model.specs.States.{State}
 
@@ -69,6 +70,15 @@ place_of m a c = position (λ (q : Participant). q.0.0 == c) (participants_of m 
 abbrev pub port_at : System → ℕ → ℕ → PortId
 port_at m a i =
     option_map_or (λ (q : Participant). q.1) (slice_get (participants_of m a) i) (record { 0 = 0 })
+
+-- the location to which a component's transition with a port leads in a state; none where it has no
+-- such transition
+abbrev pub target_of : System → State → Participant → Option LocId
+target_of m s q =
+    option_and_then
+    (λ component. option_and_then
+    (λ local. option_map (λ t. t.target) (transition_for component local.location q.1)) (s q.0.0))
+    (slice_get m.components q.0.0)
 
 -- where a component goes by a port; it stays where it has no such transition
 abbrev pub led : System → ℕ → PortId → LocalState → LocalState

@@ -14,7 +14,7 @@ ghost use Rattle.bip_model.specs.declared.drafts.Draft.{Draft};
 ghost use Rattle.bip_model.specs.Laws.{HistoryGoesOn, IsInOrder, MovedIsWanted};
 ghost use Rattle.bip_model.specs.Laws.{NamesInAnyOrder, NamesParticipants, PartsOrMisplaces};
 ghost use Rattle.bip_model.specs.Laws.{UsedGoesOn};
-ghost use Rattle.bip_model.specs.Partitions.{in_order};
+ghost use Rattle.bip_model.specs.Partitions.{AreDifferent, in_order};
 ghost use Rattle.bip_model.specs.declared.grants.Grant.{Grant};
 ghost use Rattle.bip_model.specs.declared.numbering.InterId.{InterId};
 ghost use Rattle.bip_model.specs.declared.parts.System.{System};
@@ -73,6 +73,6 @@ pub fn history_laws()
 /// (docs/DEFINITIONS.md, "Partitions").
 pub fn partition_laws()
     ensures parts { PartsOrMisplaces }
-    ensures order { (count : ℕ) (class : List InterId)
-        → IsInOrder count class (in_order count class) }
+    ensures order { (class : List InterId) → AreDifferent class
+        → IsInOrder class (in_order class) }
 {}

@@ -4,7 +4,7 @@ ghost use Rattle.std.specs.Prelude.{All, length, map, position, slice_get, min, 
 ghost use Rattle.std.specs.List.{list_any};
 ghost use Rattle.std.specs.Option.{option_map};
 ghost use Rattle.bip_model.specs.Naming.{AreApart, same_text};
-ghost use Rattle.bip_model.specs.Partitions.{IsPartition, in_order, times_in};
+ghost use Rattle.bip_model.specs.Partitions.{AreDifferent, IsPartition, in_order, times_in};
 ghost use Rattle.bip_model.specs.declared.numbering.InterId.{InterId};
 ghost use Rattle.bip_model.specs.declared.faults.ClassFault.TheVariants.{NotAPartition, Memory};
 
@@ -57,7 +57,7 @@ impl Classes {
             (length model.now.interactions) classes.items) }
         ensures names { IfOk result (λ made. made.names ≡ map (λ c. c.0) classes.items) }
         ensures members { IfOk result (λ made. made.members
-            ≡ map (λ c. in_order (length model.now.interactions) c.1.items) classes.items) }
+            ≡ map (λ c. in_order c.1.items) classes.items) }
         ensures of_model { IfOk result (AreClassesOf model.now) }
         ensures refused { result ≡ Err NotAPartition
             → ¬ IsPartition (λ c. c.0) (λ c. c.1.items)
@@ -73,7 +73,7 @@ impl Classes {
         let Ok(names) = names_of(alloc, classes.as_slice()) else {
             return Err(ClassFault::Memory);
         };
-        let Ok(members) = members_of(alloc, count, classes.as_slice()) else {
+        let Ok(members) = members_of(alloc, classes.as_slice()) else {
             return Err(ClassFault::Memory);
         };
         Ok(Classes {
@@ -213,24 +213,23 @@ fn names_of(alloc: Global, classes: &[(Name, Vec<InterId>)]) -> Result<Names, Al
 
 fn members_of(
     alloc: Global,
-    count: u16,
     classes: &[(Name, Vec<InterId>)],
 ) -> Result<Seq<Seq<InterId>>, AllocError>
-    ensures { IfOk result (λ members. members ≡ map (λ c. in_order count c.1.items) classes.now) }
+    requires { All (λ c. AreDifferent c.1.items) classes.now }
+    ensures { IfOk result (λ members. members ≡ map (λ c. in_order c.1.items) classes.now) }
 {
     let mut members = Seq::of(Vec::new(alloc));
     for class in classes {
-        let class = in_order(alloc, count, class.1.as_slice())?;
-        members.push(Seq::of(class))?;
+        members.push(in_order(alloc, class.1.as_slice())?)?;
     }
     Ok(members)
 }
 
-fn in_order(alloc: Global, count: u16, class: &[InterId]) -> Result<Vec<InterId>, AllocError>
-    ensures { IfOk result (λ v. v.items ≡ in_order count class.now) }
+fn in_order(alloc: Global, class: &[InterId]) -> Result<Seq<InterId>, AllocError>
+    requires { AreDifferent class.now }
+    ensures { IfOk result (λ ordered. ordered ≡ in_order class.now) }
 {
-    (0..count)
-        .map(|number| InterId(number))
-        .filter(|inter| class.contains(inter))
-        .collect(alloc)
+    let mut ordered = Vec::from_slice(alloc, class)?;
+    ordered.sort_unstable_by_key(|inter| inter.0);
+    Ok(Seq::of(ordered))
 }

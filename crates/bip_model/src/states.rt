@@ -1,7 +1,7 @@
 //! States: the local state of each component.
 ghost use Rattle.std.specs.Prelude.{◌≡◌, ◌↔◌, ◌≤◌, ℕ, [], length, IsSome, IfSome};
 
-use crate::{CompId, LocId, Seq};
+use crate::{CompId, LocId};
 use std::marker::Model;
 
 /// The values of a component's variables, at most eight, in order of their numbers. Contracts see
@@ -74,7 +74,7 @@ pub struct LocalState {
 /// A state: the local state of each component, by component. Contracts see it as the list.
 #[derive(Drop)]
 pub struct State {
-    locals: Seq<LocalState>,
+    locals: Vec<LocalState>,
 }
 
 impl Model for State {
@@ -83,38 +83,44 @@ impl Model for State {
 
     ghost Value = { List LocalState };
 
-    ghost view = { λ s. s.locals };
+    ghost view = { λ s. s.locals.items };
 }
 
 impl State {
     ghost use Rattle.std.specs.Prelude.{◌==◌, if◌then◌else◌};
     ghost use Rattle.std.specs.Option.{option_map};
-    ghost use Rattle.bip_model.specs.States.{state_of};
+    ghost use Rattle.bip_model.specs.States.{at_location, state_of};
 
     /// The state with these local states, by component.
     pub(crate) fn of(locals: Vec<LocalState>) -> State
         ensures { result ≡ locals.items }
     {
-        State {
-            locals: Seq::of(locals),
-        }
+        State { locals }
     }
 
     /// The local state of a component; none where the state has no such component.
     pub fn local(&self, comp: CompId) -> Option<LocalState>
         ensures { result ≡ state_of self.now comp.0 }
     {
-        self.locals.as_slice().get(comp.0 as usize).copied()
+        self.at(comp).copied()
     }
 
-    /// Puts a component into a local state; one that has none stays without.
-    pub(crate) fn put(&mut self, comp: CompId, local: LocalState)
+    /// The same, lent.
+    pub(crate) fn at(&self, comp: CompId) -> Option<&LocalState>
+        ensures { option_map (λ local. local.now) result ≡ state_of self.now comp.0 }
+    {
+        self.locals.get(comp.0 as usize)
+    }
+
+    /// Brings a component to a location, with the values that it has; one that has no local state
+    /// stays without.
+    pub(crate) fn bring(&mut self, comp: CompId, location: LocId)
         ensures { (c : ℕ) → state_of self.new c
-            ≡ (if c == comp.0 then option_map (λ _. local) (state_of self.old c)
+            ≡ (if c == comp.0 then option_map (at_location location) (state_of self.old c)
             else state_of self.old c) }
     {
         if (comp.0 as usize) < self.locals.len() {
-            self.locals.set(comp.0 as usize, local);
+            self.locals[comp.0 as usize].location = location;
         }
     }
 }

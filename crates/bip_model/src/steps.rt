@@ -3,10 +3,12 @@ ghost use Rattle.std.specs.Prelude.{◌≡◌, ◌<◌, ◌↔◌, ℕ, IsTrue, 
 ghost use Rattle.std.specs.Prelude.{OnOk, OnErr, IfErr};
 ghost use Rattle.std.specs.Option.{option_map};
 ghost use Rattle.bip_model.specs.Moves.{AreOffered, moved};
-ghost use Rattle.bip_model.specs.Parts.{Participant};
+ghost use Rattle.bip_model.specs.Parts.{components_in};
 ghost use Rattle.bip_model.specs.States.{IsLocalStateOf, IsStateOf, local_of, state_of};
 ghost use Rattle.bip_model.specs.Steps.{IsEnabled, IsHeldBack, MayRun, after, led, led_all};
-ghost use Rattle.bip_model.specs.Steps.{offered, start_of};
+ghost use Rattle.bip_model.specs.Steps.{offered, start_of, target_of};
+ghost use Rattle.std.specs.List.Sorted.{IsStrictlyIncreasing};
+ghost use Rattle.std.specs.Prelude.{◌==◌, if◌then◌else◌};
 
 use crate::{CompId, InterId, LocId, LocalState, Model, NotNow, PortId, State, Values};
 use std::alloc::{AllocError, Global};
@@ -59,8 +61,18 @@ impl Model {
         if !self.enabled(state, inter) {
             return Err(NotNow::NotEnabled);
         }
-        self.lead_all(state, self.participants(inter));
+        self.run(state, inter);
         Ok(())
+    }
+
+    /// The same for who knows already that the interaction may run.
+    pub fn run(&self, state: &mut State, inter: InterId)
+        requires { MayRun self.now (state_of state.old) inter.0 }
+        ensures fired { state_of state.new ≡ after self.now (state_of state.old) inter.0 }
+        ensures of_model { IsStateOf self.now (state_of state.old)
+            → IsStateOf self.now (state_of state.new) }
+    {
+        self.lead_all(state, self.participants(inter));
     }
 
     /// The ports that a component offers in a local state: bit p is port p.
@@ -105,39 +117,38 @@ impl Model {
     fn offered(&self, state: &State, comp: CompId, port: PortId) -> bool
         ensures { result ≡ offered self.now (state_of state.now) (comp, port) }
     {
-        match (self.components().get(comp.0 as usize), state.local(comp)) {
-            (Some(component), Some(local)) => component.offers(&local, port),
+        match (self.components().get(comp.0 as usize), state.at(comp)) {
+            (Some(component), Some(local)) => component.offers(local, port),
             _ => false,
         }
     }
 
     fn lead_all(&self, state: &mut State, participants: &[(CompId, PortId)])
+        requires { IsStrictlyIncreasing (components_in participants.now) }
         ensures { (c : ℕ) → state_of state.new c
             ≡ led_all self.now (state_of state.old) participants.now c }
     {
-        if let [participant, rest @ ..] = participants {
-            let local = state.local(participant.0);
-            self.lead_all(state, rest);
-            if let Some(local) = local {
-                let target = self.led(&local, participant.0, participant.1);
-                state.put(participant.0, target);
-            }
+        for participant in participants {
+            self.lead(state, participant.0, participant.1);
         }
     }
 
-    /// Where a component goes by a port; it stays where it has no such transition.
-    fn led(&self, local: &LocalState, comp: CompId, port: PortId) -> LocalState
-        ensures { result ≡ led self.now comp.0 port local.now }
+    /// Brings a component to where its port leads; it stays where it has no such transition.
+    fn lead(&self, state: &mut State, comp: CompId, port: PortId)
+        ensures { (c : ℕ) → state_of state.new c
+            ≡ (if c == comp.0 then option_map (led self.now comp.0 port) (state_of state.old c)
+            else state_of state.old c) }
     {
-        let location = match self.components().get(comp.0 as usize) {
-            None => local.location,
-            Some(component) => component
-                .target(local.location, port)
-                .unwrap_or(local.location),
-        };
-        LocalState {
-            location,
-            values: local.values,
+        if let Some(location) = self.target(state, comp, port) {
+            state.bring(comp, location);
         }
+    }
+
+    fn target(&self, state: &State, comp: CompId, port: PortId) -> Option<LocId>
+        ensures { result ≡ target_of self.now (state_of state.now) (comp, port) }
+    {
+        let component = self.components().get(comp.0 as usize)?;
+        let local = state.at(comp)?;
+        component.target(local.location, port)
     }
 }

@@ -10,6 +10,8 @@ ghost use Rattle.bip_model.specs.Texts.{words_said};
 ghost use Rattle.bip_model.specs.Texts.{IsLineAndRest, IsWordAndRest, is_blank, is_line_feed};
 ghost use Rattle.bip_model.specs.Texts.{is_numeral, is_plain, lines, number_of, pair_of, words};
 
+use memchr::memchr;
+
 /// The most digits that a participation number is written with.
 const NUMBER_DIGITS: usize = 20;
 
@@ -111,7 +113,7 @@ pub fn split_pair(word: &[u8], mark: u8) -> Option<(&[u8], &[u8])>
 fn line_end(text: &[u8]) -> Option<usize>
     ensures { result ≡ position is_line_feed text.now }
 {
-    text.iter().position(|byte| *byte == b'\n')
+    memchr(b'\n', text)
 }
 
 fn word_start(line: &[u8]) -> Option<usize>

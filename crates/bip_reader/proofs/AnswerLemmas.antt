@@ -1,39 +1,37 @@
 -- What calls answered, beside what is said.
-use Rattle.std.proofs.Common.{◌≡◌, ◌≢◌, true, Option, None, Some, Result, Ok, Err, refl, ap, sym}
-use Rattle.std.specs.Prelude.{is_some}
+use Rattle.std.proofs.Common.{◌≡◌, ◌≢◌, ℕ, Bool, true, false, ◌||◌, List, [], ◌∷◌, length, map, Option, Some, Result, Ok, Err, refl, ap, arith}
+use Rattle.std.specs.Prelude.{◌≤◌, is_some}
+use Rattle.std.proofs.lemmas.Bool.Decides.{nat_tests}
+use Rattle.std.specs.List.{list_all, list_any}
 use Rattle.std.specs.Option.{ok_or}
+use Rattle.bip_model.specs.Naming.{same_text}
 use Rattle.bip_model.specs.Outcomes.{Answers, new_or_fault}
+use Rattle.bip_model.specs.declared.partitions.TheConstants.{MOST_CLASSES}
+use Rattle.bip_model.specs.declared.drafts.Draft.{Draft}
+use Rattle.bip_model.specs.declared.faults.BuildFault.{BuildFault}
+use Rattle.bip_model.specs.declared.faults.BuildFault.TheVariants as build_fault
 use Rattle.bip_reader.specs.declared.faults.Why.{Why}
-use Rattle.bip_reader.specs.declared.faults.Why.TheVariants.{Memory}
+use Rattle.bip_reader.specs.declared.faults.Why.TheVariants.{Syntax, Unknown, TooMany, Memory}
+use Rattle.bip_reader.specs.declared.reading.Reading.{Reading}
+use Rattle.bip_reader.specs.declared.statements.Statement.{Statement}
+use Rattle.bip_reader.specs.declared.statements.Statement.TheVariants as statement
+use Rattle.bip_reader.specs.Faults.{why_of_build}
+use Rattle.bip_reader.specs.Reading.{class_line, draft_of, draft_with, interaction_named, reading_with, with_draft}
+use Rattle.bip_reader.proofs.StatementLemmas.{all_are_each}
 
--- nothing is a fault
-pub none_told : {A : Type 0} (o : Option A) (fault : Why) → o ≡ None → Answers Memory (ok_or o fault) (Err fault)
-none_told o fault e = rw e refl
+-- whether an element's image passes a test
+pub list_any-map : {A B : Type 0} (p : B → Bool) (f : A → B) (xs : List A) → list_any p (map f xs) ≡ list_any (λ x. p (f x)) xs
+list_any-map p f [] = refl
+list_any-map p f (x ∷ xs) = ap (λ b. p (f x) || b) (list_any-map p f xs)
 
 -- memory is wanting where there is something
 pub want_told : {A : Type 0} (o : Option A) (fault why : Why) → is_some o ≡ true → why ≡ Memory → Answers Memory (ok_or o fault) (Err why)
-want_told None fault why e is = absurd (cc)
-want_told (Some x) fault why e is = is
+want_told o fault why e is = grind arith
 
 -- a call that didn't want memory answered what is said
 pub said_unless : {A : Type 0} (said : Result A Why) (result : Result (Unit {0}) Why) (new : A) → Answers Memory said (new_or_fault result new)
     → result ≢ Err Memory → said ≡ new_or_fault result new
-said_unless (Ok x) (Ok u) new h other = cc
-said_unless (Ok x) (Err why) new h other = absurd (other (ap Err h))
-said_unless (Err fault) (Ok u) new h other = absurd h
-said_unless (Err fault) (Err why) new h other = ap Err (sym h)
-
--- a call that wanted memory hides no fault but that
-pub hidden_none : {A : Type 0} (said : Result A Why) (result : Result (Unit {0}) Why) (new : A) (why : Why) → Answers Memory said (new_or_fault result new)
-    → result ≡ Err Memory → said ≡ Err why → why ≡ Memory
-hidden_none (Ok x) result new why h wants e = absurd (cc)
-hidden_none (Err fault) (Ok u) new why h wants e = absurd h
-hidden_none (Err fault) (Err other) new why h wants e = cc
-
--- a form that a line lacks is a fault of syntax, and so it stays
-pub lacking : {A : Type 0} (o : Option A) (fault why : Why) → Answers {X = A} Memory (ok_or o fault) (Err why) → why ≢ Memory → ok_or o fault ≡ Err why
-lacking None fault why h other = ap Err (sym h)
-lacking (Some x) fault why h other = absurd (other h)
+said_unless said result new h other = grind arith
 
 pub err_same : {A : Type 0} (x y : Why) → ◌≡◌ {A = Result A Why} (Err x) (Err y) → x ≡ y
 err_same x y e = cc
@@ -43,3 +41,31 @@ pub led_to : {A : Type 0} (said : Result A Why) (result : Result (Unit {0}) Why)
     → (result ≢ Err Memory → said ≡ new_or_fault result new) → said ≡ Ok new
 led_to said (Ok u) new none h = h (λ e. none Memory e)
 led_to said (Err why) new none h = absurd (none why refl)
+
+-- what was stated
+pub stated : (o : Option Statement) (s : Statement) → Answers Memory (ok_or o Syntax) (Ok s) → o ≡ Some s
+stated o s h = grind arith
+
+-- what the builder answered to a statement is what is said to the draft
+pub answered : (r : Reading) (s : Statement) (d : Draft) (fault : BuildFault) → r.builder ≡ Some d → Answers {X = Draft} build_fault.Memory (draft_with s d) (Err fault)
+    → Answers {X = Reading} Memory (with_draft r (draft_with s (draft_of r))) (Err (why_of_build fault))
+answered r s d fault is h = grind arith
+
+-- a statement that is neither `bip 1` nor a class is said to the draft
+pub is_said_to_draft : (s : Statement) (r : Reading) → (s ≡ statement.Header → ⊥) → ((name : List ℕ) (interactions : List (List ℕ)) → s ≡ statement.Class name interactions → ⊥)
+    → reading_with s r ≡ with_draft r (draft_with s (draft_of r))
+is_said_to_draft statement.Header r no_header no_class = absurd (no_header refl)
+is_said_to_draft (statement.Class name interactions) r no_header no_class = absurd (no_class name interactions refl)
+is_said_to_draft s r no_header no_class = refl
+
+-- a class whose name is that of no class so far
+module _ (name : List ℕ) (names : List (List ℕ)) (r : Reading) (free : list_any (λ class. same_text name class.0) r.classes ≡ false) where
+  -- a class names an interaction that isn't there
+  pub class_unknown : list_all (λ name. is_some (interaction_named (draft_of r) name)) names ≡ false → class_line name names r ≡ Err Unknown
+  unfolding class_line
+  class_unknown unknown = let all = all_are_each (interaction_named (draft_of r)) [] names in grind arith
+
+  -- a class too many
+  pub class_past : list_all (λ name. is_some (interaction_named (draft_of r) name)) names ≡ true → MOST_CLASSES ≤ length r.classes → class_line name names r ≡ Err TooMany
+  unfolding class_line
+  class_past known full = let all = all_are_each (interaction_named (draft_of r)) [] names in grind (arith, nat_tests)

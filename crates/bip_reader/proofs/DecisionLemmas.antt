@@ -1,13 +1,14 @@
 -- It can be decided whether lists part interactions, so every text has a meaning or a fault.
-use Rattle.std.proofs.Common.{◌≡◌, ℕ, zero, suc, ◌+◌, ◌<◌, ◌≤◌, Bool, true, false, List, [], ◌∷◌, length, map, Option, None, Some, Result, Ok, Err, refl, subst, sym, inl, inr, arith}
-use Rattle.std.specs.Prelude.{◌⊎◌, All, IsNone, sum_by}
+use Rattle.std.proofs.Common.{◌≡◌, ℕ, ◌+◌, ◌<◌, ◌≤◌, ◌&&◌, ltb, not, Bool, true, false, List, [], ◌∷◌, length, map, Option, None, Some, Result, Ok, Err, refl, inl, inr, arith}
+use Rattle.std.specs.Bool.{Decides}
+use Rattle.std.specs.Prelude.{◌⊎◌, All, is_some}
+use Rattle.std.specs.List.{list_all}
 use Rattle.std.specs.Option.{IsSomeAnd}
-use Rattle.std.proofs.lemmas.Bool.{cases_lt}
-use Rattle.std.proofs.lemmas.Bool.Decides.{eqb_tells}
-use Rattle.std.proofs.lemmas.List.Elements.{All-cons, All-head, All-nil, All-tail}
+use Rattle.std.proofs.lemmas.Bool.Decides.{Decides-and, Decides-by_and, Decides-ltb, not_from_Decides}
+use Rattle.bip_model.proofs.PartitionLemmas.{parts_or_misplaces}
 use Rattle.bip_model.specs.Drafts.{IsWhole}
+use Rattle.bip_model.specs.Laws.{IsMisplaced, times_parted}
 use Rattle.bip_model.specs.Naming.{AreApart, is_known}
-use Rattle.bip_model.specs.Partitions.{times_in}
 use Rattle.bip_model.specs.Texts.{last_line}
 use Rattle.bip_model.specs.declared.drafts.Draft.{Draft}
 use Rattle.bip_model.specs.declared.numbering.InterId.{InterId}
@@ -24,68 +25,48 @@ use Rattle.bip_reader.specs.declared.reading.Reading.{Reading}
 abbrev Decided : Type 0 → Type 0
 Decided P = P ⊎ (¬ P)
 
-both : {P Q : Type 0} → Decided P → Decided Q → Decided (P × Q)
-both (inl p) (inl q) = inl (p, q)
-both (inl p) (inr fails) = inr (λ h. fails h.1)
-both (inr fails) q = inr (λ h. fails h.0)
+told : {P : Type 0} (test : Bool) → Decides test P → Decided P
+told true h = inl (h.0 refl)
+told false h = inr (not_from_Decides false h refl)
 
-is_below : (a b : ℕ) → Decided (a < b)
-is_below a b = elim (cases_lt a b) [ inl less ↦ inl (omega arith) | inr other ↦ inr (λ less. absurd (omega arith)) ]
+is_not : (test : Bool) → Decides (not test) (test ≡ false)
+is_not true = (λ e. absurd (cc), λ e. absurd (cc))
+is_not false = (λ e. refl, λ e. refl)
 
-is_number : (a b : ℕ) → Decided (a ≡ b)
-is_number a b = elim (eqb_tells a b) [ inl same ↦ inl same.1 | inr other ↦ inr other.1 ]
+-- names are apart where a test of each says so
+apart : List (List ℕ) → Bool
+apart [] = true
+apart (name ∷ names) = not (is_known name names) && apart names
 
-is_false : (b : Bool) → Decided (b ≡ false)
-is_false true = inr (λ e. cc)
-is_false false = inl refl
+apart_decides : (names : List (List ℕ)) → Decides (apart names) (AreApart names)
+unfolding apart
+apart_decides [] = (λ e. tt, λ h. refl)
+apart_decides (name ∷ names) = Decides-and (not (is_known name names)) (apart names) (is_not (is_known name names)) (apart_decides names)
 
-are_apart : (names : List (List ℕ)) → Decided (AreApart names)
-are_apart [] = inl tt
-are_apart (name ∷ names) = both (is_false (is_known name names)) (are_apart names)
-
-all_are : {A : Type 0} (P : A → Type 0) → ((x : A) → Decided (P x)) → (xs : List A) → Decided (All P xs)
-all_are P one [] = inl (All-nil P)
-all_are P one (x ∷ xs) =
-    elim (both (one x) (all_are P one xs)) [
-      | inl h ↦ inl (All-cons P x xs h.0 h.1)
-      | inr fails ↦ inr (λ all. fails (All-head P x xs all, All-tail P x xs all))
-    ]
-
-all_below : (P : ℕ → Type 0) → ((a : ℕ) → Decided (P a)) → (n : ℕ) → Decided ((a : ℕ) → a < n → P a)
-all_below P one zero = inl (λ a within. absurd (omega arith))
-all_below P one (suc n) =
-    elim (both (one n) (all_below P one n)) [
-      | inl h ↦ inl (λ a within. elim (eqb_tells a n) [ inl same ↦ subst P (sym same.1) h.0 | inr other ↦ h.1 a (below a other.1 within) ])
-      | inr fails ↦ inr (λ all. fails (all n (omega arith), λ a within. all a (omega arith)))
-    ]
-  where
-    below : (a : ℕ) → (a ≡ n → ⊥) → a < suc n → a < n
-    below a differs within = elim (cases_lt a n) [ inl less ↦ omega arith | inr other ↦ absurd (differs (omega arith)) ]
+all_decide : {A : Type 0} (p : A → Bool) (P : A → Type 0) → ((x : A) → Decides (p x) (P x)) → (xs : List A) → Decides (list_all p xs) (All P xs)
+all_decide p P each xs = Decides-by_and p P (list_all p) each refl (λ x xs. refl) xs
 
 is_parted : (m : System) (list : ClassList) → Decided (IsParted m list)
 is_parted m list =
     let count = length m.interactions in
-    let few = is_below (length list) (MOST_CLASSES + 1) in
-    let apart = are_apart (map (λ (c : List ℕ × List InterId). c.0) list) in
-    let filled = all_are (λ (c : List ℕ × List InterId). 0 < length c.1) (λ c. is_below 0 (length c.1)) list in
-    let known = all_are (λ (c : List ℕ × List InterId). All (λ (a : InterId). a.0 < count) c.1) (λ c. all_are (λ (a : InterId). a.0 < count) (λ a. is_below a.0 count) c.1) list in
-    let once = all_below (λ a. sum_by (λ (c : List ℕ × List InterId). times_in c.1 a) list ≡ 1) (λ a. is_number (sum_by (λ (c : List ℕ × List InterId). times_in c.1 a) list) 1) count in
-    elim (both few (both apart (both filled (both known once)))) [
+    let names = map (λ (c : List ℕ × List InterId). c.0) list in
+    let filled = all_decide (λ (c : List ℕ × List InterId). ltb 0 (length c.1)) (λ c. 0 < length c.1) (λ c. Decides-ltb 0 (length c.1)) list in
+    let known = all_decide (λ (c : List ℕ × List InterId). list_all (λ (a : InterId). ltb a.0 count) c.1) (λ c. All (λ (a : InterId). a.0 < count) c.1)
+    (λ c. all_decide (λ (a : InterId). ltb a.0 count) (λ a. a.0 < count) (λ a. Decides-ltb a.0 count) c.1) list in
+    elim (told _ (Decides-and _ _ (Decides-ltb (length list) (MOST_CLASSES + 1)) (Decides-and _ _ (apart_decides names) (Decides-and _ _ filled known)))) [
       | inl h ↦
           let short : length list < MOST_CLASSES + 1 = h.0 in
-          inl (record { few = omega arith; apart = h.1.0; filled = h.1.1.0; known = h.1.1.1.0; once = h.1.1.1.1 })
-      | inr fails ↦
-          inr (λ parted. let short : length list ≤ MOST_CLASSES = parted.few in fails (omega arith, (parted.apart, (parted.filled, (parted.known, parted.once)))))
+          elim (parts_or_misplaces count list (omega arith) h.1.0 h.1.1.0 h.1.1.1) [ inl parted ↦ inl parted | inr wrong ↦ inr (λ parted. misplaced wrong.0 wrong.1 (parted.once wrong.0 wrong.1.known)) ]
+      | inr fails ↦ inr (λ parted. let short : length list ≤ MOST_CLASSES = parted.few in fails (omega arith, (parted.apart, (parted.filled, parted.known))))
     ]
-
-is_none : {A : Type 0} (o : Option A) → Decided (IsNone o)
-is_none None = inl refl
-is_none (Some x) = inr (λ h. absurd (cc))
+  where
+    misplaced : (a : ℕ) → IsMisplaced (λ (c : List ℕ × List InterId). c.1) (length m.interactions) list a → times_parted (λ (c : List ℕ × List InterId). c.1) list a ≡ 1 → ⊥
+    misplaced a wrong once = elim wrong.times [ inl none ↦ omega arith | inr more ↦ omega arith ]
 
 is_whole : (builder : Option Draft) → Decided (IsSomeAnd builder IsWhole)
 is_whole None = inr (λ h. h)
 is_whole (Some d) =
-    elim (both (is_none d.begun) (is_below 0 (length d.system.components))) [
+    elim (told _ (Decides-and (not (is_some d.begun)) _ (is_not (is_some d.begun)) (Decides-ltb 0 (length d.system.components)))) [
       | inl h ↦ inl (record { ended = h.0; some = h.1 })
       | inr fails ↦ inr (λ whole. fails (whole.ended, whole.some))
     ]

@@ -20,9 +20,6 @@ record IsFirst (n : ℕ) (ls : List (List ℕ)) (r : Reading) (fault : ReadFault
   clear : IsOk (reading_after_lines n (take before ls) r)
   fails : reading_after_lines n (take (suc before) ls) r ≡ Err fault
 
-same_err : {A E : Type 0} (x y : E) (said : Result A E) → said ≡ Err x → said ≡ Err y → x ≡ y
-same_err x y said e f = cc
-
 first_by : (n : ℕ) (line : List ℕ) (rest : List (List ℕ)) (r : Reading) (fault : ReadFault) (said : Result Reading Why) → reading_after line r ≡ said
     → at_line n said >>= reading_after_lines (n + 1) rest ≡ Err fault → ((s : Reading) → reading_after_lines (n + 1) rest s ≡ Err fault → IsFirst (n + 1) rest s fault)
     → IsFirst n (line ∷ rest) r fault
@@ -36,7 +33,7 @@ first_by n line rest r fault (Ok s) is e later =
       fails = rw is h.fails;
     }
 first_by n line rest r fault (Err why) is e later =
-    let same : record { line = n; why = why } ≡ fault = same_err _ _ _ refl e in
+    let same : record { line = n; why = why } ≡ fault = grind arith in
     record {
       before = 0;
       place = omega (arith, ap (λ (f : ReadFault). f.line) same);

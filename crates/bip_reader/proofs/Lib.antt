@@ -2,9 +2,8 @@ pub mod AnswerLemmas
 pub mod DecisionLemmas
 pub mod FaultLemmas
 pub mod FirstLemmas
-pub mod LawLemmas
-pub mod MeaningLemmas
-pub mod ReadingLemmas
+pub mod PartedLemmas
+pub mod SameMeaningLemmas
 pub mod StatementLemmas
 pub mod TextLemmas
 pub mod ValidLemmas

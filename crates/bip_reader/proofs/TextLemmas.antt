@@ -1,5 +1,5 @@
 -- Lemmas on what lines say one after another, and on how far reading has come.
-use Rattle.std.proofs.Common.{◌≡◌, ℕ, ◌+◌, ◌-◌, ◌≤◌, ◌<◌, List, [], ◌∷◌, ◌++◌, length, take, drop, max, Result, Ok, Err, refl, ap, ◌∙◌, sym, append_assoc, arith, length-append}
+use Rattle.std.proofs.Common.{◌≡◌, ℕ, ◌+◌, ◌-◌, ◌≤◌, ◌<◌, List, [], ◌∷◌, ◌++◌, length, take, drop, Result, Ok, Err, refl, ap, ◌∙◌, sym, append_assoc, arith, length-append}
 use Rattle.std.specs.Prelude.{IsOk, Some, slice_get}
 use Rattle.std.proofs.lemmas.List.{append-nil, take-append-drop, take_all}
 use Rattle.std.proofs.Math.Seq.{take-append_seam}
@@ -24,12 +24,6 @@ pub reading-append : (n : ℕ) (xs ys : List (List ℕ)) (r : Reading) → readi
 reading-append n [] ys r = let e : n + 0 ≡ n = omega arith in rw e refl
 reading-append n (x ∷ xs) ys r = reading-after n x xs ys (at_line n (reading_after x r)) (reading-append (n + 1) xs ys)
 
-same_fault : {A E : Type 0} (x y : E) (said : Result A E) → said ≡ Err x → said ≡ Err y → x ≡ y
-same_fault x y said e f = cc
-
-not_both : {A E : Type 0} (x : A) (y : E) (said : Result A E) → said ≡ Ok x → said ≡ Err y → ⊥
-not_both x y said e f = cc
-
 -- how far reading has come: these lines are read, and led to what is read; the rest is still to be read
 pub record IsAt (text : List ℕ) (read : ℕ) (r : Reading) (rest : List ℕ) : Type 0 where
   pub before : List (List ℕ)
@@ -37,9 +31,6 @@ pub record IsAt (text : List ℕ) (read : ℕ) (r : Reading) (rest : List ℕ) :
   pub counted : length before ≡ read
   pub said : reading_after_lines 1 before empty_reading ≡ Ok r
   pub short : read + length rest ≤ length text
-
-pub starts : (text : List ℕ) → IsAt text 0 empty_reading text
-starts text = record { before = []; whole = refl; counted = refl; said = refl; short = omega arith }
 
 -- one line more
 pub goes_on : (text : List ℕ) (read : ℕ) (r new : Reading) (rest line after : List ℕ) → IsAt text read r rest → lines rest ≡ line ∷ lines after → length after < length rest
@@ -61,19 +52,6 @@ at_fault text read r rest line after why h e s =
     ap (λ (ls : List (List ℕ)). reading_after_lines 1 ls empty_reading) (h.whole ∙ ap (λ (ls : List (List ℕ)). h.before ++ ls) e)
     ∙ reading-append 1 h.before (line ∷ lines after) empty_reading ∙ rw (h.said, s, place) refl
 
--- the next line is reached
-pub reached : (text : List ℕ) (read : ℕ) (r : Reading) (rest line after : List ℕ) → IsAt text read r rest → lines rest ≡ line ∷ lines after → IsReached text (read + 1)
-reached text read r rest line after h e =
-    let back : read + 1 - 1 ≡ length h.before = omega arith in
-    let front : take (read + 1 - 1) (lines text) ≡ h.before = rw (back, h.whole) (take-append_seam h.before (lines rest)) in
-    let many : length (lines text) ≡ length h.before + length (lines rest) = ap length h.whole ∙ length-append h.before (lines rest) in
-    let some : length (lines rest) ≡ length (line ∷ lines after) = ap length e in
-    record {
-      first = omega arith;
-      last = omega arith;
-      clear = rw (front, h.said) refl;
-    }
-
 lines_of_nothing : (rest : List ℕ) → length rest ≡ 0 → lines rest ≡ []
 lines_of_nothing [] e = refl
 lines_of_nothing (b ∷ bs) e = absurd (omega arith)
@@ -86,12 +64,8 @@ pub all_said : (text : List ℕ) (read : ℕ) (r : Reading) (rest : List ℕ) �
 unfolding reading_of
 all_said text read r rest h e = ap (λ (ls : List (List ℕ)). reading_after_lines 1 ls empty_reading) (all_before text read r rest h e) ∙ h.said
 
-pub all_counted : (text : List ℕ) (read : ℕ) (r : Reading) (rest : List ℕ) → IsAt text read r rest → length rest ≡ 0 → max 1 read ≡ last_line text
-all_counted text read r rest h e = ap (λ (n : ℕ). max 1 n) (sym h.counted ∙ ap length (sym (all_before text read r rest h e)))
-
 is_ok_first : {A B E : Type 0} (said : Result A E) (f : A → Result B E) (y : B) → said >>= f ≡ Ok y → IsOk said
-is_ok_first (Ok x) f y e = refl
-is_ok_first (Err d) f y e = absurd (cc)
+is_ok_first said f y e = grind arith
 
 -- the last line is reached where no line is at fault
 pub last_reached : (text : List ℕ) (r : Reading) → reading_of text ≡ Ok r → IsReached text (last_line text)
@@ -114,15 +88,12 @@ lacks_last text r e =
     let all : reading_after_lines 1 (take (last_line text) (lines text)) empty_reading ≡ Ok r = rw (take_all (last_line text) (lines text) long) e in
     record {
       reached = last_reached text r e;
-      hidden = λ fault f. absurd (not_both r fault (reading_after_lines 1 (take (last_line text) (lines text)) empty_reading) all f);
+      hidden = λ fault f. absurd (let both = rw all at f in cc);
     }
 
 -- the fault of lines with but one is that of the line
 only_fault : (n : ℕ) (said : Result Reading Why) (fault : ReadFault) → at_line n said >>= reading_after_lines (n + 1) [] ≡ Err fault → said ≡ Err fault.why
-only_fault n (Ok r) fault e = absurd (cc)
-only_fault n (Err why) fault e =
-    let same : record { line = n; why = why } ≡ fault = same_fault (record { line = n; why = why }) fault (Err (record { line = n; why = why })) refl e in
-    ap (λ (f : ReadFault). Err f.why) same
+only_fault n said fault e = grind arith
 
 seam : (xs ys : List (List ℕ)) (y : List ℕ) → slice_get (xs ++ y ∷ ys) (length xs) ≡ Some y
 seam [] ys y = refl
@@ -134,14 +105,16 @@ pub lacks_next : (text : List ℕ) (read : ℕ) (r : Reading) (rest line after :
 lacks_next text read r rest line after h e hides =
     let back : read + 1 - 1 ≡ length h.before = omega (arith, h.counted) in
     let whole : lines text ≡ h.before ++ line ∷ lines after = h.whole ∙ ap (λ (ls : List (List ℕ)). h.before ++ ls) e in
+    let many : length (lines text) ≡ length h.before + length (line ∷ lines after) = ap length whole ∙ length-append h.before (line ∷ lines after) in
     let here : slice_get (lines text) (read + 1 - 1) ≡ Some line = rw (back, whole) (seam h.before (lines after) line) in
+    let front : take (read + 1 - 1) (lines text) ≡ h.before = rw (back, whole) (take-append_seam h.before (line ∷ lines after)) in
     let parts : lines text ≡ (h.before ++ line ∷ []) ++ lines after = whole ∙ sym (append_assoc h.before (line ∷ []) (lines after)) in
     let count : read + 1 ≡ length (h.before ++ line ∷ []) = omega (arith, h.counted, length-append h.before (line ∷ [])) in
-    let front : take (read + 1) (lines text) ≡ h.before ++ line ∷ [] = rw (count, parts) (take-append_seam (h.before ++ line ∷ []) (lines after)) in
+    let down_to : take (read + 1) (lines text) ≡ h.before ++ line ∷ [] = rw (count, parts) (take-append_seam (h.before ++ line ∷ []) (lines after)) in
     let said : reading_after_lines 1 (take (read + 1) (lines text)) empty_reading ≡ at_line (1 + length h.before) (reading_after line r) >>= reading_after_lines (1 + length h.before + 1) [] =
-    rw front (reading-append 1 h.before (line ∷ []) empty_reading ∙ rw h.said refl)
+    rw down_to (reading-append 1 h.before (line ∷ []) empty_reading ∙ rw h.said refl)
     in
     record {
-      reached = reached text read r rest line after h e;
+      reached = record { first = omega arith; last = omega arith; clear = rw (front, h.said) refl };
       hidden = λ fault f. rw here (hides fault.why (only_fault (1 + length h.before) (reading_after line r) fault (sym said ∙ f)));
     }

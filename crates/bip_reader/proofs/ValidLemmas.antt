@@ -1,29 +1,28 @@
--- What lines lead to is a draft of the builder's, so what a text means is a valid model with classes of it.
-use Rattle.std.proofs.Common.{◌≡◌, ℕ, ◌+◌, ◌<◌, Bool, true, false, not, cond, ◌==◌, List, [], ◌∷◌, length, Option, None, Some, Result, Ok, Err, refl, ap, ◌∙◌, subst, sym, arith, option_and_then}
-use Rattle.std.specs.Prelude.{IfSome, IsNone, is_some, unwrap_or, ⊤}
-use Rattle.std.specs.Option.{IsSomeAnd, ok_or, option_map}
+-- Lines lead to a draft of the builder's or to a fault that a text can have, so what a text means is a valid model.
+use Rattle.std.proofs.Common.{rules, ◌≡◌, ℕ, ◌+◌, Bool, true, false, not, cond, ◌==◌, List, [], ◌∷◌, length, Option, None, Some, Result, Ok, Err, refl, ap, ◌∙◌, subst, sym, arith, inl, inr, option_and_then}
+use Rattle.std.specs.Prelude.{IsNone, MatchResult, is_some, nat_lt, unwrap_or}
+use Rattle.std.specs.Option.{IsSomeAnd, ok_or, option_map, option_zip}
 use Rattle.std.proofs.lemmas.Bool.Decides.{nat_tests}
-use Rattle.std.proofs.lemmas.List.Elements.{All-nil}
 use Rattle.bip_model.specs.Drafts.{IsDraft, IsWhole, empty_draft, loc_line, port_line, trans_line}
 use Rattle.bip_model.specs.Outcomes.{◌>>=◌}
 use Rattle.bip_model.specs.Partitions.{IsClasses}
-use Rattle.bip_model.specs.Parts.{IsComponent, IsInteraction, IsSystem}
+use Rattle.bip_model.specs.Parts.{IsSystem}
 use Rattle.bip_model.specs.Texts.{lines, words_said}
 use Rattle.bip_model.specs.declared.drafts.Draft.{Draft}
-use Rattle.bip_model.specs.declared.parts.Component.{Component}
 use Rattle.bip_model.specs.declared.faults.BuildFault.{BuildFault}
 use Rattle.bip_model.specs.declared.numbering.InterId.{InterId}
 use Rattle.bip_model.specs.declared.partitions.Partition.{Partition}
 use Rattle.bip_model.specs.declared.parts.System.{System}
 use Rattle.bip_model.proofs.DraftLemmas.{component_keeps, end_keeps, inside_keeps, interaction_keeps, loc_keeps, port_keeps, trans_keeps}
 use Rattle.bip_model.proofs.PartitionLemmas.{classes_of_partition}
-use Rattle.bip_reader.specs.Laws.{MeansValid}
-use Rattle.bip_reader.specs.Reading.{at_line, can_follow, class_line, draft_of, draft_with, empty_reading, has_place, reading_after, reading_after_lines, reading_after_words, reading_with, statement_in, with_draft}
-use Rattle.bip_reader.specs.Statements.{class_form, each_of, end_form, header_form, interaction_form, keyword_in, keyword_of, name_of, one_name, one_or_more_of, participant_of, statement_of, trans_form}
-use Rattle.bip_reader.specs.Texts.{classes_of, reading_of, system_of}
-use Rattle.bip_reader.specs.declared.faults.ReadFault.{ReadFault}
+use Rattle.bip_reader.proofs.StatementLemmas.{as_many}
+use Rattle.bip_reader.proofs.FaultLemmas.{fair_more, reading_faults}
+use Rattle.bip_reader.specs.Laws.{MeansValid, TextFaults, is_of_text}
+use Rattle.bip_reader.specs.Reading.{at_line, can_follow, class_line, draft_of, draft_with, empty_reading, has_place, is_of_header, reading_after, reading_after_lines, reading_after_words, reading_with, statement_in, with_draft}
+use Rattle.bip_reader.specs.Statements.{class_form, each_of, end_form, header_form, interaction_form, keyword_in, keyword_of, name_of, one_name, participant_of, statement_of, trans_form}
+use Rattle.bip_reader.specs.Texts.{IsFaultAtEnd, classes_of, reading_of, system_of}
 use Rattle.bip_reader.specs.declared.faults.Why.{Why}
-use Rattle.bip_reader.specs.declared.faults.Why.TheVariants.{Syntax}
+use Rattle.bip_reader.specs.declared.faults.Why.TheVariants.{Syntax, Missing, PriorityCycle, NotAPartition}
 use Rattle.bip_reader.specs.declared.reading.Reading.{Reading}
 use Rattle.bip_reader.specs.declared.statements.Keyword.{Keyword}
 use Rattle.bip_reader.specs.declared.statements.Keyword.TheVariants as keyword
@@ -31,185 +30,121 @@ use Rattle.bip_reader.specs.declared.statements.Statement.{Statement}
 use Rattle.bip_reader.specs.declared.statements.Statement.TheVariants as statement
 
 -- an interaction has a participant
-abbrev IsFilled : Statement → Type 0
-IsFilled (statement.Interaction name participants) = 0 < length participants
-IsFilled s = ⊤
+abbrev is_filled : Statement → Bool
+is_filled (statement.Interaction name participants) = nat_lt 0 (length participants)
+is_filled s = true
 
--- a statement of a keyword
-abbrev IsOf : Keyword → Statement → Type 0
-IsOf k s = (keyword_in s ≡ k) × IsFilled s
+-- what a line states is of its keyword, and filled
+keyword_kept : (k : Keyword) (ws : List (List ℕ)) (s : Statement) → statement_of k ws ≡ Some s → keyword_in s ≡ k
+unfolding header_form one_name trans_form end_form interaction_form class_form
+keyword_kept k ws s e = grind arith
 
-some_if : {A : Type 0} (P : A → Type 0) (b : Bool) (x : A) → P x → IfSome (cond b (Some x) None) P
-some_if P true x h = h
-some_if P false x h = tt
-
-some_then : {A B : Type 0} (P : B → Type 0) (o : Option A) (f : A → Option B) → ((a : A) → o ≡ Some a → IfSome (f a) P) → IfSome (option_and_then f o) P
-some_then P None f h = tt
-some_then P (Some a) f h = h a refl
-
-some_map : {A B : Type 0} (P : B → Type 0) (o : Option A) (f : A → B) → ((a : A) → P (f a)) → IfSome (option_map f o) P
-some_map P None f h = tt
-some_map P (Some a) f h = h a
-
-one_at_least : {A : Type 0} (x : Option A) (more : Option (List A)) (xs : List A) → option_and_then (λ y. option_map (λ ys. y ∷ ys) more) x ≡ Some xs → 0 < length xs
-one_at_least None more xs e = absurd (cc)
-one_at_least (Some x) None xs e = absurd (cc)
-one_at_least (Some x) (Some ys) xs e = let same : x ∷ ys ≡ xs = cc in subst (λ (zs : List _). 0 < length zs) same (omega arith)
-
-filled : {A : Type 0} (f : List ℕ → Option A) (ws : List (List ℕ)) (xs : List A) → one_or_more_of f ws ≡ Some xs → 0 < length xs
-filled f [] xs e = absurd (cc)
-filled f (w ∷ ws) xs e =
-    let some : (length (w ∷ ws) == 0) ≡ false = grind (arith, nat_tests) in
-    one_at_least (f w) (each_of f ws) xs (rw some at e)
-
-header_is : (ws : List (List ℕ)) → IfSome (header_form ws) (IsOf keyword.Bip)
-unfolding header_form
-header_is [] = tt
-header_is (v ∷ []) = some_if (IsOf keyword.Bip) _ statement.Header (refl, tt)
-header_is (v ∷ w ∷ ws) = tt
-
-trans_is : (ws : List (List ℕ)) → IfSome (trans_form ws) (IsOf keyword.Trans)
-unfolding trans_form
-trans_is [] = tt
-trans_is (a ∷ []) = tt
-trans_is (a ∷ b ∷ []) = tt
-trans_is (a ∷ b ∷ c ∷ []) =
-    some_then (IsOf keyword.Trans) (name_of a) _ (λ port e. some_then (IsOf keyword.Trans) (name_of b) _ (λ source f. some_then (IsOf keyword.Trans) (name_of c) _ (λ target g. (refl, tt))))
-trans_is (a ∷ b ∷ c ∷ d ∷ ws) = tt
-
-end_is : (ws : List (List ℕ)) → IfSome (end_form ws) (IsOf keyword.End)
-unfolding end_form
-end_is [] = (refl, tt)
-end_is (w ∷ ws) = tt
-
-interaction_is : (ws : List (List ℕ)) → IfSome (interaction_form ws) (IsOf keyword.Interaction)
-unfolding interaction_form
-interaction_is [] = tt
-interaction_is (w ∷ ws) =
-    some_then (IsOf keyword.Interaction) (name_of w) _ (λ name e. some_then (IsOf keyword.Interaction) (one_or_more_of participant_of ws) _ (λ participants f. (refl, filled participant_of ws participants f)))
-
-class_is : (ws : List (List ℕ)) → IfSome (class_form ws) (IsOf keyword.Class)
-unfolding class_form
-class_is [] = tt
-class_is (w ∷ ws) = some_then (IsOf keyword.Class) (name_of w) _ (λ name e. some_then (IsOf keyword.Class) (one_or_more_of name_of ws) _ (λ interactions f. (refl, tt)))
-
-statement_is : (k : Keyword) (ws : List (List ℕ)) → IfSome (statement_of k ws) (IsOf k)
-statement_is keyword.Bip ws = header_is ws
-statement_is keyword.Component ws = some_map (IsOf keyword.Component) (one_name ws) statement.Component (λ name. (refl, tt))
-statement_is keyword.Loc ws = some_map (IsOf keyword.Loc) (one_name ws) statement.Loc (λ name. (refl, tt))
-statement_is keyword.Port ws = some_map (IsOf keyword.Port) (one_name ws) statement.Port (λ name. (refl, tt))
-statement_is keyword.Trans ws = trans_is ws
-statement_is keyword.End ws = end_is ws
-statement_is keyword.Interaction ws = interaction_is ws
-statement_is keyword.Class ws = class_is ws
+filled : (k : Keyword) (ws : List (List ℕ)) (s : Statement) → statement_of k ws ≡ Some s → is_filled s ≡ true
+unfolding header_form one_name trans_form end_form interaction_form class_form
+filled keyword.Interaction [] s e = absurd (cc)
+filled keyword.Interaction (w ∷ ws) s e = by_parts (name_of w) (each_of participant_of [] ws) refl e
+  where
+    by_parts : (name : Option (List ℕ)) (all : Option (List (List ℕ × List ℕ))) → each_of participant_of [] ws ≡ all
+        → option_map (λ i. statement.Interaction i.0 i.1) (option_zip name (cond (length ws == 0) None all)) ≡ Some s → is_filled s ≡ true
+    by_parts name None are e' = grind (arith, nat_tests)
+    by_parts name (Some all) are e' = let many = as_many participant_of [] ws all are in grind (arith, nat_tests)
+filled k ws s e = grind (arith, nat_tests)
 
 -- what is stated in its place
 abbrev IsInPlace : Reading → Statement → Type 0
-IsInPlace r s = (has_place (keyword_in s) r ≡ true) × IsFilled s
+IsInPlace r s = (has_place (keyword_in s) r ≡ true) × (is_filled s ≡ true)
 
-in_place_if : (r : Reading) (k : Keyword) (b : Bool) (o : Option Statement) → has_place k r ≡ b → IfSome o (IsOf k) → IfSome (cond b o None) (IsInPlace r)
-in_place_if r k true None place h = tt
-in_place_if r k true (Some s) place h = (ap (λ (j : Keyword). has_place j r) h.0 ∙ place, h.1)
-in_place_if r k false o place h = tt
-
-in_place_all : (ws : List (List ℕ)) (r : Reading) → IfSome (statement_in ws r) (IsInPlace r)
-in_place_all [] r = tt
-in_place_all (word ∷ rest) r = some_then (IsInPlace r) (keyword_of word) _ (λ k e. in_place_if r k (has_place k r) (statement_of k rest) refl (statement_is k rest))
+in_place : (found : Option Keyword) (rest : List (List ℕ)) (r : Reading) (s : Statement) → option_and_then (λ k. cond (has_place k r) (statement_of k rest) None) found ≡ Some s → IsInPlace r s
+in_place None rest r s e = absurd (cc)
+in_place (Some k) rest r s e = by_place (has_place k r) refl e
+  where
+    by_place : (place : Bool) → has_place k r ≡ place → cond place (statement_of k rest) None ≡ Some s → IsInPlace r s
+    by_place true is e' = (rw (keyword_kept k rest s e') is, filled k rest s e')
+    by_place false is e' = absurd (cc)
 
 not_begun : {A : Type 0} (o : Option A) → not (is_some o) ≡ true → IsNone o
 not_begun None h = refl
 not_begun (Some x) h = absurd (cc)
 
-draft_keeps : (s : Statement) (d e : Draft) → can_follow (keyword_in s) d ≡ true → IsFilled s → IsDraft d → draft_with s d ≡ Ok e → IsDraft e
+draft_keeps : (s : Statement) (d e : Draft) → can_follow (keyword_in s) d ≡ true → is_filled s ≡ true → IsDraft d → draft_with s d ≡ Ok e → IsDraft e
 draft_keeps statement.Header d e place some valid is = absurd (cc)
 draft_keeps (statement.Component name) d e place some valid is = component_keeps d e name valid (not_begun d.begun place) is
 draft_keeps (statement.Loc name) d e place some valid is = inside_keeps (loc_line name) d e valid place (loc_keeps name) is
 draft_keeps (statement.Port name) d e place some valid is = inside_keeps (port_line name) d e valid place (port_keeps name) is
 draft_keeps (statement.Trans port source target) d e place some valid is = inside_keeps (trans_line port source target) d e valid place (trans_keeps port source target) is
 draft_keeps statement.End d e place some valid is = end_keeps d e valid place is
-draft_keeps (statement.Interaction name participants) d e place some valid is = interaction_keeps d e name participants valid some is
+draft_keeps (statement.Interaction name participants) d e place some valid is = interaction_keeps d e name participants valid (grind (arith, nat_tests)) is
 draft_keeps (statement.Class name interactions) d e place some valid is = let same : d ≡ e = cc in subst IsDraft same valid
 
 empty_is : IsDraft empty_draft
-empty_is = record {
-  so_far = record {
-    few_components = omega arith;
-    enough_names = omega arith;
-    components_apart = tt;
-    components = All-nil IsComponent;
-    few_interactions = omega arith;
-    interactions_named = refl;
-    interactions_apart = tt;
-    interactions = All-nil (IsInteraction []);
-  };
-  begun_so_far = tt;
-  named = omega arith;
-}
+empty_is = search rules
 
-said_keeps : (r new : Reading) (said : Result Draft BuildFault) → ((d : Draft) → said ≡ Ok d → IsDraft d) → with_draft r said ≡ Ok new → IsDraft (draft_of new)
-said_keeps r new (Ok d) keeps e = let same : record r { builder = Some d } ≡ new = cc in subst (λ (x : Reading). IsDraft (draft_of x)) same (keeps d refl)
-said_keeps r new (Err fault) keeps e = absurd (cc)
+-- behind `bip 1`, what is said to the reading is said to its draft
+follows : (s : Statement) (r : Reading) → has_place (keyword_in s) r ≡ true → is_of_header (keyword_in s) ≡ false → can_follow (keyword_in s) (draft_of r) ≡ true
+follows s r place no_header = grind arith
 
-class_keeps : (name : List ℕ) (interactions : List (List ℕ)) (r new : Reading) → class_line name interactions r ≡ Ok new → new.builder ≡ r.builder
+said_draft : (r new : Reading) (said : Result Draft BuildFault) → with_draft r said ≡ Ok new → said ≡ Ok (draft_of new)
+said_draft r new said e = grind arith
+
+class_keeps : (name : List ℕ) (interactions : List (List ℕ)) (r new : Reading) → class_line name interactions r ≡ Ok new → draft_of new ≡ draft_of r
 unfolding class_line
 class_keeps name interactions r new e = grind arith
 
--- behind `bip 1`, what is said to the draft keeps it
-behind : (s : Statement) (r new : Reading) (builder : Option Draft) → r.builder ≡ builder → (has_place (keyword_in s) r ≡ true) → IsFilled s → (has_place (keyword_in s) (record r { builder = None }) ≡ false)
-    → IsDraft (draft_of r) → with_draft r (draft_with s (draft_of r)) ≡ Ok new → IsDraft (draft_of new)
-behind s r new None is place some no_header valid e = absurd (cc)
-behind s r new (Some d) is place some no_header valid e =
-    said_keeps r new (draft_with s (draft_of r))
-    (λ d' said. draft_keeps s (draft_of r) d' (follows place) some valid said) e
+-- what a statement leads to in its place
+keeps : (s : Statement) (r new : Reading) → IsInPlace r s → IsDraft (draft_of r) → reading_with s r ≡ Ok new → IsDraft (draft_of new)
+keeps statement.Header r new place valid e = let same : draft_of new ≡ empty_draft = grind arith in rw same empty_is
+keeps (statement.Class name interactions) r new place valid e = rw (class_keeps name interactions r new e) valid
+keeps s r new place valid e = draft_keeps s (draft_of r) (draft_of new) (follows s r place.0 refl) place.1 valid (said_draft r new (draft_with s (draft_of r)) e)
+
+-- what is read is a draft of the builder's, or a fault that a text can have
+abbrev Leads : Result Reading Why → Type 0
+Leads said = MatchResult said (λ r. IsDraft (draft_of r)) (λ why. is_of_text why ≡ true)
+
+words_lead : (ws : Option (List (List ℕ))) (r : Reading) → IsDraft (draft_of r) → Leads (reading_after_words ws r)
+words_lead None r valid = refl
+words_lead (Some []) r valid = valid
+words_lead (Some (word ∷ rest)) r valid = stated (statement_in word rest r) (in_place (keyword_of word) rest r)
   where
-    follows : has_place (keyword_in s) r ≡ true → can_follow (keyword_in s) (draft_of r) ≡ true
-    follows h = rw is (rw is at h)
+    said_leads : (s : Statement) (said : Result Reading Why) → reading_with s r ≡ said → IsInPlace r s → Leads said
+    said_leads s (Ok new) e place = keeps s r new place valid e
+    said_leads s (Err why) e place = fair_more why (rw e at (reading_faults s r))
 
-reading_keeps : (s : Statement) (r new : Reading) → has_place (keyword_in s) r ≡ true → IsFilled s → IsDraft (draft_of r) → reading_with s r ≡ Ok new → IsDraft (draft_of new)
-reading_keeps statement.Header r new place some valid e =
-    let same : record r { builder = Some empty_draft } ≡ new = cc in subst (λ (x : Reading). IsDraft (draft_of x)) same empty_is
-reading_keeps (statement.Class name interactions) r new place some valid e =
-    subst (λ (b : Option Draft). IsDraft (unwrap_or b empty_draft)) (sym (class_keeps name interactions r new e)) valid
-reading_keeps s r new place some valid e = behind s r new r.builder refl place some refl valid e
+    stated : (o : Option Statement) → ((s : Statement) → o ≡ Some s → IsInPlace r s) → Leads (ok_or o Syntax >>= λ s. reading_with s r)
+    stated None places = refl
+    stated (Some s) places = said_leads s (reading_with s r) refl (places s refl)
 
-stated_keeps : (o : Option Statement) (r new : Reading) → IfSome o (IsInPlace r) → IsDraft (draft_of r) → ok_or o Syntax >>= (λ s. reading_with s r) ≡ Ok new → IsDraft (draft_of new)
-stated_keeps None r new h valid e = absurd (cc)
-stated_keeps (Some s) r new h valid e = reading_keeps s r new h.0 h.1 valid e
-
-words_keep : (ws : Option (List (List ℕ))) (r new : Reading) → IsDraft (draft_of r) → reading_after_words ws r ≡ Ok new → IsDraft (draft_of new)
-words_keep None r new valid e = absurd (cc)
-words_keep (Some []) r new valid e = let same : r ≡ new = cc in subst (λ (x : Reading). IsDraft (draft_of x)) same valid
-words_keep (Some (word ∷ rest)) r new valid e = stated_keeps (statement_in (word ∷ rest) r) r new (in_place_all (word ∷ rest) r) valid e
-
-line_keeps : (line : List ℕ) (r new : Reading) → IsDraft (draft_of r) → reading_after line r ≡ Ok new → IsDraft (draft_of new)
+lines_lead : (n : ℕ) (ls : List (List ℕ)) (r : Reading) → IsDraft (draft_of r) → MatchResult (reading_after_lines n ls r) (λ new. IsDraft (draft_of new)) (λ fault. is_of_text fault.why ≡ true)
 unfolding reading_after
-line_keeps line r new valid e = words_keep (words_said line) r new valid e
-
-first_keeps : (n : ℕ) (said : Result Reading Why) (f : Reading → Result Reading ReadFault) (new : Reading) → ((r : Reading) → said ≡ Ok r → f r ≡ Ok new → IsDraft (draft_of new))
-    → at_line n said >>= f ≡ Ok new → IsDraft (draft_of new)
-first_keeps n (Ok r) f new h e = h r refl e
-first_keeps n (Err why) f new h e = absurd (cc)
-
-lines_keep : (n : ℕ) (ls : List (List ℕ)) (r new : Reading) → IsDraft (draft_of r) → reading_after_lines n ls r ≡ Ok new → IsDraft (draft_of new)
-lines_keep n [] r new valid e = let same : r ≡ new = cc in subst (λ (x : Reading). IsDraft (draft_of x)) same valid
-lines_keep n (line ∷ ls) r new valid e =
-    first_keeps n (reading_after line r) (reading_after_lines (n + 1) ls) new (λ s said rest. lines_keep (n + 1) ls s new (line_keeps line r s valid said) rest) e
+lines_lead n [] r valid = valid
+lines_lead n (line ∷ ls) r valid = first (reading_after_words (words_said line) r) (words_lead (words_said line) r valid) (lines_lead (n + 1) ls)
+  where
+    first : (said : Result Reading Why) → Leads said → ((s : Reading) → IsDraft (draft_of s) → MatchResult (reading_after_lines (n + 1) ls s) (λ new. IsDraft (draft_of new)) (λ fault. is_of_text fault.why ≡ true))
+        → MatchResult (at_line n said >>= reading_after_lines (n + 1) ls) (λ new. IsDraft (draft_of new)) (λ fault. is_of_text fault.why ≡ true)
+    first (Ok s) h later = later s h
+    first (Err why) h later = h
 
 read_keeps : (text : List ℕ) (r : Reading) → reading_of text ≡ Ok r → IsDraft (draft_of r)
 unfolding reading_of
-read_keeps text r e = lines_keep 1 (lines text) empty_reading r empty_is e
+read_keeps text r e = rw e at (lines_lead 1 (lines text) empty_reading empty_is)
+
+fair_end : (r : Reading) (why : Why) → IsFaultAtEnd r why → is_of_text why ≡ true
+fair_end r Missing h = refl
+fair_end r PriorityCycle h = absurd (h.1).1
+fair_end r NotAPartition h = refl
+fair_end r why h = absurd h
+
+pub text_faults : TextFaults
+unfolding reading_of
+text_faults text fault (inl e) = rw e at (lines_lead 1 (lines text) empty_reading empty_is)
+text_faults text fault (inr h) = fair_end h.read fault.why h.at_end
 
 whole_draft : (o : Option Draft) → IsSomeAnd o IsWhole → IsWhole (unwrap_or o empty_draft)
 whole_draft None h = absurd h
 whole_draft (Some d) h = h
 
-waiting : (begun : Option Component) → IsNone begun → ◌≡◌ {A = ℕ} (cond (is_some begun) 1 0) 0
-waiting None h = refl
-waiting (Some c) h = absurd (cc)
-
 whole_system : (d : Draft) → IsDraft d → IsWhole d → IsSystem d.system
 whole_system d valid whole =
-    let none = waiting d.begun whole.ended in
+    let none : ◌≡◌ {A = ℕ} (cond (is_some d.begun) 1 0) 0 = rw whole.ended refl in
     let named : length d.system.component_names ≡ length d.system.components + cond (is_some d.begun) 1 0 = valid.named in
     record { so_far = valid.so_far; some = whole.some; components_named = omega arith }
 

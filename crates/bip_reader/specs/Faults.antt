@@ -3,8 +3,6 @@ use Rattle.std.specs.Prelude.{ℕ, List, ◌++◌, codes}
 use Rattle.std.specs.Fmt.{decimal}
 use Rattle.bip_model.specs.declared.faults.BuildFault.{BuildFault}
 use Rattle.bip_model.specs.declared.faults.BuildFault.TheVariants as build
-use Rattle.bip_model.specs.declared.faults.ClassFault.{ClassFault}
-use Rattle.bip_model.specs.declared.faults.ClassFault.TheVariants as class_fault
 use Rattle.bip_reader.specs.declared.faults.ReadFault.{ReadFault}
 use Rattle.bip_reader.specs.declared.faults.Why.{Why}
 use Rattle.bip_reader.specs.declared.faults.Why.TheVariants.{Syntax, Unknown, Twice, TooMany}
@@ -45,8 +43,3 @@ why_of_build build.Missing = Missing
 why_of_build build.TwoTransitions = TwoTransitions
 why_of_build build.PriorityCycle = PriorityCycle
 why_of_build build.Memory = Memory
-
--- a fault of classes, as one of a text
-abbrev pub why_of_class : ClassFault → Why
-why_of_class class_fault.NotAPartition = NotAPartition
-why_of_class class_fault.Memory = Memory

@@ -8,7 +8,7 @@ use Rattle.bip_model.specs.Drafts.{component_line, empty_draft, end_line, inside
 use Rattle.bip_model.specs.Drafts.{loc_line, port_line, trans_line}
 use Rattle.bip_model.specs.Naming.{same_text}
 use Rattle.bip_model.specs.Outcomes.{◌>>=◌}
-use Rattle.bip_model.specs.Texts.{words, words_said}
+use Rattle.bip_model.specs.Texts.{words_said}
 use Rattle.bip_model.specs.declared.drafts.Draft.{Draft}
 use Rattle.bip_model.specs.declared.faults.BuildFault.{BuildFault}
 use Rattle.bip_model.specs.declared.numbering.InterId.{InterId}
@@ -49,7 +49,7 @@ are_interactions r names = list_all (λ name. is_some (interaction_named (draft_
 
 -- the numbers of interactions, by their names
 abbrev pub interactions_named : Reading → List (List ℕ) → Result (List InterId) Why
-interactions_named r names = ok_or (each_of (interaction_named (draft_of r)) names) Unknown
+interactions_named r names = ok_or (each_of (interaction_named (draft_of r)) [] names) Unknown
 
 -- the class joins those of a reading
 abbrev pub with_class : List ℕ → List InterId → Reading → Result Reading Why
@@ -104,10 +104,10 @@ can_follow keyword.Class d = not (is_some d.begun)
 abbrev pub has_place : Keyword → Reading → Bool
 has_place k r = option_map_or (can_follow k) r.builder (is_of_header k)
 
--- what the words of a line state in their place; none where they have no form, or no place now
-abbrev pub statement_in : List (List ℕ) → Reading → Option Statement
-statement_in [] r = None
-statement_in (word ∷ rest) r =
+-- what a line states in its place, by its first word and the rest; none where it has no form, or no
+-- place now
+abbrev pub statement_in : List ℕ → List (List ℕ) → Reading → Option Statement
+statement_in word rest r =
     option_and_then (λ k. if has_place k r then statement_of k rest else None) (keyword_of word)
 
 -- the reading after the words of a line: as it was where there are none; no words at all, where a
@@ -116,7 +116,7 @@ abbrev pub reading_after_words : Option (List (List ℕ)) → Reading → Result
 reading_after_words None r = Err Syntax
 reading_after_words (Some []) r = Ok r
 reading_after_words (Some (word ∷ rest)) r =
-    ok_or (statement_in (word ∷ rest) r) Syntax >>= λ s. reading_with s r
+    ok_or (statement_in word rest r) Syntax >>= λ s. reading_with s r
 
 -- the reading after a line, or the line's first fault
 unfoldable pub reading_after : List ℕ → Reading → Result Reading Why
@@ -137,4 +137,4 @@ reading_after_lines n (line ∷ rest) r =
 -- its place; and it lists words, which are stored before they are looked up
 pub record MayBeHidden (line : List ℕ) (why : Why) : Type 0 where
   pub meaning : why ≢ Syntax
-  pub listing : IsTrue (lists_words (words line))
+  pub listing : IsTrue (option_map_or lists_words (words_said line) false)

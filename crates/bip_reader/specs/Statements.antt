@@ -1,7 +1,7 @@
 -- The forms of the lines of a model's text: from the words of a line to what it states.
-use Rattle.std.specs.Prelude.{ℕ, Bool, false, true, ◌==◌, List, [], ◌∷◌, length, Option, None, Some}
-use Rattle.std.specs.Prelude.{option_and_then, codes, if◌then◌else◌}
-use Rattle.std.specs.Option.{option_map, option_map_or}
+use Rattle.std.specs.Prelude.{ℕ, Bool, false, true, ◌==◌, List, [], ◌∷◌, ◌++◌, length, Option, None}
+use Rattle.std.specs.Prelude.{Some, option_and_then, codes, if◌then◌else◌}
+use Rattle.std.specs.Option.{option_map, option_map_or, option_zip}
 use Rattle.bip_model.specs.Naming.{is_name, same_text}
 use Rattle.bip_model.specs.Texts.{pair_of}
 use Rattle.bip_reader.specs.declared.statements.Keyword.{Keyword}
@@ -12,31 +12,26 @@ use Rattle.bip_reader.specs.declared.statements.Statement.TheVariants.{Trans, En
 use Rattle.bip_reader.specs.declared.statements.Statement.TheVariants.{Class}
 use Rattle.bip_reader.specs.declared.statements.TheConstants.{PORT_MARK}
 
--- a chain ends where a word is nothing
-infixl 10 ◌>>=◌
-abbrev ◌>>=◌ : {A B : Type 0} → Option A → (A → Option B) → Option B
-o >>= f = option_and_then f o
-
 -- the name that a word is: spelled as one, of at most 32 bytes, and not reserved
 unfoldable pub name_of : List ℕ → Option (List ℕ)
 name_of word = if is_name word then Some word else None
 
+-- the names that two words are
+abbrev pub two_names : List ℕ × List ℕ → Option (List ℕ × List ℕ)
+two_names pair = option_zip (name_of pair.0) (name_of pair.1)
+
 -- `C.p`, a component and one of its ports
-unfoldable pub participant_of : List ℕ → Option (List ℕ × List ℕ)
-participant_of word = do
-  parts ← pair_of PORT_MARK word
-  component ← name_of parts.0
-  port ← name_of parts.1
-  Some (component, port)
+abbrev pub participant_of : List ℕ → Option (List ℕ × List ℕ)
+participant_of word = option_and_then two_names (pair_of PORT_MARK word)
 
--- what all the words are, each by itself; none where one is nothing
-abbrev pub each_of : {A : Type 0} → (List ℕ → Option A) → List (List ℕ) → Option (List A)
-each_of f [] = Some []
-each_of f (word ∷ rest) = f word >>= λ x. option_map (λ xs. x ∷ xs) (each_of f rest)
+-- what things are, each by itself, behind what those before are; none where one is nothing
+abbrev pub each_of : {A B : Type 0} → (A → Option B) → List B → List A → Option (List B)
+each_of f before [] = Some before
+each_of f before (x ∷ rest) = option_and_then (λ y. each_of f (before ++ y ∷ []) rest) (f x)
 
--- the same of one word or more
+-- what words are, each by itself, at least one
 abbrev pub one_or_more_of : {A : Type 0} → (List ℕ → Option A) → List (List ℕ) → Option (List A)
-one_or_more_of f ws = if length ws == 0 then None else each_of f ws
+one_or_more_of f words = if length words == 0 then None else each_of f [] words
 
 -- the keyword that a word is
 unfoldable pub keyword_of : List ℕ → Option Keyword
@@ -85,11 +80,9 @@ one_name _ = None
 
 -- `PORT FROM TO`
 unfoldable pub trans_form : List (List ℕ) → Option Statement
-trans_form (a ∷ b ∷ c ∷ []) = do
-  port ← name_of a
-  source ← name_of b
-  target ← name_of c
-  Some (Trans port source target)
+trans_form (port ∷ source ∷ target ∷ []) =
+    option_map (λ t. Trans t.0 t.1.0 t.1.1)
+    (option_zip (name_of port) (two_names (source, target)))
 trans_form _ = None
 
 -- no word
@@ -100,18 +93,15 @@ end_form _ = None
 -- `NAME C.p C.p ..`, at least one participant
 unfoldable pub interaction_form : List (List ℕ) → Option Statement
 interaction_form [] = None
-interaction_form (word ∷ rest) = do
-  name ← name_of word
-  participants ← one_or_more_of participant_of rest
-  Some (Interaction name participants)
+interaction_form (name ∷ rest) =
+    option_map (λ i. Interaction i.0 i.1)
+    (option_zip (name_of name) (one_or_more_of participant_of rest))
 
 -- `NAME INTER INTER ..`, at least one interaction
 unfoldable pub class_form : List (List ℕ) → Option Statement
 class_form [] = None
-class_form (word ∷ rest) = do
-  name ← name_of word
-  interactions ← one_or_more_of name_of rest
-  Some (Class name interactions)
+class_form (name ∷ rest) =
+    option_map (λ c. Class c.0 c.1) (option_zip (name_of name) (one_or_more_of name_of rest))
 
 -- what a line states that begins with a keyword, by the words that follow; none where they lack
 -- its form

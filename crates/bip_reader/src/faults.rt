@@ -2,9 +2,8 @@
 ghost use Rattle.std.specs.Prelude.{◌≡◌, Some};
 ghost use Rattle.bip_reader.specs.declared.faults.Why.TheVariants.{Memory};
 ghost use Rattle.bip_reader.specs.Faults.{number_of_why, text_of_why, text_of_fault, why_of_build};
-ghost use Rattle.bip_reader.specs.Faults.{why_of_class};
 
-use bip_model::{BuildFault, ClassFault};
+use bip_model::BuildFault;
 use std::alloc::{AllocError, AllocFailed};
 use std::fmt;
 use thiserror::Error;
@@ -82,17 +81,6 @@ impl From<BuildFault> for Why {
             BuildFault::TwoTransitions => Why::TwoTransitions,
             BuildFault::PriorityCycle => Why::PriorityCycle,
             BuildFault::Memory => Why::Memory,
-        }
-    }
-}
-
-impl From<ClassFault> for Why {
-    ghost from_gives = { λ fault why. why ≡ why_of_class fault };
-
-    fn from(fault: ClassFault) -> Why {
-        match fault {
-            ClassFault::NotAPartition => Why::NotAPartition,
-            ClassFault::Memory => Why::Memory,
         }
     }
 }

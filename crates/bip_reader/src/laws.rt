@@ -11,6 +11,7 @@ ghost use Rattle.bip_reader.specs.Laws.{TextFaults};
 /// first, and what stands behind a line at fault counts for nothing. Texts that differ only in
 /// skipped lines, in blanks between words or in a last line feed mean the same model and classes. A
 /// word is taken as a name exactly where it is one (docs/DEFINITIONS.md, "Model texts").
+#[tactic(auto, unfolding(crate::specs::Statements::name_of))]
 pub fn meaning_laws()
     ensures meaning { OneMeaning }
     ensures fault { OneFault }

@@ -1,32 +1,28 @@
 //! Reading the text of a model, line after line.
-ghost use Rattle.std.specs.Prelude.{◌≡◌, ◌≢◌, ◌∷◌, ◌++◌, [], ◌==◌, ◌||◌, length, map, true};
-ghost use Rattle.std.specs.Prelude.{Err, IfErr, IfOk, OnOk, IsTrue};
+ghost use Rattle.std.specs.Prelude.{◌≡◌, ◌≢◌, ◌∷◌, ◌++◌, [], length, map, true};
+ghost use Rattle.std.specs.Prelude.{Err, IfErr, IfOk, OnOk, IsTrue, Some};
 ghost use Rattle.std.specs.List.{list_any};
 ghost use Rattle.std.specs.Option.{ok_or};
 ghost use Rattle.bip_model.specs.Naming.{same_text};
 ghost use Rattle.bip_model.specs.Outcomes.{Answers, new_or_fault};
 ghost use Rattle.bip_model.specs.Steps.{IsCyclic};
-ghost use Rattle.bip_model.specs.Texts.{is_comment, words};
+ghost use Rattle.bip_model.specs.Texts.{words};
 ghost use Rattle.bip_model.specs.declared.faults.BuildFault.TheVariants as build_fault;
 ghost use Rattle.bip_reader.specs.declared.faults.Why.{Why};
 ghost use Rattle.bip_reader.specs.declared.faults.Why.TheVariants.{Memory, Syntax};
 ghost use Rattle.bip_reader.specs.Reading.{MayBeHidden, are_interactions, can_follow, class_line};
 ghost use Rattle.bip_reader.specs.Reading.{draft_of, draft_with, empty_reading, has_place};
 ghost use Rattle.bip_reader.specs.Reading.{interaction_named, interactions_named, reading_after};
+ghost use Rattle.bip_reader.specs.Reading.{reading_after_words};
 ghost use Rattle.bip_reader.specs.Reading.{reading_with, statement_in};
 ghost use Rattle.bip_reader.specs.Statements.{keyword_in, lists_words};
 ghost use Rattle.bip_reader.specs.Texts.{IsFaultAtEnd, IsWholeReading, system_of};
 
 use crate::Why;
 use crate::statements::{Keyword, Statement, keyword_of, read_statement};
-use bip_model::{
-    BuildFault, Builder, InterId, MOST_CLASSES, Model, Name, Seq, is_plain, split_word,
-};
+use bip_model::{BuildFault, Builder, InterId, Line, MOST_CLASSES, Model, Name, Seq, read_words};
 use std::alloc::{AllocError, Global};
 use std::marker;
-
-/// The byte that begins a comment.
-const COMMENT_MARK: u8 = b'#';
 
 /// Classes as a text names them, each a name with numbers of interactions. Contracts see the list
 /// of them.
@@ -100,33 +96,41 @@ impl Reading {
 
     /// Reads one more line. Want of memory hides no fault of its syntax, which is told before
     /// anything is stored, and another one only where it lists words.
+    #[tactic(auto, unfolding(crate::specs::Reading::reading_after))]
     pub(crate) fn read_line(&mut self, alloc: Global, line: &[u8]) -> Result<(), Why>
         ensures said { result ≢ Err Memory
             → reading_after line.now self.old ≡ new_or_fault result self.new }
         ensures memory { result ≡ Err Memory
             → (why : Why) → reading_after line.now self.old ≡ Err why → MayBeHidden line.now why }
     {
-        if !is_plain(line) {
-            return Err(Why::Syntax);
+        match read_words(line) {
+            Line::BadByte => Err(Why::Syntax),
+            Line::Nothing => Ok(()),
+            Line::Words(word, rest) => self.take_words(alloc, word, rest),
         }
-        if is_skipped(line) {
-            return Ok(());
-        }
-        let statement = self.statement_in(alloc, line)?;
+    }
+
+    /// Takes what the words of a line say.
+    #[tactic(auto, using(crate::proofs::FaultLemmas::reading_faults))]
+    fn take_words(&mut self, alloc: Global, word: &[u8], rest: &[u8]) -> Result<(), Why>
+        ensures said { result ≢ Err Memory → new_or_fault result self.new
+            ≡ reading_after_words (Some (word.now ∷ words rest.now)) self.old }
+        ensures memory { result ≡ Err Memory → (why : Why)
+            → reading_after_words (Some (word.now ∷ words rest.now)) self.old ≡ Err why
+            → (why ≢ Syntax) × IsTrue (lists_words (word.now ∷ words rest.now)) }
+    {
+        let statement = self.statement_in(alloc, word, rest)?;
         self.take(alloc, statement)
     }
 
-    /// What a line states in its place. Syntax: it has no form, or no place now; memory comes only
-    /// where it has both, and lists words.
-    fn statement_in(&self, alloc: Global, line: &[u8]) -> Result<Statement, Why>
-        ensures said { let said = statement_in (words line.now) self.now
+    /// What a line states in its place, by its first word and the rest. Syntax: it has no form, or
+    /// no place now; memory comes only where it has both, and lists words.
+    fn statement_in(&self, alloc: Global, word: &[u8], rest: &[u8]) -> Result<Statement, Why>
+        ensures said { let said = statement_in word.now (words rest.now) self.now
             in Answers Memory (ok_or said Syntax) result }
         ensures place { IfOk result (λ s. IsTrue (has_place (keyword_in s) self.now)) }
-        ensures memory { result ≡ Err Memory → IsTrue (lists_words (words line.now)) }
+        ensures memory { result ≡ Err Memory → IsTrue (lists_words (word.now ∷ words rest.now)) }
     {
-        let Some((word, rest)) = split_word(line) else {
-            return Err(Why::Syntax);
-        };
         let Some(keyword) = keyword_of(word) else {
             return Err(Why::Syntax);
         };
@@ -271,14 +275,4 @@ fn is_class(classes: &[(Name, Vec<InterId>)], name: &Name) -> bool
     ensures { result ≡ list_any (λ class. same_text name.now class.0) classes.now }
 {
     classes.iter().any(|class| *name == class.0)
-}
-
-/// Whether a line of plain bytes says nothing: it has no word, or it is a comment.
-fn is_skipped(line: &[u8]) -> bool
-    ensures { result ≡ (is_comment (words line.now) || length (words line.now) == 0) }
-{
-    match split_word(line) {
-        None => true,
-        Some((word, _)) => word[0] == COMMENT_MARK,
-    }
 }

@@ -1,5 +1,6 @@
 //! The forms of lines: from the words of a line to what it states.
-ghost use Rattle.std.specs.Prelude.{◌≡◌, ◌<◌, is_some, length, Err, IfOk, IfSome, IsTrue};
+ghost use Rattle.std.specs.Prelude.{◌≡◌, ◌<◌, is_some, length, Err, IfOk, IfSome, IsTrue, List, ℕ};
+ghost use Rattle.std.specs.Prelude.{Option};
 ghost use Rattle.std.specs.Option.{ok_or};
 ghost use Rattle.bip_model.specs.Naming.{same_text};
 ghost use Rattle.bip_model.specs.Outcomes.{Answers};
@@ -13,7 +14,7 @@ ghost use Rattle.bip_reader.specs.Statements.{one_or_more_of, participant_of, st
 ghost use Rattle.bip_reader.specs.Statements.{trans_form};
 
 use crate::Why;
-use bip_model::{Name, Seq, split_pair, split_word};
+use bip_model::{Name, split_pair, split_word};
 use std::alloc::Global;
 use std::marker::Model;
 
@@ -33,29 +34,91 @@ pub(crate) enum Keyword {
     Class,
 }
 
-/// The participants that an interaction's line names, at least one. Contracts see the list of them.
+/// What a word of a line can be, by itself.
+pub(crate) trait Word: Drop {
+    ghost read_as: { List ℕ → Option Self };
+
+    /// What the word is; none where it is no such thing.
+    fn read(word: &[u8]) -> Option<Self>
+        ensures { result ≡ read_as word.now };
+}
+
+impl Word for Name {
+    ghost read_as = { name_of };
+
+    #[tactic(auto, unfolding(crate::specs::Statements::name_of))]
+    fn read(word: &[u8]) -> Option<Name> {
+        Name::of(word)
+    }
+}
+
+/// A participant: a component and one of its ports.
+impl Word for (Name, Name) {
+    ghost read_as = { participant_of };
+
+    fn read(word: &[u8]) -> Option<(Name, Name)> {
+        let (component, port) = split_pair(word, PORT_MARK)?;
+        Some((Name::read(component)?, Name::read(port)?))
+    }
+}
+
+/// What the words of a line are, at least one. Contracts see the list.
 #[derive(Drop)]
-pub(crate) struct Participants {
-    participants: Vec<(Name, Name)>,
+pub(crate) struct OneOrMore<W> {
+    items: Vec<W>,
 }
 
-impl Model for Participants {
-    ghost use Rattle.std.specs.Prelude.{List, ℕ, length, ◌<◌};
+impl<W> Model for OneOrMore<W> {
+    ghost use Rattle.std.specs.Prelude.{List, length, ◌<◌};
 
-    ghost Value = { List (List ℕ × List ℕ) };
+    ghost Value = { List W };
 
-    ghost view = { λ p. p.participants.items };
+    ghost view = { λ l. l.items.items };
 
-    ghost invariant = { λ p. 0 < length p.participants.items };
+    ghost invariant = { λ l. 0 < length l.items.items };
 }
 
-impl Participants {
-    pub(crate) fn as_slice(&self) -> &[(Name, Name)]
-        ensures participants { result.now ≡ self.now }
+impl<W> OneOrMore<W> {
+    pub(crate) fn as_slice(&self) -> &[W]
+        ensures items { result.now ≡ self.now }
         ensures some { 0 < length result.now }
     {
-        self.participants.as_slice()
+        self.items.as_slice()
     }
+}
+
+impl<W: Word> OneOrMore<W> {
+    /// What the words of a line are, each by itself. All are looked at before one is stored.
+    #[tactic(auto, using(crate::proofs::StatementLemmas::as_many))]
+    fn read(alloc: Global, line: &[u8]) -> Result<OneOrMore<W>, Why>
+        ensures { Answers Memory (ok_or (one_or_more_of W.read_as (words line.now)) Syntax) result }
+    {
+        if !are_all::<W>(line) {
+            return Err(Why::Syntax);
+        }
+        let mut items = Vec::new(alloc);
+        let mut rest = line;
+        while let Some((word, after)) = split_word(rest) {
+            items.push(W::read(word).ok_or(Why::Syntax)?)?;
+            rest = after;
+        }
+        Ok(OneOrMore { items })
+    }
+}
+
+/// Whether a line has words, and each of them can be read.
+#[tactic(auto, using(crate::proofs::StatementLemmas::all_are_each))]
+fn are_all<W: Word>(line: &[u8]) -> bool
+    ensures { result ≡ is_some (one_or_more_of W.read_as (words line.now)) }
+{
+    let mut rest = line;
+    while let Some((word, after)) = split_word(rest) {
+        if W::read(word).is_none() {
+            return false;
+        }
+        rest = after;
+    }
+    split_word(line).is_some()
 }
 
 /// What a line states: a case for each form of a line.
@@ -73,11 +136,11 @@ pub(crate) enum Statement {
     End,
     Interaction {
         name: Name,
-        participants: Participants,
+        participants: OneOrMore<(Name, Name)>,
     },
     Class {
         name: Name,
-        interactions: Seq<Name>,
+        interactions: OneOrMore<Name>,
     },
 }
 
@@ -108,10 +171,10 @@ fn interaction(alloc: Global, line: &[u8]) -> Result<Statement, Why>
     let Some((word, rest)) = split_word(line) else {
         return Err(Why::Syntax);
     };
-    let Some(name) = name_of(word) else {
+    let Some(name) = Name::read(word) else {
         return Err(Why::Syntax);
     };
-    let participants = participants_in(alloc, rest)?;
+    let participants = OneOrMore::read(alloc, rest)?;
     Ok(Statement::Interaction { name, participants })
 }
 
@@ -123,78 +186,11 @@ fn class(alloc: Global, line: &[u8]) -> Result<Statement, Why>
     let Some((word, rest)) = split_word(line) else {
         return Err(Why::Syntax);
     };
-    let Some(name) = name_of(word) else {
+    let Some(name) = Name::read(word) else {
         return Err(Why::Syntax);
     };
-    let interactions = names_in(alloc, rest)?;
+    let interactions = OneOrMore::read(alloc, rest)?;
     Ok(Statement::Class { name, interactions })
-}
-
-/// The participants that the words of a line name. All words are looked at before one is stored.
-fn participants_in(alloc: Global, line: &[u8]) -> Result<Participants, Why>
-    ensures { let said = one_or_more_of participant_of (words line.now)
-        in Answers Memory (ok_or said Syntax) result }
-{
-    if !are_participants(line) {
-        return Err(Why::Syntax);
-    }
-    let mut participants = Vec::new(alloc);
-    let mut rest = line;
-    while let Some((word, after)) = split_word(rest) {
-        participants.push(participant_of(word).ok_or(Why::Syntax)?)?;
-        rest = after;
-    }
-    if participants.is_empty() {
-        return Err(Why::Syntax);
-    }
-    Ok(Participants { participants })
-}
-
-/// Whether a line has words, and each of them names a participant.
-fn are_participants(line: &[u8]) -> bool
-    ensures { result ≡ is_some (one_or_more_of participant_of (words line.now)) }
-{
-    let mut rest = line;
-    while let Some((word, after)) = split_word(rest) {
-        if participant_of(word).is_none() {
-            return false;
-        }
-        rest = after;
-    }
-    split_word(line).is_some()
-}
-
-/// The names that the words of a line are. All words are looked at before one is stored.
-fn names_in(alloc: Global, line: &[u8]) -> Result<Seq<Name>, Why>
-    ensures { Answers Memory (ok_or (one_or_more_of name_of (words line.now)) Syntax) result }
-{
-    if !are_names(line) {
-        return Err(Why::Syntax);
-    }
-    let mut names = Vec::new(alloc);
-    let mut rest = line;
-    while let Some((word, after)) = split_word(rest) {
-        names.push(name_of(word).ok_or(Why::Syntax)?)?;
-        rest = after;
-    }
-    if names.is_empty() {
-        return Err(Why::Syntax);
-    }
-    Ok(Seq::of(names))
-}
-
-/// Whether a line has words, and each of them is a name.
-fn are_names(line: &[u8]) -> bool
-    ensures { result ≡ is_some (one_or_more_of name_of (words line.now)) }
-{
-    let mut rest = line;
-    while let Some((word, after)) = split_word(rest) {
-        if name_of(word).is_none() {
-            return false;
-        }
-        rest = after;
-    }
-    split_word(line).is_some()
 }
 
 #[tactic(auto, unfolding(crate::specs::Statements::header_form))]
@@ -215,7 +211,7 @@ fn only_name(line: &[u8]) -> Option<Name>
 {
     let (word, rest) = split_word(line)?;
     match split_word(rest) {
-        None => name_of(word),
+        None => Name::read(word),
         Some(_) => None,
     }
 }
@@ -232,9 +228,9 @@ fn trans(line: &[u8]) -> Option<Statement>
         return None;
     }
     Some(Statement::Trans {
-        port: name_of(port)?,
-        source: name_of(source)?,
-        target: name_of(target)?,
+        port: Name::read(port)?,
+        source: Name::read(source)?,
+        target: Name::read(target)?,
     })
 }
 
@@ -247,14 +243,6 @@ fn end(line: &[u8]) -> Option<Statement>
         None => Some(Statement::End),
         Some(_) => None,
     }
-}
-
-#[tactic(auto, unfolding(crate::specs::Statements::participant_of))]
-fn participant_of(word: &[u8]) -> Option<(Name, Name)>
-    ensures { result ≡ participant_of word.now }
-{
-    let (component, port) = split_pair(word, PORT_MARK)?;
-    Some((name_of(component)?, name_of(port)?))
 }
 
 #[tactic(auto, unfolding(crate::specs::Statements::keyword_of))]
@@ -280,12 +268,6 @@ pub(crate) fn keyword_of(word: &[u8]) -> Option<Keyword>
     } else {
         None
     }
-}
-
-fn name_of(word: &[u8]) -> Option<Name>
-    ensures { result ≡ name_of word.now }
-{
-    Name::of(word)
 }
 
 fn is_text(word: &[u8], text: &[u8]) -> bool

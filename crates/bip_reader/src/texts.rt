@@ -9,7 +9,7 @@ ghost use Rattle.bip_reader.specs.Texts.{Means, classes_of, reading_of};
 
 use crate::reading::{ClassLines, Reading};
 use crate::{ReadFault, Why};
-use bip_model::{Classes, Model, split_line};
+use bip_model::{ClassFault, Classes, Model, split_line};
 use std::alloc::Global;
 
 /// The model and the classes that a text means, or its first fault: the one of the lowest line, and
@@ -53,16 +53,18 @@ fn declared_by(alloc: Global, reading: Reading) -> Result<(Model, Classes), Why>
     Ok((model, classes))
 }
 
-/// The classes that lists of a model's interactions are.
+/// The classes that lists of a model's interactions are. Memory comes only where they part them.
 fn classes_of(alloc: Global, model: &Model, listed: ClassLines) -> Result<Classes, Why>
     ensures parted { OnOk result (IsParted model.now listed) }
     ensures ordered { IfOk result (λ made. made ≡ classes_of model.now listed) }
     ensures fault { IfErr result (λ why. why ≢ Memory
         → (why ≡ NotAPartition) × ¬ IsParted model.now listed) }
+    ensures memory { result ≡ Err Memory → IsParted model.now listed }
 {
     match Classes::of(alloc, model, listed.into_vec()) {
         Ok(classes) => Ok(classes),
-        Err(fault) => Err(Why::from(fault)),
+        Err(ClassFault::NotAPartition) => Err(Why::NotAPartition),
+        Err(ClassFault::Memory) => Err(Why::Memory),
     }
 }
 

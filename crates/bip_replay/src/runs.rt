@@ -109,7 +109,7 @@ impl<'m> Position<'m> {
         ensures { standing_of self.new ≡ standing_on (standing_of self.old) grant.now }
     {
         let _valid = self.model.components();
-        let _fired = self.model.fire(&mut self.state, grant.inter());
+        self.model.run(&mut self.state, grant.inter());
         use_up(&mut self.used, grant.wants());
     }
 }

@@ -1,9 +1,7 @@
 use Rattle.bip_reader.proofs.DecisionLemmas.{meaning_or_fault}
-use Rattle.bip_reader.proofs.ValidLemmas.{means_valid}
-use Rattle.bip_reader.proofs.FaultLemmas.{text_faults}
+use Rattle.bip_reader.proofs.ValidLemmas.{means_valid, text_faults}
 use Rattle.bip_reader.proofs.FirstLemmas.{first_fault, nothing_past}
-use Rattle.bip_reader.proofs.LawLemmas.{no_last_line_feed, same_meaning}
-use Rattle.bip_reader.proofs.StatementLemmas.{names_are_taken}
+use Rattle.bip_reader.proofs.SameMeaningLemmas.{no_last_line_feed, same_meaning}
 use Rattle.bip_reader.proofs.laws.meaning_laws.Goals as goal
 
 pub returns-clause-same : goal.returns-clause-same
@@ -20,9 +18,6 @@ returns-clause-first c = first_fault
 
 pub returns-clause-past : goal.returns-clause-past
 returns-clause-past c = nothing_past
-
-pub returns-clause-names : goal.returns-clause-names
-returns-clause-names c = names_are_taken
 
 pub returns-clause-some : goal.returns-clause-some
 returns-clause-some c = meaning_or_fault

@@ -1,5 +1,5 @@
 use Rattle.std.proofs.lemmas.Result.{err_from_is_err_and}
-use Rattle.bip_reader.proofs.MeaningLemmas.{unparted}
+use Rattle.bip_reader.proofs.PartedLemmas.{unparted}
 use Rattle.bip_reader.proofs.texts.declared_by.Goals as goal
 
 pub returns-in_err-classes-clause-fault : goal.returns-in_err-classes-clause-fault

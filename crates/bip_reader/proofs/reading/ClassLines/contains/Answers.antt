@@ -1,5 +1,5 @@
 use Rattle.std.proofs.Common.{refl}
-use Rattle.bip_reader.proofs.ReadingLemmas.{list_any-map}
+use Rattle.bip_reader.proofs.AnswerLemmas.{list_any-map}
 use Rattle.bip_reader.proofs.reading.ClassLines.contains.Goals as goal
 
 pub returns : goal.returns

@@ -1,6 +1,6 @@
 use Rattle.std.proofs.Common.{◌≤◌, ◌∙◌, length, sym, refl, arith}
 use Rattle.bip_model.specs.declared.partitions.TheConstants.{MOST_CLASSES}
-use Rattle.bip_reader.proofs.ReadingLemmas.{class_past, class_unknown}
+use Rattle.bip_reader.proofs.AnswerLemmas.{class_past, class_unknown}
 use Rattle.bip_reader.proofs.reading.Reading.class.Goals as goal
 
 pub returns-then-not-are_interactions : goal.returns-then-not-are_interactions

@@ -1,9 +1,8 @@
-use Rattle.std.proofs.Common.{◌≡◌, drop}
+use Rattle.std.proofs.Common.{◌≡◌, [], drop}
 use Rattle.bip_reader.specs.Reading.{draft_of, interaction_named}
 use Rattle.bip_reader.specs.Statements.{each_of}
-use Rattle.bip_reader.proofs.StatementLemmas.{with_front}
 use Rattle.bip_reader.proofs.reading.Reading.interaction_numbers.Given as goal
 
 abbrev pub invariant-loop-name : goal.invariant-loop-name
 invariant-loop-name l =
-    with_front l.numbers.items (each_of (interaction_named (draft_of l.self)) (drop l.name-index l.names)) ≡ each_of (interaction_named (draft_of l.self)) l.names
+    each_of (interaction_named (draft_of l.self)) l.numbers.items (drop l.name-index l.names) ≡ each_of (interaction_named (draft_of l.self)) [] l.names

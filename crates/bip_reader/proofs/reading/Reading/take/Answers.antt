@@ -1,5 +1,5 @@
 use Rattle.std.proofs.lemmas.Result.{err_from_is_err_and}
-use Rattle.bip_reader.proofs.ReadingLemmas.{answered, is_said_to_draft}
+use Rattle.bip_reader.proofs.AnswerLemmas.{answered, is_said_to_draft}
 use Rattle.bip_reader.proofs.reading.Reading.take.Goals as goal
 
 pub returns-in_err-build-in-Some : goal.returns-in_err-build-in-Some

@@ -3,7 +3,7 @@ use Rattle.bip_model.specs.States.{IsStateOf, State, state_of}
 use Rattle.bip_model.specs.Steps.{after}
 use Rattle.bip_model.proofs.StateLemmas.{states_lead_to_states}
 use Rattle.bip_model.proofs.StepLemmas.{fired}
-use Rattle.bip_model.proofs.models.Model.fire.Goals as goal
+use Rattle.bip_model.proofs.models.Model.run.Goals as goal
 
 pub returns-clause-fired : goal.returns-clause-fired
 returns-clause-fired c =

@@ -1,0 +1,10 @@
+use Rattle.std.proofs.Common.{◌≡◌, is_some, length}
+use Rattle.std.specs.List.{list_all}
+use Rattle.bip_model.specs.Texts.{words}
+use Rattle.bip_reader.proofs.statements.are_all.Given as goal
+
+abbrev pub invariant-loop-word : goal.invariant-loop-word
+invariant-loop-word g l = list_all (λ word. is_some (g.W.Word.read_as word)) (words l.rest) ≡ list_all (λ word. is_some (g.W.Word.read_as word)) (words l.line)
+
+abbrev pub decreases-loop-word : goal.decreases-loop-word
+decreases-loop-word g l = length l.rest
