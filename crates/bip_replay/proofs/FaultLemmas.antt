@@ -1,5 +1,5 @@
 -- Faults and parties: what the tests of a grant say.
-use Rattle.std.proofs.Common.{◌≡◌, ◌≢◌, ℕ, ◌<◌, ◌≤◌, ◌||◌, Bool, true, false, eqb, List, [], ◌∷◌, length, map, get_or, refl, sym, ap, ◌∙◌, subst, arith, zip, eqb-true, eq-eqb, ◌⊎◌, inl, inr, ◌+◌, not, ◌&&◌, Option, None, Some, find}
+use Rattle.std.proofs.Common.{◌≡◌, ◌≢◌, ℕ, ◌<◌, ◌≤◌, ◌||◌, Bool, true, false, eqb, List, [], ◌∷◌, length, map, get_or, refl, sym, ap, ◌∙◌, subst, arith, zip, eqb-true, eq-eqb, ◌⊎◌, inl, inr, ◌+◌, not, ◌&&◌, None, Some, find}
 use Rattle.std.specs.Prelude.{◌↔◌, All, Contains, slice_get, nat_lt}
 use Rattle.std.specs.List.{AllByRecursion, list_all, list_any, zip, position_or_len}
 use Rattle.std.specs.List.Sorted.{IsStrictlyIncreasing}
@@ -7,10 +7,9 @@ use Rattle.std.proofs.lemmas.Bool.{and_parts, and_from, cases_order, false≢tru
 use Rattle.std.proofs.lemmas.Bool.Decides.{eqb_tells}
 use Rattle.std.proofs.lemmas.List.Elements.{All-cons, All-head, All-nil, All-tail, Contains-get_or, All-weaker}
 use Rattle.std.proofs.lemmas.List.Folds.{Any-from_list_any, list_any-from_Any, find_at}
-use Rattle.std.specs.Option.{option_map_or}
 use Rattle.std.proofs.lemmas.List.Quantifiers.{position-Some}
 use Rattle.std.proofs.lemmas.List.Sums.{fails_before_first}
-use Rattle.std.proofs.lemmas.Option.{get_or_from_slice_get, none-some, slice_get-get_or, slice_get_within}
+use Rattle.std.proofs.lemmas.Option.{get_or_from_slice_get, none-some, slice_get-get_or, slice_get_cases, slice_get_within}
 use Rattle.bip_model.proofs.NumberingLemmas.{Rises, rises_from_increasing}
 use Rattle.bip_model.specs.declared.wants.Role.{Role}
 use Rattle.bip_model.specs.declared.wants.Role.TheVariants.{Moved, Seen}
@@ -19,7 +18,6 @@ use Rattle.bip_model.specs.Parts.{Participant, components_in, IsInteraction, IsP
 use Rattle.bip_model.specs.Wants.{components_of, is_moved}
 use Rattle.bip_model.proofs.ListLemmas.{All-slice_get, below_later}
 use Rattle.bip_model.specs.declared.grants.Grant.{Grant}
-use Rattle.bip_model.specs.declared.parts.Interaction.{Interaction}
 use Rattle.bip_model.specs.declared.parts.System.{System}
 use Rattle.bip_model.specs.States.{State}
 use Rattle.bip_model.specs.Steps.{IsEnabled, MayRun, participants_of}
@@ -224,14 +222,12 @@ abbrev KnownIn : System → Participant → Type 0
 KnownIn m q = q.0.0 < length m.components
 
 -- the participants of an interaction are components of the model
-participants_known : (m : System) (a : ℕ) → IsSystem m → All (λ (q : Participant). q.0.0 < length m.components) (participants_of m a)
-participants_known m a valid = by_look (slice_get m.interactions a) refl
-  where
-    by_look : (o : Option Interaction) → slice_get m.interactions a ≡ o → All (KnownIn m) (option_map_or (λ (i : Interaction). i.participants) o [])
-    by_look None e = All-nil (KnownIn m)
-    by_look (Some i) e =
-        let there : IsInteraction m.components i = All-slice_get (IsInteraction m.components) m.interactions a i valid.so_far.interactions e in
-        All-weaker (IsPortIn m.components) (KnownIn m) (λ q port. port.component) i.participants there.ports
+participants_known : (m : System) (a : ℕ) → IsSystem m → All (KnownIn m) (participants_of m a)
+participants_known m a valid = elim (slice_get_cases m.interactions a).1 [
+  | inl here ↦
+      rw here.2 (All-weaker (IsPortIn m.components) (KnownIn m) (λ q port. port.component) here.0.participants (All-slice_get (IsInteraction m.components) m.interactions a here.0 valid.so_far.interactions here.2).ports)
+  | inr past ↦ rw past.1 (All-nil (KnownIn m))
+]
 
 -- what a grant's interaction moves is a component of the model
 pub moved_known : (m : System) (s : State) (g : Grant) (w : Want) → IsSystem m → HasItsParties m s g → Contains g.wants w → w.role ≡ Moved → w.comp.0 < length m.components

@@ -4,7 +4,7 @@ use Rattle.std.proofs.lemmas.List.Elements.{All-weaker, All-head, All-tail, filt
 use Rattle.std.specs.Prelude.{◌↔◌, All, filter, nat_lt}
 use Rattle.std.specs.List.{list_all, zip}
 use Rattle.std.specs.List.Sorted.{IsStrictlyIncreasing}
-use Rattle.std.proofs.lemmas.Bool.{and_parts, both_ways, ltb-true, lt-ltb}
+use Rattle.std.proofs.lemmas.Bool.{and_parts, both_ways, cases_Bool, cases_lt, lt-ltb}
 use Rattle.std.proofs.lemmas.List.{length-append}
 use Rattle.std.proofs.lemmas.List.Sums.{AllPass-from_list_all, list_all-from_AllPass}
 use Rattle.bip_model.specs.declared.grants.Grant.{Grant}
@@ -122,15 +122,13 @@ numbered m base front rest g c run moves = by_move (moved-next (used_after base 
 
 -- an interaction is enabled, or it isn't
 is_enabled : (m : System) (s : State) (a : ℕ) → IsEnabled m s a ⊎ (¬ IsEnabled m s a)
-is_enabled m s a = by_number (nat_lt a (length m.interactions)) refl
-  where
-    by_ports : a < length m.interactions → (b : Bool) → list_all (offered m s) (participants_of m a) ≡ b → IsEnabled m s a ⊎ (¬ IsEnabled m s a)
-    by_ports known true e = inl (record { declared = known; offered_all = AllPass-from_list_all (offered m s) (participants_of m a) e })
-    by_ports known false e = inr (λ is. both_ways (list_all (offered m s) (participants_of m a)) e (list_all-from_AllPass (offered m s) (participants_of m a) is.offered_all))
-
-    by_number : (b : Bool) → nat_lt a (length m.interactions) ≡ b → IsEnabled m s a ⊎ (¬ IsEnabled m s a)
-    by_number true e = by_ports (ltb-true a (length m.interactions) e) (list_all (offered m s) (participants_of m a)) refl
-    by_number false e = inr (λ is. both_ways (nat_lt a (length m.interactions)) e (lt-ltb a (length m.interactions) is.declared))
+is_enabled m s a = elim (cases_lt a (length m.interactions)) [
+  | inl known ↦ elim (cases_Bool (list_all (offered m s) (participants_of m a))) [
+    | inl all ↦ inl (record { declared = known; offered_all = AllPass-from_list_all (offered m s) (participants_of m a) all })
+    | inr some ↦ inr (λ is. both_ways (list_all (offered m s) (participants_of m a)) some (list_all-from_AllPass (offered m s) (participants_of m a) is.offered_all))
+  ]
+  | inr past ↦ inr (λ is. let known : a < length m.interactions = is.declared in absurd (omega arith))
+]
 
 -- a grant is next, or has a fault
 abbrev pub NextOrFault : System → State → (ℕ → ℕ) → Grant → Type 0

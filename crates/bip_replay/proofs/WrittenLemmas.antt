@@ -1,16 +1,16 @@
 -- What is written reads back: the words of wants, the line of a grant, and the text of grants.
-use Rattle.std.proofs.Common.{◌≡◌, ℕ, ◌+◌, ◌<◌, ◌≤◌, Bool, true, false, not, cond, ◌||◌, List, [], ◌∷◌, ◌++◌, length, map, Ok, refl, sym, ap, ◌∙◌, arith}
+use Rattle.std.proofs.Common.{◌≡◌, ℕ, ◌+◌, ◌<◌, ◌≤◌, Bool, true, false, cond, ◌||◌, List, [], ◌∷◌, ◌++◌, length, map, Ok, refl, ap, ◌∙◌, arith}
 use Rattle.std.specs.Prelude.{All, filter, codes}
 use Rattle.std.specs.Fmt.{decimal}
-use Rattle.std.specs.List.{AllZip, flat_map, list_any}
+use Rattle.std.specs.List.{AllZip, list_any}
 use Rattle.std.proofs.lemmas.List.{append_assoc}
 use Rattle.std.proofs.lemmas.List.Elements.{All-append, All-cons, All-filter, All-head, All-map, All-tail, All-weaker, filter_passes}
 use Rattle.std.proofs.lemmas.List.Sorted.{IsPermutation-filter_both, IsPermutation-sym}
 use Rattle.std.proofs.lemmas.Option.{slice_get-get_or}
 use Rattle.bip_model.specs.Naming.{IsName}
 use Rattle.bip_model.specs.Parts.{IsSystem}
-use Rattle.bip_model.specs.Texts.{is_plain, lines}
-use Rattle.bip_model.specs.Wants.{IsWants, is_moved}
+use Rattle.bip_model.specs.Texts.{is_plain, line_feed, lines}
+use Rattle.bip_model.specs.Wants.{IsWants}
 use Rattle.bip_model.specs.declared.grants.Grant.{Grant}
 use Rattle.bip_model.specs.declared.wants.Role.{Role}
 use Rattle.bip_model.specs.declared.wants.Role.TheVariants.{Moved, Seen}
@@ -18,22 +18,16 @@ use Rattle.bip_model.specs.declared.wants.Want.{Want}
 use Rattle.bip_model.specs.declared.parts.System.{System}
 use Rattle.bip_replay.specs.Laws.{Spells}
 use Rattle.bip_replay.specs.Traces.{grants_from, grants_of}
-use Rattle.bip_replay.specs.Writing.{IsGrantOf, IsSpelled, ReadsBack, bare_line, behind_see, has_role, line_of, name_in, spaced, text_of, want_word, want_words, words_behind}
+use Rattle.bip_replay.specs.Writing.{IsGrantOf, IsSpelled, ReadsBack, bare_line, behind_see, has_role, line_of, name_in, text_of, want_word, want_words, words_behind}
 use Rattle.bip_replay.proofs.GrantLemmas.{line_reads}
 use Rattle.bip_replay.proofs.WordLemmas.{IsWord, lines_front, name-word, number_of-decimal, pair-word, plain_spaced, words_spaced}
 
 -- a want with a role has that role
-role_of : (role : Role) (w : Want) → has_role role w ≡ true → w.role ≡ role
-role_of Moved w is = by_role w.role is
-  where
-    by_role : (r : Role) → is_moved r ≡ true → r ≡ Moved
-    by_role Moved e = refl
-    by_role Seen e = cc
-role_of Seen w is = by_role w.role is
-  where
-    by_role : (r : Role) → not (is_moved r) ≡ true → r ≡ Seen
-    by_role Moved e = cc
-    by_role Seen e = refl
+role_of : (role r : Role) (w : Want) → w.role ≡ r → has_role role w ≡ true → r ≡ role
+role_of Moved Moved w is has = refl
+role_of Moved Seen w is has = let e : false ≡ true = rw is at has in cc
+role_of Seen Moved w is has = let e : false ≡ true = rw is at has in cc
+role_of Seen Seen w is has = refl
 
 -- a want with a number
 abbrev HasNumber : Want → Type 0
@@ -50,7 +44,7 @@ words-spell m role (w ∷ ws) spelled numbered roles =
         parts = refl;
         names = record { name = s.name; known = slice_get-get_or m.component_names w.comp.0 [] s.component };
         number = number_of-decimal w.number (All-head HasNumber w ws numbered) s.high;
-        by_place = role_of role w (All-head (λ v. has_role role v ≡ true) w ws roles);
+        by_place = role_of role w.role w refl (All-head (λ v. has_role role v ≡ true) w ws roles);
       },
       words-spell m role ws (All-tail (IsSpelled m) w ws spelled) (All-tail HasNumber w ws numbered) (All-tail (λ v. has_role role v ≡ true) w ws roles),
     )
@@ -124,12 +118,7 @@ line-reads_back m g system grant name wants spelled =
 
 -- the line of a grant is the first line of what begins with it
 lines-written : (m : System) (g : Grant) (rest : List ℕ) → is_plain (bare_line m g) ≡ true → lines (line_of m g ++ rest) ≡ bare_line m g ∷ lines rest
-lines-written m g rest plain =
-    let whole : line_of m g ++ rest ≡ bare_line m g ++ 10 ∷ rest =
-    append_assoc (codes "grant") (flat_map spaced (words_behind m g) ++ 10 ∷ []) rest
-    ∙ (ap (λ (t : List ℕ). codes "grant" ++ t) (append_assoc (flat_map spaced (words_behind m g)) (10 ∷ []) rest)
-    ∙ sym (append_assoc (codes "grant") (flat_map spaced (words_behind m g)) (10 ∷ rest))) in
-    ap lines whole ∙ lines_front (bare_line m g) rest plain
+lines-written m g rest plain = ap lines (append_assoc (bare_line m g) (line_feed ∷ []) rest) ∙ lines_front (bare_line m g) rest plain
 
 -- the text of grants whose lines read back reads as these grants
 grants_from-written : (m : System) (n : ℕ) (gs : List Grant) → All (ReadsBack m) gs → grants_from m n (lines (text_of m gs)) ≡ Ok gs
