@@ -4,7 +4,6 @@ use Rattle.std.specs.Prelude.{nat_eq, List, [], ◌∷◌, length, slice_index, 
 use Rattle.std.specs.Char.{is_ascii_alphabetic, is_ascii_alphanumeric}
 use Rattle.std.specs.Cmp.Lexicographic.{pointwise}
 use Rattle.std.specs.List.{list_all, list_any}
-use Rattle.bip_model.specs.declared.naming.TheConstants.{MOST_NAME_BYTES}
 
 -- whether two texts have the same bytes
 abbrev pub same_text : List ℕ → List ℕ → Bool
@@ -37,13 +36,12 @@ is_spelled_as_name text = nat_lt 0 (length text) && is_name_start (slice_index t
 
 -- a name: spelled as one, of at most 32 bytes, and not reserved
 abbrev pub IsName : List ℕ → Type 0
-IsName text = IsTrue (is_spelled_as_name text) × (length text ≤ MOST_NAME_BYTES)
+IsName text = IsTrue (is_spelled_as_name text) × (length text ≤ 32)
     × IsTrue (not (is_reserved text))
 
 -- whether a text is a name
 abbrev pub is_name : List ℕ → Bool
-is_name text = is_spelled_as_name text && nat_le (length text) MOST_NAME_BYTES
-    && not (is_reserved text)
+is_name text = is_spelled_as_name text && nat_le (length text) 32 && not (is_reserved text)
 
 -- whether a name is in a list
 abbrev pub is_known : List ℕ → List (List ℕ) → Bool

@@ -7,7 +7,6 @@ use Rattle.std.specs.List.{list_all, slice_split}
 use Rattle.std.specs.Option.{option_map}
 use Rattle.std.specs.Str.Parse.{digits_value}
 use Rattle.bip_model.specs.declared.texts.Line.{Line}
-use Rattle.bip_model.specs.declared.texts.TheConstants.{NUMBER_DIGITS}
 use Rattle.bip_model.specs.declared.texts.Line.TheVariants.{BadByte, Nothing, Words}
 
 -- a byte more at the front of the first line
@@ -98,7 +97,7 @@ is_numeral most word = nat_lt 0 (length word) && nat_le (length word) most
 -- 64 bits
 abbrev pub number_of : List ℕ → Option ℕ
 number_of word =
-    if is_numeral NUMBER_DIGITS word && nat_lt 0 (digits_value 10 word)
+    if is_numeral 20 word && nat_lt 0 (digits_value 10 word)
     && nat_lt (digits_value 10 word) (2 ^ 64) then Some (digits_value 10 word) else None
 
 -- what stands before and after the first such byte of a word

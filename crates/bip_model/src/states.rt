@@ -46,7 +46,7 @@ impl Values {
     /// The values of a list; none where there are more than eight.
     pub fn of(list: &[u32]) -> Option<Values>
         ensures values { IfSome result (λ values. values ≡ list.now) }
-        ensures exact { IsSome result ↔ (length list.now ≤ MOST_VALUES) }
+        ensures exact { IsSome result ↔ (length list.now ≤ 8) }
     {
         if list.len() > MOST_VALUES {
             return None;
@@ -62,7 +62,7 @@ impl Values {
     /// The values, in order.
     pub fn as_slice(&self) -> &[u32]
         ensures values { result.now ≡ self.now }
-        ensures few { length self.now ≤ MOST_VALUES }
+        ensures few { length self.now ≤ 8 }
     {
         &self.values[..self.len as usize]
     }
