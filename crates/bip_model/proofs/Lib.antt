@@ -2,6 +2,7 @@ pub mod DraftLemmas
 pub mod GrowthLemmas
 pub mod HistoryLemmas
 pub mod LawLemmas
+pub mod LineLemmas
 pub mod ListLemmas
 pub mod NameLemmas
 pub mod NumberLemmas

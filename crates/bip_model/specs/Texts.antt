@@ -30,6 +30,15 @@ lines (b ∷ bs) = if is_line_feed b then [] ∷ lines bs else onto_first_line b
 unfoldable pub IsLineAndRest : List ℕ → List ℕ → List ℕ → Type 0
 IsLineAndRest text line rest = (text ≡ line ++ line_feed ∷ rest) ⊎ ((text ≡ line) × (rest ≡ []))
 
+-- lines with their numbers, of which this is the first
+abbrev pub numbered : ℕ → List (List ℕ) → List (ℕ × List ℕ)
+numbered n [] = []
+numbered n (line ∷ rest) = (n, line) ∷ numbered (n + 1) rest
+
+-- the lines of a text with their numbers, from 1
+abbrev pub numbered_lines : List ℕ → List (ℕ × List ℕ)
+numbered_lines text = numbered 1 (lines text)
+
 -- the number of the last line; an empty text has one line
 abbrev pub last_line : List ℕ → ℕ
 last_line text = max 1 (length (lines text))

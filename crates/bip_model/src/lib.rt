@@ -31,7 +31,9 @@ pub use partitions::{Classes, MOST_CLASSES, Partition};
 pub use parts::{Component, Interaction, System, Transition};
 pub use sequence::Seq;
 pub use states::{LocalState, State, Values};
-pub use texts::{Line, is_plain, parse_number, read_words, split_line, split_pair, split_word};
+pub use texts::{
+    Line, Lines, is_plain, parse_number, read_words, split_line, split_pair, split_word,
+};
 pub use wants::{MOST_WANTS, Role, Want, Wants};
 
 #[cfg(test)]

@@ -11,9 +11,65 @@ ghost use Rattle.bip_model.specs.Texts.{IsLineAndRest, IsWordAndRest, is_blank, 
 ghost use Rattle.bip_model.specs.Texts.{is_numeral, is_plain, lines, number_of, pair_of, words};
 
 use memchr::memchr;
+use std::marker;
 
 /// The most digits that a participation number is written with.
 pub(crate) const NUMBER_DIGITS: usize = 20;
+
+/// The lines of a text, one after another, each with its number. Contracts see the list of those
+/// that are left.
+#[derive(Drop)]
+pub struct Lines<'a> {
+    rest: &'a [u8],
+    // The number of the line before the rest, 0 where it begins the text.
+    before: u64,
+}
+
+impl<'a> marker::Model for Lines<'a> {
+    ghost use Rattle.std.specs.Prelude.{◌+◌, ◌<◌, ◌^◌, List, length, ℕ};
+    ghost use Rattle.bip_model.specs.Texts.{lines, numbered};
+
+    ghost Value = { List (ℕ × List ℕ) };
+
+    ghost view = { λ l. numbered (l.before + 1) (lines l.rest.now) };
+
+    // So that numbers fit.
+    ghost invariant = { λ l. l.before + length l.rest.now < 2 ^ 64 };
+}
+
+impl<'a> Lines<'a> {
+    ghost use Rattle.bip_model.specs.Texts.{numbered_lines};
+
+    /// The lines of a text, numbered from 1.
+    pub fn of(text: &'a [u8]) -> Lines<'a>
+        ensures { result ≡ numbered_lines text.now }
+    {
+        Lines {
+            rest: text,
+            before: 0,
+        }
+    }
+}
+
+impl<'a> Iterator for Lines<'a> {
+    ghost use Rattle.std.specs.Iterator.{YieldsFirstBy, item_count};
+
+    type Item = (u64, &'a [u8]);
+
+    ghost next_gives = { YieldsFirstBy (λ line. (line.0, line.1.now)) (λ left. left) };
+
+    ghost remaining = { item_count (λ left. left) };
+
+    fn next(&mut self) -> Option<(u64, &'a [u8])> {
+        if self.rest.is_empty() {
+            return None;
+        }
+        let (line, rest) = split_line(self.rest);
+        self.rest = rest;
+        self.before += 1;
+        Some((self.before, line))
+    }
+}
 
 /// The first line of a text without its line feed, and what follows it.
 pub fn split_line(text: &[u8]) -> (&[u8], &[u8])

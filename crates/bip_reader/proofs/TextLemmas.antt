@@ -1,10 +1,11 @@
 -- Lemmas on what lines say one after another, and on how far reading has come.
-use Rattle.std.proofs.Common.{◌≡◌, ℕ, ◌+◌, ◌-◌, ◌≤◌, ◌<◌, List, [], ◌∷◌, ◌++◌, length, take, drop, Result, Ok, Err, refl, ap, ◌∙◌, sym, append_assoc, arith, length-append}
-use Rattle.std.specs.Prelude.{IsOk, Some, slice_get}
-use Rattle.std.proofs.lemmas.List.{append-nil, take-append-drop, take_all}
+use Rattle.std.proofs.Common.{◌≡◌, ℕ, ◌+◌, ◌-◌, ◌≤◌, List, [], ◌∷◌, ◌++◌, length, take, drop, Result, Ok, Err, refl, ap, ◌∙◌, sym, append_assoc, arith, length-append}
+use Rattle.std.specs.Prelude.{IsOk, Some, max, slice_get}
+use Rattle.std.proofs.lemmas.List.{take-append-drop, take_all}
 use Rattle.std.proofs.Math.Seq.{take-append_seam}
 use Rattle.bip_model.specs.Faults.{◌>>=◌}
-use Rattle.bip_model.specs.Texts.{last_line, lines}
+use Rattle.bip_model.specs.Texts.{last_line, lines, numbered_lines}
+use Rattle.bip_model.proofs.LineLemmas.{AreLeft, all_read, line_read, none_read}
 use Rattle.bip_reader.specs.declared.faults.ReadFault.{ReadFault}
 use Rattle.bip_reader.specs.declared.faults.Why.{Why}
 use Rattle.bip_reader.specs.declared.reading.Reading.{Reading}
@@ -24,45 +25,44 @@ pub reading-append : (n : ℕ) (xs ys : List (List ℕ)) (r : Reading) → readi
 reading-append n [] ys r = let e : n + 0 ≡ n = omega arith in rw e refl
 reading-append n (x ∷ xs) ys r = reading-after n x xs ys (at_line n (reading_after x r)) (reading-append (n + 1) xs ys)
 
--- how far reading has come: these lines are read, and led to what is read; the rest is still to be read
-pub record IsAt (text : List ℕ) (read : ℕ) (r : Reading) (rest : List ℕ) : Type 0 where
-  pub before : List (List ℕ)
-  pub whole : lines text ≡ before ++ lines rest
-  pub counted : length before ≡ read
-  pub said : reading_after_lines 1 before empty_reading ≡ Ok r
-  pub short : read + length rest ≤ length text
+-- how far reading has come: the lines in front led to what is read, the last of them has this number, and those are left
+pub record IsAt (text : List ℕ) (last : ℕ) (r : Reading) (left : List (ℕ × List ℕ)) : Type 0 where
+  pub front : List (List ℕ)
+  pub are_left : AreLeft text front left
+  pub counted : last ≡ max 1 (length front)
+  pub said : reading_after_lines 1 front empty_reading ≡ Ok r
+
+pub none_said : (text : List ℕ) → IsAt text 1 empty_reading (numbered_lines text)
+none_said text = record { front = []; are_left = none_read text; counted = refl; said = refl }
 
 -- one line more
-pub goes_on : (text : List ℕ) (read : ℕ) (r new : Reading) (rest line after : List ℕ) → IsAt text read r rest → lines rest ≡ line ∷ lines after → length after < length rest
-    → reading_after line r ≡ Ok new → IsAt text (read + 1) new after
-goes_on text read r new rest line after h e shorter s = record {
-  before = h.before ++ line ∷ [];
-  whole = h.whole ∙ ap (λ (ls : List (List ℕ)). h.before ++ ls) e ∙ sym (append_assoc h.before (line ∷ []) (lines after));
-  counted = omega (arith, length-append h.before (line ∷ []));
-  said = reading-append 1 h.before (line ∷ []) empty_reading ∙ rw (h.said, s) refl;
-  short = omega arith;
-}
+pub goes_on : (text : List ℕ) (last n : ℕ) (r new : Reading) (line : List ℕ) (left after : List (ℕ × List ℕ)) → IsAt text last r left → left ≡ (n, line) ∷ after
+    → reading_after line r ≡ Ok new → IsAt text n new after
+goes_on text last n r new line left after h next s =
+    let is = line_read text h.front left after n line h.are_left next in
+    record {
+      front = h.front ++ line ∷ [];
+      are_left = is.left;
+      counted = omega (arith, is.number, length-append h.front (line ∷ []));
+      said = reading-append 1 h.front (line ∷ []) empty_reading ∙ rw (h.said, s) refl;
+    }
 
 -- the next line is at fault
-pub at_fault : (text : List ℕ) (read : ℕ) (r : Reading) (rest line after : List ℕ) (why : Why) → IsAt text read r rest → lines rest ≡ line ∷ lines after
-    → reading_after line r ≡ Err why → reading_of text ≡ Err (record { line = read + 1; why = why })
+pub at_fault : (text : List ℕ) (last n : ℕ) (r : Reading) (line : List ℕ) (left after : List (ℕ × List ℕ)) (why : Why) → IsAt text last r left → left ≡ (n, line) ∷ after
+    → reading_after line r ≡ Err why → reading_of text ≡ Err (record { line = n; why = why })
 unfolding reading_of
-at_fault text read r rest line after why h e s =
-    let place : 1 + length h.before ≡ read + 1 = omega arith in
-    ap (λ (ls : List (List ℕ)). reading_after_lines 1 ls empty_reading) (h.whole ∙ ap (λ (ls : List (List ℕ)). h.before ++ ls) e)
-    ∙ reading-append 1 h.before (line ∷ lines after) empty_reading ∙ rw (h.said, s, place) refl
-
-lines_of_nothing : (rest : List ℕ) → length rest ≡ 0 → lines rest ≡ []
-lines_of_nothing [] e = refl
-lines_of_nothing (b ∷ bs) e = absurd (omega arith)
-
-all_before : (text : List ℕ) (read : ℕ) (r : Reading) (rest : List ℕ) (h : IsAt text read r rest) → length rest ≡ 0 → lines text ≡ h.before
-all_before text read r rest h e = h.whole ∙ rw (lines_of_nothing rest e) (append-nil h.before)
+at_fault text last n r line left after why h next s =
+    let is = line_read text h.front left after n line h.are_left next in
+    let place : 1 + length h.front ≡ n = omega (arith, is.number) in
+    ap (λ (ls : List (List ℕ)). reading_after_lines 1 ls empty_reading) is.split
+    ∙ reading-append 1 h.front (line ∷ is.rest) empty_reading ∙ rw (h.said, s, place) refl
 
 -- all lines are read
-pub all_said : (text : List ℕ) (read : ℕ) (r : Reading) (rest : List ℕ) → IsAt text read r rest → length rest ≡ 0 → reading_of text ≡ Ok r
+pub all_said : (text : List ℕ) (last : ℕ) (r : Reading) (left : List (ℕ × List ℕ)) → IsAt text last r left → left ≡ [] → (reading_of text ≡ Ok r) × (last ≡ last_line text)
 unfolding reading_of
-all_said text read r rest h e = ap (λ (ls : List (List ℕ)). reading_after_lines 1 ls empty_reading) (all_before text read r rest h e) ∙ h.said
+all_said text last r left h none =
+    let all = all_read text h.front left h.are_left none in
+    (ap (λ (ls : List (List ℕ)). reading_after_lines 1 ls empty_reading) all ∙ h.said, rw all h.counted)
 
 is_ok_first : {A B E : Type 0} (said : Result A E) (f : A → Result B E) (y : B) → said >>= f ≡ Ok y → IsOk said
 is_ok_first said f y e = grind arith
@@ -100,21 +100,21 @@ seam [] ys y = refl
 seam (x ∷ xs) ys y = seam xs ys y
 
 -- memory may be wanting for the next line
-pub lacks_next : (text : List ℕ) (read : ℕ) (r : Reading) (rest line after : List ℕ) → IsAt text read r rest → lines rest ≡ line ∷ lines after
-    → ((why : Why) → reading_after line r ≡ Err why → MayBeHidden line why) → MayLackMemory text (read + 1)
-lacks_next text read r rest line after h e hides =
-    let back : read + 1 - 1 ≡ length h.before = omega (arith, h.counted) in
-    let whole : lines text ≡ h.before ++ line ∷ lines after = h.whole ∙ ap (λ (ls : List (List ℕ)). h.before ++ ls) e in
-    let many : length (lines text) ≡ length h.before + length (line ∷ lines after) = ap length whole ∙ length-append h.before (line ∷ lines after) in
-    let here : slice_get (lines text) (read + 1 - 1) ≡ Some line = rw (back, whole) (seam h.before (lines after) line) in
-    let front : take (read + 1 - 1) (lines text) ≡ h.before = rw (back, whole) (take-append_seam h.before (line ∷ lines after)) in
-    let parts : lines text ≡ (h.before ++ line ∷ []) ++ lines after = whole ∙ sym (append_assoc h.before (line ∷ []) (lines after)) in
-    let count : read + 1 ≡ length (h.before ++ line ∷ []) = omega (arith, h.counted, length-append h.before (line ∷ [])) in
-    let down_to : take (read + 1) (lines text) ≡ h.before ++ line ∷ [] = rw (count, parts) (take-append_seam (h.before ++ line ∷ []) (lines after)) in
-    let said : reading_after_lines 1 (take (read + 1) (lines text)) empty_reading ≡ at_line (1 + length h.before) (reading_after line r) >>= reading_after_lines (1 + length h.before + 1) [] =
-    rw down_to (reading-append 1 h.before (line ∷ []) empty_reading ∙ rw h.said refl)
+pub lacks_next : (text : List ℕ) (last n : ℕ) (r : Reading) (line : List ℕ) (left after : List (ℕ × List ℕ)) → IsAt text last r left → left ≡ (n, line) ∷ after
+    → ((why : Why) → reading_after line r ≡ Err why → MayBeHidden line why) → MayLackMemory text n
+lacks_next text last n r line left after h next hides =
+    let is = line_read text h.front left after n line h.are_left next in
+    let back : n - 1 ≡ length h.front = omega (arith, is.number) in
+    let many : length (lines text) ≡ length h.front + length (line ∷ is.rest) = ap length is.split ∙ length-append h.front (line ∷ is.rest) in
+    let here : slice_get (lines text) (n - 1) ≡ Some line = rw (back, is.split) (seam h.front is.rest line) in
+    let front : take (n - 1) (lines text) ≡ h.front = rw (back, is.split) (take-append_seam h.front (line ∷ is.rest)) in
+    let parts : lines text ≡ (h.front ++ line ∷ []) ++ is.rest = is.split ∙ sym (append_assoc h.front (line ∷ []) is.rest) in
+    let count : n ≡ length (h.front ++ line ∷ []) = omega (arith, is.number, length-append h.front (line ∷ [])) in
+    let down_to : take n (lines text) ≡ h.front ++ line ∷ [] = rw (count, parts) (take-append_seam (h.front ++ line ∷ []) is.rest) in
+    let said : reading_after_lines 1 (take n (lines text)) empty_reading ≡ at_line (1 + length h.front) (reading_after line r) >>= reading_after_lines (1 + length h.front + 1) [] =
+    rw down_to (reading-append 1 h.front (line ∷ []) empty_reading ∙ rw h.said refl)
     in
     record {
-      reached = record { first = omega arith; last = omega arith; clear = rw (front, h.said) refl };
-      hidden = λ fault f. rw here (hides fault.why (only_fault (1 + length h.before) (reading_after line r) fault (sym said ∙ f)));
+      reached = record { first = omega (arith, is.number); last = omega (arith, is.number, many); clear = rw (front, h.said) refl };
+      hidden = λ fault f. rw here (hides fault.why (only_fault (1 + length h.front) (reading_after line r) fault (sym said ∙ f)));
     }

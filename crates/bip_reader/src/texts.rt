@@ -9,7 +9,7 @@ ghost use Rattle.bip_reader.specs.Texts.{Means, classes_of, reading_of};
 
 use crate::reading::{ClassLines, Reading};
 use crate::{ReadFault, Why};
-use bip_model::{Classes, Model, split_line};
+use bip_model::{Classes, Lines, Model};
 use std::alloc::Global;
 
 /// The model and the classes that a text means, or its first fault: the one of the lowest line, and
@@ -75,15 +75,12 @@ fn read_lines(alloc: Global, text: &[u8]) -> Result<(Reading, u64), ReadFault>
     ensures memory { IfErr result (λ f. f.why ≡ Memory → MayLackMemory text.now f.line) }
 {
     let mut reading = Reading::new(alloc);
-    let mut rest = text;
-    let mut line = 0;
-    while !rest.is_empty() {
-        let (bytes, after) = split_line(rest);
-        line += 1;
+    let mut last = 1;
+    for (line, bytes) in Lines::of(text) {
         if let Err(why) = reading.read_line(alloc, bytes) {
             return Err(ReadFault { line, why });
         }
-        rest = after;
+        last = line;
     }
-    Ok((reading, line.max(1)))
+    Ok((reading, last))
 }

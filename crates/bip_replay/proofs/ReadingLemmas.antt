@@ -1,9 +1,10 @@
 -- Readings of traces: the lines read so far, and the first line at fault.
-use Rattle.std.proofs.Common.{◌≡◌, ℕ, ◌+◌, List, [], ◌∷◌, ◌++◌, length, Option, None, Some, Result, Ok, Err, refl, sym, ap, ◌∙◌, subst, arith, append_assoc}
+use Rattle.std.proofs.Common.{◌≡◌, ℕ, ◌+◌, ◌≤◌, ◌<◌, List, [], ◌∷◌, ◌++◌, length, Option, None, Some, Result, Ok, Err, refl, sym, ap, ◌∙◌, subst, arith, append_assoc}
 use Rattle.std.proofs.lemmas.List.{append-nil, length-append}
 use Rattle.bip_model.specs.declared.grants.Grant.{Grant}
 use Rattle.bip_model.specs.declared.parts.System.{System}
-use Rattle.bip_model.specs.Texts.{lines}
+use Rattle.bip_model.specs.Texts.{lines, numbered_lines}
+use Rattle.bip_model.proofs.LineLemmas.{AreLeft, all_read, line_read, none_read}
 use Rattle.bip_replay.specs.declared.faults.LineFault.{LineFault}
 use Rattle.bip_replay.specs.declared.faults.TraceFault.{TraceFault}
 use Rattle.bip_replay.specs.declared.faults.TraceFault.TheVariants.{Syntax, Unknown, Memory}
@@ -56,60 +57,69 @@ grants_from-push m n front line gs o reads says = grants_from-append m n front (
     by_said None = ap (λ (hs : List Grant). Ok hs) (append-nil gs)
     by_said (Some g) = refl
 
-pub moved_on : (front : List (List ℕ)) (text rest after line : List ℕ) → lines text ≡ front ++ lines rest → lines rest ≡ line ∷ lines after → lines text ≡ (front ++ line ∷ []) ++ lines after
-moved_on front text rest after line split next =
-    split ∙ (ap (λ (ls : List (List ℕ)). front ++ ls) next ∙ sym (append_assoc front (line ∷ []) (lines after)))
+ok_length : (gs hs : List Grant) (r : Result (List Grant) (ℕ × LineFault)) → r ≡ Ok gs → r ≡ Ok hs → length gs ≡ length hs
+ok_length gs hs r e f = cc
 
-pub numbered_on : (front : List (List ℕ)) (line : List ℕ) (number : ℕ) → length front + 1 ≡ number → length (front ++ line ∷ []) + 1 ≡ number + 1
-numbered_on front line number e = omega (arith, length-append front (line ∷ []))
+-- there are no more grants than lines
+grants_from-short : (m : System) (n : ℕ) (front : List (List ℕ)) (gs : List Grant) → grants_from m n front ≡ Ok gs → length gs ≤ length front
+grants_from-short m n [] gs reads = omega (arith, ok_length [] gs (Ok []) refl reads)
+grants_from-short m n (line ∷ front) gs reads =
+    let at = first_read n (grant_on m line) (grants_from m (n + 1) front) gs reads in
+    let fewer = grants_from-short m (n + 1) front at.1 at.3 in
+    rw at.4 at (by_said at.0 at.1 fewer)
+  where
+    by_said : (o : Option Grant) (hs : List Grant) → length hs ≤ length front → length (one_more [] o ++ hs) ≤ length (line ∷ front)
+    by_said None hs fewer = omega arith
+    by_said (Some g) hs fewer = omega arith
 
--- what has been read of a text: the lines in front read as these grants
-pub record HasRead (m : System) (text rest : List ℕ) (grants : List Grant) (number : ℕ) : Type 0 where
+-- what has been read of a text: the lines in front read as these grants, and those are left
+pub record HasRead (m : System) (text : List ℕ) (grants : List Grant) (left : List (ℕ × List ℕ)) : Type 0 where
   pub front : List (List ℕ)
-  pub split : lines text ≡ front ++ lines rest
+  pub are_left : AreLeft text front left
   pub reads : grants_from m 1 front ≡ Ok grants
-  pub numbered : length front + 1 ≡ number
 
-pub has_read-none : (m : System) (text : List ℕ) → HasRead m text text [] 1
-has_read-none m text = record { front = []; split = refl; reads = refl; numbered = refl }
+pub has_read-none : (m : System) (text : List ℕ) → HasRead m text [] (numbered_lines text)
+has_read-none m text = record { front = []; are_left = none_read text; reads = refl }
 
-pub has_read-more : (m : System) (text rest after line : List ℕ) (old new : List Grant) (number : ℕ) (u : Unit {0}) → HasRead m text rest old number → lines rest ≡ line ∷ lines after → Reads m old line (Ok u) new → HasRead m text after new (number + 1)
-has_read-more m text rest after line old new number u so next reads =
+pub has_read-more : (m : System) (text line : List ℕ) (n : ℕ) (left after : List (ℕ × List ℕ)) (old new : List Grant) (u : Unit {0}) → HasRead m text old left → left ≡ (n, line) ∷ after → Reads m old line (Ok u) new → HasRead m text new after
+has_read-more m text line n left after old new u so next reads =
     record {
       front = so.front ++ line ∷ [];
-      split = moved_on so.front text rest after line so.split next;
+      are_left = (line_read text so.front left after n line so.are_left next).left;
       reads = grants_from-push m 1 so.front line old reads.0 so.reads reads.1 ∙ ap (λ (gs : List Grant). Ok gs) (sym reads.2);
-      numbered = numbered_on so.front line number so.numbered;
     }
 
-pub has_read-end : (m : System) (text rest : List ℕ) (grants : List Grant) (number : ℕ) → HasRead m text rest grants number → rest ≡ [] → grants_of m text ≡ Ok grants
-has_read-end m text rest grants number so empty =
-    let whole : lines text ≡ so.front = so.split ∙ (ap (λ (r : List ℕ). so.front ++ lines r) empty ∙ append-nil so.front) in
-    rw whole so.reads
+pub has_read-end : (m : System) (text : List ℕ) (grants : List Grant) (left : List (ℕ × List ℕ)) → HasRead m text grants left → left ≡ [] → grants_of m text ≡ Ok grants
+has_read-end m text grants left so none = rw (all_read text so.front left so.are_left none) so.reads
+
+-- so their count fits
+pub has_read-below : (m : System) (text line : List ℕ) (n : ℕ) (left after : List (ℕ × List ℕ)) (gs : List Grant) → HasRead m text gs left → left ≡ (n, line) ∷ after → length gs < length text
+has_read-below m text line n left after gs so next =
+    let is = line_read text so.front left after n line so.are_left next in
+    omega (arith, grants_from-short m 1 so.front gs so.reads, is.number, is.short)
 
 -- memory is wanting at a line that reads, behind lines that read
-pub memory_at : (m : System) (text rest after line : List ℕ) (gs : List Grant) (number : ℕ) (said : Option Grant) → HasRead m text rest gs number → lines rest ≡ line ∷ lines after → grant_on m line ≡ Ok said → IsOutOfMemory m text number
-memory_at m text rest after line gs number said so next says =
+pub memory_at : (m : System) (text line : List ℕ) (n : ℕ) (left after : List (ℕ × List ℕ)) (gs : List Grant) (said : Option Grant) → HasRead m text gs left → left ≡ (n, line) ∷ after → grant_on m line ≡ Ok said → IsOutOfMemory m text n
+memory_at m text line n left after gs said so next says =
+    let is = line_read text so.front left after n line so.are_left next in
     let front = so.front ++ line ∷ [] in
-    let split : lines text ≡ front ++ lines after = moved_on so.front text rest after line so.split next in
-    let numbered : length so.front + 1 ≡ number = so.numbered in
-    let long : length front ≡ number = simp length-append so.numbered in
-    let counted : length (lines text) ≡ length front + length (lines after) = ap length split ∙ length-append front (lines after) in
-    let read : take number (lines text) ≡ front = ap (λ (ls : List (List ℕ)). take number ls) split ∙ (ap (λ (n : ℕ). take n (front ++ lines after)) (sym long) ∙ take-append_seam front (lines after)) in
-    let reads : grants_from m 1 (take number (lines text)) ≡ Ok (one_more gs said) = ap (grants_from m 1) read ∙ grants_from-push m 1 so.front line gs said so.reads says in
-    record { first = omega arith; last = omega arith; clear = subst IsOk (sym reads) refl }
+    let split : lines text ≡ front ++ is.rest = is.split ∙ sym (append_assoc so.front (line ∷ []) is.rest) in
+    let long : length front ≡ n = omega (arith, is.number, length-append so.front (line ∷ [])) in
+    let counted : length (lines text) ≡ length front + length is.rest = ap length split ∙ length-append front is.rest in
+    let read : take n (lines text) ≡ front = ap (λ (ls : List (List ℕ)). take n ls) split ∙ (ap (λ (k : ℕ). take k (front ++ is.rest)) (sym long) ∙ take-append_seam front is.rest) in
+    let reads : grants_from m 1 (take n (lines text)) ≡ Ok (one_more gs said) = ap (grants_from m 1) read ∙ grants_from-push m 1 so.front line gs said so.reads says in
+    record { first = omega (arith, is.number); last = omega (arith, is.number, counted, long); clear = subst IsOk (sym reads) refl }
 
-pub has_read-fault : (m : System) (text rest after line : List ℕ) (old new : List Grant) (number : ℕ) (fault : TraceFault) → HasRead m text rest old number → lines rest ≡ line ∷ lines after → Reads m old line (Err fault) new → IsTraceFault m text number fault
-has_read-fault m text rest after line old new number fault so next reads = by_fault fault reads
+pub has_read-fault : (m : System) (text line : List ℕ) (n : ℕ) (left after : List (ℕ × List ℕ)) (old new : List Grant) (fault : TraceFault) → HasRead m text old left → left ≡ (n, line) ∷ after → Reads m old line (Err fault) new → IsTraceFault m text n fault
+has_read-fault m text line n left after old new fault so next reads = by_fault fault reads
   where
-    at : (f : LineFault) → grant_on m line ≡ Err f → grants_of m text ≡ Err (number, f)
+    at : (f : LineFault) → grant_on m line ≡ Err f → grants_of m text ≡ Err (n, f)
     at f says =
-        let numbered : length so.front + 1 ≡ number = so.numbered in
-        let split : lines text ≡ so.front ++ line ∷ lines after = so.split ∙ ap (λ (ls : List (List ℕ)). so.front ++ ls) next in
-        let at_last : 1 + length so.front ≡ number = omega arith in
-        rw split (grants_from-append m 1 so.front (line ∷ lines after) old so.reads ∙ rw says (ap (λ (k : ℕ). Err (k, f)) at_last))
+        let is = line_read text so.front left after n line so.are_left next in
+        let here : 1 + length so.front ≡ n = omega (arith, is.number) in
+        rw is.split (grants_from-append m 1 so.front (line ∷ is.rest) old so.reads ∙ rw says (ap (λ (k : ℕ). Err (k, f)) here))
 
-    by_fault : (f : TraceFault) → Reads m old line (Err f) new → IsTraceFault m text number f
+    by_fault : (f : TraceFault) → Reads m old line (Err f) new → IsTraceFault m text n f
     by_fault Syntax says = at _ says
     by_fault Unknown says = at _ says
-    by_fault Memory says = memory_at m text rest after line old number says.0 so next says.1
+    by_fault Memory says = memory_at m text line n left after old says.0 so next says.1

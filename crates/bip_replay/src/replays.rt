@@ -5,7 +5,7 @@ ghost use Rattle.bip_replay.specs.Replays.{IsReplayFault, IsRunOf, Takes};
 
 use crate::rooms::Room;
 use crate::{Position, ReplayFault};
-use bip_model::{Model, Number, split_line};
+use bip_model::{Lines, Model, Number};
 use std::alloc::Global;
 
 /// Reads and checks a trace line by line: how many grants it has where they are a run of the model
@@ -28,19 +28,11 @@ pub fn replay(
         return Err((1, told_without_memory(&mut room, model, text)));
     };
     let mut count = 0;
-    let mut number = 1;
-    let mut rest = text;
-    while !rest.is_empty() {
-        let (line, after) = split_line(rest);
-        let found = match take_line(&mut position, &mut room, line) {
-            Ok(found) => found,
+    for (number, line) in Lines::of(text) {
+        match take_line(&mut position, &mut room, line) {
+            Ok(found) => count += u64::from(found),
             Err(fault) => return Err((number, fault)),
-        };
-        if found {
-            count += 1;
         }
-        number += 1;
-        rest = after;
     }
     Ok(count)
 }
@@ -50,10 +42,9 @@ pub fn replay(
 fn told_without_memory(room: &mut Room, model: &Model, text: &[u8]) -> ReplayFault
     ensures { (base : ℕ) → IsReplayFault model.now base text.now 1 result }
 {
-    if text.is_empty() {
+    let Some((_, line)) = Lines::of(text).next() else {
         return ReplayFault::Memory;
-    }
-    let (line, _) = split_line(text);
+    };
     match room.read(model, line) {
         Err(fault) => ReplayFault::from(fault),
         Ok(_) => ReplayFault::Memory,

@@ -4,7 +4,7 @@ ghost use Rattle.bip_replay.specs.Traces.{IsTraceFault, Reads, grants_of};
 
 use crate::TraceFault;
 use crate::rooms::Room;
-use bip_model::{Grant, Model, Wants, split_line};
+use bip_model::{Grant, Lines, Model, Wants};
 use std::alloc::Global;
 
 /// The grants of a trace of a model, or the number of the first line at fault with its fault; what
@@ -20,15 +20,10 @@ pub fn read_trace(
 {
     let mut room = Room::new();
     let mut grants = Vec::new(alloc);
-    let mut number = 1;
-    let mut rest = text;
-    while !rest.is_empty() {
-        let (line, after) = split_line(rest);
+    for (number, line) in Lines::of(text) {
         if let Err(fault) = read_one(alloc, &mut grants, &mut room, model, line) {
             return Err((number, fault));
         }
-        number += 1;
-        rest = after;
     }
     Ok(grants)
 }

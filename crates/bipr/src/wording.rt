@@ -5,7 +5,7 @@ ghost use Rattle.bip_replay.specs.Writing.{name_in};
 ghost use Rattle.bipr.specs.Wording.{interaction_on, model_refusal, run_text, step_text};
 ghost use Rattle.bipr.specs.Wording.{trace_refusal, verdict_text};
 
-use bip_model::{CompId, InterId, Model, split_line, split_word};
+use bip_model::{CompId, InterId, Lines, Model, split_word};
 use bip_reader::ReadFault;
 use bip_replay::{BookFault, ReplayFault};
 use std::alloc::{AllocError, Global};
@@ -115,15 +115,8 @@ fn interaction_on(trace: &[u8], number: u64) -> &[u8]
 fn line_at(text: &[u8], number: u64) -> &[u8]
     ensures { result.now ≡ slice_index_or (lines text.now) (number - 1) [] }
 {
-    let mut before = number.saturating_sub(1);
-    let mut rest = text;
-    while !rest.is_empty() {
-        let (line, after) = split_line(rest);
-        if before == 0 {
-            return line;
-        }
-        before -= 1;
-        rest = after;
+    match Lines::of(text).nth(number.saturating_sub(1) as usize) {
+        None => &[],
+        Some((_, line)) => line,
     }
-    &[]
 }

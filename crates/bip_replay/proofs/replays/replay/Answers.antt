@@ -1,41 +1,24 @@
 use Rattle.std.proofs.Common.{arith}
-use Rattle.bip_model.specs.declared.parts.System.{System}
 use Rattle.bip_replay.specs.Runs.{standing_of}
-use Rattle.bip_replay.proofs.ReplayLemmas.{so_far-none, so_far-more, so_far-skip}
+use Rattle.bip_replay.proofs.ReplayLemmas.{at_most_one, so_far-below, so_far-end, so_far-fault, so_far-more, so_far-none}
 use Rattle.bip_replay.proofs.replays.replay.Goals as goal
-use Rattle.bip_replay.proofs.replays.replay.Goals.{then-found, else-found}
 
-pub loop-rest-init : goal.loop-rest-init
-loop-rest-init c =
-    record {
-      so_far = so_far-none c.args.model.now c.args.base c.args.text.now (standing_of c.in-Ok.position) c.in-Ok.ensures;
-      fits = omega arith;
-      below = omega arith;
-    }
+pub loop-number-init : goal.loop-number-init
+loop-number-init c = rw c.into_iter-number-iterator.ensures.into_iter_gives (rw c.of-number-items.ensures (so_far-none c.args.model.now c.args.base c.args.text.now (standing_of c.in-Ok.position) c.in-Ok.ensures))
 
-pub loop-rest-preserved : goal.loop-rest-preserved
-loop-rest-preserved c =
-    let m : System = c.args.model.now in
-    let so_far = c.loop-rest.invariant.so_far in
-    let next = c.split_line.ensures.lines in
-    elim c.if-found.branch [
-      | then-found w ↦
-          let takes = rw w.if-found.true at c.in-Ok-take_line.ensures in
-          let more = so_far-more m c.args.base c.args.text.now c.loop-rest.rest.now c.split_line.result.1.now c.split_line.result.0.now (standing_of c.loop-rest.position) (standing_of c.take_line.new.position) c.loop-rest.count c.loop-rest.number so_far next takes in
-          record {
-            so_far = rw w.count-is more;
-            fits = omega arith;
-            below = omega arith;
-          }
-      | else-found w ↦
-          let takes = rw w.if-found.false at c.in-Ok-take_line.ensures in
-          let skip = so_far-skip m c.args.base c.args.text.now c.loop-rest.rest.now c.split_line.result.1.now c.split_line.result.0.now (standing_of c.loop-rest.position) (standing_of c.take_line.new.position) c.loop-rest.count c.loop-rest.number so_far next takes in
-          record {
-            so_far = rw w.count-is skip;
-            fits = omega arith;
-            below = omega arith;
-          }
-    ]
+pub overflow_add-count : goal.overflow_add-count
+overflow_add-count c =
+    omega (arith, so_far-below _ _ _ _ _ _ _ _ _ c.loop-number.invariant c.in-Some.ensures.steps, at_most_one c.in-Ok-take_line.found, c.from-count.ensures)
+
+pub loop-number-preserved : goal.loop-number-preserved
+loop-number-preserved c =
+    rw c.from-count.ensures (so_far-more _ _ _ _ _ _ _ _ (standing_of c.loop-number.position) (standing_of c.take_line.new.position) c.in-Ok-take_line.found c.loop-number.invariant c.in-Some.ensures.steps c.in-Ok-take_line.ensures)
 
 pub returns-in_default-clause-fault : goal.returns-in_default-clause-fault
 returns-in_default-clause-fault c = c.told_without_memory.ensures c.args.base
+
+pub returns-in-Err-clause-fault : goal.returns-in-Err-clause-fault
+returns-in-Err-clause-fault c = so_far-fault _ _ _ _ _ _ _ _ (standing_of c.loop-number.position) (standing_of c.take_line.new.position) c.in-Err.fault c.loop-number.invariant c.in-Some.ensures.steps c.in-Err.ensures
+
+pub returns-clause-run : goal.returns-clause-run
+returns-clause-run c = so_far-end _ _ _ (standing_of c.loop-number.position) _ _ c.loop-number.invariant c.in-None.ensures.steps.0

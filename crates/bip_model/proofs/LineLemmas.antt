@@ -1,0 +1,74 @@
+-- A text line by line: the lines that were read, and those that are left with their numbers.
+use Rattle.std.proofs.Common.{◌≡◌, ℕ, zero, suc, ◌+◌, ◌≤◌, Bool, true, false, if◌then◌else◌, List, [], ◌∷◌, ◌++◌, length, refl, sym, ap, ◌∙◌, append_assoc, arith, length-append}
+use Rattle.std.proofs.lemmas.List.{append-nil}
+use Rattle.std.specs.Prelude.{slice_get, slice_index_or}
+use Rattle.std.specs.Option.{option_map_or}
+use Rattle.bip_model.specs.Texts.{is_line_feed, lines, numbered, numbered_lines, onto_first_line}
+
+-- these lines were read, and those are left
+pub record AreLeft (text : List ℕ) (front : List (List ℕ)) (left : List (ℕ × List ℕ)) : Type 0 where
+  pub behind : List (List ℕ)
+  pub whole : lines text ≡ front ++ behind
+  pub numbers : left ≡ numbered (length front + 1) behind
+
+pub none_read : (text : List ℕ) → AreLeft text [] (numbered_lines text)
+none_read text = record { behind = lines text; whole = refl; numbers = refl }
+
+lines_on : (b : ℕ) (ls : List (List ℕ)) (ends : Bool) → length (if ends then [] ∷ ls else onto_first_line b ls) ≤ length ls + 1
+lines_on b ls true = omega arith
+lines_on b [] false = omega arith
+lines_on b (line ∷ ls) false = omega arith
+
+-- a text has no more lines than bytes
+lines_short : (text : List ℕ) → length (lines text) ≤ length text
+lines_short [] = omega arith
+lines_short (b ∷ bs) = omega (arith, lines_on b (lines bs) (is_line_feed b), lines_short bs)
+
+same_first : (x y : ℕ × List ℕ) (xs ys : List (ℕ × List ℕ)) → x ∷ xs ≡ y ∷ ys → x ≡ y
+same_first x y xs ys e = cc
+
+-- the line that comes next
+pub record IsNextLine (text : List ℕ) (front : List (List ℕ)) (n : ℕ) (line : List ℕ) (after : List (ℕ × List ℕ)) : Type 0 where
+  pub number : n ≡ length front + 1
+  pub short : n ≤ length text
+  pub rest : List (List ℕ)
+  pub split : lines text ≡ front ++ line ∷ rest
+  pub left : AreLeft text (front ++ line ∷ []) after
+
+pub line_read : (text : List ℕ) (front : List (List ℕ)) (left after : List (ℕ × List ℕ)) (n : ℕ) (line : List ℕ) → AreLeft text front left → left ≡ (n, line) ∷ after → IsNextLine text front n line after
+line_read text front left after n line so next = by_behind so.behind so.whole (sym so.numbers ∙ next)
+  where
+    by_behind : (behind : List (List ℕ)) → lines text ≡ front ++ behind → numbered (length front + 1) behind ≡ (n, line) ∷ after → IsNextLine text front n line after
+    by_behind [] whole is = cc
+    by_behind (x ∷ rest) whole is =
+        let first = same_first (length front + 1, x) (n, line) (numbered (length front + 1 + 1) rest) after is in
+        let same : x ≡ line = ap (λ (p : ℕ × List ℕ). p.1) first in
+        let split : lines text ≡ front ++ line ∷ rest = rw same at whole in
+        let longer : length front + 1 ≡ length (front ++ line ∷ []) = omega (arith, length-append front (line ∷ [])) in
+        let behind : numbered (length front + 1 + 1) rest ≡ after = cc in
+        let many : length (lines text) ≡ length front + length (line ∷ rest) = ap length split ∙ length-append front (line ∷ rest) in
+        let number : n ≡ length front + 1 = sym (ap (λ (p : ℕ × List ℕ). p.0) first) in
+        record {
+          number = number;
+          short = omega (arith, many, number, lines_short text);
+          rest = rest;
+          split = split;
+          left = record {
+            behind = rest;
+            whole = split ∙ sym (append_assoc front (line ∷ []) rest);
+            numbers = rw longer at (sym behind);
+          };
+        }
+
+pub all_read : (text : List ℕ) (front : List (List ℕ)) (left : List (ℕ × List ℕ)) → AreLeft text front left → left ≡ [] → lines text ≡ front
+all_read text front left so none = by_behind so.behind so.whole (sym so.numbers ∙ none)
+  where
+    by_behind : (behind : List (List ℕ)) → lines text ≡ front ++ behind → numbered (length front + 1) behind ≡ [] → lines text ≡ front
+    by_behind [] whole is = whole ∙ append-nil front
+    by_behind (x ∷ rest) whole is = cc
+
+-- the line with a number
+pub line_at : (k n : ℕ) (ls : List (List ℕ)) → option_map_or (λ (line : ℕ × List ℕ). line.1) (slice_get (numbered k ls) n) [] ≡ slice_index_or ls n []
+line_at k n [] = refl
+line_at k zero (line ∷ ls) = refl
+line_at k (suc n) (line ∷ ls) = line_at (k + 1) n ls
