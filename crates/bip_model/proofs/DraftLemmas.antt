@@ -109,6 +109,11 @@ inside_keeps f d e valid begun keeps is =
     } in
     subst (λ (x : Draft). IsDraft x) (same_ok made e (Ok made) refl said.2) here
 
+-- a draft whose begun component is another one
+pub begun_keeps : (d : Draft) (c new : Component) → IsDraft d → d.begun ≡ Some c → (IsComponentSoFar c → IsComponentSoFar new) → IsDraft (record d { begun = Some new })
+begun_keeps d c new valid is keeps =
+    record { so_far = valid.so_far; begun_so_far = keeps (rw is at valid.begun_so_far); named = valid.named ∙ ap (λ (b : Option Component). length d.system.components + waiting b) is }
+
 -- a transition of a component is one of it with more names
 more_names : (c : Component) (locations ports : List (List ℕ)) → length c.locations ≤ length locations → length c.ports ≤ length ports → (t : Transition) → IsTransitionOf c t → IsTransitionOf (record c { locations = locations; ports = ports }) t
 more_names c locations ports more_locations more_ports t valid =

@@ -81,7 +81,10 @@ impl Builder {
             (new_or_fault result self.new) }
         ensures err { OnErr result (self.new ≡ self.old) }
     {
-        self.draft.loc(name)
+        match &mut self.draft.begun {
+            None => unreachable!(),
+            Some(component) => component.add_location(name),
+        }
     }
 
     /// `port NAME` adds a port to the component that is begun. Twice: one of its locations or ports
@@ -92,7 +95,10 @@ impl Builder {
             (new_or_fault result self.new) }
         ensures err { OnErr result (self.new ≡ self.old) }
     {
-        self.draft.port(name)
+        match &mut self.draft.begun {
+            None => unreachable!(),
+            Some(component) => component.add_port(name),
+        }
     }
 
     /// `trans PORT FROM TO` adds a transition to the component that is begun. Unknown: it lacks the
@@ -104,7 +110,10 @@ impl Builder {
             (new_or_fault result self.new) }
         ensures err { OnErr result (self.new ≡ self.old) }
     {
-        self.draft.trans(&port, &source, &target)
+        match &mut self.draft.begun {
+            None => unreachable!(),
+            Some(component) => component.add_named_transition(&port, &source, &target),
+        }
     }
 
     /// `end` ends the component that is begun. Missing: it has no location.

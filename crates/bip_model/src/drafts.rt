@@ -48,7 +48,7 @@ impl Component {
         self.locations.contains(name) || self.ports.contains(name)
     }
 
-    fn add_location(&mut self, name: Name) -> Result<(), BuildFault>
+    pub(crate) fn add_location(&mut self, name: Name) -> Result<(), BuildFault>
         ensures said { Answers Memory (loc_line name self.old) (new_or_fault result self.new) }
         ensures err { OnErr result (self.new ≡ self.old) }
     {
@@ -61,7 +61,7 @@ impl Component {
         self.locations.push(name).map_err(|_| BuildFault::Memory)
     }
 
-    fn add_port(&mut self, name: Name) -> Result<(), BuildFault>
+    pub(crate) fn add_port(&mut self, name: Name) -> Result<(), BuildFault>
         ensures said { Answers Memory (port_line name self.old) (new_or_fault result self.new) }
         ensures err { OnErr result (self.new ≡ self.old) }
     {
@@ -97,7 +97,7 @@ impl Component {
             && t.port == transition.port)
     }
 
-    fn add_named_transition(
+    pub(crate) fn add_named_transition(
         &mut self,
         port: &Name,
         source: &Name,
@@ -240,50 +240,6 @@ impl Draft {
         }
         self.begun = Some(Component::new(alloc));
         Ok(())
-    }
-
-    /// `loc NAME`
-    pub(crate) fn loc(&mut self, name: Name) -> Result<(), BuildFault>
-        requires { IsSome self.old.begun }
-        ensures said { Answers Memory (inside (loc_line name) self.old)
-            (new_or_fault result self.new) }
-        ensures err { OnErr result (self.new ≡ self.old) }
-    {
-        match &mut self.begun {
-            None => unreachable!(),
-            Some(component) => component.add_location(name),
-        }
-    }
-
-    /// `port NAME`
-    pub(crate) fn port(&mut self, name: Name) -> Result<(), BuildFault>
-        requires { IsSome self.old.begun }
-        ensures said { Answers Memory (inside (port_line name) self.old)
-            (new_or_fault result self.new) }
-        ensures err { OnErr result (self.new ≡ self.old) }
-    {
-        match &mut self.begun {
-            None => unreachable!(),
-            Some(component) => component.add_port(name),
-        }
-    }
-
-    /// `trans PORT FROM TO`
-    pub(crate) fn trans(
-        &mut self,
-        port: &Name,
-        source: &Name,
-        target: &Name,
-    ) -> Result<(), BuildFault>
-        requires { IsSomeAnd self.old.begun IsComponentSoFar }
-        ensures said { Answers Memory (inside (trans_line port.now source.now target.now) self.old)
-            (new_or_fault result self.new) }
-        ensures err { OnErr result (self.new ≡ self.old) }
-    {
-        match &mut self.begun {
-            None => unreachable!(),
-            Some(component) => component.add_named_transition(port, source, target),
-        }
     }
 
     /// `end`

@@ -1,12 +1,10 @@
-use Rattle.std.specs.Prelude.{IsSome}
-use Rattle.bip_model.specs.declared.drafts.Draft.{Draft}
-use Rattle.bip_model.specs.Drafts.{IsDraft, inside, loc_line}
-use Rattle.bip_model.proofs.DraftLemmas.{answers_keeps, inside_keeps, loc_keeps}
+use Rattle.bip_model.specs.Drafts.{loc_line}
+use Rattle.bip_model.specs.Parts.{IsComponentSoFar}
+use Rattle.bip_model.proofs.DraftLemmas.{answers_keeps, begun_keeps, loc_keeps}
 use Rattle.bip_model.proofs.building.Builder.loc.Goals as goal
 
 pub invariant_of-self : goal.invariant_of-self
 invariant_of-self c =
-    let old : Draft = c.self.inside.draft in
-    let begun : IsSome old.begun = rw c.self.view_is c.requires in
-    answers_keeps IsDraft (inside (loc_line c.args.name) old) old c.loc.result c.loc.new.self c.loc.ensures.said c.loc.ensures.err c.self.invariant
-    (λ new is. inside_keeps (loc_line c.args.name) old new c.self.invariant begun (loc_keeps c.args.name) is)
+    begun_keeps c.self.inside.draft c.in-Some.component c.add_location.new.self c.self.invariant c.in-Some.is (λ valid.
+    answers_keeps IsComponentSoFar (loc_line c.args.name c.in-Some.component) c.in-Some.component c.add_location.result c.add_location.new.self c.add_location.ensures.said c.add_location.ensures.err valid
+    (λ new. loc_keeps c.args.name c.in-Some.component new valid))

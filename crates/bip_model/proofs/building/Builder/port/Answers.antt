@@ -1,12 +1,10 @@
-use Rattle.std.specs.Prelude.{IsSome}
-use Rattle.bip_model.specs.declared.drafts.Draft.{Draft}
-use Rattle.bip_model.specs.Drafts.{IsDraft, inside, port_line}
-use Rattle.bip_model.proofs.DraftLemmas.{answers_keeps, inside_keeps, port_keeps}
+use Rattle.bip_model.specs.Drafts.{port_line}
+use Rattle.bip_model.specs.Parts.{IsComponentSoFar}
+use Rattle.bip_model.proofs.DraftLemmas.{answers_keeps, begun_keeps, port_keeps}
 use Rattle.bip_model.proofs.building.Builder.port.Goals as goal
 
 pub invariant_of-self : goal.invariant_of-self
 invariant_of-self c =
-    let old : Draft = c.self.inside.draft in
-    let begun : IsSome old.begun = rw c.self.view_is c.requires in
-    answers_keeps IsDraft (inside (port_line c.args.name) old) old c.port.result c.port.new.self c.port.ensures.said c.port.ensures.err c.self.invariant
-    (λ new is. inside_keeps (port_line c.args.name) old new c.self.invariant begun (port_keeps c.args.name) is)
+    begun_keeps c.self.inside.draft c.in-Some.component c.add_port.new.self c.self.invariant c.in-Some.is (λ valid.
+    answers_keeps IsComponentSoFar (port_line c.args.name c.in-Some.component) c.in-Some.component c.add_port.result c.add_port.new.self c.add_port.ensures.said c.add_port.ensures.err valid
+    (λ new. port_keeps c.args.name c.in-Some.component new valid))
