@@ -8,7 +8,8 @@ use Rattle.std.proofs.lemmas.List.{length-append, append_assoc}
 use Rattle.std.proofs.lemmas.List.Elements.{All-push, All-weaker, All-nil}
 use Rattle.std.proofs.lemmas.List.Folds.{list_any-append, list_any_at}
 use Rattle.std.proofs.lemmas.List.Quantifiers.{all_pairs_push}
-use Rattle.bip_model.specs.Drafts.{IsDraft, begun_in, component_line, end_line, inside, interaction_line, is_taken, loc_line, no_component, number_in, participants_named, port_line, trans_line, with_interaction, with_transition}
+use Rattle.bip_model.specs.Components.{is_taken, loc_line, no_component, number_in, port_line, trans_line, with_transition}
+use Rattle.bip_model.specs.Drafts.{IsDraft, begun_in, component_line, end_line, inside, interaction_line, participants_named, with_interaction}
 use Rattle.bip_model.specs.Naming.{AreApart, is_known, same_text}
 use Rattle.bip_model.specs.Parts.{IsComponent, IsComponentSoFar, IsInteraction, IsPortIn, IsTransitionOf, Participant, same_start}
 use Rattle.bip_model.specs.declared.drafts.Draft.{Draft}

@@ -3,7 +3,8 @@ use Rattle.std.proofs.Common.{◌≡◌, ℕ, leb, eqb, ltb, ◌||◌, List, [],
 use Rattle.std.specs.Prelude.{IfSome, IsNone, Result, unwrap_or}
 use Rattle.std.specs.List.{list_any}
 use Rattle.std.proofs.lemmas.List.{append-nil}
-use Rattle.bip_model.specs.Drafts.{begun_in, component_line, end_line, inside, interaction_line, is_taken, loc_line, no_component, number_in, participants_named, port_line, trans_line, with_interaction, with_transition}
+use Rattle.bip_model.specs.Components.{is_taken, loc_line, no_component, number_in, port_line, trans_line, with_transition}
+use Rattle.bip_model.specs.Drafts.{begun_in, component_line, end_line, inside, interaction_line, participants_named, with_interaction}
 use Rattle.bip_model.specs.Laws.{Begins, GoesOn, KeepsComponent, KeepsDraft}
 use Rattle.bip_model.specs.Naming.{is_known}
 use Rattle.bip_model.specs.Parts.{same_start}

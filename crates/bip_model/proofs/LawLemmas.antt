@@ -14,7 +14,7 @@ use Rattle.bip_model.specs.declared.states.LocalState.{LocalState}
 use Rattle.bip_model.specs.Laws.{AgreeOn, CanGo, Commute, EnabledWhereAllCanGo, EndsAfterItsLast, GoesOnByWhatMayRun, IsLocal, MoveApart, OneTransition, OthersStay, ParticipantsGo}
 use Rattle.bip_model.specs.declared.numbering.LocId.{LocId}
 use Rattle.bip_model.specs.declared.numbering.PortId.{PortId}
-use Rattle.bip_model.specs.Moves.{transition_for, offers_at}
+use Rattle.bip_model.specs.Components.{transition_for, offers_at}
 use Rattle.bip_model.proofs.ListLemmas.{All-slice_get, below_later, find_first, neq_eqb}
 use Rattle.bip_model.specs.States.{State}
 use Rattle.bip_model.specs.Steps.{IsEnabled, after, led, moves, offered, participants_of, place_of, port_at}

@@ -9,7 +9,8 @@ use Rattle.std.proofs.lemmas.List.Elements.{All-cons, All-head, All-nil, All-pus
 use Rattle.std.proofs.lemmas.List.Quantifiers.{position-Some}
 use Rattle.std.proofs.lemmas.List.Sorted.{All-permutation, IsPermutation-map, IsPermutation-sym, IsPermutation-trans, length_permutation}
 use Rattle.std.proofs.lemmas.Option.{slice_get_within}
-use Rattle.bip_model.specs.Drafts.{by_component, number_in, participant_named, participants_named}
+use Rattle.bip_model.specs.Components.{number_in}
+use Rattle.bip_model.specs.Drafts.{by_component, participant_named, participants_named}
 use Rattle.bip_model.specs.Laws.{AreNamed, NamesInAnyOrder, NamesParticipants}
 use Rattle.bip_model.specs.Naming.{same_text}
 use Rattle.bip_model.specs.Faults.{◌>>=◌}

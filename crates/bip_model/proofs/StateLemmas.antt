@@ -11,7 +11,7 @@ use Rattle.bip_model.specs.declared.parts.System.{System}
 use Rattle.bip_model.specs.declared.parts.Transition.{Transition}
 use Rattle.bip_model.specs.declared.states.LocalState.{LocalState}
 use Rattle.bip_model.specs.Laws.{StatesLeadToStates}
-use Rattle.bip_model.specs.Moves.{moved, transition_for}
+use Rattle.bip_model.specs.Components.{moved, transition_for}
 use Rattle.bip_model.specs.Parts.{IsComponent, IsSystem, IsTransitionOf, Participant}
 use Rattle.bip_model.specs.States.{IsLocalStateOf, IsStateOf, State}
 use Rattle.bip_model.specs.Steps.{led, led_all, participants_of, start_of}

@@ -1,31 +1,23 @@
 -- What each line of a model's text says: from a draft to the draft with it, or to the first fault.
-use Rattle.std.specs.Prelude.{◌≡◌, ℕ, ◌+◌, Bool, ◌<◌, ◌==◌, ◌||◌, nat_lt, nat_le, List, [], ◌∷◌}
-use Rattle.std.specs.Prelude.{◌++◌, length, None, Some, Result, Ok, Err, IfSome, IsNone, is_some}
-use Rattle.std.specs.Prelude.{slice_get, position, unwrap_or, if◌then◌else◌}
+use Rattle.std.specs.Prelude.{◌≡◌, ℕ, ◌+◌, ◌<◌, ◌==◌, ◌||◌, nat_lt, nat_le, List, [], ◌∷◌, ◌++◌}
+use Rattle.std.specs.Prelude.{length, None, Some, Result, Ok, Err, IfSome, IsNone, is_some}
+use Rattle.std.specs.Prelude.{slice_get, unwrap_or, if◌then◌else◌}
 use Rattle.std.specs.List.{list_any}
 use Rattle.std.specs.Option.{ok_or}
-use Rattle.bip_model.specs.Naming.{is_known, same_text}
+use Rattle.bip_model.specs.Components.{no_component, number_in}
+use Rattle.bip_model.specs.Naming.{is_known}
 use Rattle.bip_model.specs.Numbering.{by_number}
 use Rattle.bip_model.specs.Faults.{◌>>=◌}
 use Rattle.bip_model.specs.Steps.{IsCyclic}
-use Rattle.bip_model.specs.Parts.{IsComponentSoFar, IsSystemSoFar, Participant, same_start}
+use Rattle.bip_model.specs.Parts.{IsComponentSoFar, IsSystemSoFar, Participant}
 use Rattle.bip_model.specs.declared.drafts.Draft.{Draft}
 use Rattle.bip_model.specs.declared.faults.BuildFault.{BuildFault}
 use Rattle.bip_model.specs.declared.faults.BuildFault.TheVariants.{Unknown, Twice, TooMany, Missing}
-use Rattle.bip_model.specs.declared.faults.BuildFault.TheVariants.{TwoTransitions, PriorityCycle}
+use Rattle.bip_model.specs.declared.faults.BuildFault.TheVariants.{PriorityCycle}
 use Rattle.bip_model.specs.declared.parts.Component.{Component}
 use Rattle.bip_model.specs.declared.parts.System.{System}
-use Rattle.bip_model.specs.declared.parts.Transition.{Transition}
-use Rattle.bip_model.specs.declared.parts.TheConstants.{MOST_COMPONENTS, MOST_LOCATIONS, MOST_PORTS}
-use Rattle.bip_model.specs.declared.parts.TheConstants.{MOST_TRANSITIONS, MOST_INTERACTIONS}
+use Rattle.bip_model.specs.declared.parts.TheConstants.{MOST_COMPONENTS, MOST_INTERACTIONS}
 use Rattle.bip_model.specs.declared.parts.TheConstants.{MOST_PARTICIPANTS}
-
--- the number of a name in a list
-abbrev pub number_in : List (List ℕ) → List ℕ → Result ℕ BuildFault
-number_in names name = ok_or (position (same_text name) names) Unknown
-
-abbrev pub no_component : Component
-no_component = record { locations = []; ports = []; transitions = [] }
 
 abbrev pub no_system : System
 no_system =
@@ -52,40 +44,6 @@ component_line d name =
 -- what a line inside a component says of that one, said of the draft
 abbrev pub inside : (Component → Result Component BuildFault) → Draft → Result Draft BuildFault
 inside f d = f (begun_in d) >>= λ c. Ok (record d { begun = Some c })
-
--- whether a name is taken in a component, whose locations and ports share one space of names
-abbrev pub is_taken : List ℕ → Component → Bool
-is_taken name c = is_known name c.locations || is_known name c.ports
-
--- `loc NAME`
-abbrev pub loc_line : List ℕ → Component → Result Component BuildFault
-loc_line name c =
-    if is_taken name c then Err Twice
-    else if nat_le MOST_LOCATIONS (length c.locations) then Err TooMany
-    else Ok (record c { locations = c.locations ++ name ∷ [] })
-
--- `port NAME`
-abbrev pub port_line : List ℕ → Component → Result Component BuildFault
-port_line name c =
-    if is_taken name c then Err Twice
-    else if nat_le MOST_PORTS (length c.ports) then Err TooMany
-    else Ok (record c { ports = c.ports ++ name ∷ [] })
-
--- a transition joins those of a component
-abbrev pub with_transition : Transition → Component → Result Component BuildFault
-with_transition t c =
-    if nat_le MOST_TRANSITIONS (length c.transitions) then Err TooMany
-    else if list_any (λ u. same_start u t) c.transitions then Err TwoTransitions
-    else Ok (record c { transitions = c.transitions ++ t ∷ [] })
-
--- `trans PORT FROM TO`
-abbrev pub trans_line : List ℕ → List ℕ → List ℕ → Component → Result Component BuildFault
-trans_line port source target c =
-    number_in c.ports port
-    >>= λ p. number_in c.locations source
-    >>= λ s. number_in c.locations target
-    >>= λ t. with_transition
-    (record { port = record { 0 = p }; source = record { 0 = s }; target = record { 0 = t } }) c
 
 -- `end` ends the component that is begun
 abbrev pub end_line : Draft → Result Draft BuildFault

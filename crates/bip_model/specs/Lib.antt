@@ -1,8 +1,8 @@
+pub mod Components
 pub mod Drafts
 pub mod Faults
 pub mod Grants
 pub mod Laws
-pub mod Moves
 pub mod Naming
 pub mod Numbering
 pub mod Partitions

@@ -9,7 +9,7 @@ use Rattle.bip_model.specs.declared.numbering.LocId.{LocId}
 use Rattle.bip_model.specs.declared.numbering.PortId.{PortId}
 use Rattle.bip_model.specs.declared.parts.System.{System}
 use Rattle.bip_model.specs.declared.states.LocalState.{LocalState}
-use Rattle.bip_model.specs.Moves.{offers_at, moved, transition_for}
+use Rattle.bip_model.specs.Components.{offers_at, moved, transition_for}
 use Rattle.bip_model.specs.Parts.{Participant}
 use Rattle.bip_model.specs.States.{State}
 

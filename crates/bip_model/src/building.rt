@@ -3,8 +3,8 @@ ghost use Rattle.std.specs.Prelude.{◌≡◌, ◌<◌, ◌↔◌, length, posit
 ghost use Rattle.std.specs.Prelude.{IfOk, OnErr, OnOk};
 ghost use Rattle.std.specs.Option.{option_map};
 ghost use Rattle.bip_model.specs.Drafts.{component_line, empty_draft, IsEndFault, IsWhole};
-ghost use Rattle.bip_model.specs.Drafts.{end_line, inside, interaction_line, loc_line, port_line};
-ghost use Rattle.bip_model.specs.Drafts.{trans_line};
+ghost use Rattle.bip_model.specs.Drafts.{end_line, inside, interaction_line};
+ghost use Rattle.bip_model.specs.Components.{loc_line, port_line, trans_line};
 ghost use Rattle.bip_model.specs.Naming.{same_text};
 ghost use Rattle.bip_model.specs.Faults.{Answers, new_or_fault};
 ghost use Rattle.bip_model.specs.Steps.{IsCyclic};

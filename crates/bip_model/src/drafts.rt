@@ -1,25 +1,16 @@
 //! What the lines of a model's text have said so far, and what one more line says.
-ghost use Rattle.std.specs.Prelude.{◌≡◌, ◌==◌, [], false, IsSome, IsNone};
-ghost use Rattle.std.specs.Prelude.{IsSomeAnd, OnErr};
-ghost use Rattle.smallvec.specs.SmallVec.{HasRoomFor};
-ghost use Rattle.bip_model.specs.Drafts.{component_line, empty_draft, end_line, inside};
-ghost use Rattle.bip_model.specs.Drafts.{interaction_line, is_taken, loc_line, no_component};
-ghost use Rattle.bip_model.specs.Drafts.{participant_named, participants_named};
-ghost use Rattle.bip_model.specs.Drafts.{port_line, trans_line, with_interaction, with_transition};
+ghost use Rattle.std.specs.Prelude.{◌≡◌, ◌==◌, [], false, IsSome, IsNone, OnErr};
+ghost use Rattle.bip_model.specs.Drafts.{component_line, empty_draft, end_line, interaction_line};
+ghost use Rattle.bip_model.specs.Drafts.{participant_named, participants_named, with_interaction};
 ghost use Rattle.bip_model.specs.Naming.{is_known};
 ghost use Rattle.bip_model.specs.Faults.{Answers, new_or_fault};
 ghost use Rattle.bip_model.specs.declared.faults.BuildFault.TheVariants.{Memory};
-ghost use Rattle.bip_model.specs.Parts.{IsComponentSoFar, IsSystemSoFar, Participant, same_start};
+ghost use Rattle.bip_model.specs.Parts.{IsSystemSoFar, Participant};
 ghost use Rattle.std.specs.List.{list_any};
 ghost use Rattle.std.specs.Result.{result_map_both};
 
-use crate::parts::{
-    MOST_COMPONENTS, MOST_INTERACTIONS, MOST_LOCATIONS, MOST_PARTICIPANTS, MOST_PORTS,
-    MOST_TRANSITIONS, System,
-};
-use crate::{
-    BuildFault, CompId, Component, Interaction, LocId, Name, Names, PortId, Seq, Transition,
-};
+use crate::parts::{MOST_COMPONENTS, MOST_INTERACTIONS, MOST_PARTICIPANTS, System};
+use crate::{BuildFault, CompId, Component, Interaction, Name, Names, PortId, Seq};
 use smallvec::SmallVec;
 use std::alloc::Global;
 
@@ -29,100 +20,6 @@ use std::alloc::Global;
 pub struct Draft {
     pub system: System,
     pub begun: Option<Component>,
-}
-
-impl Component {
-    fn new(alloc: Global) -> Component
-        ensures { result ≡ no_component }
-    {
-        Component {
-            locations: Names::new(alloc),
-            ports: Names::new(alloc),
-            transitions: Seq::of(Vec::new(alloc)),
-        }
-    }
-
-    fn is_taken(&self, name: &Name) -> bool
-        ensures { result ≡ is_taken name.now self.now }
-    {
-        self.locations.contains(name) || self.ports.contains(name)
-    }
-
-    pub(crate) fn add_location(&mut self, name: Name) -> Result<(), BuildFault>
-        ensures said { Answers Memory (loc_line name self.old) (new_or_fault result self.new) }
-        ensures err { OnErr result (self.new ≡ self.old) }
-    {
-        if self.is_taken(&name) {
-            return Err(BuildFault::Twice);
-        }
-        if MOST_LOCATIONS <= self.locations.len() {
-            return Err(BuildFault::TooMany);
-        }
-        self.locations.push(name).map_err(|_| BuildFault::Memory)
-    }
-
-    pub(crate) fn add_port(&mut self, name: Name) -> Result<(), BuildFault>
-        ensures said { Answers Memory (port_line name self.old) (new_or_fault result self.new) }
-        ensures err { OnErr result (self.new ≡ self.old) }
-    {
-        if self.is_taken(&name) {
-            return Err(BuildFault::Twice);
-        }
-        if MOST_PORTS <= self.ports.len() {
-            return Err(BuildFault::TooMany);
-        }
-        self.ports.push(name).map_err(|_| BuildFault::Memory)
-    }
-
-    fn add_transition(&mut self, transition: Transition) -> Result<(), BuildFault>
-        ensures said { Answers Memory (with_transition transition self.old)
-            (new_or_fault result self.new) }
-        ensures err { OnErr result (self.new ≡ self.old) }
-    {
-        if MOST_TRANSITIONS <= self.transitions.len() {
-            return Err(BuildFault::TooMany);
-        }
-        if self.has_start_of(&transition) {
-            return Err(BuildFault::TwoTransitions);
-        }
-        self.transitions
-            .push(transition)
-            .map_err(|_| BuildFault::Memory)
-    }
-
-    fn has_start_of(&self, transition: &Transition) -> bool
-        ensures { result ≡ list_any (λ u. same_start u transition.now) self.now.transitions }
-    {
-        self.transitions.as_slice().iter().any(|t| t.source == transition.source
-            && t.port == transition.port)
-    }
-
-    pub(crate) fn add_named_transition(
-        &mut self,
-        port: &Name,
-        source: &Name,
-        target: &Name,
-    ) -> Result<(), BuildFault>
-        requires { IsComponentSoFar self.old }
-        ensures said { Answers Memory (trans_line port.now source.now target.now self.old)
-            (new_or_fault result self.new) }
-        ensures err { OnErr result (self.new ≡ self.old) }
-    {
-        let Some(port) = self.ports.number_of(port) else {
-            return Err(BuildFault::Unknown);
-        };
-        let Some(source) = self.locations.number_of(source) else {
-            return Err(BuildFault::Unknown);
-        };
-        let Some(target) = self.locations.number_of(target) else {
-            return Err(BuildFault::Unknown);
-        };
-        self.add_transition(Transition {
-            port: PortId(port as u8),
-            source: LocId(source as u8),
-            target: LocId(target as u8),
-        })
-    }
 }
 
 impl System {
@@ -164,9 +61,7 @@ impl System {
         found.sort_unstable_by_key(|participant| participant.0.0);
         Ok(found)
     }
-}
 
-impl System {
     fn add_interaction(
         &mut self,
         alloc: Global,

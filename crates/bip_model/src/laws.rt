@@ -2,18 +2,16 @@
 //! nothing, and has the laws for its contract.
 ghost use Rattle.std.specs.Prelude.{◌≡◌, ℕ, ◌↔◌, List, [], ◌∷◌, ◌++◌, Ok, IsNone};
 ghost use Rattle.bip_model.specs.Drafts.{component_line, end_line, inside, interaction_line};
-ghost use Rattle.bip_model.specs.Drafts.{loc_line, port_line, trans_line};
-ghost use Rattle.bip_model.specs.Laws.{KeepsDraft};
-ghost use Rattle.bip_model.specs.Grants.{IsGreatestUsed, IsHistory, MovesOnceEach, used_by};
-ghost use Rattle.bip_model.specs.Laws.{Commute, EnabledWhereAllCanGo, EndsAfterItsLast};
+ghost use Rattle.bip_model.specs.Components.{loc_line, port_line, trans_line};
+ghost use Rattle.bip_model.specs.Laws.{KeepsDraft, Commute, EnabledWhereAllCanGo, EndsAfterItsLast};
 ghost use Rattle.bip_model.specs.Laws.{GoesOnByWhatMayRun, IsLocal, OneTransition, OthersStay};
-ghost use Rattle.bip_model.specs.Laws.{ParticipantsGo, StatesLeadToStates};
+ghost use Rattle.bip_model.specs.Laws.{ParticipantsGo, StatesLeadToStates, HistoryGoesOn};
+ghost use Rattle.bip_model.specs.Laws.{IsInOrder, MovedIsWanted, NamesInAnyOrder};
+ghost use Rattle.bip_model.specs.Laws.{NamesParticipants, PartsOrMisplaces, UsedGoesOn};
+ghost use Rattle.bip_model.specs.Grants.{IsGreatestUsed, IsHistory, MovesOnceEach, used_by};
 ghost use Rattle.bip_model.specs.Parts.{IsSystem};
 ghost use Rattle.bip_model.specs.Wants.{IsFresh, raised};
 ghost use Rattle.bip_model.specs.declared.drafts.Draft.{Draft};
-ghost use Rattle.bip_model.specs.Laws.{HistoryGoesOn, IsInOrder, MovedIsWanted};
-ghost use Rattle.bip_model.specs.Laws.{NamesInAnyOrder, NamesParticipants, PartsOrMisplaces};
-ghost use Rattle.bip_model.specs.Laws.{UsedGoesOn};
 ghost use Rattle.bip_model.specs.Partitions.{AreDifferent, in_order};
 ghost use Rattle.bip_model.specs.declared.grants.Grant.{Grant};
 ghost use Rattle.bip_model.specs.declared.numbering.InterId.{InterId};

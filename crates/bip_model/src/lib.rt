@@ -3,12 +3,12 @@
 #![tactic(auto)]
 
 mod building;
+mod components;
 mod drafts;
 mod faults;
 mod grants;
 mod laws;
 mod models;
-mod moves;
 mod naming;
 mod numbering;
 mod partitions;

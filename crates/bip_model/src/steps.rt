@@ -1,14 +1,13 @@
 //! The steps of a model: what is enabled in a state, and where an interaction leads.
 ghost use Rattle.std.specs.Prelude.{◌≡◌, ◌<◌, ◌↔◌, ℕ, IsTrue, length, slice_get, IfOk, IfSome};
-ghost use Rattle.std.specs.Prelude.{OnOk, OnErr, IfErr};
+ghost use Rattle.std.specs.Prelude.{OnOk, OnErr, IfErr, ◌==◌, if◌then◌else◌};
 ghost use Rattle.std.specs.Option.{option_map};
-ghost use Rattle.bip_model.specs.Moves.{AreOffered, moved};
+ghost use Rattle.bip_model.specs.Components.{AreOffered, moved};
 ghost use Rattle.bip_model.specs.Parts.{components_in};
 ghost use Rattle.bip_model.specs.States.{IsLocalStateOf, IsStateOf, local_of, state_of};
 ghost use Rattle.bip_model.specs.Steps.{IsEnabled, IsHeldBack, MayRun, after, led, led_all};
 ghost use Rattle.bip_model.specs.Steps.{offered, start_of, target_of};
 ghost use Rattle.std.specs.List.Sorted.{IsStrictlyIncreasing};
-ghost use Rattle.std.specs.Prelude.{◌==◌, if◌then◌else◌};
 
 use crate::{CompId, InterId, LocId, LocalState, Model, NotNow, PortId, State, Values};
 use std::alloc::{AllocError, Global};

@@ -5,10 +5,9 @@ ghost use Rattle.std.specs.Char.{is_ascii_digit};
 ghost use Rattle.std.specs.List.{list_all};
 ghost use Rattle.std.specs.Option.{option_map};
 ghost use Rattle.std.specs.Str.Parse.{digits_value};
-ghost use Rattle.bip_model.specs.Texts.{words_read};
-ghost use Rattle.bip_model.specs.Texts.{words_said};
-ghost use Rattle.bip_model.specs.Texts.{IsLineAndRest, IsWordAndRest, is_blank, is_line_feed};
-ghost use Rattle.bip_model.specs.Texts.{is_numeral, is_plain, lines, number_of, pair_of, words};
+ghost use Rattle.bip_model.specs.Texts.{words_read, words_said, IsLineAndRest, IsWordAndRest};
+ghost use Rattle.bip_model.specs.Texts.{is_blank, is_line_feed, is_numeral, is_plain, lines};
+ghost use Rattle.bip_model.specs.Texts.{number_of, pair_of, words};
 
 use memchr::memchr;
 use std::marker;

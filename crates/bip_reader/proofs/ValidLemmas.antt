@@ -3,7 +3,8 @@ use Rattle.std.proofs.Common.{rules, ◌≡◌, ℕ, ◌+◌, Bool, true, false,
 use Rattle.std.specs.Prelude.{IsNone, MatchResult, is_some, nat_lt, unwrap_or}
 use Rattle.std.specs.Option.{IsSomeAnd, ok_or, option_map, option_zip}
 use Rattle.std.proofs.lemmas.Bool.Decides.{nat_tests}
-use Rattle.bip_model.specs.Drafts.{IsDraft, IsWhole, empty_draft, loc_line, port_line, trans_line}
+use Rattle.bip_model.specs.Components.{loc_line, port_line, trans_line}
+use Rattle.bip_model.specs.Drafts.{IsDraft, IsWhole, empty_draft}
 use Rattle.bip_model.specs.Faults.{◌>>=◌}
 use Rattle.bip_model.specs.Partitions.{IsClasses}
 use Rattle.bip_model.specs.Parts.{IsSystem}

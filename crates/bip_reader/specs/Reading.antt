@@ -5,7 +5,7 @@ use Rattle.std.specs.Prelude.{option_and_then, position, unwrap_or, if◌then◌
 use Rattle.std.specs.List.{list_all, list_any}
 use Rattle.std.specs.Option.{ok_or, option_map, option_map_or}
 use Rattle.bip_model.specs.Drafts.{component_line, empty_draft, end_line, inside, interaction_line}
-use Rattle.bip_model.specs.Drafts.{loc_line, port_line, trans_line}
+use Rattle.bip_model.specs.Components.{loc_line, port_line, trans_line}
 use Rattle.bip_model.specs.Naming.{same_text}
 use Rattle.bip_model.specs.Faults.{◌>>=◌}
 use Rattle.bip_model.specs.Texts.{words_said}

@@ -1,4 +1,4 @@
-use Rattle.bip_model.specs.Drafts.{loc_line, port_line, trans_line}
+use Rattle.bip_model.specs.Components.{loc_line, port_line, trans_line}
 use Rattle.bip_model.proofs.GrowthLemmas.{component_grows, end_grows, inside_grows, interaction_grows, loc_grows, port_grows, trans_grows}
 use Rattle.bip_model.proofs.ParticipantLemmas.{names_in_any_order, names_participants}
 use Rattle.bip_model.proofs.laws.builder_laws.Goals as goal

@@ -1,4 +1,4 @@
-use Rattle.bip_model.specs.Drafts.{loc_line}
+use Rattle.bip_model.specs.Components.{loc_line}
 use Rattle.bip_model.specs.Parts.{IsComponentSoFar}
 use Rattle.bip_model.proofs.DraftLemmas.{answers_keeps, begun_keeps, loc_keeps}
 use Rattle.bip_model.proofs.building.Builder.loc.Goals as goal

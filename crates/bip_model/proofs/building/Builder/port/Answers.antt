@@ -1,4 +1,4 @@
-use Rattle.bip_model.specs.Drafts.{port_line}
+use Rattle.bip_model.specs.Components.{port_line}
 use Rattle.bip_model.specs.Parts.{IsComponentSoFar}
 use Rattle.bip_model.proofs.DraftLemmas.{answers_keeps, begun_keeps, port_keeps}
 use Rattle.bip_model.proofs.building.Builder.port.Goals as goal

@@ -1,4 +1,4 @@
-use Rattle.bip_model.specs.Drafts.{trans_line}
+use Rattle.bip_model.specs.Components.{trans_line}
 use Rattle.bip_model.specs.Parts.{IsComponentSoFar}
 use Rattle.bip_model.proofs.DraftLemmas.{answers_keeps, begun_keeps, trans_keeps}
 use Rattle.bip_model.proofs.building.Builder.trans.Goals as goal

@@ -1,7 +1,7 @@
 use Rattle.std.proofs.Common.{w16, arith, inl, inr}
 use Rattle.std.proofs.lemmas.Bool.Decides.{eqb_tells}
 use Rattle.std.proofs.lemmas.Nat.Bits.{bit_at_set_same, bit_at_set_other}
-use Rattle.bip_model.proofs.moves.with_port.Goals as goal
+use Rattle.bip_model.proofs.components.with_port.Goals as goal
 
 pub returns : goal.returns
 returns c = λ k.
