@@ -63,9 +63,9 @@ module _ (name : List ℕ) (names : List (List ℕ)) (r : Reading) (free : list_
   -- a class names an interaction that isn't there
   pub class_unknown : list_all (λ name. is_some (interaction_named (draft_of r) name)) names ≡ false → class_line name names r ≡ Err Unknown
   unfolding class_line
-  class_unknown unknown = let all = all_are_each (interaction_named (draft_of r)) [] names in grind arith
+  class_unknown unknown = let all = all_are_each (interaction_named (draft_of r)) names in grind arith
 
   -- a class too many
   pub class_past : list_all (λ name. is_some (interaction_named (draft_of r) name)) names ≡ true → MOST_CLASSES ≤ length r.classes → class_line name names r ≡ Err TooMany
   unfolding class_line
-  class_past known full = let all = all_are_each (interaction_named (draft_of r)) [] names in grind (arith, nat_tests)
+  class_past known full = let all = all_are_each (interaction_named (draft_of r)) names in grind (arith, nat_tests)

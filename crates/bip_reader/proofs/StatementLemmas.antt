@@ -1,24 +1,28 @@
 -- Lemmas on the forms of lines.
-use Rattle.std.proofs.Common.{◌≡◌, ◌+◌, ◌&&◌, List, [], ◌∷◌, ◌++◌, length, Option, None, Some, refl, arith, length-append}
-use Rattle.std.specs.Prelude.{is_some, option_and_then}
+use Rattle.std.proofs.Common.{◌≡◌, ◌<◌, ℕ, true, List, [], ◌∷◌, ◌++◌, length, Option, Some, refl, sym, arith, length-append}
+use Rattle.std.proofs.lemmas.Bool.Decides.{nat_tests}
+use Rattle.std.specs.Prelude.{is_some}
 use Rattle.std.specs.List.{list_all}
-use Rattle.bip_reader.specs.Statements.{each_of}
+use Rattle.std.specs.Option.{option_map}
+use Rattle.bip_reader.specs.Statements.{each_of, one_or_more_of}
 
 -- whether all things are something, and whether each is by itself
-pub all_are_each : {A B : Type 0} (f : A → Option B) (before : List B) (xs : List A) → is_some (each_of f before xs) ≡ list_all (λ x. is_some (f x)) xs
-all_are_each f before [] = refl
-all_are_each {A} {B} f before (x ∷ rest) =
-    elim (f x) as (λ o. is_some (option_and_then (λ (y : B). each_of f (before ++ y ∷ []) rest) o) ≡ (is_some o && list_all (λ z. is_some (f z)) rest)) [
-      | None ↦ refl
-      | Some y ↦ all_are_each f (before ++ y ∷ []) rest
-    ]
+pub all_are_each : {A B : Type 0} (f : A → Option B) (xs : List A) → is_some (each_of f xs) ≡ list_all (λ x. is_some (f x)) xs
+all_are_each f [] = refl
+all_are_each f (x ∷ rest) = let later = all_are_each f rest in grind arith
 
 -- there are as many as there were things
-pub as_many : {A B : Type 0} (f : A → Option B) (before : List B) (xs : List A) (ys : List B) → each_of f before xs ≡ Some ys → length ys ≡ length before + length xs
-as_many f before [] ys e = let same : before ≡ ys = cc in grind arith
-as_many {A} {B} f before (x ∷ rest) ys e = by_first (f x) (λ y. as_many f (before ++ y ∷ []) rest ys) e
-  where
-    by_first : (o : Option B) → ((y : B) → each_of f (before ++ y ∷ []) rest ≡ Some ys → length ys ≡ length (before ++ y ∷ []) + length rest)
-        → option_and_then (λ (y : B). each_of f (before ++ y ∷ []) rest) o ≡ Some ys → length ys ≡ length before + length (x ∷ rest)
-    by_first None more e' = absurd (cc)
-    by_first (Some y) more e' = omega (arith, more y e', length-append before (y ∷ []))
+pub as_many : {A B : Type 0} (f : A → Option B) (xs : List A) (ys : List B) → each_of f xs ≡ Some ys → length ys ≡ length xs
+as_many f [] ys e = grind arith
+as_many f (x ∷ rest) ys e = grind (arith, as_many f rest)
+
+-- what things are, behind what those before are
+abbrev pub each_behind : {A B : Type 0} → (A → Option B) → List B → List A → Option (List B)
+each_behind f before xs = option_map (λ ys. before ++ ys) (each_of f xs)
+
+-- where all are read, some are
+pub some_read : {A : Type 0} (f : List ℕ → Option A) (words rest : List (List ℕ)) (before : List A) → each_behind f before rest ≡ each_of f words → rest ≡ [] → is_some (one_or_more_of f words) ≡ true → 0 < length before
+some_read f words rest before read none some =
+    let all : Some (before ++ []) ≡ each_of f words = rw none at read in
+    let many : length (before ++ []) ≡ length words = as_many f words (before ++ []) (sym all) in
+    grind (arith, nat_tests, length-append before [])

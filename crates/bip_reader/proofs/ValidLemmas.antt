@@ -20,7 +20,7 @@ use Rattle.bip_reader.proofs.StatementLemmas.{as_many}
 use Rattle.bip_reader.proofs.FaultLemmas.{fair_more, reading_faults}
 use Rattle.bip_reader.specs.Laws.{MeansValid, TextFaults, is_of_text}
 use Rattle.bip_reader.specs.Reading.{at_line, can_follow, class_line, draft_of, draft_with, empty_reading, has_place, is_of_header, reading_after, reading_after_lines, reading_after_words, reading_with, statement_in, with_draft}
-use Rattle.bip_reader.specs.Statements.{class_form, each_of, end_form, header_form, interaction_form, keyword_in, keyword_of, name_of, one_name, participant_of, statement_of, trans_form}
+use Rattle.bip_reader.specs.Statements.{class_form, each_of, end_form, header_form, interaction_form, keyword_in, keyword_of, name_and_words, name_of, one_name, participant_of, statement_of, trans_form}
 use Rattle.bip_reader.specs.Texts.{IsFaultAtEnd, classes_of, reading_of, system_of}
 use Rattle.bip_reader.specs.declared.faults.Why.{Why}
 use Rattle.bip_reader.specs.declared.faults.Why.TheVariants.{Syntax, Missing, PriorityCycle, NotAPartition}
@@ -37,18 +37,18 @@ is_filled s = true
 
 -- what a line states is of its keyword, and filled
 keyword_kept : (k : Keyword) (ws : List (List ℕ)) (s : Statement) → statement_of k ws ≡ Some s → keyword_in s ≡ k
-unfolding header_form one_name trans_form end_form interaction_form class_form
+unfolding header_form one_name trans_form end_form name_and_words interaction_form class_form
 keyword_kept k ws s e = grind arith
 
 filled : (k : Keyword) (ws : List (List ℕ)) (s : Statement) → statement_of k ws ≡ Some s → is_filled s ≡ true
-unfolding header_form one_name trans_form end_form interaction_form class_form
+unfolding header_form one_name trans_form end_form name_and_words interaction_form class_form
 filled keyword.Interaction [] s e = absurd (cc)
-filled keyword.Interaction (w ∷ ws) s e = by_parts (name_of w) (each_of participant_of [] ws) refl e
+filled keyword.Interaction (w ∷ ws) s e = by_parts (name_of w) (each_of participant_of ws) refl e
   where
-    by_parts : (name : Option (List ℕ)) (all : Option (List (List ℕ × List ℕ))) → each_of participant_of [] ws ≡ all
+    by_parts : (name : Option (List ℕ)) (all : Option (List (List ℕ × List ℕ))) → each_of participant_of ws ≡ all
         → option_map (λ i. statement.Interaction i.0 i.1) (option_zip name (cond (length ws == 0) None all)) ≡ Some s → is_filled s ≡ true
     by_parts name None are e' = grind (arith, nat_tests)
-    by_parts name (Some all) are e' = let many = as_many participant_of [] ws all are in grind (arith, nat_tests)
+    by_parts name (Some all) are e' = let many = as_many participant_of ws all are in grind (arith, nat_tests)
 filled k ws s e = grind (arith, nat_tests)
 
 -- what is stated in its place

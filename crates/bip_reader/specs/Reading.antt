@@ -49,7 +49,7 @@ are_interactions r names = list_all (λ name. is_some (interaction_named (draft_
 
 -- the numbers of interactions, by their names
 abbrev pub interactions_named : Reading → List (List ℕ) → Result (List InterId) Why
-interactions_named r names = ok_or (each_of (interaction_named (draft_of r)) [] names) Unknown
+interactions_named r names = ok_or (each_of (interaction_named (draft_of r)) names) Unknown
 
 -- the class joins those of a reading
 abbrev pub with_class : List ℕ → List InterId → Reading → Result Reading Why

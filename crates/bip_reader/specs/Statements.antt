@@ -1,5 +1,5 @@
 -- The forms of the lines of a model's text: from the words of a line to what it states.
-use Rattle.std.specs.Prelude.{ℕ, Bool, false, true, ◌==◌, List, [], ◌∷◌, ◌++◌, length, Option, None}
+use Rattle.std.specs.Prelude.{ℕ, Bool, false, true, ◌==◌, List, [], ◌∷◌, length, Option, None}
 use Rattle.std.specs.Prelude.{Some, option_and_then, codes, if◌then◌else◌}
 use Rattle.std.specs.Option.{option_map, option_map_or, option_zip}
 use Rattle.bip_model.specs.Naming.{is_name, same_text}
@@ -24,14 +24,14 @@ two_names pair = option_zip (name_of pair.0) (name_of pair.1)
 abbrev pub participant_of : List ℕ → Option (List ℕ × List ℕ)
 participant_of word = option_and_then two_names (pair_of PORT_MARK word)
 
--- what things are, each by itself, behind what those before are; none where one is nothing
-abbrev pub each_of : {A B : Type 0} → (A → Option B) → List B → List A → Option (List B)
-each_of f before [] = Some before
-each_of f before (x ∷ rest) = option_and_then (λ y. each_of f (before ++ y ∷ []) rest) (f x)
+-- what things are, each by itself; none where one is nothing
+abbrev pub each_of : {A B : Type 0} → (A → Option B) → List A → Option (List B)
+each_of f [] = Some []
+each_of f (x ∷ rest) = option_map (λ y. y.0 ∷ y.1) (option_zip (f x) (each_of f rest))
 
 -- what words are, each by itself, at least one
 abbrev pub one_or_more_of : {A : Type 0} → (List ℕ → Option A) → List (List ℕ) → Option (List A)
-one_or_more_of f words = if length words == 0 then None else each_of f [] words
+one_or_more_of f words = if length words == 0 then None else each_of f words
 
 -- the keyword that a word is
 unfoldable pub keyword_of : List ℕ → Option Keyword
@@ -90,18 +90,20 @@ unfoldable pub end_form : List (List ℕ) → Option Statement
 end_form [] = Some End
 end_form _ = None
 
--- `NAME C.p C.p ..`, at least one participant
-unfoldable pub interaction_form : List (List ℕ) → Option Statement
-interaction_form [] = None
-interaction_form (name ∷ rest) =
-    option_map (λ i. Interaction i.0 i.1)
-    (option_zip (name_of name) (one_or_more_of participant_of rest))
+-- a name, and what the words behind it are, at least one
+unfoldable pub name_and_words :
+    {A : Type 0} → (List ℕ → Option A) → List (List ℕ) → Option (List ℕ × List A)
+name_and_words f [] = None
+name_and_words f (name ∷ rest) = option_zip (name_of name) (one_or_more_of f rest)
 
--- `NAME INTER INTER ..`, at least one interaction
+-- `NAME C.p C.p ..`
+unfoldable pub interaction_form : List (List ℕ) → Option Statement
+interaction_form rest =
+    option_map (λ i. Interaction i.0 i.1) (name_and_words participant_of rest)
+
+-- `NAME INTER INTER ..`
 unfoldable pub class_form : List (List ℕ) → Option Statement
-class_form [] = None
-class_form (name ∷ rest) =
-    option_map (λ c. Class c.0 c.1) (option_zip (name_of name) (one_or_more_of name_of rest))
+class_form rest = option_map (λ c. Class c.0 c.1) (name_and_words name_of rest)
 
 -- what a line states that begins with a keyword, by the words that follow; none where they lack
 -- its form

@@ -8,7 +8,7 @@ ghost use Rattle.bip_model.specs.Texts.{words};
 ghost use Rattle.bip_reader.specs.declared.faults.Why.TheVariants.{Memory, Syntax};
 ghost use Rattle.bip_reader.specs.declared.statements.Keyword.TheVariants as keyword_is;
 ghost use Rattle.bip_reader.specs.Statements.{class_form, end_form, header_form, interaction_form};
-ghost use Rattle.bip_reader.specs.Statements.{is_of_list, keyword_in, keyword_of, name_of};
+ghost use Rattle.bip_reader.specs.Statements.{is_of_list, keyword_in, keyword_of, name_and_words, name_of};
 ghost use Rattle.bip_reader.specs.Statements.{one_name};
 ghost use Rattle.bip_reader.specs.Statements.{one_or_more_of, participant_of, statement_of};
 ghost use Rattle.bip_reader.specs.Statements.{trans_form};
@@ -89,7 +89,7 @@ impl<W> OneOrMore<W> {
 
 impl<W: Word> OneOrMore<W> {
     /// What the words of a line are, each by itself. All are looked at before one is stored.
-    #[tactic(auto, using(crate::proofs::StatementLemmas::as_many))]
+    #[tactic(auto, using(crate::proofs::StatementLemmas::some_read))]
     fn read(alloc: Global, line: &[u8]) -> Result<OneOrMore<W>, Why>
         ensures { Answers Memory (ok_or (one_or_more_of W.read_as (words line.now)) Syntax) result }
     {
@@ -168,13 +168,7 @@ fn interaction(alloc: Global, line: &[u8]) -> Result<Statement, Why>
     ensures said { Answers Memory (ok_or (interaction_form (words line.now)) Syntax) result }
     ensures keyword { IfOk result (λ statement. keyword_in statement ≡ keyword_is.Interaction) }
 {
-    let Some((word, rest)) = split_word(line) else {
-        return Err(Why::Syntax);
-    };
-    let Some(name) = Name::read(word) else {
-        return Err(Why::Syntax);
-    };
-    let participants = OneOrMore::read(alloc, rest)?;
+    let (name, participants) = name_and_words(alloc, line)?;
     Ok(Statement::Interaction { name, participants })
 }
 
@@ -183,14 +177,22 @@ fn class(alloc: Global, line: &[u8]) -> Result<Statement, Why>
     ensures said { Answers Memory (ok_or (class_form (words line.now)) Syntax) result }
     ensures keyword { IfOk result (λ statement. keyword_in statement ≡ keyword_is.Class) }
 {
+    let (name, interactions) = name_and_words(alloc, line)?;
+    Ok(Statement::Class { name, interactions })
+}
+
+// A name, and what the words behind it are.
+#[tactic(auto, unfolding(crate::specs::Statements::name_and_words))]
+fn name_and_words<W: Word>(alloc: Global, line: &[u8]) -> Result<(Name, OneOrMore<W>), Why>
+    ensures { Answers Memory (ok_or (name_and_words W.read_as (words line.now)) Syntax) result }
+{
     let Some((word, rest)) = split_word(line) else {
         return Err(Why::Syntax);
     };
     let Some(name) = Name::read(word) else {
         return Err(Why::Syntax);
     };
-    let interactions = OneOrMore::read(alloc, rest)?;
-    Ok(Statement::Class { name, interactions })
+    Ok((name, OneOrMore::read(alloc, rest)?))
 }
 
 #[tactic(auto, unfolding(crate::specs::Statements::header_form))]

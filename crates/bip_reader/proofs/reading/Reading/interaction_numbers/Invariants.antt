@@ -1,8 +1,9 @@
-use Rattle.std.proofs.Common.{◌≡◌, [], drop}
+use Rattle.std.proofs.Common.{◌≡◌, drop}
 use Rattle.bip_reader.specs.Reading.{draft_of, interaction_named}
 use Rattle.bip_reader.specs.Statements.{each_of}
+use Rattle.bip_reader.proofs.StatementLemmas.{each_behind}
 use Rattle.bip_reader.proofs.reading.Reading.interaction_numbers.Given as goal
 
 abbrev pub invariant-loop-name : goal.invariant-loop-name
 invariant-loop-name l =
-    each_of (interaction_named (draft_of l.self)) l.numbers.items (drop l.name-index l.names) ≡ each_of (interaction_named (draft_of l.self)) [] l.names
+    each_behind (interaction_named (draft_of l.self)) l.numbers.items (drop l.name-index l.names) ≡ each_of (interaction_named (draft_of l.self)) l.names

@@ -1,10 +1,11 @@
-use Rattle.std.proofs.Common.{◌≡◌, [], length}
+use Rattle.std.proofs.Common.{◌≡◌, length}
 use Rattle.bip_model.specs.Texts.{words}
 use Rattle.bip_reader.specs.Statements.{each_of}
+use Rattle.bip_reader.proofs.StatementLemmas.{each_behind}
 use Rattle.bip_reader.proofs.statements.OneOrMore.read.Given as goal
 
 abbrev pub invariant-loop-word : goal.invariant-loop-word
-invariant-loop-word g l = each_of g.W.Word.read_as l.items.items (words l.rest) ≡ each_of g.W.Word.read_as [] (words l.line)
+invariant-loop-word g l = each_behind g.W.Word.read_as l.items.items (words l.rest) ≡ each_of g.W.Word.read_as (words l.line)
 
 abbrev pub decreases-loop-word : goal.decreases-loop-word
 decreases-loop-word g l = length l.rest
