@@ -1,4 +1,5 @@
 pub mod DraftLemmas
+pub mod ExpressionLemmas
 pub mod GrowthLemmas
 pub mod HistoryLemmas
 pub mod LawLemmas

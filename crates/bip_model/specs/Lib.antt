@@ -1,8 +1,10 @@
 pub mod Components
 pub mod Drafts
+pub mod Expressions
 pub mod Faults
 pub mod Grants
 pub mod Laws
+pub mod Messages
 pub mod Naming
 pub mod Numbering
 pub mod Partitions

@@ -5,9 +5,11 @@
 mod building;
 mod components;
 mod drafts;
+mod expressions;
 mod faults;
 mod grants;
 mod laws;
+mod messages;
 mod models;
 mod naming;
 mod numbering;
@@ -21,12 +23,14 @@ mod wants;
 
 pub use building::Builder;
 pub use drafts::Draft;
+pub use expressions::{Assignment, Comparison, Expr, Relation, Sign, Term, Variable};
 pub use faults::{BuildFault, ClassFault, NotNow};
 pub use grants::Grant;
 pub use laws::{builder_laws, history_laws, partition_laws, step_laws};
+pub use messages::{MOST_NOTIFIES, Notifies, Notify, Offer, Reply, Request};
 pub use models::Model;
 pub use naming::{Name, Names};
-pub use numbering::{ClassId, CompId, InterId, LocId, Number, PortId};
+pub use numbering::{ClassId, CompId, InterId, LocId, Number, PortId, VarId};
 pub use partitions::{Classes, MOST_CLASSES, Partition};
 pub use parts::{Component, Interaction, System, Transition};
 pub use sequence::Seq;

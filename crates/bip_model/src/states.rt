@@ -1,5 +1,5 @@
 //! States: the local state of each component.
-ghost use Rattle.std.specs.Prelude.{◌≡◌, ◌↔◌, ◌≤◌, ℕ, [], length, IsSome, IfSome};
+ghost use Rattle.std.specs.Prelude.{◌≡◌, ◌↔◌, ◌≤◌, ◌<◌, ℕ, [], length, slice_set, IsSome, IfSome};
 
 use crate::{CompId, LocId};
 use std::marker::Model;
@@ -30,6 +30,12 @@ impl Model for Values {
 
     ghost inverse_ok = { λ v h. remade
         (λ xs n. record { values = xs; len = n }) MOST_VALUES v.len v.values h };
+}
+
+impl Default for Values {
+    fn default() -> Values {
+        Values::none()
+    }
 }
 
 impl Values {
@@ -65,6 +71,15 @@ impl Values {
         ensures few { length self.now ≤ 8 }
     {
         &self.values[..self.len as usize]
+    }
+
+    /// Puts a value in the place of the one at the index.
+    pub(crate) fn set(&mut self, index: usize, value: u32)
+        requires { index < length self.old }
+        ensures { self.new ≡ slice_set self.old index value }
+    {
+        let values = &mut self.values;
+        values[index] = value;
     }
 }
 
