@@ -1,9 +1,11 @@
 -- What the definitions mean, in the subject's own words: laws that a reviewer reads.
-use Rattle.std.specs.Prelude.{◌≤◌, Any, Ok, map, sum_by}
+use Rattle.std.specs.Prelude.{◌≤◌, ◌+◌, ◌%◌, ◌^◌, Any, Ok, map, sum_by}
 use Rattle.std.specs.List.Sorted.{IsPermutation, IsStrictlyIncreasing}
 use Rattle.std.specs.Prelude.{◌≡◌, ◌↔◌, ℕ, ◌<◌, false, true, [], ◌∷◌, ◌++◌, List, length, Some}
 use Rattle.std.specs.Prelude.{slice_get, All, Contains, ◌⊎◌, IfSome}
 use Rattle.bip_model.specs.Drafts.{participant_named, participants_named}
+use Rattle.bip_model.specs.Expressions.{AreAssignmentsIn, AreTargetsApart, counts, is_same}
+use Rattle.bip_model.specs.Expressions.{term_value, transferred, updated, value_in, value_of}
 use Rattle.bip_model.specs.Grants.{IsHistory, used_by}
 use Rattle.bip_model.specs.Wants.{IsWants, moved_in}
 use Rattle.bip_model.specs.Naming.{AreApart}
@@ -12,6 +14,12 @@ use Rattle.bip_model.specs.Parts.{Participant, components_in}
 use Rattle.bip_model.specs.States.{IsStateOf, State}
 use Rattle.bip_model.specs.Steps.{IsEnabled, IsRun, MayRun, after, end_of, moves, participants_of}
 use Rattle.bip_model.specs.declared.drafts.Draft.{Draft}
+use Rattle.bip_model.specs.declared.expressions.Assignment.{Assignment}
+use Rattle.bip_model.specs.declared.expressions.Expr.{Expr}
+use Rattle.bip_model.specs.declared.expressions.Sign.{Sign}
+use Rattle.bip_model.specs.declared.expressions.Sign.TheVariants.{Plus, Minus}
+use Rattle.bip_model.specs.declared.expressions.Term.{Term}
+use Rattle.bip_model.specs.declared.expressions.Variable.{Variable}
 use Rattle.bip_model.specs.declared.grants.Grant.{Grant}
 use Rattle.bip_model.specs.declared.wants.Role.TheVariants.{Moved}
 use Rattle.bip_model.specs.declared.wants.Want.{Want}
@@ -21,6 +29,56 @@ use Rattle.bip_model.specs.declared.parts.Component.{Component}
 use Rattle.bip_model.specs.declared.parts.System.{System}
 use Rattle.bip_model.specs.declared.parts.Transition.{Transition}
 use Rattle.bip_model.specs.declared.states.LocalState.{LocalState}
+
+-- what a term with a sign adds to a sum, and what it takes away
+abbrev pub added : List (List ℕ) → Sign × Term → ℕ
+added values (Plus, t) = term_value values t
+added values (Minus, t) = 0
+
+abbrev pub taken : List (List ℕ) → Sign × Term → ℕ
+taken values (Plus, t) = 0
+taken values (Minus, t) = term_value values t
+
+-- a sum and all that it takes away are all that it adds: it is the sum of the integers, modulo 2^32
+abbrev pub SumsAreIntegers : Type 0
+SumsAreIntegers =
+    (values : List (List ℕ)) (e : Expr)
+    → (value_of values e + sum_by (taken values) e.rest) % 2 ^ 32
+    ≡ (term_value values e.first + sum_by (added values) e.rest) % 2 ^ 32
+
+-- assignments that were done at once: each variable has its assignment's sum of the values before,
+-- or what it had
+pub record AreDoneAtOnce (assignments : List Assignment) (before later : List (List ℕ)) : Type 0
+  where
+    pub counts : counts later ≡ counts before
+    pub given : (a : Assignment) → Contains assignments a
+        → value_in later a.target ≡ value_of before a.sum
+    pub kept : (v : Variable) → All (λ (a : Assignment). is_same v a.target ≡ false) assignments
+        → value_in later v ≡ value_in before v
+
+-- what a transfer may be, over values: its variables are there, and no two have one target
+abbrev pub IsTransferIn : List (List ℕ) → List Assignment → Type 0
+IsTransferIn values assignments =
+    AreAssignmentsIn (counts values) assignments × AreTargetsApart assignments
+
+-- a transfer is done at once
+abbrev pub TransfersAtOnce : Type 0
+TransfersAtOnce =
+    (assignments : List Assignment) (values : List (List ℕ)) → IsTransferIn values assignments
+    → AreDoneAtOnce assignments values (transferred assignments values)
+
+-- the order of a transfer's assignments doesn't count
+abbrev pub TransfersInAnyOrder : Type 0
+TransfersInAnyOrder =
+    (xs ys : List Assignment) (values : List (List ℕ)) → IsTransferIn values xs
+    → IsTransferIn values ys → ((a : Assignment) → Contains xs a ↔ Contains ys a)
+    → (v : Variable) → value_in (transferred xs values) v ≡ value_in (transferred ys values) v
+
+-- an update is done in written order: what comes later reads what is there then
+abbrev pub UpdatesInOrder : Type 0
+UpdatesInOrder =
+    (xs ys : List Assignment) (values : List ℕ)
+    → updated (xs ++ ys) values ≡ updated ys (updated xs values)
 
 -- a component that takes no part stays where it is
 abbrev pub OthersStay : System → Type 0

@@ -7,6 +7,8 @@ ghost use Rattle.bip_model.specs.Laws.{KeepsDraft, Commute, EnabledWhereAllCanGo
 ghost use Rattle.bip_model.specs.Laws.{GoesOnByWhatMayRun, IsLocal, OneTransition, OthersStay};
 ghost use Rattle.bip_model.specs.Laws.{ParticipantsGo, StatesLeadToStates, HistoryGoesOn};
 ghost use Rattle.bip_model.specs.Laws.{IsInOrder, MovedIsWanted, NamesInAnyOrder};
+ghost use Rattle.bip_model.specs.Laws.{SumsAreIntegers, TransfersAtOnce, TransfersInAnyOrder};
+ghost use Rattle.bip_model.specs.Laws.{UpdatesInOrder};
 ghost use Rattle.bip_model.specs.Laws.{NamesParticipants, PartsOrMisplaces, UsedGoesOn};
 ghost use Rattle.bip_model.specs.Grants.{IsGreatestUsed, IsHistory, MovesOnceEach, used_by};
 ghost use Rattle.bip_model.specs.Parts.{IsSystem};
@@ -16,6 +18,16 @@ ghost use Rattle.bip_model.specs.Partitions.{AreDifferent, in_order};
 ghost use Rattle.bip_model.specs.declared.grants.Grant.{Grant};
 ghost use Rattle.bip_model.specs.declared.numbering.InterId.{InterId};
 ghost use Rattle.bip_model.specs.declared.parts.System.{System};
+
+/// What sums, transfers and updates mean: a sum is that of the integers modulo 2^32, the assignments
+/// of a transfer are done at once and those of an update in written order (docs/DEFINITIONS.md,
+/// "Expressions").
+pub fn expression_laws()
+    ensures sums { SumsAreIntegers }
+    ensures transfers { TransfersAtOnce }
+    ensures any_order { TransfersInAnyOrder }
+    ensures updates { UpdatesInOrder }
+{}
 
 /// What the joint step means (docs/DEFINITIONS.md, "The joint step").
 pub fn step_laws()

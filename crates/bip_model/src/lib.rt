@@ -26,7 +26,7 @@ pub use drafts::Draft;
 pub use expressions::{Assignment, Comparison, Expr, Relation, Sign, Term, Variable};
 pub use faults::{BuildFault, ClassFault, NotNow};
 pub use grants::Grant;
-pub use laws::{builder_laws, history_laws, partition_laws, step_laws};
+pub use laws::{builder_laws, expression_laws, history_laws, partition_laws, step_laws};
 pub use messages::{MOST_NOTIFIES, Notifies, Notify, Offer, Reply, Request};
 pub use models::Model;
 pub use naming::{Name, Names};
