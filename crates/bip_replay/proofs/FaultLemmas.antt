@@ -1,27 +1,26 @@
 -- Faults and parties: what the tests of a grant say.
-use Rattle.std.proofs.Common.{◌≡◌, ◌≢◌, ℕ, ◌<◌, ◌≤◌, ◌||◌, Bool, true, false, eqb, List, [], ◌∷◌, length, map, get_or, refl, sym, ap, ◌∙◌, subst, arith, zip, eqb-true, eq-eqb, ◌⊎◌, inl, inr, ◌+◌, not, ◌&&◌, None, Some, find}
-use Rattle.std.specs.Prelude.{◌↔◌, All, Contains, slice_get, nat_lt}
+use Rattle.std.proofs.Common.{◌≡◌, ℕ, ◌<◌, ◌≤◌, Bool, true, false, eqb, List, [], ◌∷◌, length, map, get_or, refl, sym, ap, ◌∙◌, subst, arith, zip, ◌⊎◌, inl, inr, ◌&&◌, None, Some, find}
+use Rattle.std.specs.Prelude.{◌↔◌, All, Contains, slice_get}
 use Rattle.std.specs.List.{AllByRecursion, list_all, list_any, zip, position_or_len}
 use Rattle.std.specs.List.Sorted.{IsStrictlyIncreasing}
-use Rattle.std.proofs.lemmas.Bool.{and_parts, and_from, cases_order, false≢true, ne_eqb, cases_lt, ltb-true, lt-ltb, both_ways, not-true}
-use Rattle.std.proofs.lemmas.Bool.Decides.{eqb_tells}
-use Rattle.std.proofs.lemmas.List.Elements.{All-cons, All-head, All-nil, All-tail, Contains-get_or, All-weaker}
+use Rattle.std.proofs.lemmas.Bool.{cases_order, lt-ltb}
+use Rattle.std.proofs.lemmas.List.Elements.{All-cons, All-head, All-nil, All-tail, Contains-get_or}
 use Rattle.std.proofs.lemmas.List.Folds.{Any-from_list_any, list_any-from_Any, find_at}
 use Rattle.std.proofs.lemmas.List.Quantifiers.{position-Some}
 use Rattle.std.proofs.lemmas.List.Sums.{fails_before_first}
-use Rattle.std.proofs.lemmas.Option.{get_or_from_slice_get, none-some, slice_get-get_or, slice_get_cases, slice_get_within}
+use Rattle.std.proofs.lemmas.Option.{get_or_from_slice_get, slice_get-get_or, slice_get_cases, slice_get_within}
 use Rattle.bip_model.proofs.NumberingLemmas.{Rises, rises_from_increasing}
 use Rattle.bip_model.specs.declared.wants.Role.{Role}
 use Rattle.bip_model.specs.declared.wants.Role.TheVariants.{Moved, Seen}
 use Rattle.bip_model.specs.declared.wants.Want.{Want}
-use Rattle.bip_model.specs.Parts.{Participant, components_in, IsInteraction, IsPortIn, IsSystem}
+use Rattle.bip_model.specs.Parts.{Participant, components_in, IsInteraction, IsSystem}
 use Rattle.bip_model.specs.Wants.{components_of, is_moved}
 use Rattle.bip_model.proofs.ListLemmas.{All-slice_get, below_later}
 use Rattle.bip_model.specs.declared.grants.Grant.{Grant}
 use Rattle.bip_model.specs.declared.parts.System.{System}
 use Rattle.bip_model.specs.States.{State}
 use Rattle.bip_model.specs.Steps.{IsEnabled, MayRun, participants_of}
-use Rattle.bip_replay.specs.Runs.{is_party, IsWanted, has_next_number, is_wrong, HasItsParties, HasNextNumber, IsNext, last_number}
+use Rattle.bip_replay.specs.Runs.{is_party, IsWanted, has_next_number, is_wrong, HasItsParties, HasNextNumber, IsNext}
 use Rattle.bip_replay.specs.Faults.{IsLowestWrong, KnownAreRight}
 
 -- what the test says of wants beside participants
@@ -43,35 +42,31 @@ Moves w = w.role ≡ Moved
 
 -- the role that is moved
 pub moved_role : (r : Role) → is_moved r ≡ true → r ≡ Moved
-moved_role Moved is = refl
-moved_role Seen is = absurd (false≢true is)
+moved_role r is = grind arith
 
 -- numbers are above what is no more than one that all are above
 none_below : (c low : ℕ) (ns : List ℕ) → c ≤ low → AllByRecursion (λ n. low < n) ns → list_any (λ n. eqb n c) ns ≡ false
 none_below c low [] below all = refl
-none_below c low (n ∷ ns) below all = let less : low < n = all.0 in rw (ne_eqb n c (λ e. omega arith)) (none_below c low ns below all.1)
+none_below c low (n ∷ ns) below all = grind (arith, none_below c low ns)
 
 has_first : (c : ℕ) (ns : List ℕ) → list_any (λ n. eqb n c) (c ∷ ns) ≡ true
-has_first c ns = rw (eq-eqb c c refl) refl
+has_first c ns = grind arith
 
 -- which numbers there are
 abbrev SameNumbers : List ℕ → List ℕ → Type 0
 SameNumbers xs ys = (c : ℕ) → list_any (λ n. eqb n c) xs ≡ list_any (λ n. eqb n c) ys
 
 lower_first : (x y : ℕ) (xs ys : List ℕ) → AllByRecursion (λ n. y < n) ys → SameNumbers (x ∷ xs) (y ∷ ys) → x < y → ⊥
-lower_first x y xs ys over same less =
-    let none : list_any (λ n. eqb n x) (y ∷ ys) ≡ false = rw (ne_eqb y x (λ e. omega arith)) (none_below x y ys (omega arith) over) in
-    let e : true ≡ false = sym (has_first x xs) ∙ same x ∙ none in
-    cc
+lower_first x y xs ys over same less = grind (arith, same x, none_below x y ys, has_first x xs)
 
 -- numbers that rise are told by which there are
 same_numbers : (xs ys : List ℕ) → Rises xs → Rises ys → SameNumbers xs ys → xs ≡ ys
 same_numbers [] [] up climbs same = refl
-same_numbers [] (y ∷ ys) up climbs same = let e : false ≡ true = same y ∙ has_first y ys in cc
-same_numbers (x ∷ xs) [] up climbs same = let e : true ≡ false = sym (has_first x xs) ∙ same x in cc
+same_numbers [] (y ∷ ys) up climbs same = grind (arith, same y, has_first y ys)
+same_numbers (x ∷ xs) [] up climbs same = grind (arith, same x, has_first x xs)
 same_numbers (x ∷ xs) (y ∷ ys) up climbs same =
     let first = by_order (cases_order x y) in
-    let rest = same_numbers xs ys up.1 climbs.1 (λ c. behind first c (eqb_tells x c)) in
+    let rest = same_numbers xs ys up.1 climbs.1 (λ c. behind first c) in
     cc
   where
     by_order : (x ≡ y) ⊎ ((x < y) ⊎ (y < x)) → x ≡ y
@@ -79,38 +74,32 @@ same_numbers (x ∷ xs) (y ∷ ys) up climbs same =
     by_order (inr (inl less)) = absurd (lower_first x y xs ys climbs.0 same less)
     by_order (inr (inr more)) = absurd (lower_first y x ys xs up.0 (λ c. sym (same c)) more)
 
-    behind : x ≡ y → (c : ℕ) → ((eqb x c ≡ true) × (x ≡ c)) ⊎ ((eqb x c ≡ false) × (x ≢ c)) → list_any (λ n. eqb n c) xs ≡ list_any (λ n. eqb n c) ys
-    behind first c (inl here) = let at : x ≡ c = here.1 in none_below c x xs (omega arith) up.0 ∙ sym (none_below c y ys (omega arith) climbs.0)
-    behind first c (inr other) = rw (other.0, ap (λ n. eqb n c) (sym first) ∙ other.0) at (same c)
+    behind : x ≡ y → (c : ℕ) → list_any (λ n. eqb n c) xs ≡ list_any (λ n. eqb n c) ys
+    behind first c = grind (arith, same c, none_below c x xs, none_below c y ys)
 
 has-map : {X : Type 0} (f : X → ℕ) (xs : List X) (c : ℕ) → list_any (λ n. eqb n c) (map f xs) ≡ list_any (λ x. eqb (f x) c) xs
 has-map f [] c = refl
-has-map f (x ∷ xs) c = ap (λ b. eqb (f x) c || b) (has-map f xs c)
+has-map f (x ∷ xs) c = grind (arith, has-map f xs)
 
 -- where all wants move, a component is wanted as moved exactly where one is of it
 wanted : (ws : List Want) (c : ℕ) → All Moves ws → IsWanted Moved ws c ↔ (list_any (λ (w : Want). eqb w.comp.0 c) ws ≡ true)
 wanted ws c moves = (
-  λ at. list_any-from_Any (λ (w : Want). eqb w.comp.0 c) ws (at.0, at.1, at.2, at.3, eq-eqb at.1.comp.0 c at.4.0),
-  λ is. let at = Any-from_list_any (λ (w : Want). eqb w.comp.0 c) ws is in (at.0, at.1, at.2, at.3, (eqb-true at.1.comp.0 c at.4, subst Moves at.3 (moves at.0 at.1 at.2))),
+  λ at. list_any-from_Any (λ (w : Want). eqb w.comp.0 c) ws (at.0, at.1, at.2, at.3, grind arith),
+  λ is. let at = Any-from_list_any (λ (w : Want). eqb w.comp.0 c) ws is in let all = moves at.0 at.1 at.2 in (at.0, at.1, at.2, at.3, grind arith),
 )
 
 -- wants that pass the test move the components of the participants, one each and in order
 in_order : (ws : List Want) (qs : List Participant) → Passes ws qs → (components_of ws ≡ components_in qs) × All Moves ws
 in_order [] [] passes = (refl, All-nil Moves)
-in_order [] (q ∷ qs) passes = let same : 0 ≡ length (q ∷ qs) = passes.0 in absurd (omega arith)
-in_order (w ∷ ws) [] passes = let same : length (w ∷ ws) ≡ 0 = passes.0 in absurd (omega arith)
+in_order [] (q ∷ qs) passes = grind arith
+in_order (w ∷ ws) [] passes = grind arith
 in_order (w ∷ ws) (q ∷ qs) passes =
-    let here = and_parts (is_party (w, q)) (list_all is_party (zip ws qs)) passes.1 in
-    let party = and_parts (is_moved w.role) (eqb w.comp.0 q.0.0) here.0 in
-    let long : length (w ∷ ws) ≡ length (q ∷ qs) = passes.0 in
-    let first : w.comp.0 ≡ q.0.0 = eqb-true w.comp.0 q.0.0 party.1 in
-    let rest = in_order ws qs (omega arith, here.1) in
-    let same : components_of ws ≡ components_in qs = rest.0 in
-    (cc, All-cons Moves w ws (moved_role w.role party.0) rest.1)
+    let rest : (components_of ws ≡ components_in qs) × All Moves ws = in_order ws qs (grind arith) in
+    (grind arith, All-cons Moves w ws (grind arith) rest.1)
 
 -- wants that pass the test are those of the parties
 pub parties-from_test : (ws : List Want) (qs : List Participant) → Passes ws qs → AreParties ws qs
-parties-from_test ws qs passes = record { moved = λ c. (λ at. sym (same c) ∙ (wanted ws c is.1).0 at, λ has. (wanted ws c is.1).1 (same c ∙ has)); seen = unseen }
+parties-from_test ws qs passes = record { moved = λ c. (λ at. sym (same c) ∙ (wanted ws c is.1).0 at, λ has. (wanted ws c is.1).1 (same c ∙ has)); seen = λ c at. let role = is.1 at.0 at.1 at.2 in grind arith }
   where
     is : (components_of ws ≡ components_in qs) × All Moves ws
     is = in_order ws qs passes
@@ -118,26 +107,19 @@ parties-from_test ws qs passes = record { moved = λ c. (λ at. sym (same c) ∙
     same : (c : ℕ) → list_any (λ (w : Want). eqb w.comp.0 c) ws ≡ list_any (is_of c) qs
     same c = sym (has-map (λ (w : Want). w.comp.0) ws c) ∙ (ap (list_any (λ n. eqb n c)) is.0 ∙ has-map (λ (q : Participant). q.0.0) qs c)
 
-    unseen : (c : ℕ) → IsWanted Seen ws c → ⊥
-    unseen c at = let role : Moved ≡ Seen = sym (subst Moves at.3 (is.1 at.0 at.1 at.2)) ∙ at.4.1 in cc
-
 -- wants that move the components of participants, one each and in order, pass the test
 in_order_pass : (ws : List Want) (qs : List Participant) → components_of ws ≡ components_in qs → All Moves ws → Passes ws qs
 in_order_pass [] [] same moves = (refl, refl)
 in_order_pass [] (q ∷ qs) same moves = cc
 in_order_pass (w ∷ ws) [] same moves = cc
 in_order_pass (w ∷ ws) (q ∷ qs) same moves =
-    let first : w.comp.0 ≡ q.0.0 = cc in
+    let role = All-head Moves w ws moves in
     let rest : components_of ws ≡ components_in qs = cc in
-    let later = in_order_pass ws qs rest (All-tail Moves w ws moves) in
-    let l : length ws ≡ length qs = later.0 in
-    let role : is_moved w.role ≡ true = ap is_moved (All-head Moves w ws moves) in
-    (omega arith, and_from (is_party (w, q)) (list_all is_party (zip ws qs)) (and_from (is_moved w.role) (eqb w.comp.0 q.0.0) role (eq-eqb w.comp.0 q.0.0 first)) later.1)
+    let later : Passes ws qs = in_order_pass ws qs rest (All-tail Moves w ws moves) in
+    grind arith
 
 same_bool : (a b : Bool) → (a ≡ true → b ≡ true) → (b ≡ true → a ≡ true) → a ≡ b
-same_bool true b to from = sym (to refl)
-same_bool false true to from = from refl
-same_bool false false to from = refl
+same_bool a b to from = grind arith
 
 -- wants by component that are those of the parties pass the test
 pub test-from_parties : (ws : List Want) (qs : List Participant) → IsStrictlyIncreasing (components_of ws) → IsStrictlyIncreasing (components_in qs) → AreParties ws qs → Passes ws qs
@@ -158,26 +140,14 @@ test-from_parties ws qs rising climbing are =
         ∙ sym (has-map (λ (q : Participant). q.0.0) qs c))
 
 pub has_next-true : (used : ℕ → ℕ) (w : Want) → has_next_number used w ≡ true → HasNextNumber used w
-has_next-true used w test =
-    let parts = and_parts (nat_lt (used w.comp.0) last_number) (eqb (used w.comp.0 + 1) w.number) test in
-    let below : used w.comp.0 < last_number = ltb-true (used w.comp.0) last_number parts.0 in
-    let same : used w.comp.0 + 1 ≡ w.number = eqb-true (used w.comp.0 + 1) w.number parts.1 in
-    record { next = sym same; fits = omega arith }
+has_next-true used w test = grind arith
 
 pub has_next-from : (used : ℕ → ℕ) (w : Want) → HasNextNumber used w → has_next_number used w ≡ true
-has_next-from used w has =
-    let next : w.number ≡ used w.comp.0 + 1 = has.next in
-    let fits : w.number ≤ last_number = has.fits in
-    and_from (nat_lt (used w.comp.0) last_number) (eqb (used w.comp.0 + 1) w.number) (lt-ltb (used w.comp.0) last_number (omega arith)) (eq-eqb (used w.comp.0 + 1) w.number (sym next))
+has_next-from used w has = grind arith
 
 -- a want that isn't wrong, of a component of the model
 pub right : (m : System) (used : ℕ → ℕ) (w : Want) → is_wrong (length m.components) used w ≡ false → w.comp.0 < length m.components → HasNextNumber used w
-right m used w test known = by_test (has_next_number used w) refl
-  where
-    by_test : (b : Bool) → has_next_number used w ≡ b → HasNextNumber used w
-    by_test true e = has_next-true used w e
-    by_test false e =
-        absurd (both_ways (is_wrong (length m.components) used w) test (and_from (nat_lt w.comp.0 (length m.components)) (not (has_next_number used w)) (lt-ltb w.comp.0 (length m.components) known) (rw e refl)))
+right m used w test known = grind arith
 
 -- whether a want of a component of the model is wrong, and the place of the first that is
 abbrev wrong_in : System → (ℕ → ℕ) → Want → Bool
@@ -192,30 +162,27 @@ lowest_wrong m used ws w rising found =
     let i : ℕ = first_wrong m used ws in
     let at : slice_get ws i ≡ Some w = sym (find_at (wrong_in m used) ws) ∙ found in
     let here = position-Some (wrong_in m used) ws i w (rw (lt-ltb i (length ws) (slice_get_within ws i w at)) refl) in
-    let parts = and_parts (nat_lt w.comp.0 (length m.components)) (not (has_next_number used w)) (rw (get_or_from_slice_get ws i w w at) at here.1) in
-    let known : w.comp.0 < length m.components = ltb-true w.comp.0 (length m.components) parts.0 in
+    let is = get_or_from_slice_get ws i w w at in
+    let wrong : wrong_in m used w ≡ true = rw is at here.1 in
     record {
-      known = known;
-      wrong = (i, w, here.0, get_or_from_slice_get ws i w w at, (refl, λ has. both_ways (has_next_number used w) (not-true (has_next_number used w) parts.1) (has_next-from used w has)));
-      lower = λ k d within below. right m used (get_or ws k d) (fails_before_first (wrong_in m used) ws k d (earlier i at k d within below (cases_order k i))) (omega arith);
+      known = grind arith;
+      wrong = (i, w, here.0, is, (refl, λ has. let right = has_next-from used w has in grind arith));
+      lower = λ k d within below. right m used (get_or ws k d) (fails_before_first (wrong_in m used) ws k d (earlier i at k d within below (cases_order k i))) (grind arith);
     }
   where
     earlier : (i : ℕ) → slice_get ws i ≡ Some w → (k : ℕ) (d : Want) → k < length ws → (get_or ws k d).comp.0 < w.comp.0 → (k ≡ i) ⊎ ((k < i) ⊎ (i < k)) → k < i
-    earlier i at k d within below (inl same) = let e : (get_or ws k d).comp.0 ≡ w.comp.0 = ap (λ n. (get_or ws n d).comp.0) same ∙ ap (λ (v : Want). v.comp.0) (get_or_from_slice_get ws i w d at) in absurd (omega arith)
-    earlier i at k d within below (inr (inl before)) = before
-    earlier i at k d within below (inr (inr behind)) =
-        let is : (get_or ws i d).comp.0 ≡ w.comp.0 = ap (λ (v : Want). v.comp.0) (get_or_from_slice_get ws i w d at) in
-        let above : (get_or ws i d).comp.0 < (get_or ws k d).comp.0 = below_later (λ (v : Want). v.comp.0) ws rising i k d behind within in
-        absurd (omega arith)
+    earlier i at k d within below order =
+        let is = get_or_from_slice_get ws i w d at in
+        let above = below_later (λ (v : Want). v.comp.0) ws rising i k d in
+        grind (arith, above)
 
 -- where no want is wrong, each of a component of the model is right
 pub none_wrong : (m : System) (used : ℕ → ℕ) (ws : List Want) → find (is_wrong (length m.components) used) ws ≡ None → KnownAreRight m used ws
 none_wrong m used ws found =
-    λ k d within known. right m used (get_or ws k d) (fails_before_first (wrong_in m used) ws k d (past k d within (cases_lt (first_wrong m used ws) (length ws)))) known
+    λ k d within known. right m used (get_or ws k d) (fails_before_first (wrong_in m used) ws k d (past k d within)) known
   where
-    past : (k : ℕ) (d : Want) → k < length ws → (first_wrong m used ws < length ws) ⊎ (length ws ≤ first_wrong m used ws) → k < first_wrong m used ws
-    past k d within (inl here) = absurd (none-some (get_or ws (first_wrong m used ws) d) (sym found ∙ (find_at (wrong_in m used) ws ∙ slice_get-get_or ws (first_wrong m used ws) d here)))
-    past k d within (inr all) = omega arith
+    past : (k : ℕ) (d : Want) → k < length ws → k < first_wrong m used ws
+    past k d within = grind (arith, find_at (wrong_in m used) ws, slice_get-get_or ws (first_wrong m used ws) d)
 
 -- the component of a participant is one of the model
 abbrev KnownIn : System → Participant → Type 0
@@ -224,8 +191,7 @@ KnownIn m q = q.0.0 < length m.components
 -- the participants of an interaction are components of the model
 participants_known : (m : System) (a : ℕ) → IsSystem m → All (KnownIn m) (participants_of m a)
 participants_known m a valid = elim (slice_get_cases m.interactions a).1 [
-  | inl here ↦
-      rw here.2 (All-weaker (IsPortIn m.components) (KnownIn m) (λ q port. port.component) here.0.participants (All-slice_get (IsInteraction m.components) m.interactions a here.0 valid.so_far.interactions here.2).ports)
+  | inl here ↦ rw here.2 (λ k d within. ((All-slice_get (IsInteraction m.components) m.interactions a here.0 valid.so_far.interactions here.2).ports k d within).component)
   | inr past ↦ rw past.1 (All-nil (KnownIn m))
 ]
 
@@ -233,22 +199,16 @@ participants_known m a valid = elim (slice_get_cases m.interactions a).1 [
 pub moved_known : (m : System) (s : State) (g : Grant) (w : Want) → IsSystem m → HasItsParties m s g → Contains g.wants w → w.role ≡ Moved → w.comp.0 < length m.components
 moved_known m s g w valid has at moves =
     let found = Any-from_list_any (λ (q : Participant). eqb q.0.0 w.comp.0) (participants_of m g.inter.0) ((has.moved w.comp.0).0 (at.0, w, at.1, at.2, (refl, moves))) in
-    let mapped : All (λ (q : Participant). q.0.0 < length m.components) (participants_of m g.inter.0) = participants_known m g.inter.0 valid in
-    let there : found.1.0.0 < length m.components = subst (λ (q : Participant). q.0.0 < length m.components) found.3 (mapped found.0 found.1 found.2) in
-    subst (λ (c : ℕ). c < length m.components) (eqb-true found.1.0.0 w.comp.0 found.4) there
+    let there = participants_known m g.inter.0 valid found.0 found.1 found.2 in
+    grind arith
 
 -- where no want is wrong and the wants are of the parties, each is right
 pub all_right : (m : System) (s : State) (used : ℕ → ℕ) (g : Grant) → IsSystem m → KnownAreRight m used g.wants → HasItsParties m s g → All (HasNextNumber used) g.wants
-all_right m s used g valid known has = λ k d within. known k d within (by_role k d within (get_or g.wants k d).role refl)
+all_right m s used g valid known has = λ k d within. known k d within (by_role (get_or g.wants k d) (Contains-get_or g.wants k d within) (get_or g.wants k d).role refl)
   where
-    here : (k : ℕ) (d : Want) → k < length g.wants → Contains g.wants (get_or g.wants k d)
-    here k d within = Contains-get_or g.wants k d within
-
-    by_role : (k : ℕ) (d : Want) → k < length g.wants → (r : Role) → (get_or g.wants k d).role ≡ r → (get_or g.wants k d).comp.0 < length m.components
-    by_role k d within Moved is = moved_known m s g (get_or g.wants k d) valid has (here k d within) is
-    by_role k d within Seen is =
-        let at = here k d within in
-        absurd ((has.seen (get_or g.wants k d).comp.0).0 (at.0, get_or g.wants k d, at.1, at.2, (refl, is)))
+    by_role : (w : Want) → Contains g.wants w → (r : Role) → w.role ≡ r → w.comp.0 < length m.components
+    by_role w at Moved is = moved_known m s g w valid has at is
+    by_role w at Seen is = absurd ((has.seen w.comp.0).0 (at.0, w, at.1, at.2, (refl, is)))
 
 -- the parties of a plain model: what is moved, and nothing that is seen
 parties-from : (m : System) (s : State) (g : Grant) (qs : List Participant) → qs ≡ participants_of m g.inter.0 → AreParties g.wants qs → HasItsParties m s g
@@ -263,8 +223,7 @@ parties-of m s g qs e has = subst (AreParties g.wants) (sym e) (record { moved =
 pub not_parties : (m : System) (s : State) (g : Grant) (qs : List Participant) → qs ≡ participants_of m g.inter.0 → IsStrictlyIncreasing (components_of g.wants) → IsStrictlyIncreasing (components_in qs) → (eqb (length g.wants) (length qs) && list_all is_party (zip g.wants qs)) ≡ false → ¬ HasItsParties m s g
 not_parties m s g qs e rising climbing test has =
     let passes = test-from_parties g.wants qs rising climbing (parties-of m s g qs e has) in
-    both_ways (eqb (length g.wants) (length qs) && list_all is_party (zip g.wants qs)) test
-    (and_from (eqb (length g.wants) (length qs)) (list_all is_party (zip g.wants qs)) (eq-eqb (length g.wants) (length qs) passes.0) passes.1)
+    grind arith
 
 -- what is enabled may run in a plain model, in which nothing stands above another
 pub may_run : (m : System) (s : State) (a : ℕ) → IsEnabled m s a → MayRun m s a
@@ -274,6 +233,5 @@ may_run m s a enabled = record { enabled = enabled; clear = λ b above. absurd a
 -- next
 pub next_from_tests : (m : System) (s : State) (used : ℕ → ℕ) (g : Grant) (qs : List Participant) → IsSystem m → qs ≡ participants_of m g.inter.0 → MayRun m s g.inter.0 → find (is_wrong (length m.components) used) g.wants ≡ None → (eqb (length g.wants) (length qs) && list_all is_party (zip g.wants qs)) ≡ true → IsNext m s used g
 next_from_tests m s used g qs valid e may found test =
-    let parts = and_parts (eqb (length g.wants) (length qs)) (list_all is_party (zip g.wants qs)) test in
-    let has = parties-from m s g qs e (parties-from_test g.wants qs (eqb-true (length g.wants) (length qs) parts.0, parts.1)) in
+    let has = parties-from m s g qs e (parties-from_test g.wants qs (grind arith)) in
     record { may = may; numbers = all_right m s used g valid (none_wrong m used g.wants found) has; parties = has }

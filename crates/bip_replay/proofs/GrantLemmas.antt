@@ -26,27 +26,23 @@ use Rattle.bip_replay.specs.Laws.{IsGrantLine, IsNameOf, ReadsGrantLines, Spells
 use Rattle.bip_replay.specs.Lines.{NamedGrant, colon, grant_on, known, looked_up, named_on, said, want_of, want_said, wants_known, wants_said}
 use Rattle.bip_replay.specs.Writing.{IsGrantOf, behind_see}
 use Rattle.bip_replay.specs.declared.faults.LineFault.{LineFault}
-use Rattle.bip_replay.specs.declared.faults.LineFault.TheVariants.{Syntax, Unknown}
+use Rattle.bip_replay.specs.declared.faults.LineFault.TheVariants.{Syntax}
 use Rattle.bip_replay.specs.declared.lines.NamedWant.{NamedWant}
 use Rattle.bip_replay.proofs.NamedLemmas.{AreFit, AreSaid, Numbers, Say, apart_from_numbered, comp_of, found_for, known_from, name_at, numbered_from_apart, said_wants, wants_said-from}
 use Rattle.bip_replay.proofs.WordLemmas.{is_name-from, name-bytes, pair_of-name, position-name}
 
 -- what is there where a test passes, and what there is of what is there
 when_some : {X : Type 0} (b : Bool) (o : Option X) (x : X) → cond b o None ≡ Some x → (b ≡ true) × (o ≡ Some x)
-when_some true o x is = (refl, is)
-when_some false o x is = cc
+when_some b o x is = grind arith
 
 when_ok : {X E : Type 0} (b : Bool) (r : Result X E) (e : E) (x : X) → cond b r (Err e) ≡ Ok x → (b ≡ true) × (r ≡ Ok x)
-when_ok true r e x is = (refl, is)
-when_ok false r e x is = cc
+when_ok b r e x is = grind arith
 
 map_some : {X Y : Type 0} (f : X → Y) (o : Option X) (y : Y) → option_map f o ≡ Some y → (x : X) × (o ≡ Some x) × (f x ≡ y)
-map_some f None y is = cc
-map_some f (Some x) y is = (x, refl, cc)
+map_some f o y is = grind arith
 
 map_or_ok : {X Y E : Type 0} (f : X → Result Y E) (o : Option X) (e : E) (y : Y) → option_map_or f o (Err e) ≡ Ok y → (x : X) × (o ≡ Some x) × (f x ≡ Ok y)
-map_or_ok f None e y is = cc
-map_or_ok f (Some x) e y is = (x, refl, is)
+map_or_ok f o e y is = grind arith
 
 -- the parts of a word with a colon
 parts_of : (word : List ℕ) (parts : List ℕ × List ℕ) → pair_of colon word ≡ Some parts → word ≡ parts.0 ++ colon ∷ parts.1
@@ -158,13 +154,7 @@ said_parts (word ∷ inter ∷ behind) h is =
     (behind, ap (λ (w : List ℕ). w ∷ inter ∷ behind) (texts.same_text word (codes "grant") (sym tests.0)), tests.1, found.1)
 
 looked_up-some : (m : System) (r : Result (Option NamedGrant) LineFault) (g : Grant) → looked_up m r ≡ Ok (Some g) → (h : NamedGrant) × (r ≡ Ok (Some h)) × (known m h ≡ Some g)
-looked_up-some m (Err fault) g is = cc
-looked_up-some m (Ok None) g is = cc
-looked_up-some m (Ok (Some h)) g is =
-    let found = map_or_ok (λ (k : Grant). Ok (Some k)) (known m h) Unknown (Some g) is in
-    let s : Ok (Some found.0) ≡ Ok (Some g) = found.2 in
-    let same : found.0 ≡ g = cc in
-    (h, refl, found.1 ∙ ap (λ (k : Grant). Some k) same)
+looked_up-some m r g is = grind arith
 
 -- the grant by names of a line
 named_parts : (line : List ℕ) (h : NamedGrant) → named_on line ≡ Ok (Some h) → (is_plain line ≡ true) × (said (words line) ≡ Ok (Some h))

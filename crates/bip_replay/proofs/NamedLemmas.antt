@@ -1,14 +1,13 @@
 -- The wants that words name, and which they are of a model: from the words, and back.
-use Rattle.std.proofs.Common.{◌≡◌, ℕ, ◌+◌, ◌<◌, ◌≤◌, Bool, true, false, cond, ◌&&◌, ◌||◌, eqb, List, [], ◌∷◌, ◌++◌, length, Option, None, Some, refl, sym, ap, ◌∙◌, subst, arith, get_or, inl, inr, position}
-use Rattle.std.specs.Prelude.{nat_le, codes}
+use Rattle.std.proofs.Common.{◌≡◌, ℕ, ◌<◌, ◌≤◌, Bool, true, false, cond, ◌&&◌, ◌||◌, eqb, List, [], ◌∷◌, ◌++◌, length, Option, None, Some, refl, sym, ap, ◌∙◌, arith, get_or, position}
+use Rattle.std.specs.Prelude.{codes}
 use Rattle.std.specs.List.{AllZip, AllByRecursion, IsDistinct}
 use Rattle.std.specs.Option.{option_and_then}
-use Rattle.std.proofs.lemmas.Bool.{leb-false, lt-leb, ne_eqb}
+use Rattle.std.proofs.lemmas.Bool.{and_right}
 use Rattle.std.proofs.lemmas.Cmp.{nat_list_eq_equiv}
 use Rattle.std.proofs.lemmas.List.{append_assoc, append-nil, length-append, map-append}
 use Rattle.std.proofs.lemmas.Option.{option_and_then_some}
 use Rattle.std.specs.List.Sorted.{IsNonDecreasingBy, IsPermutation}
-use Rattle.std.proofs.lemmas.Bool.Decides.{eqb_tells}
 use Rattle.std.proofs.lemmas.List.Quantifiers.{position-Some}
 use Rattle.std.proofs.lemmas.List.Sorted.{IsPermutation-sym, IsPermutation-trans}
 use Rattle.std.specs.Cmp.Lexicographic as texts
@@ -27,8 +26,7 @@ use Rattle.bip_replay.specs.declared.lines.NamedWant.{NamedWant}
 
 -- what is there unless a test passes
 unless_some : {X : Type 0} (b : Bool) (o : Option X) (x : X) → cond b None o ≡ Some x → (b ≡ false) × (o ≡ Some x)
-unless_some true o x is = cc
-unless_some false o x is = (refl, is)
+unless_some b o x is = grind arith
 
 -- words that say these wants with a role, one each
 abbrev pub Say : Role → List (List ℕ) → List NamedWant → Type 0
@@ -45,11 +43,9 @@ is_named-known v named = list_any-named (λ (w : NamedWant). w.name) v.name name
 -- a want that joined others
 joined : (before : List NamedWant) (v : NamedWant) (after : List NamedWant) → AreFit before → with_want before v ≡ Some after → (before ++ v ∷ [] ≡ after) × AreFit (before ++ v ∷ [])
 joined before v after fit is =
-    let at = unless_some (is_named v.name before || nat_le 32 (length before)) (Some (before ++ v ∷ [])) after is in
-    let parts = neither (is_named v.name before) (nat_le 32 (length before)) at.0 in
-    let room : length before < 32 = leb-false 32 (length before) parts.1 in
-    let s : Some (before ++ v ∷ []) ≡ Some after = at.1 in
-    (cc, record { apart = simp map-append (apart_push v.name (names_of before) (is_named-known v before ∙ parts.0) fit.apart); few = simp length-append (omega arith) })
+    let known = is_named-known v before in
+    let new = apart_push v.name (names_of before) in
+    (grind arith, record { apart = simp map-append (new (grind arith) fit.apart); few = simp length-append (grind arith) })
 
 -- of names that are apart, one isn't among those before it
 unknown : (name : List ℕ) (before rest : List (List ℕ)) → AreApart (before ++ name ∷ rest) → is_known name before ≡ false
@@ -57,40 +53,27 @@ unknown name [] rest apart = refl
 unknown name (n ∷ ns) rest apart = rw (nat_list_eq_equiv.symm name n ∙ other ns apart.0) (unknown name ns rest apart.1)
   where
     other : (others : List (List ℕ)) → is_known n (others ++ name ∷ rest) ≡ false → same_text n name ≡ false
-    other [] none = (neither (same_text n name) (is_known n rest) none).0
-    other (o ∷ os) none = other os (neither (same_text n o) (is_known n (os ++ name ∷ rest)) none).1
+    other [] none = grind arith
+    other (o ∷ os) none = grind (arith, other os)
 
 -- a want joins those before it, where all fit
 joins : (before : List NamedWant) (v : NamedWant) (rest : List NamedWant) → AreFit (before ++ v ∷ rest) → with_want before v ≡ Some (before ++ v ∷ [])
 joins before v rest fit =
-    let new : is_named v.name before ≡ false = sym (is_named-known v before) ∙ unknown v.name (names_of before) (names_of rest) (simp map-append at fit.apart) in
-    let few : length before + length (v ∷ rest) ≤ 32 = simp length-append at fit.few in
-    rw (new, lt-leb 32 (length before) (omega arith)) refl
+    let new = unknown v.name (names_of before) (names_of rest) (simp map-append at fit.apart) in
+    let few = simp length-append at fit.few in
+    grind (arith, is_named-known v before)
 
 -- the word of a want isn't `see`
 not_see : (role : Role) (word : List ℕ) (v : NamedWant) → want_said role word ≡ Some v → same_text word (codes "see") ≡ false
-not_see role word v says = by_test (same_text word (codes "see")) refl
-  where
-    by_test : (b : Bool) → same_text word (codes "see") ≡ b → b ≡ false
-    by_test true e =
-        let same : word ≡ codes "see" = texts.same_text word (codes "see") (sym e) in
-        let none : None ≡ Some v = subst (λ (w : List ℕ). want_said role w ≡ Some v) same says in
-        cc
-    by_test false e = refl
+not_see role word v says = grind (arith, texts.same_text word (codes "see"))
 
 -- words of wants, and more behind them
 said-run : (role : Role) (before : List NamedWant) (words : List (List ℕ)) (vs : List NamedWant) (behind : List (List ℕ)) (more : List NamedWant) → Say role words vs → AreFit (before ++ (vs ++ more)) → wants_said role before (words ++ behind) ≡ wants_said role (before ++ vs) behind
-said-run role before [] [] behind more say fit = rw (append-nil before) refl
-said-run role before [] (v ∷ vs) behind more say fit = absurd say
+said-run role before [] vs behind more say fit = grind (arith, append-nil before)
 said-run role before (word ∷ words) [] behind more say fit = absurd say
 said-run role before (word ∷ words) (v ∷ vs) behind more say fit =
-    rw (not_see role word v say.0, and_false (is_moved role), say.0, joins before v (vs ++ more) fit)
-    (said-run role (before ++ v ∷ []) words vs behind more say.1 (rw (append_assoc before (v ∷ []) (vs ++ more)) fit)
-    ∙ ap (λ (us : List NamedWant). wants_said role us behind) (append_assoc before (v ∷ []) vs))
-  where
-    and_false : (b : Bool) → (b && false) ≡ false
-    and_false true = refl
-    and_false false = refl
+    rw (not_see role word v say.0, and_right (is_moved role) false refl, say.0, joins before v (vs ++ more) fit, ← append_assoc before (v ∷ []) vs)
+    (said-run role (before ++ v ∷ []) words vs behind more say.1 (rw (append_assoc before (v ∷ []) (vs ++ more)) fit))
 
 -- where the words of wants end: at the line's end, or at `see`
 abbrev Ends : Role → List NamedWant → List (List ℕ) → List NamedWant → Type 0
@@ -144,8 +127,7 @@ pub record AreSaid (ws : List (List ℕ)) (named : List NamedWant) : Type 0 wher
   pub fit : AreFit named
 
 some_of : {X : Type 0} (xs : List X) → eqb (length xs) 0 ≡ false → 0 < length xs
-some_of [] none = cc
-some_of (x ∷ xs) some = omega arith
+some_of xs none = grind arith
 
 pub said_wants : (ws : List (List ℕ)) (named : List NamedWant) → wants_said Moved [] ws ≡ Some named → AreSaid ws named
 said_wants ws named says = let r = ran Moved [] ws named (record { apart = tt; few = omega arith }) says in by_end r.words r.vs r.rest r.split r.say r.fit r.ends
@@ -168,12 +150,10 @@ said_wants ws named says = let r = ran Moved [] ws named (record { apart = tt; f
         by_seen words vs (next ∷ rest) (rw see at split) say ends.1 (ran Seen vs (next ∷ rest) named fit ends.3)
 
 not_none : {X : Type 0} (xs : List X) → 0 < length xs → eqb (length xs) 0 ≡ false
-not_none xs some = ne_eqb (length xs) 0 (λ e. omega arith)
+not_none xs some = grind arith
 
 at_see : (before : List NamedWant) (word : List ℕ) (words : List (List ℕ)) → eqb (length before) 0 ≡ false → wants_said Moved before (codes "see" ∷ word ∷ words) ≡ wants_said Seen before (word ∷ words)
-at_see before word words some =
-    let more : eqb (length (word ∷ words)) 0 ≡ false = not_none (word ∷ words) (omega arith) in
-    ap (λ b. cond (b || eqb (length (word ∷ words)) 0) None (wants_said Seen before (word ∷ words))) some ∙ ap (λ b. cond b None (wants_said Seen before (word ∷ words))) more
+at_see before word words some = grind arith
 
 -- the words are read as these wants
 pub wants_said-from : (ws : List (List ℕ)) (named : List NamedWant) → AreSaid ws named → wants_said Moved [] ws ≡ Some named
@@ -206,16 +186,10 @@ name_at names name c at = texts.same_text name (get_or names c []) (sym (positio
 
 -- different names are different components
 tests_agree : (names : List (List ℕ)) (v x : NamedWant) (w y : Want) → Numbers names v w → Numbers names x y → same_text v.name x.name ≡ eqb w.comp.0 y.comp.0
-tests_agree names v x w y is are = elim (eqb_tells w.comp.0 y.comp.0) [
-  | inl same ↦ rw (same.0, name_at names v.name w.comp.0 is.place, same.1, name_at names x.name y.comp.0 are.place) (nat_list_eq_equiv.refl (get_or names y.comp.0 []))
-  | inr other ↦ rw other.0 (by_test (same_text v.name x.name) refl other.1)
-]
-  where
-    by_test : (b : Bool) → same_text v.name x.name ≡ b → (w.comp.0 ≡ y.comp.0 → ⊥) → b ≡ false
-    by_test true e differ =
-        let s : Some w.comp.0 ≡ Some y.comp.0 = sym is.place ∙ (ap (λ n. position (same_text n) names) (texts.same_text v.name x.name (sym e)) ∙ are.place) in
-        absurd (differ cc)
-    by_test false e differ = refl
+tests_agree names v x w y is are =
+    let one = name_at names v.name w.comp.0 is.place in
+    let other = name_at names x.name y.comp.0 are.place in
+    grind (arith, texts.same_text v.name x.name, nat_list_eq_equiv.refl v.name, is.place, are.place)
 
 -- wants whose names are apart are of different components, and back
 pub numbered_from_apart : (names : List (List ℕ)) (vs : List NamedWant) (ws : List Want) → AllZip (Numbers names) vs ws → AreApart (names_of vs) → AreNumbered comp_of ws
@@ -251,9 +225,7 @@ pub record AreFound (names : List (List ℕ)) (before : List Want) (named : List
   pub all : wants_by_component (before ++ found) ≡ wants
 
 pub found_for : (names : List (List ℕ)) (before : List Want) (named : List NamedWant) (wants : List Want) → wants_known names before named ≡ Some wants → AreFound names before named wants
-found_for names before [] wants is =
-    let s : Some (wants_by_component before) ≡ Some wants = is in
-    record { found = []; each = tt; all = ap wants_by_component (append-nil before) ∙ cc }
+found_for names before [] wants is = record { found = []; each = tt; all = rw (append-nil before) (grind arith) }
 found_for names before (v ∷ vs) wants is =
     option_and_then_some (λ c. wants_known names (before ++ numbered_want c v ∷ []) vs) (position (same_text v.name) names) wants is (λ c at rest.
     let more = found_for names (before ++ numbered_want c v ∷ []) vs wants rest in
@@ -269,7 +241,7 @@ known_from names before [] (w ∷ ws) zip = absurd zip
 known_from names before (v ∷ vs) [] zip = absurd zip
 known_from names before (v ∷ vs) (w ∷ ws) zip =
     let same : numbered_want w.comp.0 v ≡ w = rw (zip.0.number, zip.0.role) refl in
-    rw (zip.0.place, same) (known_from names (before ++ w ∷ []) vs ws zip.1 ∙ ap (λ (us : List Want). Some (wants_by_component us)) (append_assoc before (w ∷ []) ws))
+    rw (zip.0.place, same, ← append_assoc before (w ∷ []) ws) (known_from names (before ++ w ∷ []) vs ws zip.1)
 
 -- what a sort leaves of the wants for names that are apart
 pub sorted_wants : (names : List (List ℕ)) (named : List NamedWant) (items sorted : List Want) → AreApart (names_of named) → wants_known names [] named ≡ Some (wants_by_component items) → IsPermutation items sorted → IsNonDecreasingBy comp_of sorted → wants_by_component items ≡ sorted

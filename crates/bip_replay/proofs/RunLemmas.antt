@@ -1,10 +1,10 @@
 -- Runs: in parts, step by step, what they are histories of, and the numbers of moves.
-use Rattle.std.proofs.Common.{◌≡◌, ℕ, ◌+◌, ◌<◌, List, [], ◌∷◌, ◌++◌, refl, arith, Bool, true, false, cond, ◌&&◌, eqb, length, Option, None, Some, find, ap, ◌∙◌, subst, eqb-true, inl, inr, ◌⊎◌}
-use Rattle.std.proofs.lemmas.List.Elements.{All-weaker, All-head, All-tail, filter-append}
+use Rattle.std.proofs.Common.{◌≡◌, ℕ, ◌+◌, ◌<◌, List, [], ◌∷◌, ◌++◌, refl, arith, Bool, true, false, ◌&&◌, eqb, length, Option, None, Some, find, ◌∙◌, subst, inl, inr, ◌⊎◌}
+use Rattle.std.proofs.lemmas.List.Elements.{All-head, All-tail, filter-append}
 use Rattle.std.specs.Prelude.{◌↔◌, All, filter, nat_lt}
 use Rattle.std.specs.List.{list_all, zip}
 use Rattle.std.specs.List.Sorted.{IsStrictlyIncreasing}
-use Rattle.std.proofs.lemmas.Bool.{and_parts, both_ways, cases_Bool, cases_lt, lt-ltb}
+use Rattle.std.proofs.lemmas.Bool.{cases_Bool, cases_lt}
 use Rattle.std.proofs.lemmas.List.{length-append}
 use Rattle.std.proofs.lemmas.List.Sums.{AllPass-from_list_all, list_all-from_AllPass}
 use Rattle.bip_model.specs.declared.grants.Grant.{Grant}
@@ -13,7 +13,7 @@ use Rattle.bip_model.specs.declared.parts.System.{System}
 use Rattle.bip_model.specs.Grants.{IsHistory, used_by}
 use Rattle.bip_model.specs.States.{State}
 use Rattle.bip_model.specs.Steps.{IsRun, after, end_of, start_of, IsEnabled, MayRun, offered, participants_of}
-use Rattle.bip_model.specs.Wants.{raised, components_of, is_moved, moved_in}
+use Rattle.bip_model.specs.Wants.{raised, components_of, moved_in}
 use Rattle.bip_model.proofs.LawLemmas.{rising_of}
 use Rattle.bip_model.specs.Parts.{IsSystem}
 use Rattle.bip_replay.specs.Runs.{HasNextNumber, IsModelRun, IsNext, IsRunFrom, interactions_of, state_after, used_after, is_party, is_wrong}
@@ -51,7 +51,7 @@ fresh used w has = let next : w.number ≡ used w.comp.0 + 1 = has.next in omega
 pub IsHistory-from_run : (m : System) (s : State) (used : ℕ → ℕ) (gs : List Grant) → IsRunFrom m s used gs → IsHistory used gs
 IsHistory-from_run m s used [] run = tt
 IsHistory-from_run m s used (g ∷ gs) run = (
-  All-weaker (HasNextNumber used) (λ (w : Want). used w.comp.0 < w.number) (fresh used) g.wants run.0.numbers,
+  λ k d within. let next = run.0.numbers k d within in grind arith,
   IsHistory-from_run m (after m s g.inter.0) (raised used g.wants) gs run.1,
 )
 
@@ -68,7 +68,7 @@ EachNext m s used gs = (front rest : List Grant) (g : Grant) → gs ≡ front ++
 run-from_steps : (m : System) (s : State) (used : ℕ → ℕ) (gs : List Grant) → EachNext m s used gs → IsRunFrom m s used gs
 run-from_steps m s used [] each = tt
 run-from_steps m s used (g ∷ gs) each =
-    (each [] gs g refl, run-from_steps m (after m s g.inter.0) (raised used g.wants) gs (λ front rest h e. each (g ∷ front) rest h (ap (λ (hs : List Grant). g ∷ hs) e)))
+    (each [] gs g refl, run-from_steps m (after m s g.inter.0) (raised used g.wants) gs (λ front rest h e. each (g ∷ front) rest h cc))
 
 pub by_steps : (m : System) (base : ℕ) (gs : List Grant) → IsModelRun m base gs ↔ EachNext m (start_of m) (λ _. base) gs
 by_steps m base gs =
@@ -77,13 +77,10 @@ by_steps m base gs =
 -- wants with exact numbers move a component with the number behind its used one, or not at all
 moved-next : (used : ℕ → ℕ) (ws : List Want) (c : ℕ) → All (HasNextNumber used) ws → (moved_in ws c ≡ 0) ⊎ (moved_in ws c ≡ used c + 1)
 moved-next used [] c numbers = inl refl
-moved-next used (w ∷ ws) c numbers = by_test (moved-next used ws c (All-tail (HasNextNumber used) w ws numbers)) (eqb w.comp.0 c && is_moved w.role) refl
-  where
-    by_test : (moved_in ws c ≡ 0) ⊎ (moved_in ws c ≡ used c + 1) → (b : Bool) → (eqb w.comp.0 c && is_moved w.role) ≡ b → (cond b w.number (moved_in ws c) ≡ 0) ⊎ (cond b w.number (moved_in ws c) ≡ used c + 1)
-    by_test later true e =
-        let same : w.comp.0 ≡ c = eqb-true w.comp.0 c (and_parts (eqb w.comp.0 c) (is_moved w.role) e).0 in
-        inr ((All-head (HasNextNumber used) w ws numbers).next ∙ ap (λ (k : ℕ). used k + 1) same)
-    by_test later false e = later
+moved-next used (w ∷ ws) c numbers =
+    let later = moved-next used ws c (All-tail (HasNextNumber used) w ws numbers) in
+    let first = All-head (HasNextNumber used) w ws numbers in
+    grind arith
 
 -- whether a grant moves a component
 abbrev moves_one : ℕ → Grant → Bool
@@ -91,11 +88,7 @@ moves_one c g = nat_lt 0 (moved_in g.wants c)
 
 -- a grant with exact numbers raises the used number of a component by one, or doesn't move it
 raised-once : (used : ℕ → ℕ) (g : Grant) (gs : List Grant) (c : ℕ) → All (HasNextNumber used) g.wants → raised used g.wants c + times_moved gs c ≡ used c + times_moved (g ∷ gs) c
-raised-once used g gs c numbers = by_move (moved-next used g.wants c numbers)
-  where
-    by_move : (moved_in g.wants c ≡ 0) ⊎ (moved_in g.wants c ≡ used c + 1) → raised used g.wants c + times_moved gs c ≡ used c + times_moved (g ∷ gs) c
-    by_move (inl none) = rw none (omega arith)
-    by_move (inr moves) = rw (moves, lt-ltb 0 (used c + 1) (omega arith)) (omega arith)
+raised-once used g gs c numbers = let next = moved-next used g.wants c numbers in grind arith
 
 used-counts : (m : System) (s : State) (used : ℕ → ℕ) (gs : List Grant) (c : ℕ) → IsRunFrom m s used gs → used_by used gs c ≡ used c + times_moved gs c
 used-counts m s used [] c run = omega arith
@@ -105,29 +98,20 @@ pub counts_moves : (m : System) (base : ℕ) (gs : List Grant) (c : ℕ) → IsM
 counts_moves m base gs c run = used-counts m (start_of m) (λ _. base) gs c run
 
 pub numbered : (m : System) (base : ℕ) (front rest : List Grant) (g : Grant) (c : ℕ) → IsModelRun m base (front ++ g ∷ rest) → 0 < moved_in g.wants c → moved_in g.wants c ≡ base + times_moved (front ++ g ∷ []) c
-numbered m base front rest g c run moves = by_move (moved-next (used_after base front) g.wants c (next_at m base front rest g run).numbers)
-  where
-    before : used_after base front c ≡ base + times_moved front c
-    before = counts_moves m base front c (IsRunFrom-parts m (start_of m) (λ _. base) front (g ∷ rest) run).0
-
-    one_more : times_moved (front ++ g ∷ []) c ≡ times_moved front c + 1
-    one_more =
-        ap length (filter-append (moves_one c) front (g ∷ []))
-        ∙ (length-append (filter (moves_one c) front) (filter (moves_one c) (g ∷ []))
-        ∙ ap (λ (n : ℕ). length (filter (moves_one c) front) + n) (rw (lt-ltb 0 (moved_in g.wants c) moves) refl))
-
-    by_move : (moved_in g.wants c ≡ 0) ⊎ (moved_in g.wants c ≡ used_after base front c + 1) → moved_in g.wants c ≡ base + times_moved (front ++ g ∷ []) c
-    by_move (inl none) = absurd (omega arith)
-    by_move (inr next) = omega (arith, before, one_more)
+numbered m base front rest g c run moves =
+    let next = moved-next (used_after base front) g.wants c (next_at m base front rest g run).numbers in
+    let before = counts_moves m base front c (IsRunFrom-parts m (start_of m) (λ _. base) front (g ∷ rest) run).0 in
+    let more = filter-append (moves_one c) front (g ∷ []) in
+    grind (arith, length-append (filter (moves_one c) front) (filter (moves_one c) (g ∷ [])))
 
 -- an interaction is enabled, or it isn't
 is_enabled : (m : System) (s : State) (a : ℕ) → IsEnabled m s a ⊎ (¬ IsEnabled m s a)
 is_enabled m s a = elim (cases_lt a (length m.interactions)) [
   | inl known ↦ elim (cases_Bool (list_all (offered m s) (participants_of m a))) [
     | inl all ↦ inl (record { declared = known; offered_all = AllPass-from_list_all (offered m s) (participants_of m a) all })
-    | inr some ↦ inr (λ is. both_ways (list_all (offered m s) (participants_of m a)) some (list_all-from_AllPass (offered m s) (participants_of m a) is.offered_all))
+    | inr some ↦ inr (λ is. let all = list_all-from_AllPass (offered m s) (participants_of m a) is.offered_all in cc)
   ]
-  | inr past ↦ inr (λ is. let known : a < length m.interactions = is.declared in absurd (omega arith))
+  | inr past ↦ inr (λ is. let known = is.declared in absurd (omega arith))
 ]
 
 -- a grant is next, or has a fault

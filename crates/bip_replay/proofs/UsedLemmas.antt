@@ -2,7 +2,7 @@
 use Rattle.std.proofs.Common.{◌≡◌, ◌≢◌, ℕ, ◌+◌, ◌<◌, Bool, true, false, cond, ◌&&◌, eqb, max, List, [], ◌∷◌, ◌++◌, length, take, get_or, refl, sym, ap, ◌∙◌, arith}
 use Rattle.std.specs.Prelude.{All}
 use Rattle.std.specs.List.Sorted.{IsStrictlyIncreasing}
-use Rattle.std.proofs.lemmas.Bool.{ne_eqb, eqb-true, and_parts}
+use Rattle.std.proofs.lemmas.Bool.{eqb-true, and_parts}
 use Rattle.std.proofs.lemmas.List.{get_or-take, length-take-le, take_more}
 use Rattle.std.proofs.lemmas.List.Elements.{All-head, All-tail, All-from_get_or}
 use Rattle.bip_model.proofs.ListLemmas.{below_later}
@@ -21,18 +21,18 @@ IsOther c w = w.comp.0 ≢ c
 moved_in-absent : (ws : List Want) (c : ℕ) → All (IsOther c) ws → moved_in ws c ≡ 0
 moved_in-absent [] c others = refl
 moved_in-absent (w ∷ ws) c others =
-    rw (ne_eqb w.comp.0 c (All-head (IsOther c) w ws others)) (moved_in-absent ws c (All-tail (IsOther c) w ws others))
+    let first = All-head (IsOther c) w ws others in grind (arith, moved_in-absent ws c (All-tail (IsOther c) w ws others))
 
 -- one more want, the first of its component
 moved_in-push_first : (ws : List Want) (w : Want) (c : ℕ) → All (IsOther c) ws → moved_in (ws ++ w ∷ []) c ≡ cond (moves_it w c) w.number 0
 moved_in-push_first [] w c others = refl
 moved_in-push_first (v ∷ ws) w c others =
-    rw (ne_eqb v.comp.0 c (All-head (IsOther c) v ws others)) (moved_in-push_first ws w c (All-tail (IsOther c) v ws others))
+    let first = All-head (IsOther c) v ws others in grind (arith, moved_in-push_first ws w c (All-tail (IsOther c) v ws others))
 
 -- one more want that doesn't move the component
 moved_in-push_other : (ws : List Want) (w : Want) (c : ℕ) → moves_it w c ≡ false → moved_in (ws ++ w ∷ []) c ≡ moved_in ws c
-moved_in-push_other [] w c other = rw other refl
-moved_in-push_other (v ∷ ws) w c other = ap (λ (n : ℕ). cond (moves_it v c) v.number n) (moved_in-push_other ws w c other)
+moved_in-push_other [] w c other = grind arith
+moved_in-push_other (v ∷ ws) w c other = grind (arith, moved_in-push_other ws w c)
 
 -- the wants before one are of other components
 others_before : (ws : List Want) (i : ℕ) (d : Want) → IsStrictlyIncreasing (components_of ws) → i < length ws → All (IsOther (get_or ws i d).comp.0) (take i ws)
