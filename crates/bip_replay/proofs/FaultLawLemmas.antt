@@ -39,8 +39,7 @@ not_next m s used g Parties why next = why.2 next.parties
 
 -- grants with more behind them
 onto_some : (gs all : List Grant) (r : Result (List Grant) (ℕ × LineFault)) → onto gs r ≡ Ok all → (hs : List Grant) × (r ≡ Ok hs) × (gs ++ hs ≡ all)
-onto_some gs all (Ok hs) is = (hs, refl, cc)
-onto_some gs all (Err e) is = cc
+onto_some gs all r is = grind arith
 
 -- lines of which one is at fault where those before it lead are no run
 pub stops : (m : System) (base : ℕ) (front rest : List (List ℕ)) (line : List ℕ) (gs all : List Grant) (fault : ReplayFault) → grants_from m 1 front ≡ Ok gs → IsLineFault m (state_after m gs) (used_after base gs) line fault → grants_from m 1 (front ++ line ∷ rest) ≡ Ok all → IsModelRun m base all → ⊥
@@ -66,11 +65,7 @@ no_run m base text number fault first gs reads run =
 
 -- no want of a component is wrong where those below a higher one are right
 not_wrong : (used : ℕ → ℕ) (ws : List Want) (c k : ℕ) → Any (λ (w : Want). (w.comp.0 ≡ c) × ¬ HasNextNumber used w) ws → All (λ (w : Want). w.comp.0 < k → HasNextNumber used w) ws → c < k → ⊥
-not_wrong used ws c k wrong right below =
-    let w : Want = wrong.1 in
-    let is : w.comp.0 ≡ c = wrong.4.0 in
-    let has : w.comp.0 < k → HasNextNumber used w = subst (λ (v : Want). v.comp.0 < k → HasNextNumber used v) wrong.3 (right wrong.0 wrong.1 wrong.2) in
-    wrong.4.1 (has (omega arith))
+not_wrong used ws c k wrong right below = let has = right wrong.0 wrong.1 wrong.2 in grind arith
 
 -- one component is the lowest that is wrong
 one_lowest : (m : System) (used : ℕ → ℕ) (ws : List Want) (c d : ℕ) → IsLowestWrong m used ws c → IsLowestWrong m used ws d → c ≡ d
@@ -83,11 +78,7 @@ one_lowest m used ws c d one other = by_order (cases_order c d)
 
 -- the lowest component that is wrong, and the number that it should have, are one fault
 one_number : (m : System) (used : ℕ → ℕ) (ws : List Want) (c d : CompId) (n k : ℕ) → IsLowestWrong m used ws c.0 → IsLowestWrong m used ws d.0 → n ≡ expected_after (used c.0) → k ≡ expected_after (used d.0) → Number c n ≡ Number d k
-one_number m used ws c d n k one other is are =
-    let same : c.0 ≡ d.0 = one_lowest m used ws c.0 d.0 one other in
-    let comp : c ≡ d = ap (λ (a : ℕ). record { 0 = a }) same in
-    let expected : n ≡ k = is ∙ (ap (λ (a : ℕ). expected_after (used a)) same ∙ sym are) in
-    cc
+one_number m used ws c d n k one other is are = let same = one_lowest m used ws c.0 d.0 one other in grind arith
 
 -- what may run isn't below anything that is enabled
 held_back : (m : System) (s : State) (a b : ℕ) → IsLowestAbove m s a b → MayRun m s a → ⊥
@@ -104,22 +95,10 @@ one_above m s a b d one other = by_order (cases_order b.0 d.0)
 
 -- a grant has one fault at most
 pub one_step : (m : System) (s : State) (used : ℕ → ℕ) (g : Grant) (f h : StepFault) → IsFaultOf m s used g f → IsFaultOf m s used g h → f ≡ h
-one_step m s used g NotEnabled NotEnabled one other = refl
-one_step m s used g NotEnabled (Below b) one other = absurd (one other.0)
-one_step m s used g NotEnabled (Number c n) one other = absurd (one other.0.enabled)
-one_step m s used g NotEnabled Parties one other = absurd (one other.0.enabled)
-one_step m s used g (Below b) NotEnabled one other = absurd (other one.0)
-one_step m s used g (Below b) (Below d) one other = one_above m s g.inter.0 b d one.1 other.1
-one_step m s used g (Below b) (Number c n) one other = absurd (held_back m s g.inter.0 b.0 one.1 other.0)
-one_step m s used g (Below b) Parties one other = absurd (held_back m s g.inter.0 b.0 one.1 other.0)
-one_step m s used g (Number c n) NotEnabled one other = absurd (other one.0.enabled)
-one_step m s used g (Number c n) (Below b) one other = absurd (held_back m s g.inter.0 b.0 other.1 one.0)
 one_step m s used g (Number c n) (Number d k) one other = one_number m used g.wants c d n k one.1 other.1 one.2 other.2
 one_step m s used g (Number c n) Parties one other = absurd (not_wrong used g.wants c.0 (length m.components) one.1.wrong other.1 one.1.known)
-one_step m s used g Parties NotEnabled one other = absurd (other one.0.enabled)
-one_step m s used g Parties (Below b) one other = absurd (held_back m s g.inter.0 b.0 other.1 one.0)
 one_step m s used g Parties (Number d k) one other = absurd (not_wrong used g.wants d.0 (length m.components) other.1.wrong one.1 other.1.known)
-one_step m s used g Parties Parties one other = refl
+one_step m s used g f h one other = grind arith
 
 -- a line reads as one grant
 one_grant : (m : System) (line : List ℕ) (g h : Grant) → grant_on m line ≡ Ok (Some g) → grant_on m line ≡ Ok (Some h) → g ≡ h
@@ -127,22 +106,11 @@ one_grant m line g h one other = cc
 
 -- a line has one fault
 one_line : (m : System) (s : State) (used : ℕ → ℕ) (line : List ℕ) (f h : ReplayFault) → IsLineFault m s used line f → IsLineFault m s used line h → f ≡ h
-one_line m s used line Syntax Syntax one other = refl
-one_line m s used line Syntax Unknown one other = cc
-one_line m s used line Syntax (NotARun w) one other = let reads : grant_on m line ≡ Ok (Some other.2.grant) = other.2.reads in cc
-one_line m s used line Syntax Memory one other = absurd other
-one_line m s used line Unknown Syntax one other = cc
-one_line m s used line Unknown Unknown one other = refl
-one_line m s used line Unknown (NotARun w) one other = let reads : grant_on m line ≡ Ok (Some other.2.grant) = other.2.reads in cc
-one_line m s used line Unknown Memory one other = absurd other
-one_line m s used line (NotARun v) Syntax one other = let reads : grant_on m line ≡ Ok (Some one.2.grant) = one.2.reads in cc
-one_line m s used line (NotARun v) Unknown one other = let reads : grant_on m line ≡ Ok (Some one.2.grant) = one.2.reads in cc
 one_line m s used line (NotARun v) (NotARun w) one other =
     let same : one.2.grant ≡ other.2.grant = one_grant m line one.2.grant other.2.grant one.2.reads other.2.reads in
-    let why : one.0 ≡ other.0 = one_step m s used other.2.grant one.0 other.0 (subst (λ (g : Grant). IsFaultOf m s used g one.0) same one.2.why) other.2.why in
-    ap (λ w. NotARun w) (one.1 ∙ (ap of_step why ∙ sym other.1))
-one_line m s used line (NotARun v) Memory one other = absurd other
-one_line m s used line Memory h one other = absurd one
+    let why : one.0 ≡ other.0 = one_step m s used other.2.grant one.0 other.0 (rw same at one.2.why) other.2.why in
+    rw (one.1, why, other.1) refl
+one_line m s used line f h one other = grind arith
 
 -- of two ways to part a list at one of its items, one is before the other, or they are the same
 parted : {X : Type 0} (xs ys us vs : List X) (x y : X) → xs ++ x ∷ us ≡ ys ++ y ∷ vs → ((more : List X) × (ys ≡ xs ++ x ∷ more)) ⊎ (((xs ≡ ys) × (x ≡ y)) ⊎ ((more : List X) × (xs ≡ ys ++ y ∷ more)))

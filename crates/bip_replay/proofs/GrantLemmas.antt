@@ -1,21 +1,19 @@
 -- Lines of grants: what is read of one is what its words spell, and back.
-use Rattle.std.proofs.Common.{◌≡◌, ℕ, suc, ◌+◌, ◌<◌, ◌≤◌, ◌^◌, Bool, true, false, cond, ◌&&◌, eqb, List, [], ◌∷◌, ◌++◌, length, take, drop, drop-cons, get_or, position, Option, None, Some, Result, Ok, Err, refl, sym, ap, ◌∙◌, subst, arith, eqb-true}
-use Rattle.std.specs.Prelude.{All, codes, nat_lt}
+use Rattle.std.proofs.Common.{◌≡◌, add-one, ℕ, suc, ◌+◌, ◌<◌, ◌≤◌, Bool, true, cond, eqb, List, [], ◌∷◌, ◌++◌, length, take, drop, drop-cons, get_or, position, Option, None, Some, Result, Ok, Err, refl, sym, ap, ◌∙◌, subst, arith}
+use Rattle.std.specs.Prelude.{All, codes}
 use Rattle.std.specs.List.{AllZip, list_any}
-use Rattle.std.specs.Str.Parse.{digits_value}
 use Rattle.std.specs.List.Sorted.{IsPermutation}
 use Rattle.std.specs.Option.{option_map, option_map_or}
 use Rattle.std.specs.Cmp.Lexicographic as texts
-use Rattle.std.proofs.lemmas.Bool.{and_parts, leb-true, ltb-true}
 use Rattle.std.proofs.lemmas.List.{take-append-drop}
 use Rattle.std.proofs.lemmas.List.Quantifiers.{position-Some}
 use Rattle.std.proofs.lemmas.List.Elements.{All-append, All-cons, All-nil}
 use Rattle.std.proofs.lemmas.List.Sorted.{All-permutation, IsPermutation-sym, list_any-IsPermutation, length_permutation}
-use Rattle.std.proofs.lemmas.Option.{cond_some, get_or_from_slice_get, option_and_then_some, slice_get-get_or, slice_get_within}
+use Rattle.std.proofs.lemmas.Option.{get_or_from_slice_get, option_and_then_some, slice_get-get_or, slice_get_within}
 use Rattle.bip_model.proofs.NumberingLemmas.{AreNumbered, apart_from_rises, by_number-IsPermutation, by_number-is, by_number-rises, increasing_from_rises, numbered_moved, rises_from_increasing}
 use Rattle.bip_model.specs.Naming.{AreApart, is_name, same_text}
 use Rattle.bip_model.specs.Parts.{IsSystem}
-use Rattle.bip_model.specs.Texts.{is_comment, is_numeral, is_plain, number_of, pair_of, words, words_said}
+use Rattle.bip_model.specs.Texts.{is_plain, number_of, pair_of, words}
 use Rattle.bip_model.specs.Wants.{IsWants, components_of, is_moved}
 use Rattle.bip_model.specs.declared.grants.Grant.{Grant}
 use Rattle.bip_model.specs.declared.parts.System.{System}
@@ -26,7 +24,6 @@ use Rattle.bip_replay.specs.Laws.{IsGrantLine, IsNameOf, ReadsGrantLines, Spells
 use Rattle.bip_replay.specs.Lines.{NamedGrant, colon, grant_on, known, looked_up, named_on, said, want_of, want_said, wants_known, wants_said}
 use Rattle.bip_replay.specs.Writing.{IsGrantOf, behind_see}
 use Rattle.bip_replay.specs.declared.faults.LineFault.{LineFault}
-use Rattle.bip_replay.specs.declared.faults.LineFault.TheVariants.{Syntax}
 use Rattle.bip_replay.specs.declared.lines.NamedWant.{NamedWant}
 use Rattle.bip_replay.proofs.NamedLemmas.{AreFit, AreSaid, Numbers, Say, apart_from_numbered, comp_of, found_for, known_from, name_at, numbered_from_apart, said_wants, wants_said-from}
 use Rattle.bip_replay.proofs.WordLemmas.{is_name-from, name-bytes, pair_of-name, position-name}
@@ -50,18 +47,15 @@ parts_of word parts is =
     let at = map_some (λ i. (take i word, drop (i + 1) word)) (position (λ b. eqb b 58) word) parts is in
     let i : ℕ = at.0 in
     let here = position-Some (λ b. eqb b 58) word i 0 at.1 in
-    let byte : get_or word i 0 ≡ 58 = eqb-true (get_or word i 0) 58 here.1 in
-    let next : suc i ≡ i + 1 = omega arith in
-    let behind : drop i word ≡ 58 ∷ drop (i + 1) word = rw (drop-cons word i 0 here.0, byte, next) refl in
+    let byte : get_or word i 0 ≡ 58 = grind arith in
+    let behind : drop i word ≡ 58 ∷ drop (i + 1) word = rw (drop-cons word i 0 here.0, byte, add-one i) refl in
     sym (take-append-drop i word) ∙ (rw behind (ap (λ (p : List ℕ × List ℕ). p.0 ++ 58 ∷ p.1) at.2))
 
 -- a name that is found, as the name with its number, and back
 name_of-place : (names : List (List ℕ)) (text : List ℕ) (c : ℕ) → is_name text ≡ true → position (same_text text) names ≡ Some c → IsNameOf names text c
 name_of-place names text c named at =
-    let spelled = and_parts _ _ named in
-    let short = and_parts _ _ spelled.0 in
     let here = slice_get-get_or names c [] (position-Some (same_text text) names c [] at).0 in
-    record { name = (short.0, leb-true (length text) 32 short.1, spelled.1); known = here ∙ ap (λ (t : List ℕ). Some t) (sym (name_at names text c at)) }
+    record { name = grind arith; known = here ∙ ap (λ (t : List ℕ). Some t) (sym (name_at names text c at)) }
 
 place-name_of : (names : List (List ℕ)) (text : List ℕ) (c : ℕ) → AreApart names → IsNameOf names text c → position (same_text text) names ≡ Some c
 place-name_of names text c apart is =
@@ -70,18 +64,13 @@ place-name_of names text c apart is =
 -- a word that says a want of a model spells it
 spells_from : (m : System) (role : Role) (word : List ℕ) (v : NamedWant) (w : Want) → want_said role word ≡ Some v → Numbers m.component_names v w → Spells m role word w
 spells_from m role word v w says is =
-    option_and_then_some (want_of role) (pair_of colon word) v says (λ parts split of_parts.
-    let at = when_some (is_name parts.0) (option_map (λ n. record { name = parts.0; number = n; role = role }) (number_of parts.1)) v of_parts in
-    let n = map_some (λ n. record { name = parts.0; number = n; role = role }) (number_of parts.1) v at.1 in
-    let name : parts.0 ≡ v.name = ap (λ (u : NamedWant). u.name) n.2 in
-    let number : n.0 ≡ w.number = ap (λ (u : NamedWant). u.number) n.2 ∙ is.number in
-    record {
+    option_and_then_some (want_of role) (pair_of colon word) v says (λ parts split of_parts. record {
       component = parts.0;
       numeral = parts.1;
       parts = parts_of word parts split;
-      names = name_of-place m.component_names parts.0 w.comp.0 at.0 (rw name is.place);
-      number = n.1 ∙ ap (λ (k : ℕ). Some k) number;
-      by_place = sym is.role ∙ sym (ap (λ (u : NamedWant). u.role) n.2);
+      names = name_of-place m.component_names parts.0 w.comp.0 (grind arith) (grind arith);
+      number = grind arith;
+      by_place = grind arith;
     })
 
 -- a word that spells a want says it by names
@@ -94,11 +83,8 @@ says_from m role word w apart s = (
 
 all_spell : (m : System) (role : Role) (words : List (List ℕ)) (vs : List NamedWant) (ws : List Want) → Say role words vs → AllZip (Numbers m.component_names) vs ws → AllZip (Spells m role) words ws
 all_spell m role [] [] [] say are = tt
-all_spell m role [] [] (w ∷ ws) say are = absurd are
-all_spell m role [] (v ∷ vs) ws say are = absurd say
-all_spell m role (word ∷ words) [] ws say are = absurd say
-all_spell m role (word ∷ words) (v ∷ vs) [] say are = absurd are
 all_spell m role (word ∷ words) (v ∷ vs) (w ∷ ws) say are = (spells_from m role word v w say.0 are.0, all_spell m role words vs ws say.1 are.1)
+all_spell m role words vs ws say are = absurd (search)
 
 all_say : (m : System) (role : Role) (words : List (List ℕ)) (ws : List Want) → AreApart m.component_names → AllZip (Spells m role) words ws → (vs : List NamedWant) × Say role words vs × AllZip (Numbers m.component_names) vs ws
 all_say m role [] [] apart spell = ([], tt, tt)
@@ -142,30 +128,15 @@ pub record IsRead (m : System) (line : List ℕ) (g : Grant) : Type 0 where
 
 -- the words of a grant by names
 said_parts : (ws : List (List ℕ)) (h : NamedGrant) → said ws ≡ Ok (Some h) → (behind : List (List ℕ)) × (ws ≡ codes "grant" ∷ h.inter ∷ behind) × (is_name h.inter ≡ true) × (wants_said Moved [] behind ≡ Some h.wants)
-said_parts [] h is = cc
-said_parts (word ∷ []) h is = cc
-said_parts (word ∷ inter ∷ behind) h is =
-    let at = when_ok (same_text word (codes "grant") && is_name inter) (option_map_or (λ wants. Ok (Some (record { inter = inter; wants = wants }))) (wants_said Moved [] behind) (Err Syntax)) Syntax (Some h) is in
-    let tests = and_parts (same_text word (codes "grant")) (is_name inter) at.0 in
-    let found = map_or_ok (λ wants. Ok (Some (record { inter = inter; wants = wants }))) (wants_said Moved [] behind) Syntax (Some h) at.1 in
-    let s : Ok (Some (record { inter = inter; wants = found.0 })) ≡ Ok (Some h) = found.2 in
-    let same : record { inter = inter; wants = found.0 } ≡ h = cc in
-    subst (λ (g : NamedGrant). (rest : List (List ℕ)) × (word ∷ inter ∷ behind ≡ codes "grant" ∷ g.inter ∷ rest) × (is_name g.inter ≡ true) × (wants_said Moved [] rest ≡ Some g.wants)) same
-    (behind, ap (λ (w : List ℕ). w ∷ inter ∷ behind) (texts.same_text word (codes "grant") (sym tests.0)), tests.1, found.1)
+said_parts (word ∷ inter ∷ behind) h is = grind (arith, texts.same_text word (codes "grant"))
+said_parts ws h is = cc
 
 looked_up-some : (m : System) (r : Result (Option NamedGrant) LineFault) (g : Grant) → looked_up m r ≡ Ok (Some g) → (h : NamedGrant) × (r ≡ Ok (Some h)) × (known m h ≡ Some g)
 looked_up-some m r g is = grind arith
 
 -- the grant by names of a line
 named_parts : (line : List ℕ) (h : NamedGrant) → named_on line ≡ Ok (Some h) → (is_plain line ≡ true) × (said (words line) ≡ Ok (Some h))
-named_parts line h is =
-    let found = map_or_ok said (words_said line) Syntax (Some h) is in
-    let at = cond_some (is_plain line) (cond (is_comment (words line)) [] (words line)) found.0 found.1 in
-    (at.0, no_comment (is_comment (words line)) (rw at.1 found.2))
-  where
-    no_comment : (b : Bool) → said (cond b [] (words line)) ≡ Ok (Some h) → said (words line) ≡ Ok (Some h)
-    no_comment true s = cc
-    no_comment false s = s
+named_parts line h is = grind arith
 
 -- the wants that a line names fit
 pub named_fit : (line : List ℕ) (h : NamedGrant) → named_on line ≡ Ok (Some h) → AreFit h.wants
@@ -177,8 +148,6 @@ is_read m line g reads =
     let h : NamedGrant = up.0 in
     let here = named_parts line h up.1 in
     let parts = said_parts (words line) h here.1 in
-    option_and_then_some (λ a. option_map (λ ws. record { inter = record { 0 = a }; wants = ws }) (wants_known m.component_names [] h.wants)) (position (same_text h.inter) m.interaction_names) g up.2 (λ a at rest.
-    let found = map_some (λ (ws : List Want). record { inter = record { 0 = a }; wants = ws }) (wants_known m.component_names [] h.wants) g rest in
     record {
       inter = h.inter;
       behind = parts.0;
@@ -187,9 +156,9 @@ is_read m line g reads =
       split = parts.1;
       name = parts.2;
       said = parts.3;
-      place = at ∙ ap (λ (k : Grant). Some k.inter.0) found.2;
-      known = found.1 ∙ ap (λ (k : Grant). Some k.wants) found.2;
-    })
+      place = grind (arith, up.2);
+      known = grind (arith, up.2);
+    }
 
 pub grant_on-from : (m : System) (line : List ℕ) (g : Grant) → IsRead m line g → grant_on m line ≡ Ok (Some g)
 grant_on-from m line g is = rw (is.plain, is.split, is.name, is.said, is.place, is.known) refl
@@ -269,9 +238,8 @@ reads_grant_lines m line g valid = (grant_line m line g, line_reads m line g val
 
 -- what side by side says of the one list holds of all of it
 all_beside : {X Y : Type 0} (R : X → Y → Type 0) (P : Y → Type 0) → ((x : X) (y : Y) → R x y → P y) → (xs : List X) (ys : List Y) → AllZip R xs ys → All P ys
-all_beside R P tells [] [] zip = All-nil P
+all_beside R P tells xs [] zip = All-nil P
 all_beside R P tells [] (y ∷ ys) zip = absurd zip
-all_beside R P tells (x ∷ xs) [] zip = absurd zip
 all_beside R P tells (x ∷ xs) (y ∷ ys) zip = All-cons P y ys (tells x y zip.0) (all_beside R P tells xs ys zip.1)
 
 -- what each word that spells a want tells of it holds of a line's wants
@@ -290,12 +258,7 @@ grant_of_model m line g is =
 
 -- a number that a word spells isn't 0
 number_of-low : (word : List ℕ) (n : ℕ) → number_of word ≡ Some n → 1 ≤ n
-number_of-low word n is =
-    let at = cond_some (is_numeral 20 word && nat_lt 0 (digits_value 10 word) && nat_lt (digits_value 10 word) (2 ^ 64)) (digits_value 10 word) n is in
-    let tests = and_parts (is_numeral 20 word && nat_lt 0 (digits_value 10 word)) (nat_lt (digits_value 10 word) (2 ^ 64)) at.0 in
-    let low : 0 < digits_value 10 word = ltb-true 0 (digits_value 10 word) (and_parts (is_numeral 20 word) (nat_lt 0 (digits_value 10 word)) tests.0).1 in
-    let same : digits_value 10 word ≡ n = at.1 in
-    omega arith
+number_of-low word n is = grind arith
 
 -- the wants of a line can be those of a grant
 pub line_wants : (m : System) (line : List ℕ) (g : Grant) → IsGrantLine m line g → IsWants g.wants

@@ -29,48 +29,24 @@ onto gs (Err e) = Err e
 
 -- what lines read as behind those that read as grants
 pub grants_from-append : (m : System) (n : ℕ) (front rest : List (List ℕ)) (gs : List Grant) → grants_from m n front ≡ Ok gs → grants_from m n (front ++ rest) ≡ onto gs (grants_from m (n + length front) rest)
-grants_from-append m n [] rest gs reads =
-    let none : [] ≡ gs = cc in
-    let same : n ≡ n + 0 = omega arith in
-    ap (λ (k : ℕ). grants_from m k rest) same ∙ (onto_none (grants_from m (n + 0) rest) ∙ ap (λ (hs : List Grant). onto hs (grants_from m (n + 0) rest)) none)
-  where
-    onto_none : (r : Result (List Grant) (ℕ × LineFault)) → r ≡ onto [] r
-    onto_none (Ok hs) = refl
-    onto_none (Err e) = refl
+grants_from-append m n [] rest gs reads = let same : n ≡ n + 0 = omega arith in grind arith
 grants_from-append m n (line ∷ front) rest gs reads =
     let at = first_read n (grant_on m line) (grants_from m (n + 1) front) gs reads in
     let later = grants_from-append m (n + 1) front rest at.1 at.3 in
     let next : n + 1 + length front ≡ n + length (line ∷ front) = omega arith in
-    rw (at.2, later, next) (onto_first at.0 at.1 (grants_from m (n + length (line ∷ front)) rest) ∙ ap (λ (hs : List Grant). onto hs (grants_from m (n + length (line ∷ front)) rest)) at.4)
-  where
-    onto_first : (o : Option Grant) (hs : List Grant) (r : Result (List Grant) (ℕ × LineFault)) → before_rest n (Ok o) (onto hs r) ≡ onto (one_more [] o ++ hs) r
-    onto_first None hs (Ok ks) = refl
-    onto_first None hs (Err e) = refl
-    onto_first (Some g) hs (Ok ks) = refl
-    onto_first (Some g) hs (Err e) = refl
+    rw (at.2, later, next) (grind arith)
 
 -- the grants of one line more
 pub grants_from-push : (m : System) (n : ℕ) (front : List (List ℕ)) (line : List ℕ) (gs : List Grant) (o : Option Grant) → grants_from m n front ≡ Ok gs → grant_on m line ≡ Ok o → grants_from m n (front ++ line ∷ []) ≡ Ok (one_more gs o)
-grants_from-push m n front line gs o reads says = grants_from-append m n front (line ∷ []) gs reads ∙ rw says (by_said o)
-  where
-    by_said : (p : Option Grant) → onto gs (before_rest (n + length front) (Ok p) (Ok [])) ≡ Ok (one_more gs p)
-    by_said None = ap (λ (hs : List Grant). Ok hs) (append-nil gs)
-    by_said (Some g) = refl
+grants_from-push m n front line gs o reads says = let whole = grants_from-append m n front (line ∷ []) gs reads in grind (arith, append-nil gs)
 
 ok_length : (gs hs : List Grant) (r : Result (List Grant) (ℕ × LineFault)) → r ≡ Ok gs → r ≡ Ok hs → length gs ≡ length hs
 ok_length gs hs r e f = cc
 
 -- there are no more grants than lines
 grants_from-short : (m : System) (n : ℕ) (front : List (List ℕ)) (gs : List Grant) → grants_from m n front ≡ Ok gs → length gs ≤ length front
-grants_from-short m n [] gs reads = omega (arith, ok_length [] gs (Ok []) refl reads)
-grants_from-short m n (line ∷ front) gs reads =
-    let at = first_read n (grant_on m line) (grants_from m (n + 1) front) gs reads in
-    let fewer = grants_from-short m (n + 1) front at.1 at.3 in
-    rw at.4 at (by_said at.0 at.1 fewer)
-  where
-    by_said : (o : Option Grant) (hs : List Grant) → length hs ≤ length front → length (one_more [] o ++ hs) ≤ length (line ∷ front)
-    by_said None hs fewer = omega arith
-    by_said (Some g) hs fewer = omega arith
+grants_from-short m n [] gs reads = grind arith
+grants_from-short m n (line ∷ front) gs reads = grind (arith, grants_from-short m (n + 1) front)
 
 -- what has been read of a text: the lines in front read as these grants, and those are left
 pub record HasRead (m : System) (text : List ℕ) (grants : List Grant) (left : List (ℕ × List ℕ)) : Type 0 where

@@ -8,7 +8,7 @@ use Rattle.bip_model.proofs.LineLemmas.{all_read, line_read, none_read}
 use Rattle.bip_replay.specs.declared.faults.LineFault.{LineFault}
 use Rattle.bip_replay.specs.declared.faults.LineFault.TheVariants as line_fault
 use Rattle.bip_replay.specs.declared.faults.ReplayFault.{ReplayFault}
-use Rattle.bip_replay.specs.declared.faults.ReplayFault.TheVariants.{Syntax, Unknown, NotARun, Memory}
+use Rattle.bip_replay.specs.declared.faults.ReplayFault.TheVariants.{Syntax, Unknown, Memory}
 use Rattle.bip_replay.specs.Faults.{replay_of_line}
 use Rattle.bip_replay.specs.Runs.{StandsAfter, Standing, state_after, used_after}
 use Rattle.bip_replay.specs.Replays.{IsFirstFault, IsLineFault, IsReplayFault, IsRunOf, Takes}
@@ -32,8 +32,7 @@ on_model : (m : System) (base : ℕ) (gs : List Grant) (p : Standing) (line : Li
 on_model m base gs p line r leads says = subst (λ (q : Standing). grant_on q.model line ≡ r) leads.there says
 
 pub at_most_one : (found : Bool) → from_bool found ≤ 1
-at_most_one true = omega arith
-at_most_one false = omega arith
+at_most_one found = grind arith
 
 -- one line more
 pub so_far-more : (m : System) (base : ℕ) (text line : List ℕ) (n count : ℕ) (left after : List (ℕ × List ℕ)) (p q : Standing) (found : Bool) → SoFar m base text p count left → left ≡ (n, line) ∷ after → Takes p line (Ok found) q → SoFar m base text q (count + from_bool found) after
@@ -63,31 +62,16 @@ so_far-end m base text p count left so none =
 
 -- a line at fault is the first one
 pub so_far-fault : (m : System) (base : ℕ) (text line : List ℕ) (n count : ℕ) (left after : List (ℕ × List ℕ)) (p q : Standing) (fault : ReplayFault) → SoFar m base text p count left → left ≡ (n, line) ∷ after → Takes p line (Err fault) q → IsReplayFault m base text n fault
-so_far-fault m base text line n count left after p q fault so next takes = by_fault fault (at fault takes)
+so_far-fault m base text line n count left after p q fault so next takes = by_fault fault (rw so.leads.there at takes)
   where
-    at : (f : ReplayFault) → IsLineFault p.model p.state p.used line f → IsLineFault m (state_after m so.grants) (used_after base so.grants) line f
-    at f why = subst (λ (r : Standing). IsLineFault r.model r.state r.used line f) so.leads.there why
-
     first : (f : ReplayFault) → IsLineFault m (state_after m so.grants) (used_after base so.grants) line f → IsFirstFault m base text n f
     first f why =
         let is = line_read text so.read.front left after n line so.read.are_left next in
-        record {
-          front = so.read.front;
-          line = line;
-          rest = is.rest;
-          grants = so.grants;
-          split = is.split;
-          numbered = is.number;
-          reads = so.read.reads;
-          run = so.leads.run;
-          why = why;
-        }
+        record { front = so.read.front; line = line; rest = is.rest; grants = so.grants; split = is.split; numbered = is.number; reads = so.read.reads; run = so.leads.run; why = why }
 
     by_fault : (f : ReplayFault) → IsLineFault m (state_after m so.grants) (used_after base so.grants) line f → IsReplayFault m base text n f
-    by_fault Syntax why = first Syntax why
-    by_fault Unknown why = first Unknown why
-    by_fault (NotARun f) why = first (NotARun f) why
     by_fault Memory why = absurd why
+    by_fault f why = first f why
 
 -- a first line that is at fault by itself is the first fault
 pub first_line-fault : (m : System) (base : ℕ) (text line : List ℕ) (n : ℕ) (after : List (ℕ × List ℕ)) (fault : LineFault) → numbered_lines text ≡ (n, line) ∷ after → grant_on m line ≡ Err fault → IsReplayFault m base text 1 (replay_of_line fault)

@@ -1,6 +1,6 @@
 -- What texts of grants have in common: texts that say the same words say the same grants, a grant's
 -- line names its interaction, and each grant is one of the model.
-use Rattle.std.proofs.Common.{◌≡◌, ℕ, ◌+◌, List, [], ◌∷◌, map, Option, None, Some, Result, Ok, Err, refl, sym, ap, ◌∙◌, subst}
+use Rattle.std.proofs.Common.{◌≡◌, ℕ, ◌+◌, List, [], ◌∷◌, map, Option, None, Some, Result, Ok, Err, refl, sym, ap, ◌∙◌}
 use Rattle.std.specs.Prelude.{All, filter}
 use Rattle.std.specs.Option.{option_map, option_map_or}
 use Rattle.std.proofs.lemmas.List.Elements.{All-append, All-cons, All-nil}
@@ -70,10 +70,10 @@ names_its_interaction m line g e =
     rw is.says (sym (get_or_from_slice_get m.interaction_names g.inter.0 is.interaction [] is.named.known))
 
 lines_of_model : (m : System) (n : ℕ) (ls : List (List ℕ)) (gs : List Grant) → grants_from m n ls ≡ Ok gs → All (IsGrantOf m) gs
-lines_of_model m n [] gs e = let same : [] ≡ gs = cc in subst (All (IsGrantOf m)) same (All-nil (IsGrantOf m))
+lines_of_model m n [] gs e = let same : [] ≡ gs = cc in rw (← same) (All-nil (IsGrantOf m))
 lines_of_model m n (line ∷ ls) gs e =
     let at = first_read n (grant_on m line) (grants_from m (n + 1) ls) gs e in
-    subst (All (IsGrantOf m)) at.4 (All-append (IsGrantOf m) (one_more [] at.0) at.1 (by_said at.0 at.2) (lines_of_model m (n + 1) ls at.1 at.3))
+    rw (← at.4) (All-append (IsGrantOf m) (one_more [] at.0) at.1 (by_said at.0 at.2) (lines_of_model m (n + 1) ls at.1 at.3))
   where
     by_said : (o : Option Grant) → grant_on m line ≡ Ok o → All (IsGrantOf m) (one_more [] o)
     by_said None says = All-nil (IsGrantOf m)

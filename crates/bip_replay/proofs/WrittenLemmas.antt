@@ -1,5 +1,5 @@
 -- What is written reads back: the words of wants, the line of a grant, and the text of grants.
-use Rattle.std.proofs.Common.{◌≡◌, ℕ, ◌+◌, ◌<◌, ◌≤◌, Bool, true, false, cond, ◌||◌, List, [], ◌∷◌, ◌++◌, length, map, Ok, refl, ap, ◌∙◌, arith}
+use Rattle.std.proofs.Common.{◌≡◌, ℕ, ◌+◌, ◌<◌, ◌≤◌, Bool, true, cond, List, [], ◌∷◌, ◌++◌, length, map, Ok, refl, ap, ◌∙◌, arith}
 use Rattle.std.specs.Prelude.{All, filter, codes}
 use Rattle.std.specs.Fmt.{decimal}
 use Rattle.std.specs.List.{AllZip, list_any}
@@ -24,10 +24,7 @@ use Rattle.bip_replay.proofs.WordLemmas.{IsWord, lines_front, name-word, number_
 
 -- a want with a role has that role
 role_of : (role r : Role) (w : Want) → w.role ≡ r → has_role role w ≡ true → r ≡ role
-role_of Moved Moved w is has = refl
-role_of Moved Seen w is has = let e : false ≡ true = rw is at has in cc
-role_of Seen Moved w is has = let e : false ≡ true = rw is at has in cc
-role_of Seen Seen w is has = refl
+role_of role r w is has = grind arith
 
 -- a want with a number
 abbrev HasNumber : Want → Type 0
@@ -52,21 +49,12 @@ words-spell m role (w ∷ ws) spelled numbered roles =
 -- where one passes a test, the filter keeps one
 filter_some : (p : Want → Bool) (ws : List Want) → list_any p ws ≡ true → 0 < length (filter p ws)
 filter_some p [] some = cc
-filter_some p (w ∷ ws) some = by_test (filter_some p ws) (p w) some
-  where
-    by_test : (list_any p ws ≡ true → 0 < length (filter p ws)) → (b : Bool) → (b || list_any p ws) ≡ true → 0 < length (cond b (w ∷ filter p ws) (filter p ws))
-    by_test later true e = omega arith
-    by_test later false e = later e
+filter_some p (w ∷ ws) some = grind (arith, filter_some p ws)
 
 -- `see` is written where one is seen
 pub see_or_none : (m : System) (ws : List Want) → behind_see (want_words m Seen ws) ≡ cond (list_any (has_role Seen) ws) (codes "see" ∷ want_words m Seen ws) []
 see_or_none m [] = refl
-see_or_none m (w ∷ ws) = by_role (has_role Seen w) (see_or_none m ws)
-  where
-    by_role : (b : Bool) → behind_see (want_words m Seen ws) ≡ cond (list_any (has_role Seen) ws) (codes "see" ∷ want_words m Seen ws) []
-        → behind_see (map (want_word m) (cond b (w ∷ filter (has_role Seen) ws) (filter (has_role Seen) ws))) ≡ cond (b || list_any (has_role Seen) ws) (codes "see" ∷ map (want_word m) (cond b (w ∷ filter (has_role Seen) ws) (filter (has_role Seen) ws))) []
-    by_role true later = refl
-    by_role false later = later
+see_or_none m (w ∷ ws) = grind (arith, see_or_none m ws)
 
 -- what a want is written as is a word
 want_word-word : (m : System) (w : Want) → IsSpelled m w → IsWord (want_word m w)
