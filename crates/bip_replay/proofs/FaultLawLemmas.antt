@@ -31,10 +31,8 @@ use Rattle.bip_replay.proofs.GrantLemmas.{grant_line}
 -- a grant with a fault isn't next
 pub not_next : (m : System) (s : State) (used : ℕ → ℕ) (g : Grant) (fault : StepFault) → IsFaultOf m s used g fault → IsNext m s used g → ⊥
 not_next m s used g NotEnabled why next = why next.may.enabled
-not_next m s used g (Below b) why next = next.may.clear b.0 why.1.above why.1.enabled
-not_next m s used g (Number c expected) why next =
-    let at = why.1.wrong in
-    at.4.1 (subst (λ (w : Want). HasNextNumber used w) at.3 (next.numbers at.0 at.1 at.2))
+not_next m s used g (Below b) why next = why.1.above
+not_next m s used g (Number c expected) why next = let at = why.1.wrong in let has = next.numbers at.0 at.1 at.2 in grind arith
 not_next m s used g Parties why next = why.2 next.parties
 
 -- grants with more behind them
@@ -46,22 +44,18 @@ pub stops : (m : System) (base : ℕ) (front rest : List (List ℕ)) (line : Lis
 stops m base front rest line gs all fault reads why whole run =
     let behind = onto_some gs all (grants_from m (1 + length front) (line ∷ rest)) (sym (grants_from-append m 1 front (line ∷ rest) gs reads) ∙ whole) in
     let at = first_read (1 + length front) (grant_on m line) (grants_from m (1 + length front + 1) rest) behind.0 behind.1 in
-    by_fault fault why at.0 at.1 at.2 (subst (λ (hs : List Grant). IsModelRun m base (gs ++ hs)) (sym at.4) (subst (IsModelRun m base) (sym behind.2) run))
+    by_fault fault why at.0 at.1 at.2 (rw (at.4, behind.2) run)
   where
     by_fault : (f : ReplayFault) → IsLineFault m (state_after m gs) (used_after base gs) line f → (o : Option Grant) (hs : List Grant) → grant_on m line ≡ Ok o → IsModelRun m base (gs ++ (one_more [] o ++ hs)) → ⊥
-    by_fault replay.Syntax says o hs reads' on = cc
-    by_fault replay.Unknown says o hs reads' on = cc
-    by_fault (replay.NotARun w) says None hs reads' on = let e : grant_on m line ≡ Ok (Some says.2.grant) = says.2.reads in cc
     by_fault (replay.NotARun w) says (Some g) hs reads' on =
-        let e : grant_on m line ≡ Ok (Some says.2.grant) = says.2.reads in
-        let same : says.2.grant ≡ g = cc in
-        not_next m (state_after m gs) (used_after base gs) g says.0 (subst (λ (h : Grant). IsFaultOf m (state_after m gs) (used_after base gs) h says.0) same says.2.why) (next_at m base gs hs g on)
-    by_fault replay.Memory says o hs reads' on = says
+        let same : says.2.grant ≡ g = grind arith in
+        not_next m (state_after m gs) (used_after base gs) g says.0 (rw same at says.2.why) (next_at m base gs hs g on)
+    by_fault f says o hs reads' on = grind arith
 
 -- a trace with a first fault is no run
 pub no_run : (m : System) (base : ℕ) (text : List ℕ) (number : ℕ) (fault : ReplayFault) → IsFirstFault m base text number fault → (gs : List Grant) → grants_of m text ≡ Ok gs → IsModelRun m base gs → ⊥
 no_run m base text number fault first gs reads run =
-    stops m base first.front first.rest first.line first.grants gs fault first.reads first.why (subst (λ (ls : List (List ℕ)). grants_from m 1 ls ≡ Ok gs) first.split reads) run
+    stops m base first.front first.rest first.line first.grants gs fault first.reads first.why (rw first.split at reads) run
 
 -- no want of a component is wrong where those below a higher one are right
 not_wrong : (used : ℕ → ℕ) (ws : List Want) (c k : ℕ) → Any (λ (w : Want). (w.comp.0 ≡ c) × ¬ HasNextNumber used w) ws → All (λ (w : Want). w.comp.0 < k → HasNextNumber used w) ws → c < k → ⊥
@@ -69,12 +63,11 @@ not_wrong used ws c k wrong right below = let has = right wrong.0 wrong.1 wrong.
 
 -- one component is the lowest that is wrong
 one_lowest : (m : System) (used : ℕ → ℕ) (ws : List Want) (c d : ℕ) → IsLowestWrong m used ws c → IsLowestWrong m used ws d → c ≡ d
-one_lowest m used ws c d one other = by_order (cases_order c d)
-  where
-    by_order : (c ≡ d) ⊎ ((c < d) ⊎ (d < c)) → c ≡ d
-    by_order (inl same) = same
-    by_order (inr (inl below)) = absurd (not_wrong used ws c d one.wrong other.lower below)
-    by_order (inr (inr above)) = absurd (not_wrong used ws d c other.wrong one.lower above)
+one_lowest m used ws c d one other = elim (cases_order c d) [
+  | inl same ↦ same
+  | inr (inl below) ↦ absurd (not_wrong used ws c d one.wrong other.lower below)
+  | inr (inr above) ↦ absurd (not_wrong used ws d c other.wrong one.lower above)
+]
 
 -- the lowest component that is wrong, and the number that it should have, are one fault
 one_number : (m : System) (used : ℕ → ℕ) (ws : List Want) (c d : CompId) (n k : ℕ) → IsLowestWrong m used ws c.0 → IsLowestWrong m used ws d.0 → n ≡ expected_after (used c.0) → k ≡ expected_after (used d.0) → Number c n ≡ Number d k
@@ -117,14 +110,7 @@ parted : {X : Type 0} (xs ys us vs : List X) (x y : X) → xs ++ x ∷ us ≡ ys
 parted [] [] us vs x y e = inr (inl (refl, cc))
 parted [] (b ∷ ys) us vs x y e = let same : b ≡ x = cc in inl (ys, cc)
 parted (a ∷ xs) [] us vs x y e = let same : a ≡ y = cc in inr (inr (xs, cc))
-parted (a ∷ xs) (b ∷ ys) us vs x y e =
-    let same : a ≡ b = cc in
-    let rest : xs ++ x ∷ us ≡ ys ++ y ∷ vs = cc in
-    elim (parted xs ys us vs x y rest) [
-      | inl before ↦ inl (before.0, let s : ys ≡ xs ++ x ∷ before.0 = before.1 in cc)
-      | inr (inl here) ↦ inr (inl (let s : xs ≡ ys = here.0 in cc, here.1))
-      | inr (inr behind) ↦ inr (inr (behind.0, let s : xs ≡ ys ++ y ∷ behind.0 = behind.1 in cc))
-    ]
+parted (a ∷ xs) (b ∷ ys) us vs x y e = let rest = parted xs ys us vs x y cc in grind arith
 
 -- a trace has one first fault at most
 pub one_first : (m : System) (base : ℕ) (text : List ℕ) (n k : ℕ) (f g : ReplayFault) → IsFirstFault m base text n f → IsFirstFault m base text k g → (n ≡ k) × (f ≡ g)

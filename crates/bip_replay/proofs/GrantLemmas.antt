@@ -1,16 +1,17 @@
 -- Lines of grants: what is read of one is what its words spell, and back.
-use Rattle.std.proofs.Common.{◌≡◌, add-one, ℕ, suc, ◌+◌, ◌<◌, ◌≤◌, Bool, true, cond, eqb, List, [], ◌∷◌, ◌++◌, length, take, drop, drop-cons, get_or, position, Option, None, Some, Result, Ok, Err, refl, sym, ap, ◌∙◌, subst, arith}
+use Rattle.std.proofs.lemmas.Slice.Zip.{AllZip-long}
+use Rattle.std.proofs.Common.{eqb-true, ◌≡◌, ℕ, ◌+◌, ◌<◌, ◌≤◌, true, eqb, List, [], ◌∷◌, ◌++◌, length, take, drop, get_or, position, Option, Some, Ok, refl, sym, ap, ◌∙◌, subst, arith}
 use Rattle.std.specs.Prelude.{All, codes}
 use Rattle.std.specs.List.{AllZip, list_any}
 use Rattle.std.specs.List.Sorted.{IsPermutation}
-use Rattle.std.specs.Option.{option_map, option_map_or}
+use Rattle.std.specs.Option.{option_map}
 use Rattle.std.specs.Cmp.Lexicographic as texts
-use Rattle.std.proofs.lemmas.List.{take-append-drop}
+use Rattle.std.proofs.lemmas.List.{drop_more, take-append-drop}
 use Rattle.std.proofs.lemmas.List.Quantifiers.{position-Some}
 use Rattle.std.proofs.lemmas.List.Elements.{All-append, All-cons, All-nil}
 use Rattle.std.proofs.lemmas.List.Sorted.{All-permutation, IsPermutation-sym, list_any-IsPermutation, length_permutation}
 use Rattle.std.proofs.lemmas.Option.{get_or_from_slice_get, option_and_then_some, slice_get-get_or, slice_get_within}
-use Rattle.bip_model.proofs.NumberingLemmas.{AreNumbered, apart_from_rises, by_number-IsPermutation, by_number-is, by_number-rises, increasing_from_rises, numbered_moved, rises_from_increasing}
+use Rattle.bip_model.proofs.NumberingLemmas.{apart_from_rises, by_number-IsPermutation, by_number-is, by_number-rises, increasing_from_rises, numbered_moved, rises_from_increasing}
 use Rattle.bip_model.specs.Naming.{AreApart, is_name, same_text}
 use Rattle.bip_model.specs.Parts.{IsSystem}
 use Rattle.bip_model.specs.Texts.{is_plain, number_of, pair_of, words}
@@ -21,35 +22,23 @@ use Rattle.bip_model.specs.declared.wants.Role.{Role}
 use Rattle.bip_model.specs.declared.wants.Role.TheVariants.{Moved, Seen}
 use Rattle.bip_model.specs.declared.wants.Want.{Want}
 use Rattle.bip_replay.specs.Laws.{IsGrantLine, IsNameOf, ReadsGrantLines, Spells}
-use Rattle.bip_replay.specs.Lines.{NamedGrant, colon, grant_on, known, looked_up, named_on, said, want_of, want_said, wants_known, wants_said}
+use Rattle.bip_replay.specs.Lines.{NamedGrant, colon, grant_on, known, named_on, said, want_of, want_said, wants_known, wants_said}
 use Rattle.bip_replay.specs.Writing.{IsGrantOf, behind_see}
-use Rattle.bip_replay.specs.declared.faults.LineFault.{LineFault}
 use Rattle.bip_replay.specs.declared.lines.NamedWant.{NamedWant}
-use Rattle.bip_replay.proofs.NamedLemmas.{AreFit, AreSaid, Numbers, Say, apart_from_numbered, comp_of, found_for, known_from, name_at, numbered_from_apart, said_wants, wants_said-from}
+use Rattle.bip_replay.proofs.NamedLemmas.{AreFit, AreSaid, Numbers, apart_as_numbered, Say, comp_of, found_for, known_from, name_at, said_wants, wants_said-from}
 use Rattle.bip_replay.proofs.WordLemmas.{is_name-from, name-bytes, pair_of-name, position-name}
 
--- what is there where a test passes, and what there is of what is there
-when_some : {X : Type 0} (b : Bool) (o : Option X) (x : X) → cond b o None ≡ Some x → (b ≡ true) × (o ≡ Some x)
-when_some b o x is = grind arith
-
-when_ok : {X E : Type 0} (b : Bool) (r : Result X E) (e : E) (x : X) → cond b r (Err e) ≡ Ok x → (b ≡ true) × (r ≡ Ok x)
-when_ok b r e x is = grind arith
-
+-- what a map of something was
 map_some : {X Y : Type 0} (f : X → Y) (o : Option X) (y : Y) → option_map f o ≡ Some y → (x : X) × (o ≡ Some x) × (f x ≡ y)
 map_some f o y is = grind arith
-
-map_or_ok : {X Y E : Type 0} (f : X → Result Y E) (o : Option X) (e : E) (y : Y) → option_map_or f o (Err e) ≡ Ok y → (x : X) × (o ≡ Some x) × (f x ≡ Ok y)
-map_or_ok f o e y is = grind arith
 
 -- the parts of a word with a colon
 parts_of : (word : List ℕ) (parts : List ℕ × List ℕ) → pair_of colon word ≡ Some parts → word ≡ parts.0 ++ colon ∷ parts.1
 parts_of word parts is =
     let at = map_some (λ i. (take i word, drop (i + 1) word)) (position (λ b. eqb b 58) word) parts is in
-    let i : ℕ = at.0 in
-    let here = position-Some (λ b. eqb b 58) word i 0 at.1 in
-    let byte : get_or word i 0 ≡ 58 = grind arith in
-    let behind : drop i word ≡ 58 ∷ drop (i + 1) word = rw (drop-cons word i 0 here.0, byte, add-one i) refl in
-    sym (take-append-drop i word) ∙ (rw behind (ap (λ (p : List ℕ × List ℕ). p.0 ++ 58 ∷ p.1) at.2))
+    let here = position-Some (λ b. eqb b 58) word at.0 0 at.1 in
+    let behind = rw (eqb-true (get_or word at.0 0) 58 here.1) at (drop_more word at.0 0 here.0) in
+    rw (← at.2) (sym (take-append-drop at.0 word) ∙ ap (λ (bs : List ℕ). take at.0 word ++ bs) behind)
 
 -- a name that is found, as the name with its number, and back
 name_of-place : (names : List (List ℕ)) (text : List ℕ) (c : ℕ) → is_name text ≡ true → position (same_text text) names ≡ Some c → IsNameOf names text c
@@ -88,12 +77,11 @@ all_spell m role words vs ws say are = absurd (search)
 
 all_say : (m : System) (role : Role) (words : List (List ℕ)) (ws : List Want) → AreApart m.component_names → AllZip (Spells m role) words ws → (vs : List NamedWant) × Say role words vs × AllZip (Numbers m.component_names) vs ws
 all_say m role [] [] apart spell = ([], tt, tt)
-all_say m role [] (w ∷ ws) apart spell = absurd spell
-all_say m role (word ∷ words) [] apart spell = absurd spell
 all_say m role (word ∷ words) (w ∷ ws) apart spell =
     let first = says_from m role word w apart spell.0 in
     let rest = all_say m role words ws apart spell.1 in
     (first.0 ∷ rest.0, (first.1, rest.1), (first.2, rest.2))
+all_say m role words ws apart spell = absurd (search)
 
 -- two lists side by side, one behind the other
 module _ {X Y : Type 0} (R : X → Y → Type 0) where
@@ -104,93 +92,58 @@ module _ {X Y : Type 0} (R : X → Y → Type 0) where
 
   zip_join : (xs us : List X) (ys vs : List Y) → AllZip R xs ys → AllZip R us vs → AllZip R (xs ++ us) (ys ++ vs)
   zip_join [] us [] vs zip more = more
-  zip_join [] us (y ∷ ys) vs zip more = absurd zip
-  zip_join (x ∷ xs) us [] vs zip more = absurd zip
   zip_join (x ∷ xs) us (y ∷ ys) vs zip more = (zip.0, zip_join xs us ys vs zip.1 more)
-
-  zip_long : (xs : List X) (ys : List Y) → AllZip R xs ys → length xs ≡ length ys
-  zip_long [] [] zip = refl
-  zip_long [] (y ∷ ys) zip = absurd zip
-  zip_long (x ∷ xs) [] zip = absurd zip
-  zip_long (x ∷ xs) (y ∷ ys) zip = ap suc (zip_long xs ys zip.1)
-
--- what is read of a line with a grant, part by part
-pub record IsRead (m : System) (line : List ℕ) (g : Grant) : Type 0 where
-  pub inter : List ℕ
-  pub behind : List (List ℕ)
-  pub named : List NamedWant
-  pub plain : is_plain line ≡ true
-  pub split : words line ≡ codes "grant" ∷ inter ∷ behind
-  pub name : is_name inter ≡ true
-  pub said : wants_said Moved [] behind ≡ Some named
-  pub place : position (same_text inter) m.interaction_names ≡ Some g.inter.0
-  pub known : wants_known m.component_names [] named ≡ Some g.wants
+  zip_join xs us ys vs zip more = absurd (search)
 
 -- the words of a grant by names
 said_parts : (ws : List (List ℕ)) (h : NamedGrant) → said ws ≡ Ok (Some h) → (behind : List (List ℕ)) × (ws ≡ codes "grant" ∷ h.inter ∷ behind) × (is_name h.inter ≡ true) × (wants_said Moved [] behind ≡ Some h.wants)
 said_parts (word ∷ inter ∷ behind) h is = grind (arith, texts.same_text word (codes "grant"))
 said_parts ws h is = cc
 
-looked_up-some : (m : System) (r : Result (Option NamedGrant) LineFault) (g : Grant) → looked_up m r ≡ Ok (Some g) → (h : NamedGrant) × (r ≡ Ok (Some h)) × (known m h ≡ Some g)
-looked_up-some m r g is = grind arith
+-- a grant by names, and what it is of the model
+known_parts : (m : System) (line : List ℕ) (g : Grant) → grant_on m line ≡ Ok (Some g) → (h : NamedGrant) × (named_on line ≡ Ok (Some h)) × (position (same_text h.inter) m.interaction_names ≡ Some g.inter.0) × (wants_known m.component_names [] h.wants ≡ Some g.wants)
+known_parts m line g is = grind arith
 
 -- the grant by names of a line
 named_parts : (line : List ℕ) (h : NamedGrant) → named_on line ≡ Ok (Some h) → (is_plain line ≡ true) × (said (words line) ≡ Ok (Some h))
 named_parts line h is = grind arith
 
+-- wants of no words fit
+none_fit : AreFit []
+none_fit = record { apart = tt; few = omega arith }
+
 -- the wants that a line names fit
 pub named_fit : (line : List ℕ) (h : NamedGrant) → named_on line ≡ Ok (Some h) → AreFit h.wants
-named_fit line h is = let parts = said_parts (words line) h (named_parts line h is).1 in (said_wants parts.0 h.wants parts.3).fit
-
-pub is_read : (m : System) (line : List ℕ) (g : Grant) → grant_on m line ≡ Ok (Some g) → IsRead m line g
-is_read m line g reads =
-    let up = looked_up-some m (named_on line) g reads in
-    let h : NamedGrant = up.0 in
-    let here = named_parts line h up.1 in
-    let parts = said_parts (words line) h here.1 in
-    record {
-      inter = h.inter;
-      behind = parts.0;
-      named = h.wants;
-      plain = here.0;
-      split = parts.1;
-      name = parts.2;
-      said = parts.3;
-      place = grind (arith, up.2);
-      known = grind (arith, up.2);
-    }
-
-pub grant_on-from : (m : System) (line : List ℕ) (g : Grant) → IsRead m line g → grant_on m line ≡ Ok (Some g)
-grant_on-from m line g is = rw (is.plain, is.split, is.name, is.said, is.place, is.known) refl
+named_fit line h is = let parts = said_parts (words line) h (named_parts line h is).1 in (said_wants [] parts.0 h.wants none_fit parts.3).fit
 
 -- a line that reads as a grant is its line
 pub grant_line : (m : System) (line : List ℕ) (g : Grant) → grant_on m line ≡ Ok (Some g) → IsGrantLine m line g
 grant_line m line g reads =
-    let is = is_read m line g reads in
-    let are = said_wants is.behind is.named is.said in
-    let known = found_for m.component_names [] is.named g.wants is.known in
-    let apart = numbered_from_apart m.component_names is.named known.found known.each are.fit.apart in
+    let by_name = known_parts m line g reads in
+    let h : NamedGrant = by_name.0 in
+    let here = named_parts line h by_name.1 in
+    let parts = said_parts (words line) h here.1 in
+    let are = said_wants [] parts.0 h.wants none_fit parts.3 in
+    let known = found_for m.component_names [] h.wants g.wants by_name.3 in
+    let apart = (apart_as_numbered m.component_names h.wants known.found known.each).0 are.fit.apart in
     let both = zip_split (Numbers m.component_names) are.moved are.seen known.found (subst (λ (vs : List NamedWant). AllZip (Numbers m.component_names) vs known.found) (sym are.all) known.each) in
-    let moves = all_spell m Moved are.moved_words are.moved both.0 are.moves both.3 in
     let moved : IsPermutation known.found g.wants = rw known.all at (by_number-IsPermutation comp_of known.found) in
-    let long : length g.wants ≡ length known.found = length_permutation known.found g.wants moved in
-    let same : length is.named ≡ length known.found = zip_long (Numbers m.component_names) is.named known.found known.each in
-    let few : length is.named ≤ 32 = are.fit.few in
-    let some : 0 < length are.moved = are.some in
-    let beside : length are.moved ≡ length both.0 = zip_long (Numbers m.component_names) are.moved both.0 both.3 in
+    let long = length_permutation known.found g.wants moved in
+    let same = AllZip-long (Numbers m.component_names) h.wants known.found known.each in
+    let beside = AllZip-long (Numbers m.component_names) are.moved both.0 both.3 in
     record {
-      interaction = is.inter;
+      interaction = h.inter;
       moved_words = are.moved_words;
       seen_words = are.seen_words;
       moved = both.0;
       seen = both.1;
-      plain = is.plain;
-      says = rw are.split at is.split;
-      named = name_of-place m.interaction_names is.inter g.inter.0 is.name is.place;
-      moves = moves;
+      plain = here.0;
+      says = rw are.split at parts.1;
+      named = name_of-place m.interaction_names h.inter g.inter.0 parts.2 by_name.2;
+      moves = all_spell m Moved are.moved_words are.moved both.0 are.moves both.3;
       sees = all_spell m Seen are.seen_words are.seen both.1 are.sees both.4;
-      some = omega arith;
-      few = omega arith;
+      some = omega (arith, are.some);
+      few = omega (arith, are.fit.few);
       wants = rw (sym both.2) at moved;
       rising = increasing_from_rises (components_of g.wants) (rw known.all at (by_number-rises comp_of known.found apart));
     }
@@ -203,13 +156,11 @@ line_reads m line g valid is =
     let sees = all_say m Seen is.seen_words is.seen apart is.sees in
     let each = zip_join (Numbers m.component_names) moves.0 sees.0 is.moved is.seen moves.2 sees.2 in
     let rises = rises_from_increasing (components_of g.wants) is.rising in
-    let numbered : AreNumbered comp_of (is.moved ++ is.seen) = numbered_moved comp_of g.wants (is.moved ++ is.seen) (IsPermutation-sym (is.moved ++ is.seen) g.wants is.wants) (apart_from_rises (components_of g.wants) rises) in
-    let long : length g.wants ≡ length (is.moved ++ is.seen) = length_permutation (is.moved ++ is.seen) g.wants is.wants in
-    let same : length (moves.0 ++ sees.0) ≡ length (is.moved ++ is.seen) = zip_long (Numbers m.component_names) (moves.0 ++ sees.0) (is.moved ++ is.seen) each in
-    let few : length g.wants ≤ 32 = is.few in
-    let some : 0 < length is.moved = is.some in
-    let beside : length moves.0 ≡ length is.moved = zip_long (Numbers m.component_names) moves.0 is.moved moves.2 in
-    let are : AreSaid (is.moved_words ++ behind_see is.seen_words) (moves.0 ++ sees.0) = record {
+    let numbered = numbered_moved comp_of g.wants (is.moved ++ is.seen) (IsPermutation-sym (is.moved ++ is.seen) g.wants is.wants) (apart_from_rises (components_of g.wants) rises) in
+    let long = length_permutation (is.moved ++ is.seen) g.wants is.wants in
+    let same = AllZip-long (Numbers m.component_names) (moves.0 ++ sees.0) (is.moved ++ is.seen) each in
+    let beside = AllZip-long (Numbers m.component_names) moves.0 is.moved moves.2 in
+    let are : AreSaid [] (is.moved_words ++ behind_see is.seen_words) (moves.0 ++ sees.0) = record {
       moved_words = is.moved_words;
       seen_words = is.seen_words;
       moved = moves.0;
@@ -217,21 +168,14 @@ line_reads m line g valid is =
       split = refl;
       moves = moves.1;
       sees = sees.1;
-      some = omega arith;
+      some = omega (arith, is.some);
       all = refl;
-      fit = record { apart = apart_from_numbered m.component_names (moves.0 ++ sees.0) (is.moved ++ is.seen) each numbered; few = omega arith };
+      fit = record { apart = (apart_as_numbered m.component_names (moves.0 ++ sees.0) (is.moved ++ is.seen) each).1 numbered; few = omega (arith, is.few) };
     } in
-    grant_on-from m line g (record {
-      inter = is.interaction;
-      behind = is.moved_words ++ behind_see is.seen_words;
-      named = moves.0 ++ sees.0;
-      plain = is.plain;
-      split = is.says;
-      name = is_name-from is.interaction is.named.name;
-      said = wants_said-from (is.moved_words ++ behind_see is.seen_words) (moves.0 ++ sees.0) are;
-      place = place-name_of m.interaction_names is.interaction g.inter.0 valid.so_far.interactions_apart is.named;
-      known = known_from m.component_names [] (moves.0 ++ sees.0) (is.moved ++ is.seen) each ∙ ap (λ (ws : List Want). Some ws) (by_number-is comp_of (is.moved ++ is.seen) g.wants is.wants rises);
-    })
+    let place = place-name_of m.interaction_names is.interaction g.inter.0 valid.so_far.interactions_apart is.named in
+    let known = known_from m.component_names [] (moves.0 ++ sees.0) (is.moved ++ is.seen) each in
+    let sorted = by_number-is comp_of (is.moved ++ is.seen) g.wants is.wants rises in
+    rw (is.plain, is.says, is_name-from is.interaction is.named.name, wants_said-from (is.moved_words ++ behind_see is.seen_words) (moves.0 ++ sees.0) are, place, known, sorted) refl
 
 pub reads_grant_lines : ReadsGrantLines
 reads_grant_lines m line g valid = (grant_line m line g, line_reads m line g valid)

@@ -1,6 +1,6 @@
 -- The wants that words name, and which they are of a model: from the words, and back.
-use Rattle.std.proofs.Common.{◌≡◌, ℕ, ◌<◌, ◌≤◌, Bool, true, false, cond, ◌&&◌, ◌||◌, eqb, List, [], ◌∷◌, ◌++◌, length, Option, None, Some, refl, sym, ap, ◌∙◌, arith, get_or, position}
-use Rattle.std.specs.Prelude.{codes}
+use Rattle.std.proofs.Common.{◌≡◌, ℕ, ◌<◌, ◌≤◌, Bool, true, false, cond, ◌||◌, eqb, List, [], ◌∷◌, ◌++◌, length, None, Some, refl, sym, ap, ◌∙◌, arith, get_or, position}
+use Rattle.std.specs.Prelude.{◌↔◌, codes}
 use Rattle.std.specs.List.{AllZip, AllByRecursion, IsDistinct}
 use Rattle.std.specs.Option.{option_and_then}
 use Rattle.std.proofs.lemmas.Bool.{and_right}
@@ -11,7 +11,6 @@ use Rattle.std.specs.List.Sorted.{IsNonDecreasingBy, IsPermutation}
 use Rattle.std.proofs.lemmas.List.Quantifiers.{position-Some}
 use Rattle.std.proofs.lemmas.List.Sorted.{IsPermutation-sym, IsPermutation-trans}
 use Rattle.std.specs.Cmp.Lexicographic as texts
-use Rattle.bip_model.proofs.ListLemmas.{neither}
 use Rattle.bip_model.proofs.NameLemmas.{apart_push}
 use Rattle.bip_model.proofs.PartitionLemmas.{list_any-named}
 use Rattle.bip_model.specs.Naming.{AreApart, is_known, same_text}
@@ -23,10 +22,6 @@ use Rattle.bip_model.proofs.NumberingLemmas.{AreNumbered, by_number-IsPermutatio
 use Rattle.bip_replay.specs.Lines.{is_named, names_of, want_said, wants_said, with_want, numbered_want, wants_by_component, wants_known}
 use Rattle.bip_replay.specs.Writing.{behind_see}
 use Rattle.bip_replay.specs.declared.lines.NamedWant.{NamedWant}
-
--- what is there unless a test passes
-unless_some : {X : Type 0} (b : Bool) (o : Option X) (x : X) → cond b None o ≡ Some x → (b ≡ false) × (o ≡ Some x)
-unless_some b o x is = grind arith
 
 -- words that say these wants with a role, one each
 abbrev pub Say : Role → List (List ℕ) → List NamedWant → Type 0
@@ -75,46 +70,25 @@ said-run role before (word ∷ words) (v ∷ vs) behind more say fit =
     rw (not_see role word v say.0, and_right (is_moved role) false refl, say.0, joins before v (vs ++ more) fit, ← append_assoc before (v ∷ []) vs)
     (said-run role (before ++ v ∷ []) words vs behind more say.1 (rw (append_assoc before (v ∷ []) (vs ++ more)) fit))
 
--- where the words of wants end: at the line's end, or at `see`
-abbrev Ends : Role → List NamedWant → List (List ℕ) → List NamedWant → Type 0
-Ends role here [] named = (eqb (length here) 0 ≡ false) × (here ≡ named)
-Ends role here (word ∷ rest) named =
-    ((is_moved role && same_text word (codes "see")) ≡ true) × (eqb (length here) 0 ≡ false) × (eqb (length rest) 0 ≡ false) × (wants_said Seen here rest ≡ Some named)
+-- the first of words of wants, with those before it
+said_first : (role : Role) (before : List NamedWant) (word : List ℕ) (rest : List (List ℕ)) (named : List NamedWant) → AreFit before → option_and_then (λ wants. wants_said role wants rest) (option_and_then (with_want before) (want_said role word)) ≡ Some named
+    → (v : NamedWant) × (want_said role word ≡ Some v) × AreFit (before ++ v ∷ []) × (wants_said role (before ++ v ∷ []) rest ≡ Some named)
+said_first role before word rest named fit says =
+    option_and_then_some (λ wants. wants_said role wants rest) (option_and_then (with_want before) (want_said role word)) named says (λ after joining behind.
+    option_and_then_some (with_want before) (want_said role word) after joining (λ v said joining'.
+    let j = joined before v after fit joining' in (v, said, j.1, rw (sym j.0) at behind)))
 
--- words of wants that join those before, up to where they end
-record Ran (role : Role) (before : List NamedWant) (ws : List (List ℕ)) (named : List NamedWant) : Type 0 where
-  words : List (List ℕ)
-  vs : List NamedWant
-  rest : List (List ℕ)
-  split : ws ≡ words ++ rest
-  say : Say role words vs
-  fit : AreFit (before ++ vs)
-  ends : Ends role (before ++ vs) rest named
+-- words of wants that are only looked at, behind wants before them
+seen_said : (before : List NamedWant) (ws : List (List ℕ)) (named : List NamedWant) → AreFit before → wants_said Seen before ws ≡ Some named → (vs : List NamedWant) × Say Seen ws vs × (before ++ vs ≡ named) × AreFit named
+seen_said before [] named fit says = let same : before ≡ named = grind arith in ([], tt, append-nil before ∙ same, rw (← same) fit)
+seen_said before (word ∷ rest) named fit says =
+    let one = said_first Seen before word rest named fit says in
+    let more = seen_said (before ++ one.0 ∷ []) rest named one.2 one.3 in
+    (one.0 ∷ more.0, (one.1, more.1), sym (append_assoc before (one.0 ∷ []) more.0) ∙ more.2, more.3)
 
-ran : (role : Role) (before : List NamedWant) (ws : List (List ℕ)) (named : List NamedWant) → AreFit before → wants_said role before ws ≡ Some named → Ran role before ws named
-ran role before [] named fit says =
-    let at = unless_some (eqb (length before) 0) (Some before) named says in
-    let s : Some before ≡ Some named = at.1 in
-    record { words = []; vs = []; rest = []; split = refl; say = tt; fit = rw (append-nil before) fit; ends = rw (append-nil before) (at.0, cc) }
-ran role before (word ∷ rest) named fit says =
-    by_see (is_moved role && same_text word (codes "see")) refl says (λ b f s. ran role b rest named f s)
-  where
-    by_see : (b : Bool) → (is_moved role && same_text word (codes "see")) ≡ b → cond b (cond (eqb (length before) 0 || eqb (length rest) 0) None (wants_said Seen before rest)) (option_and_then (λ wants. wants_said role wants rest) (option_and_then (with_want before) (want_said role word))) ≡ Some named
-        → ((b : List NamedWant) → AreFit b → wants_said role b rest ≡ Some named → Ran role b rest named) → Ran role before (word ∷ rest) named
-    by_see true see s later =
-        let at = unless_some (eqb (length before) 0 || eqb (length rest) 0) (wants_said Seen before rest) named s in
-        let some = neither (eqb (length before) 0) (eqb (length rest) 0) at.0 in
-        record { words = []; vs = []; rest = word ∷ rest; split = refl; say = tt; fit = rw (append-nil before) fit; ends = rw (append-nil before) (see, some.0, some.1, at.1) }
-    by_see false see s later =
-        option_and_then_some (λ wants. wants_said role wants rest) (option_and_then (with_want before) (want_said role word)) named s (λ after joining behind.
-        option_and_then_some (with_want before) (want_said role word) after joining (λ v said joining'.
-        let j = joined before v after fit joining' in
-        let r = later (before ++ v ∷ []) j.1 (rw (sym j.0) at behind) in
-        let e = append_assoc before (v ∷ []) r.vs in
-        record { words = word ∷ r.words; vs = v ∷ r.vs; rest = r.rest; split = ap (λ (us : List (List ℕ)). word ∷ us) r.split; say = (said, r.say); fit = rw e at r.fit; ends = rw e at r.ends }))
-
--- what stands behind the interaction: words of moved wants, and perhaps `see` with those of seen ones
-pub record AreSaid (ws : List (List ℕ)) (named : List NamedWant) : Type 0 where
+-- what stands behind the interaction and wants before: words of moved wants, and perhaps `see` with
+-- those of seen ones
+pub record AreSaid (before : List NamedWant) (ws : List (List ℕ)) (named : List NamedWant) : Type 0 where
   pub moved_words : List (List ℕ)
   pub seen_words : List (List ℕ)
   pub moved : List NamedWant
@@ -122,53 +96,42 @@ pub record AreSaid (ws : List (List ℕ)) (named : List NamedWant) : Type 0 wher
   pub split : ws ≡ moved_words ++ behind_see seen_words
   pub moves : Say Moved moved_words moved
   pub sees : Say Seen seen_words seen
-  pub some : 0 < length moved
-  pub all : moved ++ seen ≡ named
+  pub some : 0 < length (before ++ moved)
+  pub all : (before ++ moved) ++ seen ≡ named
   pub fit : AreFit named
 
-some_of : {X : Type 0} (xs : List X) → eqb (length xs) 0 ≡ false → 0 < length xs
-some_of xs none = grind arith
-
-pub said_wants : (ws : List (List ℕ)) (named : List NamedWant) → wants_said Moved [] ws ≡ Some named → AreSaid ws named
-said_wants ws named says = let r = ran Moved [] ws named (record { apart = tt; few = omega arith }) says in by_end r.words r.vs r.rest r.split r.say r.fit r.ends
+pub said_wants : (before : List NamedWant) (ws : List (List ℕ)) (named : List NamedWant) → AreFit before → wants_said Moved before ws ≡ Some named → AreSaid before ws named
+said_wants before [] named fit says =
+    let same : before ≡ named = grind arith in
+    record { moved_words = []; seen_words = []; moved = []; seen = []; split = refl; moves = tt; sees = tt; some = rw (append-nil before) (grind arith); all = simp append-nil same; fit = rw (← same) fit }
+said_wants before (word ∷ rest) named fit says = by_see (same_text word (codes "see")) refl says (λ b. said_wants b rest named)
   where
-    by_seen : (words : List (List ℕ)) (vs : List NamedWant) (rest : List (List ℕ)) → ws ≡ words ++ behind_see rest → Say Moved words vs → eqb (length vs) 0 ≡ false → Ran Seen vs rest named → AreSaid ws named
-    by_seen words vs rest split say some r = last r.rest r.split r.ends
-      where
-        last : (more : List (List ℕ)) → rest ≡ r.words ++ more → Ends Seen (vs ++ r.vs) more named → AreSaid ws named
-        last [] e ends =
-            let whole : rest ≡ r.words = e ∙ append-nil r.words in
-            record { moved_words = words; seen_words = r.words; moved = vs; seen = r.vs; split = rw whole at split; moves = say; sees = r.say; some = some_of vs some; all = ends.1; fit = rw ends.1 at r.fit }
-        last (word ∷ more) e ends = cc
-
-    by_end : (words : List (List ℕ)) (vs : List NamedWant) (rest : List (List ℕ)) → ws ≡ words ++ rest → Say Moved words vs → AreFit vs → Ends Moved vs rest named → AreSaid ws named
-    by_end words vs [] split say fit ends =
-        record { moved_words = words; seen_words = []; moved = vs; seen = []; split = split; moves = say; sees = tt; some = some_of vs ends.0; all = append-nil vs ∙ ends.1; fit = rw ends.1 at fit }
-    by_end words vs (word ∷ []) split say fit ends = cc
-    by_end words vs (word ∷ next ∷ rest) split say fit ends =
-        let see : word ≡ codes "see" = texts.same_text word (codes "see") (sym ends.0) in
-        by_seen words vs (next ∷ rest) (rw see at split) say ends.1 (ran Seen vs (next ∷ rest) named fit ends.3)
-
-not_none : {X : Type 0} (xs : List X) → 0 < length xs → eqb (length xs) 0 ≡ false
-not_none xs some = grind arith
-
-at_see : (before : List NamedWant) (word : List ℕ) (words : List (List ℕ)) → eqb (length before) 0 ≡ false → wants_said Moved before (codes "see" ∷ word ∷ words) ≡ wants_said Seen before (word ∷ words)
-at_see before word words some = grind arith
+    by_see : (b : Bool) → same_text word (codes "see") ≡ b → cond b (cond (eqb (length before) 0 || eqb (length rest) 0) None (wants_said Seen before rest)) (option_and_then (λ wants. wants_said Moved wants rest) (option_and_then (with_want before) (want_said Moved word))) ≡ Some named
+        → ((b : List NamedWant) → AreFit b → wants_said Moved b rest ≡ Some named → AreSaid b rest named) → AreSaid before (word ∷ rest) named
+    by_see true see s later =
+        let seen = seen_said before rest named fit (grind arith) in
+        let word_is = texts.same_text word (codes "see") (sym see) in
+        record { moved_words = []; seen_words = rest; moved = []; seen = seen.0; split = grind arith; moves = tt; sees = seen.1; some = rw (append-nil before) (grind arith); all = rw (append-nil before) seen.2; fit = seen.3 }
+    by_see false see s later =
+        let one = said_first Moved before word rest named fit s in
+        let more = later (before ++ one.0 ∷ []) one.2 one.3 in
+        let e = append_assoc before (one.0 ∷ []) more.moved in
+        record { moved_words = word ∷ more.moved_words; seen_words = more.seen_words; moved = one.0 ∷ more.moved; seen = more.seen; split = ap (λ (us : List (List ℕ)). word ∷ us) more.split; moves = (one.1, more.moves); sees = more.sees; some = rw e at more.some; all = rw e at more.all; fit = more.fit }
 
 -- the words are read as these wants
-pub wants_said-from : (ws : List (List ℕ)) (named : List NamedWant) → AreSaid ws named → wants_said Moved [] ws ≡ Some named
+pub wants_said-from : (ws : List (List ℕ)) (named : List NamedWant) → AreSaid [] ws named → wants_said Moved [] ws ≡ Some named
 wants_said-from ws named are =
     rw (are.split, ← are.all)
     (said-run Moved [] are.moved_words are.moved (behind_see are.seen_words) are.seen are.moves (rw (← are.all) at are.fit)
     ∙ by_seen are.seen_words are.seen are.sees (rw (← are.all) at are.fit))
   where
     by_seen : (words : List (List ℕ)) (vs : List NamedWant) → Say Seen words vs → AreFit (are.moved ++ vs) → wants_said Moved are.moved (behind_see words) ≡ Some (are.moved ++ vs)
-    by_seen [] [] say fit = rw (append-nil are.moved, not_none are.moved are.some) refl
+    by_seen [] [] say fit = rw (append-nil are.moved) (grind (arith, are.some))
     by_seen [] (v ∷ vs) say fit = absurd say
     by_seen (word ∷ words) vs say fit =
-        at_see are.moved word words (not_none are.moved are.some)
-        ∙ (ap (wants_said Seen are.moved) (sym (append-nil (word ∷ words)))
-        ∙ (said-run Seen are.moved (word ∷ words) vs [] [] say (rw (append-nil vs) fit) ∙ rw (not_none (are.moved ++ vs) (let some : 0 < length are.moved = are.some in simp length-append (omega arith))) refl))
+        let some = length-append are.moved vs in
+        let run = rw (append-nil words) at (said-run Seen are.moved (word ∷ words) vs [] [] say (rw (append-nil vs) fit)) in
+        grind (arith, are.some)
 
 -- the number of a want's component
 abbrev pub comp_of : Want → ℕ
@@ -191,32 +154,24 @@ tests_agree names v x w y is are =
     let other = name_at names x.name y.comp.0 are.place in
     grind (arith, texts.same_text v.name x.name, nat_list_eq_equiv.refl v.name, is.place, are.place)
 
--- wants whose names are apart are of different components, and back
-pub numbered_from_apart : (names : List (List ℕ)) (vs : List NamedWant) (ws : List Want) → AllZip (Numbers names) vs ws → AreApart (names_of vs) → AreNumbered comp_of ws
-unfolding IsDistinct
-numbered_from_apart names [] [] zip apart = tt
-numbered_from_apart names [] (w ∷ ws) zip apart = absurd zip
-numbered_from_apart names (v ∷ vs) [] zip apart = absurd zip
-numbered_from_apart names (v ∷ vs) (w ∷ ws) zip apart = (others vs ws zip.1 apart.0, numbered_from_apart names vs ws zip.1 apart.1)
-  where
-    others : (xs : List NamedWant) (ys : List Want) → AllZip (Numbers names) xs ys → is_known v.name (names_of xs) ≡ false → AllByRecursion (λ c. eqb w.comp.0 c ≡ false) (components_of ys)
-    others [] [] zip' none = tt
-    others [] (y ∷ ys) zip' none = absurd zip'
-    others (x ∷ xs) [] zip' none = absurd zip'
-    others (x ∷ xs) (y ∷ ys) zip' none =
-        let parts = neither (same_text v.name x.name) (is_known v.name (names_of xs)) none in
-        (sym (tests_agree names v x w y zip.0 zip'.0) ∙ parts.0, others xs ys zip'.1 parts.1)
+-- a name isn't among names exactly where its component isn't among theirs
+others : (names : List (List ℕ)) (v : NamedWant) (w : Want) (xs : List NamedWant) (ys : List Want) → Numbers names v w → AllZip (Numbers names) xs ys → (is_known v.name (names_of xs) ≡ false) ↔ AllByRecursion (λ c. eqb w.comp.0 c ≡ false) (components_of ys)
+others names v w [] [] is zip = (λ none. tt, λ none. refl)
+others names v w (x ∷ xs) (y ∷ ys) is zip =
+    let here = tests_agree names v x w y is zip.0 in
+    let rest = others names v w xs ys is zip.1 in
+    (λ none. (grind arith, rest.0 (grind arith)), λ none. grind (arith, rest.1 none.1))
+others names v w xs ys is zip = absurd (search)
 
-pub apart_from_numbered : (names : List (List ℕ)) (vs : List NamedWant) (ws : List Want) → AllZip (Numbers names) vs ws → AreNumbered comp_of ws → AreApart (names_of vs)
+-- wants whose names are apart are of different components, and back
+pub apart_as_numbered : (names : List (List ℕ)) (vs : List NamedWant) (ws : List Want) → AllZip (Numbers names) vs ws → AreApart (names_of vs) ↔ AreNumbered comp_of ws
 unfolding IsDistinct
-apart_from_numbered names [] ws zip apart = tt
-apart_from_numbered names (v ∷ vs) [] zip apart = absurd zip
-apart_from_numbered names (v ∷ vs) (w ∷ ws) zip apart = (others vs ws zip.1 apart.0, apart_from_numbered names vs ws zip.1 apart.1)
-  where
-    others : (xs : List NamedWant) (ys : List Want) → AllZip (Numbers names) xs ys → AllByRecursion (λ c. eqb w.comp.0 c ≡ false) (components_of ys) → is_known v.name (names_of xs) ≡ false
-    others [] ys zip' none = refl
-    others (x ∷ xs) [] zip' none = absurd zip'
-    others (x ∷ xs) (y ∷ ys) zip' none = rw (tests_agree names v x w y zip.0 zip'.0 ∙ none.0) (others xs ys zip'.1 none.1)
+apart_as_numbered names [] [] zip = (λ apart. tt, λ apart. tt)
+apart_as_numbered names (v ∷ vs) (w ∷ ws) zip =
+    let first = others names v w vs ws zip.0 zip.1 in
+    let rest = apart_as_numbered names vs ws zip.1 in
+    (λ apart. (first.0 apart.0, rest.0 apart.1), λ apart. (first.1 apart.0, rest.1 apart.1))
+apart_as_numbered names vs ws zip = absurd (search)
 
 -- the wants that are found for names, and those before, are by component what is known
 pub record AreFound (names : List (List ℕ)) (before : List Want) (named : List NamedWant) (wants : List Want) : Type 0 where
@@ -237,11 +192,10 @@ found_for names before (v ∷ vs) wants is =
 
 pub known_from : (names : List (List ℕ)) (before : List Want) (named : List NamedWant) (found : List Want) → AllZip (Numbers names) named found → wants_known names before named ≡ Some (wants_by_component (before ++ found))
 known_from names before [] [] zip = rw (append-nil before) refl
-known_from names before [] (w ∷ ws) zip = absurd zip
-known_from names before (v ∷ vs) [] zip = absurd zip
 known_from names before (v ∷ vs) (w ∷ ws) zip =
     let same : numbered_want w.comp.0 v ≡ w = rw (zip.0.number, zip.0.role) refl in
     rw (zip.0.place, same, ← append_assoc before (w ∷ []) ws) (known_from names (before ++ w ∷ []) vs ws zip.1)
+known_from names before vs ws zip = absurd (search)
 
 -- what a sort leaves of the wants for names that are apart
 pub sorted_wants : (names : List (List ℕ)) (named : List NamedWant) (items sorted : List Want) → AreApart (names_of named) → wants_known names [] named ≡ Some (wants_by_component items) → IsPermutation items sorted → IsNonDecreasingBy comp_of sorted → wants_by_component items ≡ sorted
@@ -249,4 +203,4 @@ sorted_wants names named items sorted apart known moved up =
     let are = found_for names [] named (wants_by_component items) known in
     let across : IsPermutation are.found (wants_by_component items) = rw are.all at (by_number-IsPermutation comp_of are.found) in
     let back = IsPermutation-trans are.found (wants_by_component items) items across (IsPermutation-sym items (wants_by_component items) (by_number-IsPermutation comp_of items)) in
-    sorted-is comp_of items sorted moved up (numbered_moved comp_of are.found items back (numbered_from_apart names named are.found are.each apart))
+    sorted-is comp_of items sorted moved up (numbered_moved comp_of are.found items back ((apart_as_numbered names named are.found are.each).0 apart))

@@ -1,6 +1,6 @@
 -- What texts of grants have in common: texts that say the same words say the same grants, a grant's
 -- line names its interaction, and each grant is one of the model.
-use Rattle.std.proofs.Common.{◌≡◌, ℕ, ◌+◌, List, [], ◌∷◌, map, Option, None, Some, Result, Ok, Err, refl, sym, ap, ◌∙◌}
+use Rattle.std.proofs.Common.{arith, ◌≡◌, ℕ, ◌+◌, List, [], ◌∷◌, map, Option, None, Some, Result, Ok, Err, refl, sym, ap, ◌∙◌}
 use Rattle.std.specs.Prelude.{All, filter}
 use Rattle.std.specs.Option.{option_map, option_map_or}
 use Rattle.std.proofs.lemmas.List.Elements.{All-append, All-cons, All-nil}
@@ -38,24 +38,18 @@ without_number (Ok gs) = Some gs
 without_number (Err e) = None
 
 without_number-before : (n : ℕ) (line : Result (Option Grant) LineFault) (behind : Result (List Grant) (ℕ × LineFault)) → without_number (before_rest n line behind) ≡ with_grant line (without_number behind)
-without_number-before n (Err fault) behind = refl
-without_number-before n (Ok None) behind = refl
-without_number-before n (Ok (Some g)) (Ok gs) = refl
-without_number-before n (Ok (Some g)) (Err e) = refl
+without_number-before n line behind = grind arith
 
 words_read : (m : System) (n : ℕ) (ls : List (List ℕ)) → without_number (grants_from m n ls) ≡ all_said m (map words_said ls)
 words_read m n [] = refl
-words_read m n (line ∷ ls) = without_number-before n (grant_on m line) (grants_from m (n + 1) ls) ∙ ap (with_grant (grant_on m line)) (words_read m (n + 1) ls)
+words_read m n (line ∷ ls) = grind (arith, words_read m (n + 1) ls)
 
 some_read : (r : Result (List Grant) (ℕ × LineFault)) (gs : List Grant) → without_number r ≡ Some gs → r ≡ Ok gs
-some_read (Ok hs) gs is = cc
-some_read (Err e) gs is = cc
+some_read r gs is = grind arith
 
 skipped_aside : (m : System) (ws : List (Option (List (List ℕ)))) → all_said m (filter says_something ws) ≡ all_said m ws
 skipped_aside m [] = refl
-skipped_aside m (None ∷ rest) = refl
-skipped_aside m (Some [] ∷ rest) = skipped_aside m rest
-skipped_aside m (Some (word ∷ more) ∷ rest) = ap (with_grant (grant_said m (Some (word ∷ more)))) (skipped_aside m rest)
+skipped_aside m (ws ∷ rest) = grind (arith, skipped_aside m rest)
 
 -- what the lines of a text say is what they say that say something
 said_words : (m : System) (text : List ℕ) → without_number (grants_of m text) ≡ all_said m (said_in text)
