@@ -1,5 +1,5 @@
 -- Faults and parties: what the tests of a grant say.
-use Rattle.std.proofs.Common.{◌≡◌, ℕ, ◌<◌, ◌≤◌, Bool, true, false, eqb, List, [], ◌∷◌, length, map, get_or, refl, sym, ap, ◌∙◌, subst, arith, zip, ◌⊎◌, inl, inr, ◌&&◌, None, Some, find}
+use Rattle.std.proofs.Common.{◌≡◌, ℕ, ◌<◌, ◌≤◌, Bool, true, false, eqb, List, [], ◌∷◌, length, map, get_or, refl, sym, ap, ◌∙◌, arith, zip, ◌⊎◌, inl, inr, ◌&&◌, None, Some, find}
 use Rattle.std.specs.Prelude.{◌↔◌, All, Contains, slice_get}
 use Rattle.std.specs.List.{AllByRecursion, list_all, list_any, zip, position_or_len}
 use Rattle.std.specs.List.Sorted.{IsStrictlyIncreasing}
@@ -20,7 +20,7 @@ use Rattle.bip_model.specs.declared.grants.Grant.{Grant}
 use Rattle.bip_model.specs.declared.parts.System.{System}
 use Rattle.bip_model.specs.States.{State}
 use Rattle.bip_model.specs.Steps.{IsEnabled, MayRun, participants_of}
-use Rattle.bip_replay.specs.Runs.{is_party, IsWanted, has_next_number, is_wrong, HasItsParties, HasNextNumber, IsNext}
+use Rattle.bip_replay.specs.Runs.{is_party, IsWanted, is_wrong, HasItsParties, HasNextNumber, IsNext}
 use Rattle.bip_replay.specs.Faults.{IsLowestWrong, KnownAreRight}
 
 -- what the test says of wants beside participants
@@ -44,36 +44,36 @@ Moves w = w.role ≡ Moved
 pub moved_role : (r : Role) → is_moved r ≡ true → r ≡ Moved
 moved_role r is = grind arith
 
+-- a want among others moves, or its component is seen
+moved_or_seen : (ws : List Want) (w : Want) → Contains ws w → (w.role ≡ Moved) ⊎ IsWanted Seen ws w.comp.0
+moved_or_seen ws w at = by_role w.role refl
+  where
+    by_role : (r : Role) → w.role ≡ r → (w.role ≡ Moved) ⊎ IsWanted Seen ws w.comp.0
+    by_role Moved is = inl is
+    by_role Seen is = inr (at.0, w, at.1, at.2, (refl, is))
+
 -- numbers are above what is no more than one that all are above
 none_below : (c low : ℕ) (ns : List ℕ) → c ≤ low → AllByRecursion (λ n. low < n) ns → list_any (λ n. eqb n c) ns ≡ false
 none_below c low [] below all = refl
 none_below c low (n ∷ ns) below all = grind (arith, none_below c low ns)
 
-has_first : (c : ℕ) (ns : List ℕ) → list_any (λ n. eqb n c) (c ∷ ns) ≡ true
-has_first c ns = grind arith
-
 -- which numbers there are
 abbrev SameNumbers : List ℕ → List ℕ → Type 0
 SameNumbers xs ys = (c : ℕ) → list_any (λ n. eqb n c) xs ≡ list_any (λ n. eqb n c) ys
 
-lower_first : (x y : ℕ) (xs ys : List ℕ) → AllByRecursion (λ n. y < n) ys → SameNumbers (x ∷ xs) (y ∷ ys) → x < y → ⊥
-lower_first x y xs ys over same less = grind (arith, same x, none_below x y ys, has_first x xs)
+same_first : (x y : ℕ) (xs ys : List ℕ) → AllByRecursion (λ n. x < n) xs → AllByRecursion (λ n. y < n) ys → SameNumbers (x ∷ xs) (y ∷ ys) → x ≡ y
+same_first x y xs ys up climbs same = grind (arith, same x, same y, none_below x y ys, none_below y x xs)
 
 -- numbers that rise are told by which there are
 same_numbers : (xs ys : List ℕ) → Rises xs → Rises ys → SameNumbers xs ys → xs ≡ ys
 same_numbers [] [] up climbs same = refl
-same_numbers [] (y ∷ ys) up climbs same = grind (arith, same y, has_first y ys)
-same_numbers (x ∷ xs) [] up climbs same = grind (arith, same x, has_first x xs)
+same_numbers [] (y ∷ ys) up climbs same = grind (arith, same y)
+same_numbers (x ∷ xs) [] up climbs same = grind (arith, same x)
 same_numbers (x ∷ xs) (y ∷ ys) up climbs same =
-    let first = by_order (cases_order x y) in
+    let first = same_first x y xs ys up.0 climbs.0 same in
     let rest = same_numbers xs ys up.1 climbs.1 (λ c. behind first c) in
     cc
   where
-    by_order : (x ≡ y) ⊎ ((x < y) ⊎ (y < x)) → x ≡ y
-    by_order (inl e) = e
-    by_order (inr (inl less)) = absurd (lower_first x y xs ys climbs.0 same less)
-    by_order (inr (inr more)) = absurd (lower_first y x ys xs up.0 (λ c. sym (same c)) more)
-
     behind : x ≡ y → (c : ℕ) → list_any (λ n. eqb n c) xs ≡ list_any (λ n. eqb n c) ys
     behind first c = grind (arith, same c, none_below c x xs, none_below c y ys)
 
@@ -91,11 +91,10 @@ wanted ws c moves = (
 -- wants that pass the test move the components of the participants, one each and in order
 in_order : (ws : List Want) (qs : List Participant) → Passes ws qs → (components_of ws ≡ components_in qs) × All Moves ws
 in_order [] [] passes = (refl, All-nil Moves)
-in_order [] (q ∷ qs) passes = grind arith
-in_order (w ∷ ws) [] passes = grind arith
 in_order (w ∷ ws) (q ∷ qs) passes =
     let rest : (components_of ws ≡ components_in qs) × All Moves ws = in_order ws qs (grind arith) in
     (grind arith, All-cons Moves w ws (grind arith) rest.1)
+in_order ws qs passes = grind arith
 
 -- wants that pass the test are those of the parties
 pub parties-from_test : (ws : List Want) (qs : List Participant) → Passes ws qs → AreParties ws qs
@@ -110,13 +109,12 @@ parties-from_test ws qs passes = record { moved = λ c. (λ at. sym (same c) ∙
 -- wants that move the components of participants, one each and in order, pass the test
 in_order_pass : (ws : List Want) (qs : List Participant) → components_of ws ≡ components_in qs → All Moves ws → Passes ws qs
 in_order_pass [] [] same moves = (refl, refl)
-in_order_pass [] (q ∷ qs) same moves = cc
-in_order_pass (w ∷ ws) [] same moves = cc
 in_order_pass (w ∷ ws) (q ∷ qs) same moves =
     let role = All-head Moves w ws moves in
     let rest : components_of ws ≡ components_in qs = cc in
     let later : Passes ws qs = in_order_pass ws qs rest (All-tail Moves w ws moves) in
     grind arith
+in_order_pass ws qs same moves = cc
 
 same_bool : (a b : Bool) → (a ≡ true → b ≡ true) → (b ≡ true → a ≡ true) → a ≡ b
 same_bool a b to from = grind arith
@@ -127,23 +125,13 @@ test-from_parties ws qs rising climbing are =
     in_order_pass ws qs (same_numbers (components_of ws) (components_in qs) (rises_from_increasing (components_of ws) rising) (rises_from_increasing (components_in qs) climbing) same) moves
   where
     moves : All Moves ws
-    moves = λ k d within. by_role (get_or ws k d) (Contains-get_or ws k d within) (get_or ws k d).role refl
-      where
-        by_role : (w : Want) → Contains ws w → (r : Role) → w.role ≡ r → w.role ≡ Moved
-        by_role w at Moved is = is
-        by_role w at Seen is = absurd (are.seen w.comp.0 (at.0, w, at.1, at.2, (refl, is)))
+    moves = λ k d within. elim (moved_or_seen ws (get_or ws k d) (Contains-get_or ws k d within)) [ inl moved ↦ moved | inr seen ↦ absurd (are.seen _ seen) ]
 
     same : SameNumbers (components_of ws) (components_in qs)
     same c =
         has-map (λ (w : Want). w.comp.0) ws c
         ∙ (same_bool (list_any (λ (w : Want). eqb w.comp.0 c) ws) (list_any (is_of c) qs) (λ is. (are.moved c).0 ((wanted ws c moves).1 is)) (λ is. (wanted ws c moves).0 ((are.moved c).1 is))
         ∙ sym (has-map (λ (q : Participant). q.0.0) qs c))
-
-pub has_next-true : (used : ℕ → ℕ) (w : Want) → has_next_number used w ≡ true → HasNextNumber used w
-has_next-true used w test = grind arith
-
-pub has_next-from : (used : ℕ → ℕ) (w : Want) → HasNextNumber used w → has_next_number used w ≡ true
-has_next-from used w has = grind arith
 
 -- a want that isn't wrong, of a component of the model
 pub right : (m : System) (used : ℕ → ℕ) (w : Want) → is_wrong (length m.components) used w ≡ false → w.comp.0 < length m.components → HasNextNumber used w
@@ -166,7 +154,7 @@ lowest_wrong m used ws w rising found =
     let wrong : wrong_in m used w ≡ true = rw is at here.1 in
     record {
       known = grind arith;
-      wrong = (i, w, here.0, is, (refl, λ has. let right = has_next-from used w has in grind arith));
+      wrong = (i, w, here.0, is, (refl, λ has. grind arith));
       lower = λ k d within below. right m used (get_or ws k d) (fails_before_first (wrong_in m used) ws k d (earlier i at k d within below (cases_order k i))) (grind arith);
     }
   where
@@ -204,25 +192,18 @@ moved_known m s g w valid has at moves =
 
 -- where no want is wrong and the wants are of the parties, each is right
 pub all_right : (m : System) (s : State) (used : ℕ → ℕ) (g : Grant) → IsSystem m → KnownAreRight m used g.wants → HasItsParties m s g → All (HasNextNumber used) g.wants
-all_right m s used g valid known has = λ k d within. known k d within (by_role (get_or g.wants k d) (Contains-get_or g.wants k d within) (get_or g.wants k d).role refl)
-  where
-    by_role : (w : Want) → Contains g.wants w → (r : Role) → w.role ≡ r → w.comp.0 < length m.components
-    by_role w at Moved is = moved_known m s g w valid has at is
-    by_role w at Seen is = absurd ((has.seen w.comp.0).0 (at.0, w, at.1, at.2, (refl, is)))
+all_right m s used g valid known has = λ k d within.
+    let at = Contains-get_or g.wants k d within in
+    known k d within (elim (moved_or_seen g.wants (get_or g.wants k d) at) [ inl moved ↦ moved_known m s g _ valid has at moved | inr seen ↦ absurd ((has.seen _).0 seen) ])
 
 -- the parties of a plain model: what is moved, and nothing that is seen
-parties-from : (m : System) (s : State) (g : Grant) (qs : List Participant) → qs ≡ participants_of m g.inter.0 → AreParties g.wants qs → HasItsParties m s g
-parties-from m s g qs e are =
-    let there = subst (AreParties g.wants) e are in
-    record { moved = there.moved; seen = λ c. (there.seen c, λ none. absurd none) }
-
-parties-of : (m : System) (s : State) (g : Grant) (qs : List Participant) → qs ≡ participants_of m g.inter.0 → HasItsParties m s g → AreParties g.wants qs
-parties-of m s g qs e has = subst (AreParties g.wants) (sym e) (record { moved = has.moved; seen = λ c. (has.seen c).0 })
+parties : (m : System) (s : State) (g : Grant) (qs : List Participant) → qs ≡ participants_of m g.inter.0 → AreParties g.wants qs ↔ HasItsParties m s g
+parties m s g qs e = rw e (λ are. record { moved = are.moved; seen = λ c. (are.seen c, λ none. absurd none) }, λ has. record { moved = has.moved; seen = λ c. (has.seen c).0 })
 
 -- wants that fail the test aren't of the parties
 pub not_parties : (m : System) (s : State) (g : Grant) (qs : List Participant) → qs ≡ participants_of m g.inter.0 → IsStrictlyIncreasing (components_of g.wants) → IsStrictlyIncreasing (components_in qs) → (eqb (length g.wants) (length qs) && list_all is_party (zip g.wants qs)) ≡ false → ¬ HasItsParties m s g
 not_parties m s g qs e rising climbing test has =
-    let passes = test-from_parties g.wants qs rising climbing (parties-of m s g qs e has) in
+    let passes = test-from_parties g.wants qs rising climbing ((parties m s g qs e).1 has) in
     grind arith
 
 -- what is enabled may run in a plain model, in which nothing stands above another
@@ -233,5 +214,5 @@ may_run m s a enabled = record { enabled = enabled; clear = λ b above. absurd a
 -- next
 pub next_from_tests : (m : System) (s : State) (used : ℕ → ℕ) (g : Grant) (qs : List Participant) → IsSystem m → qs ≡ participants_of m g.inter.0 → MayRun m s g.inter.0 → find (is_wrong (length m.components) used) g.wants ≡ None → (eqb (length g.wants) (length qs) && list_all is_party (zip g.wants qs)) ≡ true → IsNext m s used g
 next_from_tests m s used g qs valid e may found test =
-    let has = parties-from m s g qs e (parties-from_test g.wants qs (grind arith)) in
+    let has = (parties m s g qs e).0 (parties-from_test g.wants qs (grind arith)) in
     record { may = may; numbers = all_right m s used g valid (none_wrong m used g.wants found) has; parties = has }

@@ -16,11 +16,9 @@ use Rattle.bip_replay.specs.Lines.{grant_on}
 -- what a line and those behind it read as
 pub first_read : (n : ℕ) (line : Result (Option Grant) LineFault) (behind : Result (List Grant) (ℕ × LineFault)) (gs : List Grant) → before_rest n line behind ≡ Ok gs
     → (o : Option Grant) × (hs : List Grant) × (line ≡ Ok o) × (behind ≡ Ok hs) × (one_more [] o ++ hs ≡ gs)
-first_read n (Err e) behind gs is = cc
 first_read n (Ok None) (Ok hs) gs is = (None, hs, refl, refl, cc)
-first_read n (Ok None) (Err e) gs is = cc
 first_read n (Ok (Some g)) (Ok hs) gs is = (Some g, hs, refl, refl, cc)
-first_read n (Ok (Some g)) (Err e) gs is = cc
+first_read n line behind gs is = cc
 
 -- grants, and what lines behind theirs read as
 abbrev pub onto : List Grant → Result (List Grant) (ℕ × LineFault) → Result (List Grant) (ℕ × LineFault)
@@ -34,14 +32,11 @@ grants_from-append m n (line ∷ front) rest gs reads =
     let at = first_read n (grant_on m line) (grants_from m (n + 1) front) gs reads in
     let later = grants_from-append m (n + 1) front rest at.1 at.3 in
     let next : n + 1 + length front ≡ n + length (line ∷ front) = omega arith in
-    rw (at.2, later, next) (grind arith)
+    grind arith
 
 -- the grants of one line more
 pub grants_from-push : (m : System) (n : ℕ) (front : List (List ℕ)) (line : List ℕ) (gs : List Grant) (o : Option Grant) → grants_from m n front ≡ Ok gs → grant_on m line ≡ Ok o → grants_from m n (front ++ line ∷ []) ≡ Ok (one_more gs o)
 grants_from-push m n front line gs o reads says = let whole = grants_from-append m n front (line ∷ []) gs reads in grind (arith, append-nil gs)
-
-ok_length : (gs hs : List Grant) (r : Result (List Grant) (ℕ × LineFault)) → r ≡ Ok gs → r ≡ Ok hs → length gs ≡ length hs
-ok_length gs hs r e f = cc
 
 -- there are no more grants than lines
 grants_from-short : (m : System) (n : ℕ) (front : List (List ℕ)) (gs : List Grant) → grants_from m n front ≡ Ok gs → length gs ≤ length front
@@ -81,10 +76,10 @@ memory_at m text line n left after gs said so next says =
     let front = so.front ++ line ∷ [] in
     let split : lines text ≡ front ++ is.rest = is.split ∙ sym (append_assoc so.front (line ∷ []) is.rest) in
     let long : length front ≡ n = omega (arith, is.number, length-append so.front (line ∷ [])) in
-    let counted : length (lines text) ≡ length front + length is.rest = ap length split ∙ length-append front is.rest in
-    let read : take n (lines text) ≡ front = ap (λ (ls : List (List ℕ)). take n ls) split ∙ (ap (λ (k : ℕ). take k (front ++ is.rest)) (sym long) ∙ take-append_seam front is.rest) in
-    let reads : grants_from m 1 (take n (lines text)) ≡ Ok (one_more gs said) = ap (grants_from m 1) read ∙ grants_from-push m 1 so.front line gs said so.reads says in
-    record { first = omega (arith, is.number); last = omega (arith, is.number, counted, long); clear = subst IsOk (sym reads) refl }
+    let seam = take-append_seam front is.rest in
+    let push = grants_from-push m 1 so.front line gs said so.reads says in
+    let reads : grants_from m 1 (take n (lines text)) ≡ Ok (one_more gs said) = cc in
+    record { first = omega (arith, is.number); last = omega (arith, ap length split, length-append front is.rest, long); clear = subst IsOk (sym reads) refl }
 
 pub has_read-fault : (m : System) (text line : List ℕ) (n : ℕ) (left after : List (ℕ × List ℕ)) (old new : List Grant) (fault : TraceFault) → HasRead m text old left → left ≡ (n, line) ∷ after → Reads m old line (Err fault) new → IsTraceFault m text n fault
 has_read-fault m text line n left after old new fault so next reads = by_fault fault reads

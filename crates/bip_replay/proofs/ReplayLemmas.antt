@@ -1,10 +1,10 @@
 -- Replays: the lines read so far, and one line more.
-use Rattle.std.proofs.Common.{◌≡◌, ℕ, ◌+◌, ◌≤◌, ◌<◌, Bool, true, false, List, [], ◌∷◌, ◌++◌, length, Option, None, Some, Result, Ok, Err, refl, sym, ap, subst, arith, length-append}
+use Rattle.std.proofs.Common.{◌≡◌, ℕ, ◌+◌, ◌≤◌, ◌<◌, Bool, true, false, List, [], ◌∷◌, ◌++◌, length, Option, None, Some, Result, Ok, Err, refl, sym, subst, arith, length-append}
 use Rattle.std.specs.Int.{from_bool}
 use Rattle.bip_model.specs.declared.grants.Grant.{Grant}
 use Rattle.bip_model.specs.declared.parts.System.{System}
-use Rattle.bip_model.specs.Texts.{lines, numbered_lines}
-use Rattle.bip_model.proofs.LineLemmas.{all_read, line_read, none_read}
+use Rattle.bip_model.specs.Texts.{numbered_lines}
+use Rattle.bip_model.proofs.LineLemmas.{line_read, none_read}
 use Rattle.bip_replay.specs.declared.faults.LineFault.{LineFault}
 use Rattle.bip_replay.specs.declared.faults.LineFault.TheVariants as line_fault
 use Rattle.bip_replay.specs.declared.faults.ReplayFault.{ReplayFault}
@@ -91,9 +91,3 @@ pub first_line-reads : (m : System) (base : ℕ) (text line : List ℕ) (n : ℕ
 first_line-reads m base text line n after said next says =
     let is = line_read text [] (numbered_lines text) after n line (none_read text) next in
     (refl, subst (IsOutOfMemory m text) is.number (memory_at m text line n (numbered_lines text) after [] said (has_read-none m text) next says))
-
--- a text without a line has none at fault
-pub no_line-reads : (m : System) (base : ℕ) (text : List ℕ) → numbered_lines text ≡ [] → IsReplayFault m base text 1 Memory
-no_line-reads m base text none =
-    let empty : lines text ≡ [] = all_read text [] (numbered_lines text) (none_read text) none in
-    (refl, record { first = omega arith; last = omega (arith, ap length empty); clear = rw empty refl })

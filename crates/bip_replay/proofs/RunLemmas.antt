@@ -1,8 +1,8 @@
 -- Runs: in parts, step by step, what they are histories of, and the numbers of moves.
-use Rattle.std.proofs.Common.{◌≡◌, ℕ, ◌+◌, ◌<◌, List, [], ◌∷◌, ◌++◌, refl, arith, Bool, true, false, ◌&&◌, eqb, length, Option, None, Some, find, ◌∙◌, subst, inl, inr, ◌⊎◌}
+use Rattle.std.proofs.Common.{◌≡◌, ℕ, ◌+◌, ◌<◌, List, [], ◌∷◌, ◌++◌, refl, arith, Bool, length, Option, None, Some, find, subst, inl, inr, ◌⊎◌}
 use Rattle.std.proofs.lemmas.List.Elements.{All-head, All-tail, filter-append}
 use Rattle.std.specs.Prelude.{◌↔◌, All, filter, nat_lt}
-use Rattle.std.specs.List.{list_all, zip}
+use Rattle.std.specs.List.{list_all}
 use Rattle.std.specs.List.Sorted.{IsStrictlyIncreasing}
 use Rattle.std.proofs.lemmas.Bool.{cases_Bool, cases_lt}
 use Rattle.std.proofs.lemmas.List.{length-append}
@@ -16,7 +16,7 @@ use Rattle.bip_model.specs.Steps.{IsRun, after, end_of, start_of, IsEnabled, May
 use Rattle.bip_model.specs.Wants.{raised, components_of, moved_in}
 use Rattle.bip_model.proofs.LawLemmas.{rising_of}
 use Rattle.bip_model.specs.Parts.{IsSystem}
-use Rattle.bip_replay.specs.Runs.{HasNextNumber, IsModelRun, IsNext, IsRunFrom, interactions_of, state_after, used_after, is_party, is_wrong}
+use Rattle.bip_replay.specs.Runs.{HasNextNumber, IsModelRun, IsNext, IsRunFrom, interactions_of, state_after, used_after, are_parties, is_wrong}
 use Rattle.bip_replay.specs.declared.faults.StepFault.{StepFault}
 use Rattle.bip_replay.specs.declared.faults.StepFault.TheVariants.{NotEnabled, Number, Parties}
 use Rattle.bip_replay.specs.Faults.{IsFaultOf, expected_after}
@@ -43,10 +43,6 @@ end_of-push m s (h ∷ gs) g = end_of-push m (after m s h.inter.0) gs g
 pub IsRun-from_grants : (m : System) (s : State) (used : ℕ → ℕ) (gs : List Grant) → IsRunFrom m s used gs → IsRun m s (interactions_of gs)
 IsRun-from_grants m s used [] run = tt
 IsRun-from_grants m s used (g ∷ gs) run = (run.0.may, IsRun-from_grants m (after m s g.inter.0) (raised used g.wants) gs run.1)
-
--- the number of a next move is fresh
-fresh : (used : ℕ → ℕ) (w : Want) → HasNextNumber used w → used w.comp.0 < w.number
-fresh used w has = let next : w.number ≡ used w.comp.0 + 1 = has.next in omega arith
 
 pub IsHistory-from_run : (m : System) (s : State) (used : ℕ → ℕ) (gs : List Grant) → IsRunFrom m s used gs → IsHistory used gs
 IsHistory-from_run m s used [] run = tt
@@ -86,21 +82,18 @@ moved-next used (w ∷ ws) c numbers =
 abbrev moves_one : ℕ → Grant → Bool
 moves_one c g = nat_lt 0 (moved_in g.wants c)
 
--- a grant with exact numbers raises the used number of a component by one, or doesn't move it
-raised-once : (used : ℕ → ℕ) (g : Grant) (gs : List Grant) (c : ℕ) → All (HasNextNumber used) g.wants → raised used g.wants c + times_moved gs c ≡ used c + times_moved (g ∷ gs) c
-raised-once used g gs c numbers = let next = moved-next used g.wants c numbers in grind arith
-
-used-counts : (m : System) (s : State) (used : ℕ → ℕ) (gs : List Grant) (c : ℕ) → IsRunFrom m s used gs → used_by used gs c ≡ used c + times_moved gs c
-used-counts m s used [] c run = omega arith
-used-counts m s used (g ∷ gs) c run = used-counts m (after m s g.inter.0) (raised used g.wants) gs c run.1 ∙ raised-once used g gs c run.0.numbers
-
-pub counts_moves : (m : System) (base : ℕ) (gs : List Grant) (c : ℕ) → IsModelRun m base gs → used_after base gs c ≡ base + times_moved gs c
-counts_moves m base gs c run = used-counts m (start_of m) (λ _. base) gs c run
+-- the used number of a component is the one before and how often it moved
+pub counts_moves : (m : System) (s : State) (used : ℕ → ℕ) (gs : List Grant) (c : ℕ) → IsRunFrom m s used gs → used_by used gs c ≡ used c + times_moved gs c
+counts_moves m s used [] c run = omega arith
+counts_moves m s used (g ∷ gs) c run =
+    let next = moved-next used g.wants c run.0.numbers in
+    let later = counts_moves m (after m s g.inter.0) (raised used g.wants) gs c run.1 in
+    grind arith
 
 pub numbered : (m : System) (base : ℕ) (front rest : List Grant) (g : Grant) (c : ℕ) → IsModelRun m base (front ++ g ∷ rest) → 0 < moved_in g.wants c → moved_in g.wants c ≡ base + times_moved (front ++ g ∷ []) c
 numbered m base front rest g c run moves =
     let next = moved-next (used_after base front) g.wants c (next_at m base front rest g run).numbers in
-    let before = counts_moves m base front c (IsRunFrom-parts m (start_of m) (λ _. base) front (g ∷ rest) run).0 in
+    let before = counts_moves m (start_of m) (λ _. base) front c (IsRunFrom-parts m (start_of m) (λ _. base) front (g ∷ rest) run).0 in
     let more = filter-append (moves_one c) front (g ∷ []) in
     grind (arith, length-append (filter (moves_one c) front) (filter (moves_one c) (g ∷ [])))
 
@@ -119,16 +112,14 @@ abbrev pub NextOrFault : System → State → (ℕ → ℕ) → Grant → Type 0
 NextOrFault m s used g = IsNext m s used g ⊎ ((fault : StepFault) × IsFaultOf m s used g fault)
 
 pub next_or_fault : (m : System) (s : State) (used : ℕ → ℕ) (g : Grant) → IsSystem m → IsStrictlyIncreasing (components_of g.wants) → NextOrFault m s used g
-next_or_fault m s used g valid rising = by_enabled (is_enabled m s g.inter.0)
+next_or_fault m s used g valid rising = elim (is_enabled m s g.inter.0) [
+  | inl is ↦ by_wrong (may_run m s g.inter.0 is) (find (is_wrong (length m.components) used) g.wants) refl
+  | inr not_now ↦ inr (NotEnabled, not_now)
+]
   where
-    by_parties : MayRun m s g.inter.0 → find (is_wrong (length m.components) used) g.wants ≡ None → (b : Bool) → (eqb (length g.wants) (length (participants_of m g.inter.0)) && list_all is_party (zip g.wants (participants_of m g.inter.0))) ≡ b → NextOrFault m s used g
-    by_parties may none true e = inl (next_from_tests m s used g (participants_of m g.inter.0) valid refl may none e)
-    by_parties may none false e = inr (Parties, (may, none_wrong m used g.wants none, not_parties m s g (participants_of m g.inter.0) refl rising (rising_of m g.inter.0 valid) e))
-
     by_wrong : MayRun m s g.inter.0 → (o : Option Want) → find (is_wrong (length m.components) used) g.wants ≡ o → NextOrFault m s used g
     by_wrong may (Some w) e = inr (Number w.comp (expected_after (used w.comp.0)), (may, lowest_wrong m used g.wants w rising e, refl))
-    by_wrong may None e = by_parties may e (eqb (length g.wants) (length (participants_of m g.inter.0)) && list_all is_party (zip g.wants (participants_of m g.inter.0))) refl
-
-    by_enabled : IsEnabled m s g.inter.0 ⊎ (¬ IsEnabled m s g.inter.0) → NextOrFault m s used g
-    by_enabled (inl is) = by_wrong (may_run m s g.inter.0 is) (find (is_wrong (length m.components) used) g.wants) refl
-    by_enabled (inr not_now) = inr (NotEnabled, not_now)
+    by_wrong may None e = elim (cases_Bool (are_parties g.wants (participants_of m g.inter.0))) [
+      | inl all ↦ inl (next_from_tests m s used g (participants_of m g.inter.0) valid refl may e all)
+      | inr some ↦ inr (Parties, (may, none_wrong m used g.wants e, not_parties m s g (participants_of m g.inter.0) refl rising (rising_of m g.inter.0 valid) some))
+    ]

@@ -1,6 +1,6 @@
 -- What texts of grants have in common: texts that say the same words say the same grants, a grant's
 -- line names its interaction, and each grant is one of the model.
-use Rattle.std.proofs.Common.{arith, ◌≡◌, ℕ, ◌+◌, List, [], ◌∷◌, map, Option, None, Some, Result, Ok, Err, refl, sym, ap, ◌∙◌}
+use Rattle.std.proofs.Common.{arith, ◌≡◌, ℕ, ◌+◌, List, [], ◌∷◌, map, Option, None, Some, Result, Ok, Err, refl, sym, ◌∙◌}
 use Rattle.std.specs.Prelude.{All, filter}
 use Rattle.std.specs.Option.{option_map, option_map_or}
 use Rattle.std.proofs.lemmas.List.Elements.{All-append, All-cons, All-nil}
@@ -10,7 +10,7 @@ use Rattle.bip_model.specs.declared.grants.Grant.{Grant}
 use Rattle.bip_model.specs.declared.parts.System.{System}
 use Rattle.bip_replay.specs.Laws.{AreOfModel, NamesItsInteraction, SameGrants}
 use Rattle.bip_replay.specs.Lines.{grant_on, looked_up, said}
-use Rattle.bip_replay.specs.Traces.{before_rest, grants_from, grants_of, one_more}
+use Rattle.bip_replay.specs.Traces.{grants_from, grants_of, one_more}
 use Rattle.bip_replay.proofs.ReadingLemmas.{first_read}
 use Rattle.bip_replay.specs.Writing.{IsGrantOf}
 use Rattle.bip_replay.specs.declared.faults.LineFault.{LineFault}
@@ -37,9 +37,6 @@ abbrev without_number : Result (List Grant) (ℕ × LineFault) → Option (List 
 without_number (Ok gs) = Some gs
 without_number (Err e) = None
 
-without_number-before : (n : ℕ) (line : Result (Option Grant) LineFault) (behind : Result (List Grant) (ℕ × LineFault)) → without_number (before_rest n line behind) ≡ with_grant line (without_number behind)
-without_number-before n line behind = grind arith
-
 words_read : (m : System) (n : ℕ) (ls : List (List ℕ)) → without_number (grants_from m n ls) ≡ all_said m (map words_said ls)
 words_read m n [] = refl
 words_read m n (line ∷ ls) = grind (arith, words_read m (n + 1) ls)
@@ -56,7 +53,7 @@ said_words : (m : System) (text : List ℕ) → without_number (grants_of m text
 said_words m text = words_read m 1 (lines text) ∙ sym (skipped_aside m (map words_said (lines text)))
 
 pub same_grants : SameGrants
-same_grants m a b same gs e = some_read (grants_of m b) gs (said_words m b ∙ ap (all_said m) (sym same) ∙ sym (said_words m a) ∙ ap without_number e)
+same_grants m a b same gs e = grind (arith, said_words m a, said_words m b)
 
 pub names_its_interaction : NamesItsInteraction
 names_its_interaction m line g e =

@@ -1,13 +1,11 @@
 -- What is written, read again: lines, words, numbers and names.
-use Rattle.std.proofs.Common.{◌≡◌, ◌≢◌, ℕ, zero, suc, position, ◌^◌, ◌<◌, ◌≤◌, Bool, true, false, not, ◌||◌, eqb, leb, List, [], ◌∷◌, ◌++◌, length, get_or, Some, refl, ap, arith}
+use Rattle.std.proofs.Common.{◌≡◌, ℕ, zero, suc, position, ◌^◌, ◌<◌, ◌≤◌, Bool, true, false, not, ◌||◌, eqb, List, [], ◌∷◌, ◌++◌, length, Some, refl, ap, arith}
 use Rattle.std.specs.Prelude.{All}
 use Rattle.std.specs.Char.{is_ascii_digit, is_ascii_graphic}
-use Rattle.std.specs.Int.{is_in_range}
 use Rattle.std.specs.Fmt.{decimal}
 use Rattle.std.specs.List.{flat_map, list_all, position_or_len}
 use Rattle.std.specs.Str.Parse.{AllDigits}
 use Rattle.std.proofs.Math.Seq.{take-append_seam, drop-append-add}
-use Rattle.std.proofs.lemmas.Bool.{and_parts, and_from, leb-true, le-leb}
 use Rattle.std.proofs.lemmas.Cmp.{nat_list_eq_equiv}
 use Rattle.std.proofs.lemmas.Fmt.{decimal_is_IsNumeral, length-decimal-le}
 use Rattle.std.proofs.lemmas.List.{append-nil, length-append}
@@ -17,7 +15,7 @@ use Rattle.std.proofs.lemmas.List.Splits.{slice_split_at, slice_split_none}
 use Rattle.std.proofs.lemmas.List.Sums.{AllPass-from_list_all}
 use Rattle.std.proofs.lemmas.Str.Parse.{digit_from_value}
 use Rattle.bip_model.specs.Naming.{AreApart, IsName, is_known, is_name, is_name_byte, same_text}
-use Rattle.bip_model.specs.Texts.{is_blank, is_line_feed, is_longer, is_plain, lines, number_of, pair_of, words}
+use Rattle.bip_model.specs.Texts.{is_blank, is_longer, is_plain, lines, number_of, pair_of, words}
 use Rattle.bip_replay.specs.Writing.{name_in, spaced}
 
 -- each byte of a text can be seen
@@ -33,39 +31,10 @@ all_weaker : (p q : ℕ → Bool) → ((b : ℕ) → p b ≡ true → q b ≡ tr
 all_weaker p q follows [] all = refl
 all_weaker p q follows (b ∷ bs) all = grind (arith, follows b, all_weaker p q follows bs)
 
--- what the test of a range tells
-in_range : (low high b : ℕ) → is_in_range low high b ≡ true → (low ≤ b) × (b ≤ high)
-in_range low high b within =
-    let parts = and_parts (leb low b) (leb b high) within in (leb-true low b parts.0, leb-true b high parts.1)
-
--- a byte of a range passes its test
-range_of : (low high b : ℕ) → low ≤ b → b ≤ high → is_in_range low high b ≡ true
-range_of low high b above below = and_from (leb low b) (leb b high) (le-leb low b above) (le-leb b high below)
-
--- a byte of a name lies between the digits and the letters, and is no colon
-name_byte : (b : ℕ) → is_name_byte b ≡ true → (48 ≤ b) × (b ≤ 122) × (b ≢ 58)
-name_byte b named = grind arith
-
--- a byte of a name can be seen
-name_byte-graphic : (b : ℕ) → is_name_byte b ≡ true → is_ascii_graphic b ≡ true
-name_byte-graphic b named = grind arith
-
--- a digit can be seen
-digit-graphic : (b : ℕ) → is_ascii_digit b ≡ true → is_ascii_graphic b ≡ true
-digit-graphic b digit = grind arith
-
--- a byte that can be seen isn't blank
-graphic-not_blank : (b : ℕ) → is_ascii_graphic b ≡ true → is_blank b ≡ false
-graphic-not_blank b seen = grind arith
-
--- a byte of a plain line is no line feed
-plain-not_feed : (b : ℕ) → (is_ascii_graphic b || is_blank b) ≡ true → is_line_feed b ≡ false
-plain-not_feed b plain = grind arith
-
 -- a plain line with its line feed is the first line
 pub lines_front : (line rest : List ℕ) → is_plain line ≡ true → lines (line ++ 10 ∷ rest) ≡ line ∷ lines rest
 lines_front [] rest plain = refl
-lines_front (b ∷ bs) rest plain = grind (arith, plain-not_feed b, lines_front bs rest)
+lines_front (b ∷ bs) rest plain = grind (arith, lines_front bs rest)
 
 -- a text whose bytes can be seen is plain
 inked-plain : (word : List ℕ) → is_inked word ≡ true → is_plain word ≡ true
@@ -81,7 +50,7 @@ plain_spaced word (v ∷ vs) seen all =
 
 -- a text whose bytes can be seen has no blank
 inked-not_blank : (word : List ℕ) → is_inked word ≡ true → All (λ b. is_blank b ≡ false) word
-inked-not_blank word seen k d within = graphic-not_blank (get_or word k d) (AllPass-from_list_all is_ascii_graphic word seen k d within)
+inked-not_blank word seen k d within = let is = AllPass-from_list_all is_ascii_graphic word seen k d within in grind arith
 
 -- words behind spaces are the words of their line
 pub words_spaced : (word : List ℕ) (ws : List (List ℕ)) → IsWord word → All IsWord ws → words (word ++ flat_map spaced ws) ≡ word ∷ ws
@@ -119,7 +88,7 @@ longer text some = grind arith
 
 -- a name can stand as a word
 pub name-word : (name : List ℕ) → IsName name → IsWord name
-name-word name is = (grind (arith, longer name), all_weaker is_name_byte is_ascii_graphic name_byte-graphic name (name-bytes name is))
+name-word name is = (grind (arith, longer name), all_weaker is_name_byte is_ascii_graphic (λ b n. grind arith) name (name-bytes name is))
 
 -- digits pass the test of digits
 digits-all : (ds : List ℕ) → AllDigits 10 ds → list_all is_ascii_digit ds ≡ true
@@ -139,7 +108,7 @@ pub pair-word : (name : List ℕ) (n : ℕ) → IsName name → n < 2 ^ 64 → I
 pair-word name n is high = (longer (name ++ 58 ∷ decimal n) (simp length-append (omega arith)), rw (list_all-append is_ascii_graphic name (58 ∷ decimal n), (name-word name is).1) digits)
   where
     digits : is_inked (decimal n) ≡ true
-    digits = all_weaker is_ascii_digit is_ascii_graphic digit-graphic (decimal n) (digits-all (decimal n) (decimal_is_IsNumeral n high).0.1)
+    digits = all_weaker is_ascii_digit is_ascii_graphic (λ b d. grind arith) (decimal n) (digits-all (decimal n) (decimal_is_IsNumeral n high).0.1)
 
 -- a name that isn't among names is none of them
 unknown_at : (name : List ℕ) (names : List (List ℕ)) (c : ℕ) → is_known name names ≡ false → c < length names → same_text name (name_in names c) ≡ false

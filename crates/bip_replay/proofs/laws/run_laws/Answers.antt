@@ -15,6 +15,6 @@ returns c =
       steps = λ m base. IsRun-from_grants m (start_of m) (λ _. base);
       histories = λ m base. IsHistory-from_run m (start_of m) (λ _. base);
       once = λ m base gs run. c.history_laws.ensures.once (λ _. base) gs (IsHistory-from_run m (start_of m) (λ _. base) gs run);
-      counts = counts_moves;
+      counts = λ m base. counts_moves m (start_of m) (λ _. base);
       numbered = numbered;
     }
