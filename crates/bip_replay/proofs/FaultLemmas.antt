@@ -98,13 +98,10 @@ in_order ws qs passes = grind arith
 
 -- wants that pass the test are those of the parties
 pub parties-from_test : (ws : List Want) (qs : List Participant) → Passes ws qs → AreParties ws qs
-parties-from_test ws qs passes = record { moved = λ c. (λ at. sym (same c) ∙ (wanted ws c is.1).0 at, λ has. (wanted ws c is.1).1 (same c ∙ has)); seen = λ c at. let role = is.1 at.0 at.1 at.2 in grind arith }
-  where
-    is : (components_of ws ≡ components_in qs) × All Moves ws
-    is = in_order ws qs passes
-
-    same : (c : ℕ) → list_any (λ (w : Want). eqb w.comp.0 c) ws ≡ list_any (is_of c) qs
-    same c = sym (has-map (λ (w : Want). w.comp.0) ws c) ∙ (ap (list_any (λ n. eqb n c)) is.0 ∙ has-map (λ (q : Participant). q.0.0) qs c)
+parties-from_test ws qs passes =
+    let is = in_order ws qs passes in
+    let same = λ (c : ℕ). sym (has-map (λ (w : Want). w.comp.0) ws c) ∙ (ap (list_any (λ n. eqb n c)) is.0 ∙ has-map (λ (q : Participant). q.0.0) qs c) in
+    record { moved = λ c. (λ at. sym (same c) ∙ (wanted ws c is.1).0 at, λ has. (wanted ws c is.1).1 (same c ∙ has)); seen = λ c at. let role = is.1 at.0 at.1 at.2 in grind arith }
 
 -- wants that move the components of participants, one each and in order, pass the test
 in_order_pass : (ws : List Want) (qs : List Participant) → components_of ws ≡ components_in qs → All Moves ws → Passes ws qs
@@ -129,9 +126,9 @@ test-from_parties ws qs rising climbing are =
 
     same : SameNumbers (components_of ws) (components_in qs)
     same c =
-        has-map (λ (w : Want). w.comp.0) ws c
-        ∙ (same_bool (list_any (λ (w : Want). eqb w.comp.0 c) ws) (list_any (is_of c) qs) (λ is. (are.moved c).0 ((wanted ws c moves).1 is)) (λ is. (wanted ws c moves).0 ((are.moved c).1 is))
-        ∙ sym (has-map (λ (q : Participant). q.0.0) qs c))
+        let there = are.moved c in
+        let here = wanted ws c moves in
+        grind (arith, has-map (λ (w : Want). w.comp.0) ws c, has-map (λ (q : Participant). q.0.0) qs c)
 
 -- a want that isn't wrong, of a component of the model
 pub right : (m : System) (used : ℕ → ℕ) (w : Want) → is_wrong (length m.components) used w ≡ false → w.comp.0 < length m.components → HasNextNumber used w

@@ -1,10 +1,9 @@
 -- Lines of grants: what is read of one is what its words spell, and back.
 use Rattle.std.proofs.lemmas.Slice.Zip.{AllZip-long}
-use Rattle.std.proofs.Common.{eqb-true, ◌≡◌, ℕ, ◌+◌, ◌<◌, ◌≤◌, true, eqb, List, [], ◌∷◌, ◌++◌, length, take, drop, get_or, position, Option, Some, Ok, refl, sym, ap, ◌∙◌, subst, arith}
+use Rattle.std.proofs.Common.{eqb-true, ◌≡◌, ℕ, ◌+◌, ◌<◌, ◌≤◌, true, eqb, List, [], ◌∷◌, ◌++◌, length, take, drop, get_or, position, Some, Ok, refl, sym, ap, ◌∙◌, subst, arith}
 use Rattle.std.specs.Prelude.{All, codes}
 use Rattle.std.specs.List.{AllZip, list_any}
 use Rattle.std.specs.List.Sorted.{IsPermutation}
-use Rattle.std.specs.Option.{option_map}
 use Rattle.std.specs.Cmp.Lexicographic as texts
 use Rattle.std.proofs.lemmas.List.{drop_more, take-append-drop}
 use Rattle.std.proofs.lemmas.List.Quantifiers.{position-Some}
@@ -14,7 +13,7 @@ use Rattle.std.proofs.lemmas.Option.{get_or_from_slice_get, option_and_then_some
 use Rattle.bip_model.proofs.NumberingLemmas.{apart_from_rises, by_number-IsPermutation, by_number-is, by_number-rises, increasing_from_rises, numbered_moved, rises_from_increasing}
 use Rattle.bip_model.specs.Naming.{AreApart, is_name, same_text}
 use Rattle.bip_model.specs.Parts.{IsSystem}
-use Rattle.bip_model.specs.Texts.{is_plain, number_of, pair_of, words}
+use Rattle.bip_model.specs.Texts.{is_plain, pair_of, words}
 use Rattle.bip_model.specs.Wants.{IsWants, components_of, is_moved}
 use Rattle.bip_model.specs.declared.grants.Grant.{Grant}
 use Rattle.bip_model.specs.declared.parts.System.{System}
@@ -23,19 +22,15 @@ use Rattle.bip_model.specs.declared.wants.Role.TheVariants.{Moved, Seen}
 use Rattle.bip_model.specs.declared.wants.Want.{Want}
 use Rattle.bip_replay.specs.Laws.{IsGrantLine, IsNameOf, ReadsGrantLines, Spells}
 use Rattle.bip_replay.specs.Lines.{NamedGrant, colon, grant_on, known, named_on, said, want_of, want_said, wants_known, wants_said}
-use Rattle.bip_replay.specs.Writing.{IsGrantOf, behind_see}
+use Rattle.bip_replay.specs.Writing.{IsGrantOf}
 use Rattle.bip_replay.specs.declared.lines.NamedWant.{NamedWant}
-use Rattle.bip_replay.proofs.NamedLemmas.{AreFit, AreSaid, Numbers, apart_as_numbered, Say, comp_of, found_for, known_from, name_at, said_wants, wants_said-from}
-use Rattle.bip_replay.proofs.WordLemmas.{is_name-from, name-bytes, pair_of-name, position-name}
-
--- what a map of something was
-map_some : {X Y : Type 0} (f : X → Y) (o : Option X) (y : Y) → option_map f o ≡ Some y → (x : X) × (o ≡ Some x) × (f x ≡ y)
-map_some f o y is = grind arith
+use Rattle.bip_replay.proofs.NamedLemmas.{AreFit, Numbers, apart_as_numbered, Say, comp_of, found_for, known_from, name_at, said_wants, wants_said-from}
+use Rattle.bip_replay.proofs.WordLemmas.{is_name-from, pair_of-name, position-name}
 
 -- the parts of a word with a colon
 parts_of : (word : List ℕ) (parts : List ℕ × List ℕ) → pair_of colon word ≡ Some parts → word ≡ parts.0 ++ colon ∷ parts.1
 parts_of word parts is =
-    let at = map_some (λ i. (take i word, drop (i + 1) word)) (position (λ b. eqb b 58) word) parts is in
+    let at : (i : ℕ) × (position (λ b. eqb b 58) word ≡ Some i) × ((take i word, drop (i + 1) word) ≡ parts) = grind arith in
     let here = position-Some (λ b. eqb b 58) word at.0 0 at.1 in
     let behind = rw (eqb-true (get_or word at.0 0) 58 here.1) at (drop_more word at.0 0 here.0) in
     rw (← at.2) (sym (take-append-drop at.0 word) ∙ ap (λ (bs : List ℕ). take at.0 word ++ bs) behind)
@@ -66,7 +61,7 @@ spells_from m role word v w says is =
 says_from : (m : System) (role : Role) (word : List ℕ) (w : Want) → AreApart m.component_names → Spells m role word w → (v : NamedWant) × (want_said role word ≡ Some v) × Numbers m.component_names v w
 says_from m role word w apart s = (
   record { name = s.component; number = w.number; role = role },
-  rw (s.parts, pair_of-name s.component s.numeral (name-bytes s.component s.names.name), is_name-from s.component s.names.name, s.number) refl,
+  rw (s.parts, pair_of-name s.component s.numeral s.names.name, is_name-from s.component s.names.name, s.number) refl,
   record { place = place-name_of m.component_names s.component w.comp.0 apart s.names; number = refl; role = sym s.by_place },
 )
 
@@ -160,22 +155,12 @@ line_reads m line g valid is =
     let long = length_permutation (is.moved ++ is.seen) g.wants is.wants in
     let same = AllZip-long (Numbers m.component_names) (moves.0 ++ sees.0) (is.moved ++ is.seen) each in
     let beside = AllZip-long (Numbers m.component_names) moves.0 is.moved moves.2 in
-    let are : AreSaid [] (is.moved_words ++ behind_see is.seen_words) (moves.0 ++ sees.0) = record {
-      moved_words = is.moved_words;
-      seen_words = is.seen_words;
-      moved = moves.0;
-      seen = sees.0;
-      split = refl;
-      moves = moves.1;
-      sees = sees.1;
-      some = omega (arith, is.some);
-      all = refl;
-      fit = record { apart = (apart_as_numbered m.component_names (moves.0 ++ sees.0) (is.moved ++ is.seen) each).1 numbered; few = omega (arith, is.few) };
-    } in
+    let fit : AreFit (moves.0 ++ sees.0) = record { apart = (apart_as_numbered m.component_names (moves.0 ++ sees.0) (is.moved ++ is.seen) each).1 numbered; few = omega (arith, is.few) } in
+    let said = wants_said-from is.moved_words is.seen_words moves.0 sees.0 moves.1 sees.1 (omega (arith, is.some)) fit in
     let place = place-name_of m.interaction_names is.interaction g.inter.0 valid.so_far.interactions_apart is.named in
     let known = known_from m.component_names [] (moves.0 ++ sees.0) (is.moved ++ is.seen) each in
     let sorted = by_number-is comp_of (is.moved ++ is.seen) g.wants is.wants rises in
-    rw (is.plain, is.says, is_name-from is.interaction is.named.name, wants_said-from (is.moved_words ++ behind_see is.seen_words) (moves.0 ++ sees.0) are, place, known, sorted) refl
+    rw (is.plain, is.says, is_name-from is.interaction is.named.name, said, place, known, sorted) refl
 
 pub reads_grant_lines : ReadsGrantLines
 reads_grant_lines m line g valid = (grant_line m line g, line_reads m line g valid)
@@ -200,25 +185,20 @@ grant_of_model m line g is =
       components = of_spelled m line g (λ (w : Want). w.comp.0 < length m.component_names) (λ role word w s. slice_get_within m.component_names w.comp.0 s.component s.names.known) is;
     }
 
--- a number that a word spells isn't 0
-number_of-low : (word : List ℕ) (n : ℕ) → number_of word ≡ Some n → 1 ≤ n
-number_of-low word n is = grind arith
-
 -- the wants of a line can be those of a grant
 pub line_wants : (m : System) (line : List ℕ) (g : Grant) → IsGrantLine m line g → IsWants g.wants
 line_wants m line g is =
     record {
       few = is.few;
       rising = is.rising;
-      numbered = of_spelled m line g (λ (w : Want). 1 ≤ w.number) (λ role word w s. number_of-low s.numeral w.number s.number) is;
+      numbered = of_spelled m line g (λ (w : Want). 1 ≤ w.number) (λ role word w s. grind arith) is;
       moving = moving is.moved_words is.moved is.some is.moves is.wants;
     }
   where
     moving : (words : List (List ℕ)) (ws : List Want) → 0 < length ws → AllZip (Spells m Moved) words ws → IsPermutation (ws ++ is.seen) g.wants → list_any (λ (w : Want). is_moved w.role) g.wants ≡ true
-    moving words [] some zip moved = absurd (omega arith)
-    moving [] (w ∷ ws) some zip moved = absurd zip
     moving (word ∷ words) (w ∷ ws) some zip moved =
         sym (list_any-IsPermutation (λ (v : Want). is_moved v.role) ((w ∷ ws) ++ is.seen) g.wants moved) ∙ rw zip.0.by_place refl
+    moving words ws some zip moved = grind arith
 
 pub wants_valid : (m : System) (line : List ℕ) (h : NamedGrant) (a : ℕ) (wants : List Want) → named_on line ≡ Ok (Some h) → position (same_text h.inter) m.interaction_names ≡ Some a → wants_known m.component_names [] h.wants ≡ Some wants → IsWants wants
 wants_valid m line h a wants named place known =

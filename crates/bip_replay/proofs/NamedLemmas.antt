@@ -119,19 +119,16 @@ said_wants before (word ∷ rest) named fit says = by_see (same_text word (codes
         record { moved_words = word ∷ more.moved_words; seen_words = more.seen_words; moved = one.0 ∷ more.moved; seen = more.seen; split = ap (λ (us : List (List ℕ)). word ∷ us) more.split; moves = (one.1, more.moves); sees = more.sees; some = rw e at more.some; all = rw e at more.all; fit = more.fit }
 
 -- the words are read as these wants
-pub wants_said-from : (ws : List (List ℕ)) (named : List NamedWant) → AreSaid [] ws named → wants_said Moved [] ws ≡ Some named
-wants_said-from ws named are =
-    rw (are.split, ← are.all)
-    (said-run Moved [] are.moved_words are.moved (behind_see are.seen_words) are.seen are.moves (rw (← are.all) at are.fit)
-    ∙ by_seen are.seen_words are.seen are.sees (rw (← are.all) at are.fit))
+pub wants_said-from : (moved_words seen_words : List (List ℕ)) (moved seen : List NamedWant) → Say Moved moved_words moved → Say Seen seen_words seen → 0 < length moved → AreFit (moved ++ seen) → wants_said Moved [] (moved_words ++ behind_see seen_words) ≡ Some (moved ++ seen)
+wants_said-from moved_words seen_words moved seen moves sees some fit = said-run Moved [] moved_words moved (behind_see seen_words) seen moves fit ∙ by_seen seen_words seen sees fit
   where
-    by_seen : (words : List (List ℕ)) (vs : List NamedWant) → Say Seen words vs → AreFit (are.moved ++ vs) → wants_said Moved are.moved (behind_see words) ≡ Some (are.moved ++ vs)
-    by_seen [] [] say fit = rw (append-nil are.moved) (grind (arith, are.some))
-    by_seen [] (v ∷ vs) say fit = absurd say
-    by_seen (word ∷ words) vs say fit =
-        let some = length-append are.moved vs in
-        let run = rw (append-nil words) at (said-run Seen are.moved (word ∷ words) vs [] [] say (rw (append-nil vs) fit)) in
-        grind (arith, are.some)
+    by_seen : (words : List (List ℕ)) (vs : List NamedWant) → Say Seen words vs → AreFit (moved ++ vs) → wants_said Moved moved (behind_see words) ≡ Some (moved ++ vs)
+    by_seen [] [] say fit' = rw (append-nil moved) (grind arith)
+    by_seen [] (v ∷ vs) say fit' = absurd say
+    by_seen (word ∷ words) vs say fit' =
+        let long = length-append moved vs in
+        let run = rw (append-nil words) at (said-run Seen moved (word ∷ words) vs [] [] say (rw (append-nil vs) fit')) in
+        grind arith
 
 -- the number of a want's component
 abbrev pub comp_of : Want → ℕ

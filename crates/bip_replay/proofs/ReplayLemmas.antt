@@ -1,5 +1,5 @@
 -- Replays: the lines read so far, and one line more.
-use Rattle.std.proofs.Common.{◌≡◌, ℕ, ◌+◌, ◌≤◌, ◌<◌, Bool, true, false, List, [], ◌∷◌, ◌++◌, length, Option, None, Some, Result, Ok, Err, refl, sym, subst, arith, length-append}
+use Rattle.std.proofs.Common.{◌≡◌, ℕ, ◌+◌, ◌<◌, Bool, true, false, List, [], ◌∷◌, ◌++◌, length, Option, None, Some, Ok, Err, refl, sym, subst, arith, length-append}
 use Rattle.std.specs.Int.{from_bool}
 use Rattle.bip_model.specs.declared.grants.Grant.{Grant}
 use Rattle.bip_model.specs.declared.parts.System.{System}
@@ -8,10 +8,11 @@ use Rattle.bip_model.proofs.LineLemmas.{line_read, none_read}
 use Rattle.bip_replay.specs.declared.faults.LineFault.{LineFault}
 use Rattle.bip_replay.specs.declared.faults.LineFault.TheVariants as line_fault
 use Rattle.bip_replay.specs.declared.faults.ReplayFault.{ReplayFault}
-use Rattle.bip_replay.specs.declared.faults.ReplayFault.TheVariants.{Syntax, Unknown, Memory}
+use Rattle.bip_replay.specs.declared.faults.ReplayFault.TheVariants.{Memory}
 use Rattle.bip_replay.specs.Faults.{replay_of_line}
-use Rattle.bip_replay.specs.Runs.{StandsAfter, Standing, state_after, used_after}
-use Rattle.bip_replay.specs.Replays.{IsFirstFault, IsLineFault, IsReplayFault, IsRunOf, Takes}
+use Rattle.bip_model.specs.Steps.{start_of}
+use Rattle.bip_replay.specs.Runs.{IsModelRun, StandsAfter, Standing, state_after, used_after}
+use Rattle.bip_replay.specs.Replays.{IsLineFault, IsReplayFault, IsRunOf, Takes}
 use Rattle.bip_replay.specs.Traces.{IsOutOfMemory}
 use Rattle.bip_replay.specs.Lines.{grant_on}
 use Rattle.bip_replay.proofs.ReadingLemmas.{HasRead, has_read-below, has_read-end, has_read-more, has_read-none, memory_at}
@@ -27,19 +28,12 @@ pub record SoFar (m : System) (base : ℕ) (text : List ℕ) (p : Standing) (cou
 pub so_far-none : (m : System) (base : ℕ) (text : List ℕ) (p : Standing) → StandsAfter m base [] p → SoFar m base text p 0 (numbered_lines text)
 so_far-none m base text p leads = record { grants = []; read = has_read-none m text; leads = leads; counted = refl }
 
--- what a line says to the model of the run
-on_model : (m : System) (base : ℕ) (gs : List Grant) (p : Standing) (line : List ℕ) (r : Result (Option Grant) LineFault) → StandsAfter m base gs p → grant_on p.model line ≡ r → grant_on m line ≡ r
-on_model m base gs p line r leads says = subst (λ (q : Standing). grant_on q.model line ≡ r) leads.there says
-
-pub at_most_one : (found : Bool) → from_bool found ≤ 1
-at_most_one found = grind arith
-
 -- one line more
 pub so_far-more : (m : System) (base : ℕ) (text line : List ℕ) (n count : ℕ) (left after : List (ℕ × List ℕ)) (p q : Standing) (found : Bool) → SoFar m base text p count left → left ≡ (n, line) ∷ after → Takes p line (Ok found) q → SoFar m base text q (count + from_bool found) after
 so_far-more m base text line n count left after p q false so next takes =
     record {
       grants = so.grants;
-      read = has_read-more m text line n left after so.grants so.grants tt so.read next (None, on_model m base so.grants p line (Ok None) so.leads takes.0, refl);
+      read = has_read-more m text line n left after so.grants so.grants tt so.read next (None, subst (λ (r : Standing). grant_on r.model line ≡ Ok None) so.leads.there takes.0, refl);
       leads = subst (λ (r : Standing). StandsAfter m base so.grants r) (sym takes.1) so.leads;
       counted = omega (arith, so.counted);
     }
@@ -47,7 +41,7 @@ so_far-more m base text line n count left after p q true so next takes =
     let longer : List Grant = so.grants ++ takes.grant ∷ [] in
     record {
       grants = longer;
-      read = has_read-more m text line n left after so.grants longer tt so.read next (Some takes.grant, on_model m base so.grants p line (Ok (Some takes.grant)) so.leads takes.reads, refl);
+      read = has_read-more m text line n left after so.grants longer tt so.read next (Some takes.grant, subst (λ (r : Standing). grant_on r.model line ≡ Ok (Some takes.grant)) so.leads.there takes.reads, refl);
       leads = leads_on m base so.grants p q takes.grant so.leads takes.next takes.on;
       counted = omega (arith, so.counted, length-append so.grants (takes.grant ∷ []));
     }
@@ -60,31 +54,25 @@ pub so_far-end : (m : System) (base : ℕ) (text : List ℕ) (p : Standing) (cou
 so_far-end m base text p count left so none =
     record { grants = so.grants; reads = has_read-end m text so.grants left so.read none; run = so.leads.run; counted = so.counted }
 
--- a line at fault is the first one
-pub so_far-fault : (m : System) (base : ℕ) (text line : List ℕ) (n count : ℕ) (left after : List (ℕ × List ℕ)) (p q : Standing) (fault : ReplayFault) → SoFar m base text p count left → left ≡ (n, line) ∷ after → Takes p line (Err fault) q → IsReplayFault m base text n fault
-so_far-fault m base text line n count left after p q fault so next takes = by_fault fault (rw so.leads.there at takes)
-  where
-    first : (f : ReplayFault) → IsLineFault m (state_after m so.grants) (used_after base so.grants) line f → IsFirstFault m base text n f
-    first f why =
-        let is = line_read text so.read.front left after n line so.read.are_left next in
-        record { front = so.read.front; line = line; rest = is.rest; grants = so.grants; split = is.split; numbered = is.number; reads = so.read.reads; run = so.leads.run; why = why }
+-- a line at fault behind grants that are a run is the first one
+fault_at : (m : System) (base : ℕ) (text line : List ℕ) (n : ℕ) (left after : List (ℕ × List ℕ)) (gs : List Grant) (fault : ReplayFault) → HasRead m text gs left → IsModelRun m base gs → left ≡ (n, line) ∷ after → IsLineFault m (state_after m gs) (used_after base gs) line fault → IsReplayFault m base text n fault
+fault_at m base text line n left after gs Memory read run next why = absurd why
+fault_at m base text line n left after gs fault read run next why =
+    let is = line_read text read.front left after n line read.are_left next in
+    record { front = read.front; line = line; rest = is.rest; grants = gs; split = is.split; numbered = is.number; reads = read.reads; run = run; why = why }
 
-    by_fault : (f : ReplayFault) → IsLineFault m (state_after m so.grants) (used_after base so.grants) line f → IsReplayFault m base text n f
-    by_fault Memory why = absurd why
-    by_fault f why = first f why
+pub so_far-fault : (m : System) (base : ℕ) (text line : List ℕ) (n count : ℕ) (left after : List (ℕ × List ℕ)) (p q : Standing) (fault : ReplayFault) → SoFar m base text p count left → left ≡ (n, line) ∷ after → Takes p line (Err fault) q → IsReplayFault m base text n fault
+so_far-fault m base text line n count left after p q fault so next takes = fault_at m base text line n left after so.grants fault so.read so.leads.run next (rw so.leads.there at takes)
 
 -- a first line that is at fault by itself is the first fault
 pub first_line-fault : (m : System) (base : ℕ) (text line : List ℕ) (n : ℕ) (after : List (ℕ × List ℕ)) (fault : LineFault) → numbered_lines text ≡ (n, line) ∷ after → grant_on m line ≡ Err fault → IsReplayFault m base text 1 (replay_of_line fault)
-first_line-fault m base text line n after fault next says = by_fault fault says
+first_line-fault m base text line n after fault next says =
+    let is = line_read text [] (numbered_lines text) after n line (none_read text) next in
+    subst (λ (k : ℕ). IsReplayFault m base text k (replay_of_line fault)) is.number (fault_at m base text line n (numbered_lines text) after [] (replay_of_line fault) (has_read-none m text) tt next (at fault says))
   where
-    at : (f : ReplayFault) → IsLineFault m (state_after m []) (used_after base []) line f → IsFirstFault m base text 1 f
-    at f why =
-        let is = line_read text [] (numbered_lines text) after n line (none_read text) next in
-        record { front = []; line = line; rest = is.rest; grants = []; split = is.split; numbered = refl; reads = refl; run = tt; why = why }
-
-    by_fault : (f : LineFault) → grant_on m line ≡ Err f → IsReplayFault m base text 1 (replay_of_line f)
-    by_fault line_fault.Syntax is = at Syntax is
-    by_fault line_fault.Unknown is = at Unknown is
+    at : (f : LineFault) → grant_on m line ≡ Err f → IsLineFault m (start_of m) (λ _. base) line (replay_of_line f)
+    at line_fault.Syntax is = is
+    at line_fault.Unknown is = is
 
 -- where the first line reads, want of memory can be told of it
 pub first_line-reads : (m : System) (base : ℕ) (text line : List ℕ) (n : ℕ) (after : List (ℕ × List ℕ)) (said : Option Grant) → numbered_lines text ≡ (n, line) ∷ after → grant_on m line ≡ Ok said → IsReplayFault m base text 1 Memory

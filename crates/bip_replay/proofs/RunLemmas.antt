@@ -104,7 +104,7 @@ is_enabled m s a = elim (cases_lt a (length m.interactions)) [
     | inl all ↦ inl (record { declared = known; offered_all = AllPass-from_list_all (offered m s) (participants_of m a) all })
     | inr some ↦ inr (λ is. let all = list_all-from_AllPass (offered m s) (participants_of m a) is.offered_all in cc)
   ]
-  | inr past ↦ inr (λ is. let known = is.declared in absurd (omega arith))
+  | inr past ↦ inr (λ is. grind (arith, is.declared))
 ]
 
 -- a grant is next, or has a fault

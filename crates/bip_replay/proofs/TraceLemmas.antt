@@ -41,7 +41,7 @@ words_read : (m : System) (n : ℕ) (ls : List (List ℕ)) → without_number (g
 words_read m n [] = refl
 words_read m n (line ∷ ls) = grind (arith, words_read m (n + 1) ls)
 
-some_read : (r : Result (List Grant) (ℕ × LineFault)) (gs : List Grant) → without_number r ≡ Some gs → r ≡ Ok gs
+pub some_read : (r : Result (List Grant) (ℕ × LineFault)) (gs : List Grant) → without_number r ≡ Some gs → r ≡ Ok gs
 some_read r gs is = grind arith
 
 skipped_aside : (m : System) (ws : List (Option (List (List ℕ)))) → all_said m (filter says_something ws) ≡ all_said m ws

@@ -1,8 +1,7 @@
 -- Used numbers: wants granted one after another.
-use Rattle.std.proofs.Common.{◌≡◌, ◌≢◌, ℕ, ◌+◌, ◌<◌, Bool, true, false, cond, ◌&&◌, eqb, max, List, [], ◌∷◌, ◌++◌, length, take, get_or, refl, sym, ap, ◌∙◌, arith}
+use Rattle.std.proofs.Common.{◌≡◌, ◌≢◌, ℕ, ◌+◌, ◌<◌, Bool, true, false, cond, ◌&&◌, eqb, max, List, [], ◌∷◌, ◌++◌, length, take, get_or, refl, arith}
 use Rattle.std.specs.Prelude.{All}
 use Rattle.std.specs.List.Sorted.{IsStrictlyIncreasing}
-use Rattle.std.proofs.lemmas.Bool.{eqb-true, and_parts}
 use Rattle.std.proofs.lemmas.List.{get_or-take, length-take-le, take_more}
 use Rattle.std.proofs.lemmas.List.Elements.{All-head, All-tail, All-from_get_or}
 use Rattle.bip_model.proofs.ListLemmas.{below_later}
@@ -50,9 +49,9 @@ raised_more u n ws i d c rising within before =
   where
     by_test : (b : Bool) → moves_it (get_or ws i d) c ≡ b → cond b (max n (get_or ws i d).number) n ≡ max u (moved_in (take i ws ++ get_or ws i d ∷ []) c)
     by_test true e =
-        let same : (get_or ws i d).comp.0 ≡ c = eqb-true (get_or ws i d).comp.0 c (and_parts (eqb (get_or ws i d).comp.0 c) (is_moved (get_or ws i d).role) e).0 in
-        let others : All (IsOther c) (take i ws) = rw same at (others_before ws i d rising within) in
-        let none : moved_in (take i ws) c ≡ 0 = moved_in-absent (take i ws) c others in
-        let more : moved_in (take i ws ++ get_or ws i d ∷ []) c ≡ (get_or ws i d).number = moved_in-push_first (take i ws) (get_or ws i d) c others ∙ rw e refl in
-        omega arith
-    by_test false e = before ∙ ap (λ (k : ℕ). max u k) (sym (moved_in-push_other (take i ws) (get_or ws i d) c e))
+        let same : (get_or ws i d).comp.0 ≡ c = grind arith in
+        let others = rw same at (others_before ws i d rising within) in
+        let none = moved_in-absent (take i ws) c others in
+        let more = moved_in-push_first (take i ws) (get_or ws i d) c others in
+        grind arith
+    by_test false e = grind (arith, moved_in-push_other (take i ws) (get_or ws i d) c)

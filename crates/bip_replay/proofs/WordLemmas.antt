@@ -67,9 +67,9 @@ place_behind p [] y rest none here = grind arith
 place_behind p (b ∷ bs) y rest none here = grind (arith, place_behind p bs y rest)
 
 -- a name with something behind a colon parts there
-pub pair_of-name : (name rest : List ℕ) → list_all is_name_byte name ≡ true → pair_of 58 (name ++ 58 ∷ rest) ≡ Some (name, rest)
+pub pair_of-name : (name rest : List ℕ) → IsName name → pair_of 58 (name ++ 58 ∷ rest) ≡ Some (name, rest)
 pair_of-name name rest named =
-    let none = all_weaker is_name_byte (λ b. not (eqb b 58)) (λ b n. grind arith) name named in
+    let none = all_weaker is_name_byte (λ b. not (eqb b 58)) (λ b n. grind arith) name (grind arith) in
     let at = place_behind (λ b. eqb b 58) name 58 rest none refl in
     let long = length-append name (58 ∷ rest) in
     grind (arith, take-append_seam name (58 ∷ rest), drop-append-add name (58 ∷ rest) 1)
@@ -78,17 +78,13 @@ pair_of-name name rest named =
 pub is_name-from : (name : List ℕ) → IsName name → is_name name ≡ true
 is_name-from name is = grind arith
 
--- the bytes of a name
-pub name-bytes : (name : List ℕ) → IsName name → list_all is_name_byte name ≡ true
-name-bytes name is = grind arith
-
 -- a text with a byte is longer than none
 longer : (text : List ℕ) → 0 < length text → is_longer text ≡ true
 longer text some = grind arith
 
 -- a name can stand as a word
 pub name-word : (name : List ℕ) → IsName name → IsWord name
-name-word name is = (grind (arith, longer name), all_weaker is_name_byte is_ascii_graphic (λ b n. grind arith) name (name-bytes name is))
+name-word name is = (grind arith, all_weaker is_name_byte is_ascii_graphic (λ b n. grind arith) name (grind arith))
 
 -- digits pass the test of digits
 digits-all : (ds : List ℕ) → AllDigits 10 ds → list_all is_ascii_digit ds ≡ true
@@ -105,22 +101,20 @@ number_of-decimal n low high =
 
 -- a name with a number behind a colon can stand as a word
 pub pair-word : (name : List ℕ) (n : ℕ) → IsName name → n < 2 ^ 64 → IsWord (name ++ 58 ∷ decimal n)
-pair-word name n is high = (longer (name ++ 58 ∷ decimal n) (simp length-append (omega arith)), rw (list_all-append is_ascii_graphic name (58 ∷ decimal n), (name-word name is).1) digits)
-  where
-    digits : is_inked (decimal n) ≡ true
-    digits = all_weaker is_ascii_digit is_ascii_graphic (λ b d. grind arith) (decimal n) (digits-all (decimal n) (decimal_is_IsNumeral n high).0.1)
+pair-word name n is high =
+    let digits = all_weaker is_ascii_digit is_ascii_graphic (λ b d. grind arith) (decimal n) (digits-all (decimal n) (decimal_is_IsNumeral n high).0.1) in
+    (longer (name ++ 58 ∷ decimal n) (simp length-append (omega arith)), rw (list_all-append is_ascii_graphic name (58 ∷ decimal n), (name-word name is).1) digits)
 
 -- a name that isn't among names is none of them
 unknown_at : (name : List ℕ) (names : List (List ℕ)) (c : ℕ) → is_known name names ≡ false → c < length names → same_text name (name_in names c) ≡ false
-unknown_at name [] c unknown within = grind arith
-unknown_at name (n ∷ ns) zero unknown within = grind arith
 unknown_at name (n ∷ ns) (suc c) unknown within = grind (arith, unknown_at name ns c)
+unknown_at name names c unknown within = grind arith
 
 -- the first of names that are apart that is the same as one of them is that one
 place_of : (names : List (List ℕ)) (c : ℕ) → AreApart names → c < length names → position_or_len (same_text (name_in names c)) names ≡ c
-place_of [] c apart within = absurd (omega arith)
 place_of (n ∷ ns) zero apart within = rw (nat_list_eq_equiv.refl n) refl
 place_of (n ∷ ns) (suc c) apart within = grind (arith, nat_list_eq_equiv.symm (name_in ns c) n, unknown_at n ns c, place_of ns c)
+place_of names c apart within = absurd (omega arith)
 
 -- a name is found at its number
 pub position-name : (names : List (List ℕ)) (c : ℕ) → AreApart names → c < length names → position (same_text (name_in names c)) names ≡ Some c

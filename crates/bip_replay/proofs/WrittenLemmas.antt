@@ -17,14 +17,10 @@ use Rattle.bip_model.specs.declared.wants.Role.TheVariants.{Moved, Seen}
 use Rattle.bip_model.specs.declared.wants.Want.{Want}
 use Rattle.bip_model.specs.declared.parts.System.{System}
 use Rattle.bip_replay.specs.Laws.{Spells}
-use Rattle.bip_replay.specs.Traces.{grants_from, grants_of}
-use Rattle.bip_replay.specs.Writing.{IsGrantOf, IsSpelled, ReadsBack, bare_line, behind_see, has_role, line_of, name_in, text_of, want_word, want_words, words_behind}
+use Rattle.bip_replay.specs.Traces.{grants_from}
+use Rattle.bip_replay.specs.Writing.{IsGrantOf, IsSpelled, ReadsBack, bare_line, behind_see, has_role, name_in, text_of, want_word, want_words, words_behind}
 use Rattle.bip_replay.proofs.GrantLemmas.{line_reads}
 use Rattle.bip_replay.proofs.WordLemmas.{IsWord, lines_front, name-word, number_of-decimal, pair-word, plain_spaced, words_spaced}
-
--- a want with a role has that role
-role_of : (role r : Role) (w : Want) → w.role ≡ r → has_role role w ≡ true → r ≡ role
-role_of role r w is has = grind arith
 
 -- a want with a number
 abbrev HasNumber : Want → Type 0
@@ -41,7 +37,7 @@ words-spell m role (w ∷ ws) spelled numbered roles =
         parts = refl;
         names = record { name = s.name; known = slice_get-get_or m.component_names w.comp.0 [] s.component };
         number = number_of-decimal w.number (All-head HasNumber w ws numbered) s.high;
-        by_place = role_of role w.role w refl (All-head (λ v. has_role role v ≡ true) w ws roles);
+        by_place = let has = All-head (λ v. has_role role v ≡ true) w ws roles in grind arith;
       },
       words-spell m role ws (All-tail (IsSpelled m) w ws spelled) (All-tail HasNumber w ws numbered) (All-tail (λ v. has_role role v ≡ true) w ws roles),
     )
@@ -56,10 +52,6 @@ pub see_or_none : (m : System) (ws : List Want) → behind_see (want_words m See
 see_or_none m [] = refl
 see_or_none m (w ∷ ws) = grind (arith, see_or_none m ws)
 
--- what a want is written as is a word
-want_word-word : (m : System) (w : Want) → IsSpelled m w → IsWord (want_word m w)
-want_word-word m w is = pair-word (name_in m.component_names w.comp.0) w.number is.name is.high
-
 -- what stands behind the word `grant` are words
 behind-words : (m : System) (g : Grant) → IsName (name_in m.interaction_names g.inter.0) → All (IsSpelled m) g.wants → All IsWord (words_behind m g)
 behind-words m g name spelled =
@@ -69,7 +61,7 @@ behind-words m g name spelled =
     with_role : (role : Role) → All IsWord (want_words m role g.wants)
     with_role role =
         All-map IsWord (want_word m) (filter (has_role role) g.wants)
-        (All-weaker (IsSpelled m) (λ w. IsWord (want_word m w)) (want_word-word m) (filter (has_role role) g.wants) (All-filter (has_role role) (IsSpelled m) g.wants spelled))
+        (All-weaker (IsSpelled m) (λ w. IsWord (want_word m w)) (λ w is. pair-word (name_in m.component_names w.comp.0) w.number is.name is.high) (filter (has_role role) g.wants) (All-filter (has_role role) (IsSpelled m) g.wants spelled))
 
     by_seen : (words : List (List ℕ)) → All IsWord words → All IsWord (behind_see words)
     by_seen [] all = all
@@ -104,18 +96,10 @@ line-reads_back m g system grant name wants spelled =
     with_role role =
         words-spell m role (filter (has_role role) g.wants) (All-filter (has_role role) (IsSpelled m) g.wants spelled) (All-filter (has_role role) HasNumber g.wants wants.numbered) (filter_passes (has_role role) g.wants)
 
--- the line of a grant is the first line of what begins with it
-lines-written : (m : System) (g : Grant) (rest : List ℕ) → is_plain (bare_line m g) ≡ true → lines (line_of m g ++ rest) ≡ bare_line m g ∷ lines rest
-lines-written m g rest plain = ap lines (append_assoc (bare_line m g) (line_feed ∷ []) rest) ∙ lines_front (bare_line m g) rest plain
-
 -- the text of grants whose lines read back reads as these grants
-grants_from-written : (m : System) (n : ℕ) (gs : List Grant) → All (ReadsBack m) gs → grants_from m n (lines (text_of m gs)) ≡ Ok gs
-grants_from-written m n [] all = refl
-grants_from-written m n (g ∷ gs) all =
+pub text-reads_back : (m : System) (n : ℕ) (gs : List Grant) → All (ReadsBack m) gs → grants_from m n (lines (text_of m gs)) ≡ Ok gs
+text-reads_back m n [] all = refl
+text-reads_back m n (g ∷ gs) all =
     let first : ReadsBack m g = All-head (ReadsBack m) g gs all in
-    ap (grants_from m n) (lines-written m g (text_of m gs) first.plain)
-    ∙ rw (first.reads, grants_from-written m (n + 1) gs (All-tail (ReadsBack m) g gs all)) refl
-
--- the same of the text, whose lines are numbered from 1
-pub text-reads_back : (m : System) (gs : List Grant) → All (ReadsBack m) gs → grants_of m (text_of m gs) ≡ Ok gs
-text-reads_back m gs all = grants_from-written m 1 gs all
+    ap (λ (text : List ℕ). grants_from m n (lines text)) (append_assoc (bare_line m g) (line_feed ∷ []) (text_of m gs))
+    ∙ rw (lines_front (bare_line m g) (text_of m gs) first.plain, first.reads, text-reads_back m (n + 1) gs (All-tail (ReadsBack m) g gs all)) refl

@@ -1,6 +1,6 @@
 use Rattle.std.proofs.Common.{arith}
 use Rattle.bip_replay.specs.Runs.{standing_of}
-use Rattle.bip_replay.proofs.ReplayLemmas.{at_most_one, so_far-below, so_far-end, so_far-fault, so_far-more, so_far-none}
+use Rattle.bip_replay.proofs.ReplayLemmas.{so_far-below, so_far-end, so_far-fault, so_far-more, so_far-none}
 use Rattle.bip_replay.proofs.replays.replay.Goals as goal
 
 pub loop-number-init : goal.loop-number-init
@@ -8,7 +8,8 @@ loop-number-init c = rw c.into_iter-number-iterator.ensures.into_iter_gives (rw 
 
 pub overflow_add-count : goal.overflow_add-count
 overflow_add-count c =
-    omega (arith, so_far-below _ _ _ _ _ _ _ _ _ c.loop-number.invariant c.in-Some.ensures.steps, at_most_one c.in-Ok-take_line.found, c.from-count.ensures)
+    let below = so_far-below _ _ _ _ _ _ _ _ _ c.loop-number.invariant c.in-Some.ensures.steps in
+    grind (arith, c.from-count.ensures)
 
 pub loop-number-preserved : goal.loop-number-preserved
 loop-number-preserved c =

@@ -22,4 +22,4 @@ returns-clause-reads_back c =
     let m : System = c.args.model.now in
     let grants : List Grant = c.args.grants.now in
     let whole : take c.loop-grant.grant-index grants ≡ grants = take_all c.loop-grant.grant-index grants c.loop-grant-test.false in
-    ap (grants_of m) c.loop-grant.invariant.text ∙ (text-reads_back m (take c.loop-grant.grant-index grants) c.loop-grant.invariant.read ∙ ap (λ (gs : List Grant). Ok gs) whole)
+    ap (grants_of m) c.loop-grant.invariant.text ∙ (text-reads_back m 1 (take c.loop-grant.grant-index grants) c.loop-grant.invariant.read ∙ ap (λ (gs : List Grant). Ok gs) whole)
