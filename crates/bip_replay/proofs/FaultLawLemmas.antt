@@ -12,25 +12,18 @@ use Rattle.bip_model.specs.Texts.{lines}
 use Rattle.bip_replay.specs.declared.faults.LineFault.{LineFault}
 use Rattle.bip_replay.specs.declared.faults.ReplayFault.{ReplayFault}
 use Rattle.bip_replay.specs.declared.faults.StepFault.{StepFault}
-use Rattle.bip_replay.specs.declared.faults.StepFault.TheVariants.{NotEnabled, Below, Number, Parties}
+use Rattle.bip_replay.specs.declared.faults.StepFault.TheVariants.{Number, Parties}
 use Rattle.bip_replay.specs.Faults.{IsFaultOf, IsLowestWrong, of_step}
 use Rattle.bip_replay.specs.Replays.{IsFirstFault, IsLineFault, IsRunOf}
-use Rattle.bip_replay.specs.Runs.{HasNextNumber, IsModelRun, IsNext, state_after, used_after}
+use Rattle.bip_replay.specs.Runs.{HasNextNumber, IsModelRun, state_after, used_after}
 use Rattle.bip_replay.specs.Lines.{grant_on}
 use Rattle.bip_replay.specs.Traces.{grants_from, grants_of, one_more}
 use Rattle.bip_replay.specs.declared.faults.ReplayFault.TheVariants.{Syntax, Unknown, NotARun, Memory}
 use Rattle.bip_replay.specs.declared.faults.LineFault.TheVariants as line_fault
 use Rattle.bip_replay.specs.declared.faults.ReplayFault.TheVariants as replay
 use Rattle.bip_replay.proofs.ReadingLemmas.{first_read, grants_from-append, onto, grants_from-push}
-use Rattle.bip_replay.proofs.RunLemmas.{IsRunFrom-push, next_at, next_or_fault}
+use Rattle.bip_replay.proofs.RunLemmas.{not_next, IsRunFrom-push, next_at, next_or_fault}
 use Rattle.bip_replay.proofs.GrantLemmas.{grant_line}
-
--- a grant with a fault isn't next
-pub not_next : (m : System) (s : State) (used : ℕ → ℕ) (g : Grant) (fault : StepFault) → IsFaultOf m s used g fault → IsNext m s used g → ⊥
-not_next m s used g NotEnabled why next = why next.may.enabled
-not_next m s used g (Below b) why next = why.1.above
-not_next m s used g (Number c expected) why next = let at = why.1.wrong in let has = next.numbers at.0 at.1 at.2 in grind arith
-not_next m s used g Parties why next = why.2 next.parties
 
 -- grants with more behind them
 onto_some : (gs all : List Grant) (r : Result (List Grant) (ℕ × LineFault)) → onto gs r ≡ Ok all → (hs : List Grant) × (r ≡ Ok hs) × (gs ++ hs ≡ all)

@@ -2,11 +2,7 @@ pub mod FaultLawLemmas
 pub mod FaultLemmas
 pub mod GrantLemmas
 pub mod NamedLemmas
-pub mod PositionLemmas
 pub mod ReadingLemmas
-pub mod ReplayLemmas
 pub mod RunLemmas
-pub mod TraceLemmas
-pub mod UsedLemmas
+pub mod TextLemmas
 pub mod WordLemmas
-pub mod WrittenLemmas

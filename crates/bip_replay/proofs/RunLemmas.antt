@@ -1,11 +1,12 @@
--- Runs: in parts, step by step, what they are histories of, and the numbers of moves.
-use Rattle.std.proofs.Common.{◌≡◌, ℕ, ◌+◌, ◌<◌, List, [], ◌∷◌, ◌++◌, refl, arith, Bool, length, Option, None, Some, find, subst, inl, inr, ◌⊎◌}
-use Rattle.std.proofs.lemmas.List.Elements.{All-head, All-tail, filter-append}
+-- Runs: in parts, step by step, what they are histories of, the numbers of moves, where one grant more
+-- leads, and used numbers of wants granted one after another.
+use Rattle.std.proofs.Common.{◌≡◌, ℕ, ◌+◌, ◌<◌, List, [], ◌∷◌, ◌++◌, refl, arith, Bool, length, Option, None, Some, find, subst, inl, inr, ◌⊎◌, sym, ap, ◌∙◌, ◌≢◌, true, false, cond, ◌&&◌, eqb, max, take, get_or}
+use Rattle.std.proofs.lemmas.List.Elements.{All-head, All-tail, filter-append, All-from_get_or}
 use Rattle.std.specs.Prelude.{◌↔◌, All, filter, nat_lt}
 use Rattle.std.specs.List.{list_all}
 use Rattle.std.specs.List.Sorted.{IsStrictlyIncreasing}
 use Rattle.std.proofs.lemmas.Bool.{cases_Bool, cases_lt}
-use Rattle.std.proofs.lemmas.List.{length-append}
+use Rattle.std.proofs.lemmas.List.{length-append, get_or-take, length-take-le, take_more}
 use Rattle.std.proofs.lemmas.List.Sums.{AllPass-from_list_all, list_all-from_AllPass}
 use Rattle.bip_model.specs.declared.grants.Grant.{Grant}
 use Rattle.bip_model.specs.declared.wants.Want.{Want}
@@ -13,15 +14,17 @@ use Rattle.bip_model.specs.declared.parts.System.{System}
 use Rattle.bip_model.specs.Grants.{IsHistory, used_by}
 use Rattle.bip_model.specs.States.{State}
 use Rattle.bip_model.specs.Steps.{IsRun, after, end_of, start_of, IsEnabled, MayRun, offered, participants_of}
-use Rattle.bip_model.specs.Wants.{raised, components_of, moved_in}
+use Rattle.bip_model.specs.Wants.{raised, components_of, moved_in, is_moved}
 use Rattle.bip_model.proofs.LawLemmas.{rising_of}
 use Rattle.bip_model.specs.Parts.{IsSystem}
-use Rattle.bip_replay.specs.Runs.{HasNextNumber, IsModelRun, IsNext, IsRunFrom, interactions_of, state_after, used_after, are_parties, is_wrong}
+use Rattle.bip_replay.specs.Runs.{HasNextNumber, IsModelRun, IsNext, IsRunFrom, interactions_of, state_after, used_after, are_parties, is_wrong, IsNextAt, StandsAfter, Standing, standing_after, standing_on}
 use Rattle.bip_replay.specs.declared.faults.StepFault.{StepFault}
-use Rattle.bip_replay.specs.declared.faults.StepFault.TheVariants.{NotEnabled, Number, Parties}
-use Rattle.bip_replay.specs.Faults.{IsFaultOf, expected_after}
+use Rattle.bip_replay.specs.declared.faults.StepFault.TheVariants.{NotEnabled, Below, Number, Parties}
+use Rattle.bip_replay.specs.Faults.{IsFaultOf, expected_after, IsFaultAt}
 use Rattle.bip_replay.specs.Laws.{times_moved}
 use Rattle.bip_replay.proofs.FaultLemmas.{lowest_wrong, may_run, next_from_tests, none_wrong, not_parties}
+use Rattle.bip_model.proofs.HistoryLemmas.{used_by-push}
+use Rattle.bip_model.proofs.ListLemmas.{below_later}
 
 pub IsRunFrom-push : (m : System) (s : State) (used : ℕ → ℕ) (gs : List Grant) (g : Grant) → IsRunFrom m s used gs → IsNext m (end_of m s (interactions_of gs)) (used_by used gs) g → IsRunFrom m s used (gs ++ g ∷ [])
 IsRunFrom-push m s used [] g run next = (next, tt)
@@ -123,3 +126,83 @@ next_or_fault m s used g valid rising = elim (is_enabled m s g.inter.0) [
       | inl all ↦ inl (next_from_tests m s used g (participants_of m g.inter.0) valid refl may e all)
       | inr some ↦ inr (Parties, (may, none_wrong m used g.wants e, not_parties m s g (participants_of m g.inter.0) refl rising (rising_of m g.inter.0 valid) some))
     ]
+
+-- a grant with a fault isn't next
+pub not_next : (m : System) (s : State) (used : ℕ → ℕ) (g : Grant) (fault : StepFault) → IsFaultOf m s used g fault → IsNext m s used g → ⊥
+not_next m s used g NotEnabled why next = why next.may.enabled
+not_next m s used g (Below b) why next = why.1.above
+not_next m s used g (Number c expected) why next = let at = why.1.wrong in let has = next.numbers at.0 at.1 at.2 in grind arith
+not_next m s used g Parties why next = why.2 next.parties
+
+-- what can be next where grants lead goes on from them
+pub run_on : (m : System) (base : ℕ) (gs : List Grant) (p : Standing) (g : Grant) → StandsAfter m base gs p → IsNextAt p g → IsModelRun m base (gs ++ g ∷ [])
+run_on m base gs p g leads next =
+    IsRunFrom-push m (start_of m) (λ _. base) gs g leads.run (subst (λ (q : Standing). IsNextAt q g) leads.there next)
+
+-- one grant more leads where it leads from there
+one_more_leads : (m : System) (base : ℕ) (gs : List Grant) (g : Grant) → standing_on (standing_after m base gs) g ≡ standing_after m base (gs ++ g ∷ [])
+one_more_leads m base gs g =
+    ap (λ (s : State). record { model = m; base = base; state = s; used = raised (used_after base gs) g.wants }) (sym (end_of-push m (start_of m) gs g))
+    ∙ ap (λ (u : ℕ → ℕ). record { model = m; base = base; state = state_after m (gs ++ g ∷ []); used = u }) (sym (used_by-push (λ _. base) gs g))
+
+-- the longer list leads where the grant leads
+pub leads_on : (m : System) (base : ℕ) (gs : List Grant) (p q : Standing) (g : Grant) → StandsAfter m base gs p → IsNextAt p g → q ≡ standing_on p g → StandsAfter m base (gs ++ g ∷ []) q
+leads_on m base gs p q g leads next on =
+    record {
+      run = run_on m base gs p g leads next;
+      there = on ∙ (ap (λ (r : Standing). standing_on r g) leads.there ∙ one_more_leads m base gs g);
+    }
+
+-- a grant with a fault where grants lead doesn't go on from them
+pub stays_out : (m : System) (base : ℕ) (gs : List Grant) (p : Standing) (g : Grant) (fault : StepFault) → StandsAfter m base gs p → IsFaultAt p g fault → IsModelRun m base (gs ++ g ∷ []) → ⊥
+stays_out m base gs p g fault leads why run =
+    not_next m (state_after m gs) (used_after base gs) g fault (subst (λ (q : Standing). IsFaultAt q g fault) leads.there why)
+    (next_at m base gs [] g run)
+
+-- whether a want moves a component
+abbrev pub moves_it : Want → ℕ → Bool
+moves_it w c = eqb w.comp.0 c && is_moved w.role
+
+-- a want of another component
+abbrev IsOther : ℕ → Want → Type 0
+IsOther c w = w.comp.0 ≢ c
+
+-- what wants of other components move a component with
+moved_in-absent : (ws : List Want) (c : ℕ) → All (IsOther c) ws → moved_in ws c ≡ 0
+moved_in-absent [] c others = refl
+moved_in-absent (w ∷ ws) c others =
+    let first = All-head (IsOther c) w ws others in grind (arith, moved_in-absent ws c (All-tail (IsOther c) w ws others))
+
+-- one more want, the first of its component
+moved_in-push_first : (ws : List Want) (w : Want) (c : ℕ) → All (IsOther c) ws → moved_in (ws ++ w ∷ []) c ≡ cond (moves_it w c) w.number 0
+moved_in-push_first [] w c others = refl
+moved_in-push_first (v ∷ ws) w c others =
+    let first = All-head (IsOther c) v ws others in grind (arith, moved_in-push_first ws w c (All-tail (IsOther c) v ws others))
+
+-- one more want that doesn't move the component
+moved_in-push_other : (ws : List Want) (w : Want) (c : ℕ) → moves_it w c ≡ false → moved_in (ws ++ w ∷ []) c ≡ moved_in ws c
+moved_in-push_other [] w c other = grind arith
+moved_in-push_other (v ∷ ws) w c other = grind (arith, moved_in-push_other ws w c)
+
+-- the wants before one are of other components
+others_before : (ws : List Want) (i : ℕ) (d : Want) → IsStrictlyIncreasing (components_of ws) → i < length ws → All (IsOther (get_or ws i d).comp.0) (take i ws)
+others_before ws i d rising within =
+    let shorter : length (take i ws) ≡ i = length-take-le i ws (omega arith) in
+    All-from_get_or (IsOther (get_or ws i d).comp.0) (take i ws) d (λ k below.
+    let earlier : k < i = omega arith in
+    let less : (get_or ws k d).comp.0 < (get_or ws i d).comp.0 = below_later (λ (v : Want). v.comp.0) ws rising k i d earlier within in
+    rw (get_or-take i ws k d earlier) (λ same. omega arith))
+
+-- used numbers after one more want
+pub raised_more : (u n : ℕ) (ws : List Want) (i : ℕ) (d : Want) (c : ℕ) → IsStrictlyIncreasing (components_of ws) → i < length ws → n ≡ max u (moved_in (take i ws) c) → cond (moves_it (get_or ws i d) c) (max n (get_or ws i d).number) n ≡ max u (moved_in (take (i + 1) ws) c)
+raised_more u n ws i d c rising within before =
+    rw (take_more ws i d within) (by_test (moves_it (get_or ws i d) c) refl)
+  where
+    by_test : (b : Bool) → moves_it (get_or ws i d) c ≡ b → cond b (max n (get_or ws i d).number) n ≡ max u (moved_in (take i ws ++ get_or ws i d ∷ []) c)
+    by_test true e =
+        let same : (get_or ws i d).comp.0 ≡ c = grind arith in
+        let others = rw same at (others_before ws i d rising within) in
+        let none = moved_in-absent (take i ws) c others in
+        let more = moved_in-push_first (take i ws) (get_or ws i d) c others in
+        grind arith
+    by_test false e = grind (arith, moved_in-push_other (take i ws) (get_or ws i d) c)

@@ -1,6 +1,6 @@
 use Rattle.std.proofs.Common.{arith}
 use Rattle.bip_replay.specs.Runs.{standing_of}
-use Rattle.bip_replay.proofs.ReplayLemmas.{so_far-below, so_far-end, so_far-fault, so_far-more, so_far-none}
+use Rattle.bip_replay.proofs.ReadingLemmas.{so_far-below, so_far-end, so_far-fault, so_far-more, so_far-none}
 use Rattle.bip_replay.proofs.replays.replay.Goals as goal
 
 pub loop-number-init : goal.loop-number-init

@@ -1,5 +1,5 @@
 use Rattle.bip_replay.specs.Runs.{standing_of}
-use Rattle.bip_replay.proofs.ReplayLemmas.{SoFar}
+use Rattle.bip_replay.proofs.ReadingLemmas.{SoFar}
 use Rattle.bip_replay.proofs.replays.replay.Given as goal
 
 abbrev pub invariant-loop-number : goal.invariant-loop-number

@@ -1,5 +1,5 @@
 use Rattle.std.proofs.Common.{sym, ◌∙◌}
-use Rattle.bip_replay.proofs.ReplayLemmas.{first_line-fault, first_line-reads}
+use Rattle.bip_replay.proofs.ReadingLemmas.{first_line-fault, first_line-reads}
 use Rattle.bip_replay.proofs.replays.told_without_memory.Goals as goal
 
 pub returns-in-Err : goal.returns-in-Err

@@ -1,6 +1,6 @@
 use Rattle.std.proofs.Common.{◌∙◌}
 use Rattle.std.specs.Prelude.{slice_index_or}
-use Rattle.bip_replay.proofs.UsedLemmas.{raised_more}
+use Rattle.bip_replay.proofs.RunLemmas.{raised_more}
 use Rattle.bip_replay.proofs.runs.use_up.Goals as goal
 
 pub loop-want-preserved : goal.loop-want-preserved

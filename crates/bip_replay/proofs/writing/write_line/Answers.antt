@@ -5,7 +5,7 @@ use Rattle.bip_model.specs.Naming.{IsName}
 use Rattle.bip_model.specs.declared.wants.Want.{Want}
 use Rattle.bip_model.specs.declared.parts.System.{System}
 use Rattle.bip_replay.specs.Writing.{IsSpelled, name_in}
-use Rattle.bip_replay.proofs.WrittenLemmas.{line-reads_back}
+use Rattle.bip_replay.proofs.TextLemmas.{line-reads_back}
 use Rattle.bip_replay.proofs.writing.write_line.Goals as goal
 
 pub returns-clause-reads_back : goal.returns-clause-reads_back

@@ -1,6 +1,6 @@
 use Rattle.std.proofs.Common.{arith, sym, ◌∙◌}
 use Rattle.std.proofs.lemmas.Grind.{common_steps}
-use Rattle.bip_replay.proofs.WrittenLemmas.{see_or_none}
+use Rattle.bip_replay.proofs.TextLemmas.{see_or_none}
 use Rattle.bip_replay.proofs.writing.write_seen.Goals as goal
 
 pub returns-in_ok-write_wants : goal.returns-in_ok-write_wants

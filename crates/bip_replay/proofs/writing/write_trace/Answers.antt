@@ -6,7 +6,7 @@ use Rattle.bip_model.specs.declared.grants.Grant.{Grant}
 use Rattle.bip_model.specs.declared.parts.System.{System}
 use Rattle.bip_replay.specs.Traces.{grants_of}
 use Rattle.bip_replay.specs.Writing.{ReadsBack}
-use Rattle.bip_replay.proofs.WrittenLemmas.{text-reads_back}
+use Rattle.bip_replay.proofs.TextLemmas.{text-reads_back}
 use Rattle.bip_replay.proofs.writing.write_trace.Goals as goal
 
 pub loop-grant-preserved : goal.loop-grant-preserved

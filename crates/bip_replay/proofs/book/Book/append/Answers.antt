@@ -1,6 +1,6 @@
 use Rattle.std.proofs.Common.{◌≡◌, [], ◌∷◌, ◌++◌, refl, rules, subst, sym}
 use Rattle.bip_replay.specs.Runs.{StandsAfter, Standing, standing_of, standing_on}
-use Rattle.bip_replay.proofs.PositionLemmas.{run_on, leads_on, stays_out}
+use Rattle.bip_replay.proofs.RunLemmas.{run_on, leads_on, stays_out}
 use Rattle.bip_replay.proofs.book.Book.append.Goals as goal
 
 pub returns-then-is_err-clause-fault : goal.returns-then-is_err-clause-fault

@@ -1,26 +1,88 @@
--- What is written reads back: the words of wants, the line of a grant, and the text of grants.
-use Rattle.std.proofs.Common.{◌≡◌, ℕ, ◌+◌, ◌<◌, ◌≤◌, Bool, true, cond, List, [], ◌∷◌, ◌++◌, length, map, Ok, refl, ap, ◌∙◌, arith}
+-- Texts of grants: those that say the same words say the same grants, a grant's line names its
+-- interaction, each grant is one of the model, and what is written reads back.
+use Rattle.std.proofs.Common.{arith, ◌≡◌, ℕ, ◌+◌, List, [], ◌∷◌, map, Option, None, Some, Result, Ok, Err, refl, sym, ◌∙◌, ◌<◌, ◌≤◌, Bool, true, cond, ◌++◌, length, ap}
 use Rattle.std.specs.Prelude.{All, filter, codes}
+use Rattle.std.specs.Option.{option_map, option_map_or}
+use Rattle.std.proofs.lemmas.List.Elements.{All-append, All-cons, All-nil, All-filter, All-head, All-map, All-tail, All-weaker, filter_passes}
+use Rattle.std.proofs.lemmas.Option.{get_or_from_slice_get, slice_get-get_or}
+use Rattle.bip_model.specs.Texts.{lines, said_in, says_something, words_said, is_plain, line_feed}
+use Rattle.bip_model.specs.declared.grants.Grant.{Grant}
+use Rattle.bip_model.specs.declared.parts.System.{System}
+use Rattle.bip_replay.specs.Laws.{AreOfModel, NamesItsInteraction, SameGrants, Spells}
+use Rattle.bip_replay.specs.Lines.{grant_on, looked_up, said}
+use Rattle.bip_replay.specs.Traces.{grants_from, grants_of, one_more}
+use Rattle.bip_replay.proofs.ReadingLemmas.{first_read}
+use Rattle.bip_replay.specs.Writing.{IsGrantOf, IsSpelled, ReadsBack, bare_line, behind_see, has_role, name_in, text_of, want_word, want_words, words_behind}
+use Rattle.bip_replay.specs.declared.faults.LineFault.{LineFault}
+use Rattle.bip_replay.specs.declared.faults.LineFault.TheVariants.{Syntax}
+use Rattle.bip_replay.proofs.GrantLemmas.{grant_line, grant_of_model, line_reads}
 use Rattle.std.specs.Fmt.{decimal}
 use Rattle.std.specs.List.{AllZip, list_any}
 use Rattle.std.proofs.lemmas.List.{append_assoc}
-use Rattle.std.proofs.lemmas.List.Elements.{All-append, All-cons, All-filter, All-head, All-map, All-tail, All-weaker, filter_passes}
 use Rattle.std.proofs.lemmas.List.Sorted.{IsPermutation-filter_both, IsPermutation-sym}
-use Rattle.std.proofs.lemmas.Option.{slice_get-get_or}
 use Rattle.bip_model.specs.Naming.{IsName}
 use Rattle.bip_model.specs.Parts.{IsSystem}
-use Rattle.bip_model.specs.Texts.{is_plain, line_feed, lines}
 use Rattle.bip_model.specs.Wants.{IsWants}
-use Rattle.bip_model.specs.declared.grants.Grant.{Grant}
 use Rattle.bip_model.specs.declared.wants.Role.{Role}
 use Rattle.bip_model.specs.declared.wants.Role.TheVariants.{Moved, Seen}
 use Rattle.bip_model.specs.declared.wants.Want.{Want}
-use Rattle.bip_model.specs.declared.parts.System.{System}
-use Rattle.bip_replay.specs.Laws.{Spells}
-use Rattle.bip_replay.specs.Traces.{grants_from}
-use Rattle.bip_replay.specs.Writing.{IsGrantOf, IsSpelled, ReadsBack, bare_line, behind_see, has_role, name_in, text_of, want_word, want_words, words_behind}
-use Rattle.bip_replay.proofs.GrantLemmas.{line_reads}
 use Rattle.bip_replay.proofs.WordLemmas.{IsWord, lines_front, name-word, number_of-decimal, pair-word, plain_spaced, words_spaced}
+
+-- a line's grant before those of the lines behind it
+abbrev with_grant : Result (Option Grant) LineFault → Option (List Grant) → Option (List Grant)
+with_grant (Err fault) rest = None
+with_grant (Ok None) rest = rest
+with_grant (Ok (Some g)) rest = option_map (λ gs. g ∷ gs) rest
+
+-- the grant that words say
+abbrev grant_said : System → Option (List (List ℕ)) → Result (Option Grant) LineFault
+grant_said m ws = looked_up m (option_map_or said ws (Err Syntax))
+
+-- the grants that words say, line after line, without the lines' numbers
+abbrev all_said : System → List (Option (List (List ℕ))) → Option (List Grant)
+all_said m [] = Some []
+all_said m (ws ∷ rest) = with_grant (grant_said m ws) (all_said m rest)
+
+-- what is read, without the number of a line at fault
+abbrev without_number : Result (List Grant) (ℕ × LineFault) → Option (List Grant)
+without_number (Ok gs) = Some gs
+without_number (Err e) = None
+
+words_read : (m : System) (n : ℕ) (ls : List (List ℕ)) → without_number (grants_from m n ls) ≡ all_said m (map words_said ls)
+words_read m n [] = refl
+words_read m n (line ∷ ls) = grind (arith, words_read m (n + 1) ls)
+
+pub some_read : (r : Result (List Grant) (ℕ × LineFault)) (gs : List Grant) → without_number r ≡ Some gs → r ≡ Ok gs
+some_read r gs is = grind arith
+
+skipped_aside : (m : System) (ws : List (Option (List (List ℕ)))) → all_said m (filter says_something ws) ≡ all_said m ws
+skipped_aside m [] = refl
+skipped_aside m (ws ∷ rest) = grind (arith, skipped_aside m rest)
+
+-- what the lines of a text say is what they say that say something
+said_words : (m : System) (text : List ℕ) → without_number (grants_of m text) ≡ all_said m (said_in text)
+said_words m text = words_read m 1 (lines text) ∙ sym (skipped_aside m (map words_said (lines text)))
+
+pub same_grants : SameGrants
+same_grants m a b same gs e = grind (arith, said_words m a, said_words m b)
+
+pub names_its_interaction : NamesItsInteraction
+names_its_interaction m line g e =
+    let is = grant_line m line g e in
+    rw is.says (sym (get_or_from_slice_get m.interaction_names g.inter.0 is.interaction [] is.named.known))
+
+lines_of_model : (m : System) (n : ℕ) (ls : List (List ℕ)) (gs : List Grant) → grants_from m n ls ≡ Ok gs → All (IsGrantOf m) gs
+lines_of_model m n [] gs e = let same : [] ≡ gs = cc in rw (← same) (All-nil (IsGrantOf m))
+lines_of_model m n (line ∷ ls) gs e =
+    let at = first_read n (grant_on m line) (grants_from m (n + 1) ls) gs e in
+    rw (← at.4) (All-append (IsGrantOf m) (one_more [] at.0) at.1 (by_said at.0 at.2) (lines_of_model m (n + 1) ls at.1 at.3))
+  where
+    by_said : (o : Option Grant) → grant_on m line ≡ Ok o → All (IsGrantOf m) (one_more [] o)
+    by_said None says = All-nil (IsGrantOf m)
+    by_said (Some g) says = All-cons (IsGrantOf m) g [] (grant_of_model m line g (grant_line m line g says)) (All-nil (IsGrantOf m))
+
+pub are_of_model : AreOfModel
+are_of_model m text gs e = lines_of_model m 1 (lines text) gs e
 
 -- a want with a number
 abbrev HasNumber : Want → Type 0
