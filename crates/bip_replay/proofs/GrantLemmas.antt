@@ -168,8 +168,8 @@ reads_grant_lines m line g valid = (grant_line m line g, line_reads m line g val
 -- what side by side says of the one list holds of all of it
 all_beside : {X Y : Type 0} (R : X → Y → Type 0) (P : Y → Type 0) → ((x : X) (y : Y) → R x y → P y) → (xs : List X) (ys : List Y) → AllZip R xs ys → All P ys
 all_beside R P tells xs [] zip = All-nil P
-all_beside R P tells [] (y ∷ ys) zip = absurd zip
 all_beside R P tells (x ∷ xs) (y ∷ ys) zip = All-cons P y ys (tells x y zip.0) (all_beside R P tells xs ys zip.1)
+all_beside R P tells xs ys zip = absurd zip
 
 -- what each word that spells a want tells of it holds of a line's wants
 of_spelled : (m : System) (line : List ℕ) (g : Grant) (P : Want → Type 0) → ((role : Role) (word : List ℕ) (w : Want) → Spells m role word w → P w) → IsGrantLine m line g → All P g.wants

@@ -65,10 +65,10 @@ not_see role word v says = grind (arith, texts.same_text word (codes "see"))
 -- words of wants, and more behind them
 said-run : (role : Role) (before : List NamedWant) (words : List (List ℕ)) (vs : List NamedWant) (behind : List (List ℕ)) (more : List NamedWant) → Say role words vs → AreFit (before ++ (vs ++ more)) → wants_said role before (words ++ behind) ≡ wants_said role (before ++ vs) behind
 said-run role before [] vs behind more say fit = grind (arith, append-nil before)
-said-run role before (word ∷ words) [] behind more say fit = absurd say
 said-run role before (word ∷ words) (v ∷ vs) behind more say fit =
     rw (not_see role word v say.0, and_right (is_moved role) false refl, say.0, joins before v (vs ++ more) fit, ← append_assoc before (v ∷ []) vs)
     (said-run role (before ++ v ∷ []) words vs behind more say.1 (rw (append_assoc before (v ∷ []) (vs ++ more)) fit))
+said-run role before words vs behind more say fit = absurd say
 
 -- the first of words of wants, with those before it
 said_first : (role : Role) (before : List NamedWant) (word : List ℕ) (rest : List (List ℕ)) (named : List NamedWant) → AreFit before → option_and_then (λ wants. wants_said role wants rest) (option_and_then (with_want before) (want_said role word)) ≡ Some named
@@ -123,8 +123,7 @@ pub wants_said-from : (moved_words seen_words : List (List ℕ)) (moved seen : L
 wants_said-from moved_words seen_words moved seen moves sees some fit = said-run Moved [] moved_words moved (behind_see seen_words) seen moves fit ∙ by_seen seen_words seen sees fit
   where
     by_seen : (words : List (List ℕ)) (vs : List NamedWant) → Say Seen words vs → AreFit (moved ++ vs) → wants_said Moved moved (behind_see words) ≡ Some (moved ++ vs)
-    by_seen [] [] say fit' = rw (append-nil moved) (grind arith)
-    by_seen [] (v ∷ vs) say fit' = absurd say
+    by_seen [] vs say fit' = grind (arith, append-nil moved)
     by_seen (word ∷ words) vs say fit' =
         let long = length-append moved vs in
         let run = rw (append-nil words) at (said-run Seen moved (word ∷ words) vs [] [] say (rw (append-nil vs) fit')) in
@@ -157,7 +156,7 @@ others names v w [] [] is zip = (λ none. tt, λ none. refl)
 others names v w (x ∷ xs) (y ∷ ys) is zip =
     let here = tests_agree names v x w y is zip.0 in
     let rest = others names v w xs ys is zip.1 in
-    (λ none. (grind arith, rest.0 (grind arith)), λ none. grind (arith, rest.1 none.1))
+    (λ none. grind arith, λ none. grind arith)
 others names v w xs ys is zip = absurd (search)
 
 -- wants whose names are apart are of different components, and back

@@ -170,14 +170,12 @@ IsOther c w = w.comp.0 ≢ c
 -- what wants of other components move a component with
 moved_in-absent : (ws : List Want) (c : ℕ) → All (IsOther c) ws → moved_in ws c ≡ 0
 moved_in-absent [] c others = refl
-moved_in-absent (w ∷ ws) c others =
-    let first = All-head (IsOther c) w ws others in grind (arith, moved_in-absent ws c (All-tail (IsOther c) w ws others))
+moved_in-absent (w ∷ ws) c others = grind (arith, All-head (IsOther c) w ws others, moved_in-absent ws c (All-tail (IsOther c) w ws others))
 
 -- one more want, the first of its component
 moved_in-push_first : (ws : List Want) (w : Want) (c : ℕ) → All (IsOther c) ws → moved_in (ws ++ w ∷ []) c ≡ cond (moves_it w c) w.number 0
 moved_in-push_first [] w c others = refl
-moved_in-push_first (v ∷ ws) w c others =
-    let first = All-head (IsOther c) v ws others in grind (arith, moved_in-push_first ws w c (All-tail (IsOther c) v ws others))
+moved_in-push_first (v ∷ ws) w c others = grind (arith, All-head (IsOther c) v ws others, moved_in-push_first ws w c (All-tail (IsOther c) v ws others))
 
 -- one more want that doesn't move the component
 moved_in-push_other : (ws : List Want) (w : Want) (c : ℕ) → moves_it w c ≡ false → moved_in (ws ++ w ∷ []) c ≡ moved_in ws c

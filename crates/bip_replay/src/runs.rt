@@ -153,6 +153,7 @@ impl<'m> Position<'m> {
 }
 
 /// Uses up the numbers of the wants that move their components.
+#[tactic(auto, using(crate::proofs::RunLemmas::raised_more))]
 fn use_up(used: &mut Seq<Number>, wants: &[Want])
     requires rising { IsStrictlyIncreasing (components_of wants.now) }
     requires known { AreMovedWithin (length used.old) wants.now }

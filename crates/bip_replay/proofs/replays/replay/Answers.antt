@@ -13,7 +13,7 @@ overflow_add-count c =
 
 pub loop-number-preserved : goal.loop-number-preserved
 loop-number-preserved c =
-    rw c.from-count.ensures (so_far-more _ _ _ _ _ _ _ _ (standing_of c.loop-number.position) (standing_of c.take_line.new.position) c.in-Ok-take_line.found c.loop-number.invariant c.in-Some.ensures.steps c.in-Ok-take_line.ensures)
+    rw c.from-count.ensures (so_far-more _ _ _ _ _ _ _ _ _ (standing_of c.take_line.new.position) _ c.loop-number.invariant c.in-Some.ensures.steps c.in-Ok-take_line.ensures)
 
 pub returns-in_default-clause-fault : goal.returns-in_default-clause-fault
 returns-in_default-clause-fault c = c.told_without_memory.ensures c.args.base

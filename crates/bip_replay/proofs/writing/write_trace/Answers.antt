@@ -1,10 +1,7 @@
-use Rattle.std.proofs.Common.{arith, ◌≡◌, ◌∙◌, List, Ok, ap, subst, take}
+use Rattle.std.proofs.Common.{arith, subst}
 use Rattle.std.proofs.lemmas.Grind.{common_steps}
 use Rattle.std.proofs.lemmas.List.{take_all}
 use Rattle.std.proofs.lemmas.List.Elements.{All-more}
-use Rattle.bip_model.specs.declared.grants.Grant.{Grant}
-use Rattle.bip_model.specs.declared.parts.System.{System}
-use Rattle.bip_replay.specs.Traces.{grants_of}
 use Rattle.bip_replay.specs.Writing.{ReadsBack}
 use Rattle.bip_replay.proofs.TextLemmas.{text-reads_back}
 use Rattle.bip_replay.proofs.writing.write_trace.Goals as goal
@@ -19,7 +16,6 @@ loop-grant-preserved c =
 
 pub returns-clause-reads_back : goal.returns-clause-reads_back
 returns-clause-reads_back c =
-    let m : System = c.args.model.now in
-    let grants : List Grant = c.args.grants.now in
-    let whole : take c.loop-grant.grant-index grants ≡ grants = take_all c.loop-grant.grant-index grants c.loop-grant-test.false in
-    ap (grants_of m) c.loop-grant.invariant.text ∙ (text-reads_back m 1 (take c.loop-grant.grant-index grants) c.loop-grant.invariant.read ∙ ap (λ (gs : List Grant). Ok gs) whole)
+    let whole = take_all c.loop-grant.grant-index c.args.grants.now c.loop-grant-test.false in
+    let back = text-reads_back c.args.model.now 1 _ c.loop-grant.invariant.read in
+    cc (c.loop-grant.invariant.text)

@@ -1,12 +1,10 @@
 use Rattle.std.proofs.Common.{◌≡◌, [], ◌∷◌, ◌++◌, refl, rules, subst, sym}
-use Rattle.bip_replay.specs.Runs.{StandsAfter, Standing, standing_of, standing_on}
+use Rattle.bip_replay.specs.Runs.{StandsAfter, Standing}
 use Rattle.bip_replay.proofs.RunLemmas.{run_on, leads_on, stays_out}
 use Rattle.bip_replay.proofs.book.Book.append.Goals as goal
 
 pub returns-then-is_err-clause-fault : goal.returns-then-is_err-clause-fault
-returns-then-is_err-clause-fault c =
-    let next = rw c.of.ensures at c.in_ok-check.ensures.next in
-    rw (← c.self.view_is) (run_on c.self.inside.position.model c.self.inside.position.base c.self.inside.grants.items (standing_of c.self.inside.position) c.args.grant c.self.invariant next)
+returns-then-is_err-clause-fault c = rw (← c.self.view_is) (run_on _ _ _ _ c.args.grant c.self.invariant (rw c.of.ensures at c.in_ok-check.ensures.next))
 
 pub invariant_of-self-2 : goal.invariant_of-self-2
 invariant_of-self-2 c =
@@ -15,14 +13,10 @@ invariant_of-self-2 c =
     let on = rw c.of-2.ensures at c.go_on.ensures in
     rw items
     (subst (λ (q : Standing). StandsAfter q.model q.base (c.self.inside.grants.items ++ c.args.grant ∷ []) q) (sym on)
-    (leads_on c.self.inside.position.model c.self.inside.position.base c.self.inside.grants.items (standing_of c.self.inside.position) (standing_on (standing_of c.self.inside.position) c.args.grant) c.args.grant c.self.invariant next refl))
+    (leads_on _ _ _ _ _ c.args.grant c.self.invariant next refl))
 
 pub returns-clause-run : goal.returns-clause-run
-returns-clause-run c =
-    let next = rw c.of.ensures at c.in_ok-check.ensures.next in
-    rw (← c.self.view_is) (run_on c.self.inside.position.model c.self.inside.position.base c.self.inside.grants.items (standing_of c.self.inside.position) c.args.grant c.self.invariant next)
+returns-clause-run c = rw (← c.self.view_is) (run_on _ _ _ _ c.args.grant c.self.invariant (rw c.of.ensures at c.in_ok-check.ensures.next))
 
 pub returns-in_err-check-clause-only : goal.returns-in_err-check-clause-only
-returns-in_err-check-clause-only c = λ on.
-    let why = rw c.of.ensures at c.in_err-check.ensures.fault in
-    absurd (stays_out c.self.inside.position.model c.self.inside.position.base c.self.inside.grants.items (standing_of c.self.inside.position) c.args.grant c.in_err-check.field-0.0 c.self.invariant why (rw (← c.self.view_is) at on))
+returns-in_err-check-clause-only c = λ on. absurd (stays_out _ _ _ _ c.args.grant _ c.self.invariant (rw c.of.ensures at c.in_err-check.ensures.fault) (rw (← c.self.view_is) at on))

@@ -26,6 +26,7 @@ returns-then-not-are_parties-clause-fault c =
 pub returns-clause-next : goal.returns-clause-next
 returns-clause-next c =
     let none = sym (rw (← c.self.view_is) at (rw c.wants-wants.ensures.wants at c.in_default.ensures)) in
+    let may = may_run _ _ _ (rw c.inter-inter.ensures at (c.if-not-enabled.ensures.0 refl)) in
     rw (← c.self.view_is)
-    (next_from_tests c.self.inside.model.now (state_of c.self.inside.state) (λ k. slice_index_or c.self.inside.used k c.self.inside.base) c.args.grant.now c.participants.result.now
-    c.components.ensures.valid (rw c.inter-inter.ensures at c.participants.ensures.participants) (may_run _ _ _ (rw c.inter-inter.ensures at (c.if-not-enabled.ensures.0 refl))) (rw (← c.components.ensures.components) none) (sym (rw c.wants-wants.ensures.wants at c.if-not-are_parties.ensures)))
+    (next_from_tests _ _ (λ k. slice_index_or c.self.inside.used k c.self.inside.base) c.args.grant.now c.participants.result.now
+    c.components.ensures.valid (rw c.inter-inter.ensures at c.participants.ensures.participants) may (rw (← c.components.ensures.components) none) (sym (rw c.wants-wants.ensures.wants at c.if-not-are_parties.ensures)))
