@@ -32,7 +32,7 @@ onto_some gs all r is = grind arith
 -- lines of which one is at fault where those before it lead are no run
 pub stops : (m : System) (base : ℕ) (front rest : List (List ℕ)) (line : List ℕ) (gs all : List Grant) (fault : ReplayFault) → grants_from m 1 front ≡ Ok gs → IsLineFault m (state_after m gs) (used_after base gs) line fault → grants_from m 1 (front ++ line ∷ rest) ≡ Ok all → IsModelRun m base all → ⊥
 stops m base front rest line gs all fault reads why whole run =
-    let behind = onto_some gs all (grants_from m (1 + length front) (line ∷ rest)) (sym (grants_from-append m 1 front (line ∷ rest) gs reads) ∙ whole) in
+    let behind = onto_some gs all (grants_from m (1 + length front) (line ∷ rest)) (rw (grants_from-append m 1 front (line ∷ rest) gs reads) at whole) in
     let at = first_read (1 + length front) (grant_on m line) (grants_from m (1 + length front + 1) rest) behind.0 behind.1 in
     by_fault fault why at.0 at.1 at.2 (rw (at.4, behind.2) run)
   where

@@ -113,9 +113,6 @@ in_order_pass (w ∷ ws) (q ∷ qs) same moves =
     grind arith
 in_order_pass ws qs same moves = cc
 
-same_bool : (a b : Bool) → (a ≡ true → b ≡ true) → (b ≡ true → a ≡ true) → a ≡ b
-same_bool a b to from = grind arith
-
 -- wants by component that are those of the parties pass the test
 pub test-from_parties : (ws : List Want) (qs : List Participant) → IsStrictlyIncreasing (components_of ws) → IsStrictlyIncreasing (components_in qs) → AreParties ws qs → Passes ws qs
 test-from_parties ws qs rising climbing are =

@@ -187,9 +187,8 @@ others_before : (ws : List Want) (i : ℕ) (d : Want) → IsStrictlyIncreasing (
 others_before ws i d rising within =
     let shorter : length (take i ws) ≡ i = length-take-le i ws (omega arith) in
     All-from_get_or (IsOther (get_or ws i d).comp.0) (take i ws) d (λ k below.
-    let earlier : k < i = omega arith in
-    let less : (get_or ws k d).comp.0 < (get_or ws i d).comp.0 = below_later (λ (v : Want). v.comp.0) ws rising k i d earlier within in
-    rw (get_or-take i ws k d earlier) (λ same. omega arith))
+    let less = below_later (λ (v : Want). v.comp.0) ws rising k i d (omega arith) within in
+    rw (get_or-take i ws k d (omega arith)) (λ same. omega arith))
 
 -- used numbers after one more want
 pub raised_more : (u n : ℕ) (ws : List Want) (i : ℕ) (d : Want) (c : ℕ) → IsStrictlyIncreasing (components_of ws) → i < length ws → n ≡ max u (moved_in (take i ws) c) → cond (moves_it (get_or ws i d) c) (max n (get_or ws i d).number) n ≡ max u (moved_in (take (i + 1) ws) c)
@@ -200,7 +199,5 @@ raised_more u n ws i d c rising within before =
     by_test true e =
         let same : (get_or ws i d).comp.0 ≡ c = grind arith in
         let others = rw same at (others_before ws i d rising within) in
-        let none = moved_in-absent (take i ws) c others in
-        let more = moved_in-push_first (take i ws) (get_or ws i d) c others in
-        grind arith
+        grind (arith, moved_in-absent (take i ws) c others, moved_in-push_first (take i ws) (get_or ws i d) c others)
     by_test false e = grind (arith, moved_in-push_other (take i ws) (get_or ws i d) c)

@@ -52,9 +52,6 @@ words_read : (m : System) (n : ℕ) (ls : List (List ℕ)) → without_number (g
 words_read m n [] = refl
 words_read m n (line ∷ ls) = grind (arith, words_read m (n + 1) ls)
 
-pub some_read : (r : Result (List Grant) (ℕ × LineFault)) (gs : List Grant) → without_number r ≡ Some gs → r ≡ Ok gs
-some_read r gs is = grind arith
-
 skipped_aside : (m : System) (ws : List (Option (List (List ℕ)))) → all_said m (filter says_something ws) ≡ all_said m ws
 skipped_aside m [] = refl
 skipped_aside m (ws ∷ rest) = grind (arith, skipped_aside m rest)
@@ -75,11 +72,11 @@ lines_of_model : (m : System) (n : ℕ) (ls : List (List ℕ)) (gs : List Grant)
 lines_of_model m n [] gs e = let same : [] ≡ gs = cc in rw (← same) (All-nil (IsGrantOf m))
 lines_of_model m n (line ∷ ls) gs e =
     let at = first_read n (grant_on m line) (grants_from m (n + 1) ls) gs e in
-    rw (← at.4) (All-append (IsGrantOf m) (one_more [] at.0) at.1 (by_said at.0 at.2) (lines_of_model m (n + 1) ls at.1 at.3))
+    rw (← at.4) (by_said at.0 at.1 at.2 (lines_of_model m (n + 1) ls at.1 at.3))
   where
-    by_said : (o : Option Grant) → grant_on m line ≡ Ok o → All (IsGrantOf m) (one_more [] o)
-    by_said None says = All-nil (IsGrantOf m)
-    by_said (Some g) says = All-cons (IsGrantOf m) g [] (grant_of_model m line g (grant_line m line g says)) (All-nil (IsGrantOf m))
+    by_said : (o : Option Grant) (hs : List Grant) → grant_on m line ≡ Ok o → All (IsGrantOf m) hs → All (IsGrantOf m) (one_more [] o ++ hs)
+    by_said None hs says all = all
+    by_said (Some g) hs says all = All-cons (IsGrantOf m) g hs (grant_of_model m line g (grant_line m line g says)) all
 
 pub are_of_model : AreOfModel
 are_of_model m text gs e = lines_of_model m 1 (lines text) gs e
