@@ -160,11 +160,9 @@ lowest_wrong m used ws w rising found =
 
 -- where no want is wrong, each of a component of the model is right
 pub none_wrong : (m : System) (used : ℕ → ℕ) (ws : List Want) → find (is_wrong (length m.components) used) ws ≡ None → KnownAreRight m used ws
-none_wrong m used ws found =
-    λ k d within known. right m used (get_or ws k d) (fails_before_first (wrong_in m used) ws k d (past k d within)) known
-  where
-    past : (k : ℕ) (d : Want) → k < length ws → k < first_wrong m used ws
-    past k d within = grind (arith, find_at (wrong_in m used) ws, slice_get-get_or ws (first_wrong m used ws) d)
+none_wrong m used ws found = λ k d within known.
+    let past : k < first_wrong m used ws = grind (arith, find_at (wrong_in m used) ws, slice_get-get_or ws (first_wrong m used ws) d) in
+    right m used (get_or ws k d) (fails_before_first (wrong_in m used) ws k d past) known
 
 -- the component of a participant is one of the model
 abbrev KnownIn : System → Participant → Type 0

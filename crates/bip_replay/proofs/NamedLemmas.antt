@@ -178,13 +178,13 @@ pub record AreFound (names : List (List ℕ)) (before : List Want) (named : List
 pub found_for : (names : List (List ℕ)) (before : List Want) (named : List NamedWant) (wants : List Want) → wants_known names before named ≡ Some wants → AreFound names before named wants
 found_for names before [] wants is = record { found = []; each = tt; all = rw (append-nil before) (grind arith) }
 found_for names before (v ∷ vs) wants is =
-    option_and_then_some (λ c. wants_known names (before ++ numbered_want c v ∷ []) vs) (position (same_text v.name) names) wants is (λ c at rest.
-    let more = found_for names (before ++ numbered_want c v ∷ []) vs wants rest in
+    let at : (c : ℕ) × (position (same_text v.name) names ≡ Some c) × (wants_known names (before ++ numbered_want c v ∷ []) vs ≡ Some wants) = grind arith in
+    let more = found_for names (before ++ numbered_want at.0 v ∷ []) vs wants at.2 in
     record {
-      found = numbered_want c v ∷ more.found;
-      each = (record { place = at; number = refl; role = refl }, more.each);
-      all = rw (append_assoc before (numbered_want c v ∷ []) more.found) at more.all;
-    })
+      found = numbered_want at.0 v ∷ more.found;
+      each = (record { place = at.1; number = refl; role = refl }, more.each);
+      all = rw (append_assoc before (numbered_want at.0 v ∷ []) more.found) at more.all;
+    }
 
 pub known_from : (names : List (List ℕ)) (before : List Want) (named : List NamedWant) (found : List Want) → AllZip (Numbers names) named found → wants_known names before named ≡ Some (wants_by_component (before ++ found))
 known_from names before [] [] zip = rw (append-nil before) refl

@@ -147,6 +147,7 @@ fault_at m base text line n left after gs fault read run next why =
     let is = line_read text read.front left after n line read.are_left next in
     record { front = read.front; line = line; rest = is.rest; grants = gs; split = is.split; numbered = is.number; reads = read.reads; run = run; why = why }
 
+-- the same of what has been read
 pub so_far-fault : (m : System) (base : ℕ) (text line : List ℕ) (n count : ℕ) (left after : List (ℕ × List ℕ)) (p q : Standing) (fault : ReplayFault) → SoFar m base text p count left → left ≡ (n, line) ∷ after → Takes p line (Err fault) q → IsReplayFault m base text n fault
 so_far-fault m base text line n count left after p q fault so next takes = fault_at m base text line n left after so.grants fault so.read so.leads.run next (rw so.leads.there at takes)
 
