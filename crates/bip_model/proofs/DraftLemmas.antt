@@ -1,6 +1,6 @@
 -- Each line leads from a draft that lines lead to, to another one.
-use Rattle.std.proofs.Common.{◌≡◌, ℕ, zero, suc, ◌+◌, ◌<◌, ◌≤◌, Bool, true, false, cond, ◌||◌, eqb, leb, ltb, List, [], ◌∷◌, ◌++◌, length, get_or, Option, None, Some, Ok, Err, refl, sym, ◌∙◌, subst, arith}
-use Rattle.bip_model.specs.Faults.{Answers, new_or_fault, ◌>>=◌}
+use Rattle.std.proofs.Common.{◌≡◌, ℕ, zero, suc, ◌+◌, ◌<◌, ◌≤◌, false, ◌||◌, eqb, leb, ltb, List, [], ◌∷◌, ◌++◌, length, get_or, Option, None, Some, Ok, Err, refl, sym, ◌∙◌, subst, arith}
+use Rattle.bip_model.specs.Faults.{Answers, new_or_fault}
 use Rattle.std.specs.Prelude.{unwrap_or, IfOk, IsNone, IsSome, OnErr, Result, slice_get}
 use Rattle.std.specs.List.{list_any}
 use Rattle.std.proofs.lemmas.Bool.Decides.{nat_tests}
@@ -22,7 +22,7 @@ use Rattle.bip_model.specs.declared.parts.Interaction.{Interaction}
 use Rattle.bip_model.specs.declared.parts.Transition.{Transition}
 use Rattle.bip_model.proofs.ListLemmas.{neither}
 use Rattle.bip_model.proofs.NameLemmas.{apart_between, apart_push}
-use Rattle.bip_model.proofs.ParticipantLemmas.{named_valid, number_in-below}
+use Rattle.bip_model.proofs.ParticipantLemmas.{bound, guarded, named_valid, number_in-below}
 
 -- what holds before a call, and after what its line says, holds after it
 pub answers_keeps : {X : Type 0} (P : X → Type 0) (said : Result X BuildFault) (old : X)
@@ -32,15 +32,6 @@ answers_keeps P (Ok d) old (Ok u) new answers kept before after' = subst (λ (x 
 answers_keeps P (Ok d) old (Err e) new answers kept before after' = subst (λ (x : _). P x) (sym kept) before
 answers_keeps P (Err f) old (Ok u) new answers kept before after' = absurd answers
 answers_keeps P (Err f) old (Err e) new answers kept before after' = subst (λ (x : _). P x) (sym kept) before
-
--- what holds of a good answer behind a test that stops, and behind an answer that is gone on with
-pub guarded : {X : Type 0} (P : X → Type 0) (b : Bool) (e : BuildFault) (r : Result X BuildFault) → (b ≡ false → IfOk r P) → IfOk (cond b (Err e) r) P
-guarded P true e r holds = tt
-guarded P false e r holds = holds refl
-
-pub bound : {A B : Type 0} (P : B → Type 0) (r : Result A BuildFault) (f : A → Result B BuildFault) → ((x : A) → r ≡ Ok x → IfOk (f x) P) → IfOk (r >>= f) P
-bound P (Ok x) f holds = holds x refl
-bound P (Err e) f holds = tt
 
 empty_valid : IsComponentSoFar no_component
 empty_valid = record { few_locations = omega arith; few_ports = omega arith; few_transitions = omega arith; apart = tt; transitions = All-nil (IsTransitionOf no_component); one_each = λ i j d before within. absurd (omega arith) }

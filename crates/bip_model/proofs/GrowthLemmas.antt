@@ -12,7 +12,7 @@ use Rattle.bip_model.specs.declared.drafts.Draft.{Draft}
 use Rattle.bip_model.specs.declared.faults.BuildFault.{BuildFault}
 use Rattle.bip_model.specs.declared.faults.BuildFault.TheVariants.{Missing, TooMany, Twice, TwoTransitions}
 use Rattle.bip_model.specs.declared.parts.Component.{Component}
-use Rattle.bip_model.proofs.DraftLemmas.{bound, guarded}
+use Rattle.bip_model.proofs.ParticipantLemmas.{bound, guarded}
 
 begins_same : {X : Type 0} (xs : List X) → Begins xs xs
 begins_same xs = ([], sym (append-nil xs))

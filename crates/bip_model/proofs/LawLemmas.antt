@@ -1,25 +1,26 @@
 -- The laws of the joint step.
-use Rattle.std.proofs.Common.{◌≡◌, ℕ, ◌<◌, Bool, true, false, cond, eqb, List, [], ◌∷◌, length, suc, get_or, Option, None, Some, refl, sym, ap, ◌∙◌, inl, inr, arith, eq-eqb, eqb-true, subst, ◌&&◌}
-use Rattle.std.specs.Prelude.{Contains, find, is_some, slice_get}
+use Rattle.std.proofs.Common.{◌≡◌, ℕ, ◌<◌, true, false, eqb, [], ◌∷◌, get_or, Option, None, Some, refl, sym, ap, ◌∙◌, inl, inr, arith, eq-eqb, eqb-true, ◌&&◌}
+use Rattle.std.specs.Prelude.{Contains, slice_get}
 use Rattle.std.specs.Option.{option_map, option_map_or}
 use Rattle.std.specs.List.Sorted.{IsStrictlyIncreasing}
 use Rattle.std.proofs.Math.Path.{fun_ext}
-use Rattle.std.proofs.lemmas.List.Folds.{list_any_at}
+use Rattle.std.proofs.lemmas.List.Folds.{Any-from_list_any, list_any_at}
+use Rattle.bip_model.proofs.PortLemmas.{is_some-find, leaves}
 use Rattle.std.proofs.lemmas.Option.{slice_get_cases}
-use Rattle.std.proofs.lemmas.Bool.{cases_Bool, false_from_ne_true, false≢true}
+use Rattle.std.proofs.lemmas.Bool.{and_parts, cases_Bool, false_from_ne_true, false≢true}
 use Rattle.bip_model.specs.declared.parts.Component.{Component}
 use Rattle.bip_model.specs.declared.parts.System.{System}
 use Rattle.bip_model.specs.declared.parts.Transition.{Transition}
 use Rattle.bip_model.specs.declared.states.LocalState.{LocalState}
-use Rattle.bip_model.specs.Laws.{AgreeOn, CanGo, Commute, EnabledWhereAllCanGo, EndsAfterItsLast, GoesOnByWhatMayRun, IsLocal, MoveApart, OneTransition, OthersStay, ParticipantsGo}
+use Rattle.bip_model.specs.Laws.{AgreeOn, CanGo, Commute, EnabledWhereAllCanGo, EndsAfterItsLast, GoesOnByWhatMayRun, IsItsTransition, IsLocal, MoveApart, OneTransition, OthersStay, ParticipantsGo}
 use Rattle.bip_model.specs.declared.numbering.LocId.{LocId}
 use Rattle.bip_model.specs.declared.numbering.PortId.{PortId}
 use Rattle.bip_model.specs.Components.{transition_for, offers_at}
 use Rattle.bip_model.proofs.ListLemmas.{All-slice_get, below_later, find_first, neq_eqb}
 use Rattle.bip_model.specs.States.{State}
-use Rattle.bip_model.specs.Steps.{IsEnabled, after, led, moves, offered, participants_of, place_of, port_at}
+use Rattle.bip_model.specs.Steps.{IsEnabled, after, led, moves, offered, participants_of}
 use Rattle.bip_model.proofs.StepLemmas.{after_led, led_all-member, led_all-stays}
-use Rattle.bip_model.specs.Parts.{IsComponent, IsSystem, IsInteraction, Participant, components_in, same_start}
+use Rattle.bip_model.specs.Parts.{IsComponent, IsSystem, IsInteraction, Participant, components_in}
 
 pub others_stay : (m : System) → OthersStay m
 others_stay m s a c none = sym (after_led m s a c) ∙ led_all-stays m s (participants_of m a) c none
@@ -44,83 +45,41 @@ after-member m s a q valid member =
     let at : (get_or qs member.0 q).0.0 ≡ q.0.0 = ap (λ (r : Participant). r.0.0) member.2 in
     neq_eqb q.0.0 (get_or qs i q).0.0 (λ same. let e : q.0.0 ≡ (get_or qs i q).0.0 = same in omega arith))
 
--- two tests pass both
-and_both : (a b : Bool) → (a && b) ≡ true → (a ≡ true) × (b ≡ true)
-and_both true b both = (refl, both)
-and_both false b both = absurd (false≢true both)
-
 -- the one transition with a port from a location is the one that is found
 pub transition_for-member : (component : Component) (location : LocId) (port : PortId) (t : Transition) → IsComponent component → Contains component.transitions t → t.source.0 ≡ location.0 → t.port.0 ≡ port.0 → transition_for component location port ≡ Some t
 transition_for-member component location port t valid member source with =
-    let ts = component.transitions in
-    let k = member.0 in
-    let test : Transition → Bool = λ u. eqb u.source.0 location.0 && eqb u.port.0 port.0 in
-    find_first test ts k t t member.1 (sym member.2) (rw (eq-eqb t.source.0 location.0 source, eq-eqb t.port.0 port.0 with) refl)
-    (λ i early. false_from_ne_true (test (get_or ts i t)) (λ passes.
-    let both = and_both (eqb (get_or ts i t).source.0 location.0) (eqb (get_or ts i t).port.0 port.0) passes in
-    let apart : same_start (get_or ts i t) (get_or ts k t) ≡ false = valid.so_far.one_each i k t early member.1 in
-    let apart_t : same_start (get_or ts i t) t ≡ false = subst (λ (u : Transition). same_start (get_or ts i t) u ≡ false) member.2 apart in
-    let e : eqb (get_or ts i t).source.0 t.source.0 ≡ true = eq-eqb (get_or ts i t).source.0 t.source.0 (eqb-true (get_or ts i t).source.0 location.0 both.0 ∙ sym source) in
-    let f : eqb (get_or ts i t).port.0 t.port.0 ≡ true = eq-eqb (get_or ts i t).port.0 t.port.0 (eqb-true (get_or ts i t).port.0 port.0 both.1 ∙ sym with) in
-    let same : same_start (get_or ts i t) t ≡ true = rw (e, f) refl in
-    false≢true (sym apart_t ∙ same)))
+    find_first (λ u. eqb u.source.0 location.0 && eqb u.port.0 port.0) component.transitions member.0 t t member.1 (sym member.2) (rw (eq-eqb t.source.0 location.0 source, eq-eqb t.port.0 port.0 with) refl)
+    (λ i early. cc (valid.so_far.one_each i member.0 t early member.1, member.2))
+
+-- the transition of a participant is the one that is found
+transition_found : (m : System) (s : State) (q : Participant) (local : LocalState) (t : Transition) → IsSystem m → (its : IsItsTransition m s q local t) → transition_for its.component local.location q.1 ≡ Some t
+transition_found m s q local t valid its =
+    transition_for-member its.component local.location q.1 t (All-slice_get IsComponent m.components q.0.0 its.component valid.so_far.components its.declared) its.declares its.source its.port
 
 pub participants_go : (m : System) → IsSystem m → ParticipantsGo m
 participants_go m valid s a q local t member its =
-    let sound : IsComponent its.component = All-slice_get IsComponent m.components q.0.0 its.component valid.so_far.components its.declared in
-    let found : transition_for its.component local.location q.1 ≡ Some t = transition_for-member its.component local.location q.1 t sound its.declares its.source its.port in
-    rw (after-member m s a q valid member, its.at, its.declared, found) refl
+    rw (after-member m s a q valid member, its.at, its.declared, transition_found m s q local t valid its) refl
 
 pub one_transition : (m : System) → IsSystem m → OneTransition m
 one_transition m valid s q local other t u its theirs =
-    let sound : IsComponent its.component = All-slice_get IsComponent m.components q.0.0 its.component valid.so_far.components its.declared in
-    let same_component : theirs.component ≡ its.component = cc (its.declared, theirs.declared) in
-    let same_local : other ≡ local = cc (its.at, theirs.at) in
-    let declares : Contains its.component.transitions u = subst (λ (k : Component). Contains k.transitions u) same_component theirs.declares in
-    let source : u.source.0 ≡ local.location.0 = theirs.source ∙ ap (λ (l : LocalState). l.location.0) same_local in
-    let first : transition_for its.component local.location q.1 ≡ Some t = transition_for-member its.component local.location q.1 t sound its.declares its.source its.port in
-    let second : transition_for its.component local.location q.1 ≡ Some u = transition_for-member its.component local.location q.1 u sound declares source theirs.port in
+    let same_component : theirs.component ≡ its.component = cc in
+    let same_local : other ≡ local = cc in
+    let first = transition_found m s q local t valid its in
+    let second = rw (same_component, same_local) at (transition_found m s q other u valid theirs) in
     cc
-
--- what a search finds stands in the list and passes
-found_member : {X : Type 0} (p : X → Bool) (xs : List X) → is_some (find p xs) ≡ true → (x : X) × Contains xs x × (p x ≡ true)
-found_member p [] found = absurd (false≢true found)
-found_member {X} p (x ∷ xs) found =
-    elim (p x) as (λ b. p x ≡ b → is_some (cond b (Some x) (find p xs)) ≡ true → (y : X) × Contains (x ∷ xs) y × (p y ≡ true)) [
-      | true ↦ λ is any. (x, (0, omega arith, refl), is)
-      | false ↦ λ is any.
-          let later = found_member p xs any in
-          let within : later.1.0 < length xs = later.1.1 in
-          (later.0, (suc later.1.0, omega arith, later.1.2), later.2)
-    ] refl found
 
 -- a participant whose port is offered can go
 can_go : (m : System) (s : State) (q : Participant) (declared : Option Component) (at : Option LocalState) → slice_get m.components q.0.0 ≡ declared → s q.0.0 ≡ at → option_map_or (λ component. option_map_or (λ local. offers_at component local q.1) at false) declared false ≡ true → CanGo m s q
 can_go m s q None at is_declared is_at offers = absurd (false≢true offers)
 can_go m s q (Some component) None is_declared is_at offers = absurd (false≢true offers)
 can_go m s q (Some component) (Some local) is_declared is_at offers =
-    let leaves : Transition → Bool = λ t. eqb t.source.0 local.location.0 && eqb t.port.0 q.1.0 in
-    let found = found_member leaves component.transitions offers in
-    let both = and_both (eqb found.0.source.0 local.location.0) (eqb found.0.port.0 q.1.0) found.2 in (
-      local,
-      found.0,
-      record {
-        component = component;
-        declared = is_declared;
-        declares = found.1;
-        port = eqb-true found.0.port.0 q.1.0 both.1;
-        at = is_at;
-        source = eqb-true found.0.source.0 local.location.0 both.0;
-      },
-    )
+    let any = Any-from_list_any (leaves local.location.0 q.1.0) component.transitions (sym (is_some-find (leaves local.location.0 q.1.0) component.transitions) ∙ offers) in
+    let both = and_parts (eqb any.1.source.0 local.location.0) (eqb any.1.port.0 q.1.0) any.4 in
+    (local, any.1, record { component = component; declared = is_declared; declares = (any.0, any.2, any.3); port = eqb-true any.1.port.0 q.1.0 both.1; at = is_at; source = eqb-true any.1.source.0 local.location.0 both.0 })
 
 -- the port of a participant that can go is offered
 offered_where : (m : System) (s : State) (q : Participant) → IsSystem m → CanGo m s q → offered m s q ≡ true
-offered_where m s q valid go =
-    let its = go.2 in
-    let sound : IsComponent its.component = All-slice_get IsComponent m.components q.0.0 its.component valid.so_far.components its.declared in
-    let found : transition_for its.component go.0.location q.1 ≡ Some go.1 = transition_for-member its.component go.0.location q.1 go.1 sound its.declares its.source its.port in
-    rw (its.declared, its.at, found) refl
+offered_where m s q valid go = rw (go.2.declared, go.2.at, transition_found m s q go.0 go.1 valid go.2) refl
 
 pub enabled_where : (m : System) → IsSystem m → EnabledWhereAllCanGo m
 enabled_where m valid s a = (
@@ -138,13 +97,7 @@ enabled_where m valid s a = (
 
 -- what an interaction does to a component depends on where that one is
 pub after-same : (m : System) (s t : State) (a c : ℕ) → s c ≡ t c → after m s a c ≡ after m t a c
-after-same m s t a c same =
-    ap (λ (p : Option LocalState). option_map_or (λ i. option_map (led m c (port_at m a i)) p) (place_of m a c) p) same
-
--- whether a port is offered depends on where its component is
-offered-same : (m : System) (s t : State) (q : Participant) → s q.0.0 ≡ t q.0.0 → offered m s q ≡ offered m t q
-offered-same m s t q same =
-    ap (λ (p : Option LocalState). option_map_or (λ component. option_map_or (λ local. offers_at component local q.1) p false) (slice_get m.components q.0.0) false) same
+after-same m s t a c same = rw same refl
 
 -- an interaction that is enabled is so in each state that agrees on what it moves
 pub enabled-agree : (m : System) (s t : State) (a : ℕ) → AgreeOn m a s t → IsEnabled m s a → IsEnabled m t a
@@ -153,7 +106,7 @@ enabled-agree m s t a agree enabled = record {
   offered_all = λ k d within.
       let q = get_or (participants_of m a) k d in
       let takes : moves m a q.0.0 ≡ true = list_any_at (λ (r : Participant). eqb r.0.0 q.0.0) (participants_of m a) k d within (eq-eqb q.0.0 q.0.0 refl) in
-      rw (sym (offered-same m s t q (agree q.0.0 takes))) (enabled.offered_all k d within);
+      rw (agree q.0.0 takes) at (enabled.offered_all k d within);
 }
 
 pub agree_too : (m : System) (s t : State) (a : ℕ) → AgreeOn m a s t → AgreeOn m a t s
@@ -180,12 +133,8 @@ commute m s a b apart = (
 
     same : (c : ℕ) → after m (after m s a) b c ≡ after m (after m s b) a c
     same c = elim (cases_Bool (moves m a c)) [
-      | inl takes ↦
-          let b_stays : (t : State) → after m t b c ≡ t c = λ t. others_stay m t b c (apart c takes) in
-          b_stays (after m s a) ∙ after-same m s (after m s b) a c (sym (b_stays s))
-      | inr rests ↦
-          let a_stays : (t : State) → after m t a c ≡ t c = λ t. others_stay m t a c rests in
-          after-same m (after m s a) s b c (a_stays s) ∙ sym (a_stays (after m s b))
+      | inl takes ↦ others_stay m (after m s a) b c (apart c takes) ∙ after-same m s (after m s b) a c (sym (others_stay m s b c (apart c takes)))
+      | inr rests ↦ after-same m (after m s a) s b c (others_stay m s a c rests) ∙ sym (others_stay m (after m s b) a c rests)
     ]
 
 -- runs from the back

@@ -1,11 +1,14 @@
 -- Participants: those that words name, and that they are few.
-use Rattle.std.proofs.Common.{◌≡◌, ℕ, ◌+◌, suc, ◌<◌, ◌≤◌, Bool, true, false, cond, eqb, List, [], ◌∷◌, ◌++◌, length, map, get_or, drop, Option, None, Some, Ok, Err, refl, sym, ap, ◌∙◌, subst, add-one, drop-cons, arith}
-use Rattle.std.specs.Prelude.{All, Result, position, slice_get}
+use Rattle.std.proofs.Common.{◌≡◌, ℕ, ◌+◌, ◌<◌, ◌≤◌, Bool, true, false, cond, eqb, List, [], ◌∷◌, ◌++◌, length, map, get_or, drop, Option, None, Some, Ok, Err, refl, sym, ap, ◌∙◌}
+use Rattle.std.specs.Prelude.{All, IfOk, Result, position, slice_get}
 use Rattle.std.specs.List.{IsDistinct, list_any}
 use Rattle.std.specs.List.Sorted.{IsNonDecreasingBy, IsPermutation, IsStrictlyIncreasing}
 use Rattle.std.specs.Option.{ok_or}
-use Rattle.std.proofs.lemmas.List.{append_assoc, append-nil, drop_all}
-use Rattle.std.proofs.lemmas.List.Elements.{All-cons, All-head, All-nil, All-push, All-same, All-tail, All-weaker}
+use Rattle.std.proofs.lemmas.List.{append_assoc, append-nil, at_drop_all, at_drop_more, get_or-map, length-map, map-id}
+use Rattle.std.proofs.lemmas.List.Folds.{map_fixed}
+use Rattle.std.proofs.lemmas.Simd.{map-map}
+use Rattle.std.proofs.lemmas.Result.{IfOk-at_ok, IfOk-weaker}
+use Rattle.std.proofs.lemmas.List.Elements.{All-map, All-nil, All-push, All-same}
 use Rattle.std.proofs.lemmas.List.Quantifiers.{position-Some}
 use Rattle.std.proofs.lemmas.List.Sorted.{All-permutation, IsPermutation-map, IsPermutation-sym, IsPermutation-trans, length_permutation}
 use Rattle.std.proofs.lemmas.Option.{slice_get_within}
@@ -40,68 +43,46 @@ push_valid components q qs valid port new =
 -- participants are no more than components
 pub few_participants : (components : List Component) (qs : List Participant) → AreParticipants components qs → length qs ≤ length components
 few_participants components qs valid =
-    few_below component_of (length components) qs valid.apart (All-weaker (IsPortIn components) (λ (q : Participant). q.0.0 < length components) (λ q port. port.component) qs valid.ports)
+    few_below component_of (length components) qs valid.apart (λ k d within. (valid.ports k d within).component)
 
 -- what the sort leaves of participants of different components
 pub sorted_by_component : (qs rs : List Participant) → IsDistinct eqb (components_in qs) → IsPermutation qs rs → IsNonDecreasingBy component_of rs → by_component qs ≡ rs
 sorted_by_component qs rs apart moved up = sorted-is component_of qs rs moved up apart
 
--- what goes on with a good answer gave one
-pub bind_ok : {A B E : Type 0} (r : Result A E) (f : A → Result B E) (y : B) → (r >>= f) ≡ Ok y → (x : A) × (r ≡ Ok x) × (f x ≡ Ok y)
-bind_ok (Ok x) f y is = (x, refl, is)
-bind_ok (Err e) f y is = cc
+-- what holds of a good answer behind a test that stops, and behind an answer that is gone on with
+pub guarded : {X : Type 0} (P : X → Type 0) (b : Bool) (e : BuildFault) (r : Result X BuildFault) → (b ≡ false → IfOk r P) → IfOk (cond b (Err e) r) P
+guarded P true e r holds = tt
+guarded P false e r holds = holds refl
 
--- the number of a name is below how many names there are
-pub number_in-below : (names : List (List ℕ)) (name : List ℕ) (i : ℕ) → number_in names name ≡ Ok i → i < length names
-number_in-below names name i is = below (position (same_text name) names) refl is
-  where
-    below : (found : Option ℕ) → position (same_text name) names ≡ found → ok_or found Unknown ≡ Ok i → i < length names
-    below None at is' = cc
-    below (Some k) at is' = let same : k ≡ i = cc in rw (← same) (position-Some (same_text name) names k [] at).0
+pub bound : {A B : Type 0} (P : B → Type 0) (r : Result A BuildFault) (f : A → Result B BuildFault) → ((x : A) → r ≡ Ok x → IfOk (f x) P) → IfOk (r >>= f) P
+bound P (Ok x) f holds = holds x refl
+bound P (Err e) f holds = tt
 
 -- an answer of what may be missing was there
 ok_or_some : {X : Type 0} (o : Option X) (x : X) → ok_or o Unknown ≡ Ok x → o ≡ Some x
 ok_or_some None x is = cc
 ok_or_some (Some y) x is = cc
 
--- a component and a port, by their numbers
-abbrev numbered : ℕ → ℕ → Participant
-numbered c p = (record { 0 = c }, record { 0 = p })
-
-same_ok : {X : Type 0} (x y : X) (r : Result X BuildFault) → r ≡ Ok x → r ≡ Ok y → x ≡ y
-same_ok x y r is_x is_y = cc
-
-port_valid : (components : List Component) (c p : ℕ) (component : Component) (q : Participant) → slice_get components c ≡ Some component → p < length component.ports → numbered c p ≡ q → IsPortIn components q
-port_valid components c p component q at below same =
-    let here : IsPortIn components (numbered c p) =
-    record { component = slice_get_within components c component at; port = rw at below } in
-    subst (λ (r : Participant). IsPortIn components r) same here
+-- the number of a name is below how many names there are
+pub number_in-below : (names : List (List ℕ)) (name : List ℕ) (i : ℕ) → number_in names name ≡ Ok i → i < length names
+number_in-below names name i is = (position-Some (same_text name) names i [] (ok_or_some (position (same_text name) names) i is)).0
 
 -- a participant that a text names is there, with its port
-pub participant_named-valid : (m : System) (word : List ℕ × List ℕ) (q : Participant) → participant_named m word ≡ Ok q → IsPortIn m.components q
-participant_named-valid m word q is =
-    let first = bind_ok (number_in m.component_names word.0) _ q is in
-    let second = bind_ok (ok_or (slice_get m.components first.0) Unknown) _ q first.2 in
-    let third = bind_ok (number_in second.0.ports word.1) _ q second.2 in
-    port_valid m.components first.0 third.0 second.0 q (ok_or_some (slice_get m.components first.0) second.0 second.1)
-    (number_in-below second.0.ports word.1 third.0 third.1) (same_ok (numbered first.0 third.0) q (Ok (numbered first.0 third.0)) refl third.2)
+pub participant_named-valid : (m : System) (word : List ℕ × List ℕ) → IfOk (participant_named m word) (IsPortIn m.components)
+participant_named-valid m word =
+    bound (IsPortIn m.components) (number_in m.component_names word.0) _ (λ c is_c.
+    bound (IsPortIn m.components) (ok_or (slice_get m.components c) Unknown) _ (λ component is_component.
+    bound (IsPortIn m.components) (number_in component.ports word.1) _ (λ p is_p.
+    let at = ok_or_some (slice_get m.components c) component is_component in
+    record { component = slice_get_within m.components c component at; port = rw at (number_in-below component.ports word.1 p is_p) })))
 
 -- one more word that names a new participant
 pub participants_named-more : (m : System) (found : List Participant) (words : List (List ℕ × List ℕ)) (i : ℕ) (d : List ℕ × List ℕ) (q : Participant) → i < length words → participant_named m (get_or words i d) ≡ Ok q → list_any (λ (r : Participant). eqb r.0.0 q.0.0) found ≡ false → participants_named m found (drop i words) ≡ participants_named m (found ++ q ∷ []) (drop (i + 1) words)
-participants_named-more m found words i d q within names new =
-    rw (drop-cons words i d within, add-one i) (rw (names, new) refl)
+participants_named-more m found words i d q within names new = at_drop_more (participants_named m found) words i d within ∙ rw (names, new) refl
 
 -- no more words
 pub participants_named-end : (m : System) (found : List Participant) (words : List (List ℕ × List ℕ)) (i : ℕ) → length words ≤ i → Ok (by_component found) ≡ participants_named m found (drop i words)
-participants_named-end m found words i past = rw (drop_all i words past) refl
-
--- one more word that is refused
-pub participants_named-refused : (m : System) (found : List Participant) (words : List (List ℕ × List ℕ)) (i : ℕ) (d : List ℕ × List ℕ) (e : BuildFault) → i < length words → participant_named m (get_or words i d) ≡ Err e → participants_named m found (drop i words) ≡ Err e
-participants_named-refused m found words i d e within refused = rw (drop-cons words i d within) (rw refused refl)
-
--- one more word that names a participant twice
-pub participants_named-twice : (m : System) (found : List Participant) (words : List (List ℕ × List ℕ)) (i : ℕ) (d : List ℕ × List ℕ) (q : Participant) → i < length words → participant_named m (get_or words i d) ≡ Ok q → list_any (λ (r : Participant). eqb r.0.0 q.0.0) found ≡ true → participants_named m found (drop i words) ≡ Err Twice
-participants_named-twice m found words i d q within names twice = rw (drop-cons words i d within) (rw (names, twice) refl)
+participants_named-end m found words i past = sym (at_drop_all (participants_named m found) words i past)
 
 -- what words name, behind what was found before them
 record AreNamedAfter (m : System) (before : List Participant) (words : List (List ℕ × List ℕ)) (qs : List Participant) : Type 0 where
@@ -110,26 +91,17 @@ record AreNamedAfter (m : System) (before : List Participant) (words : List (Lis
   apart : IsDistinct eqb (components_in (before ++ named))
   all : by_component (before ++ named) ≡ qs
 
-guard_new : (b : Bool) (r : Result (List Participant) BuildFault) (y : List Participant) → cond b (Err Twice) r ≡ Ok y → (b ≡ false) × (r ≡ Ok y)
-guard_new true r y at = cc
-guard_new false r y at = (refl, at)
-
-named_after : (m : System) (before : List Participant) (words : List (List ℕ × List ℕ)) (qs : List Participant) → IsDistinct eqb (components_in before) → participants_named m before words ≡ Ok qs → AreNamedAfter m before words qs
-named_after m before [] qs apart is =
+named_after : (m : System) (before : List Participant) (words : List (List ℕ × List ℕ)) → IsDistinct eqb (components_in before) → IfOk (participants_named m before words) (AreNamedAfter m before words)
+named_after m before [] apart =
     let e = append-nil before in
-    record { named = []; one_each = refl; apart = rw e apart; all = rw e (same_ok (by_component before) qs (Ok (by_component before)) refl is) }
-named_after m before (word ∷ words) qs apart is =
-    let first = bind_ok (participant_named m word) _ qs is in
-    let q : Participant = first.0 in
-    let new = guard_new (list_any (λ (r : Participant). eqb r.0.0 q.0.0) before) (participants_named m (before ++ q ∷ []) words) qs first.2 in
-    let rest = named_after m (before ++ q ∷ []) words qs (numbered_push component_of q before new.0 apart) new.1 in
-    let e : (before ++ q ∷ []) ++ rest.named ≡ before ++ q ∷ rest.named = append_assoc before (q ∷ []) rest.named in
-    record {
-      named = q ∷ rest.named;
-      one_each = ap (λ (r : Result Participant BuildFault). r ∷ map (participant_named m) words) first.1 ∙ ap (λ (rs : List (Result Participant BuildFault)). Ok q ∷ rs) rest.one_each;
-      apart = rw e at rest.apart;
-      all = rw e at rest.all;
-    }
+    record { named = []; one_each = refl; apart = rw e apart; all = rw e refl }
+named_after m before (word ∷ words) apart =
+    bound (AreNamedAfter m before (word ∷ words)) (participant_named m word) _ (λ q is_q.
+    guarded (AreNamedAfter m before (word ∷ words)) (list_any (λ (r : Participant). eqb r.0.0 q.0.0) before) Twice _ (λ new.
+    IfOk-weaker (participants_named m (before ++ q ∷ []) words) (AreNamedAfter m (before ++ q ∷ []) words) _ (λ qs rest.
+    let e = append_assoc before (q ∷ []) rest.named in
+    record { named = q ∷ rest.named; one_each = cc (is_q, rest.one_each); apart = rw e at rest.apart; all = rw e at rest.all })
+    (named_after m (before ++ q ∷ []) words (numbered_push component_of q before new apart))))
 
 -- participants that are named come back by component
 ok_after : (m : System) (before : List Participant) (words : List (List ℕ × List ℕ)) (named : List Participant) → map (participant_named m) words ≡ map Ok named → IsDistinct eqb (components_in (before ++ named)) → participants_named m before words ≡ Ok (by_component (before ++ named))
@@ -149,7 +121,7 @@ names_participants m words qs = (from, to)
   where
     from : participants_named m [] words ≡ Ok qs → AreNamed m words qs
     from is =
-        let after' = named_after m [] words qs tt is in
+        let after' = IfOk-at_ok (AreNamedAfter m [] words) is (named_after m [] words tt) in
         record {
           named = after'.named;
           one_each = after'.one_each;
@@ -167,28 +139,18 @@ names_participants m words qs = (from, to)
 pub named_valid : (m : System) (words : List (List ℕ × List ℕ)) (qs : List Participant) → participants_named m [] words ≡ Ok qs → (length qs ≡ length words) × IsStrictlyIncreasing (components_in qs) × All (IsPortIn m.components) qs
 named_valid m words qs is =
     let n = (names_participants m words qs).0 is in
-    let as_many : length qs ≡ length n.named = length_permutation n.named qs n.these in
-    let each = each_valid words n.named n.one_each in
-    let count : length n.named ≡ length words = each.0 in
-    (omega arith, n.rising, All-permutation (IsPortIn m.components) n.named qs n.these each.1)
-  where
-    each_valid : (ws : List (List ℕ × List ℕ)) (ps : List Participant) → map (participant_named m) ws ≡ map Ok ps → (length ps ≡ length ws) × All (IsPortIn m.components) ps
-    each_valid [] [] each = (refl, All-nil (IsPortIn m.components))
-    each_valid [] (p ∷ ps) each = cc
-    each_valid (w ∷ ws) [] each = cc
-    each_valid (w ∷ ws) (p ∷ ps) each =
-        let first : participant_named m w ≡ Ok p = cc in
-        let rest : map (participant_named m) ws ≡ map Ok ps = cc in
-        let more = each_valid ws ps rest in
-        (ap suc more.0, All-cons (IsPortIn m.components) p ps (participant_named-valid m w p first) more.1)
+    let P : Result Participant BuildFault → Type 0 = λ r. IfOk r (IsPortIn m.components) in
+    let good : All P (map Ok n.named) = rw n.one_each at (All-map P (participant_named m) words (λ k d within. participant_named-valid m (get_or words k d))) in
+    let ports : All (IsPortIn m.components) n.named = λ k d within. rw (get_or-map {Y = Result Participant BuildFault} Ok n.named k d (Ok d) within) at (good k (Ok d) (simp length-map within)) in (
+      length_permutation n.named qs n.these ∙ sym (simp length-map at (ap length n.one_each)),
+      n.rising,
+      All-permutation (IsPortIn m.components) n.named qs n.these ports,
+    )
 
 -- what a word names; any participant where it names none
 abbrev named_by : Result Participant BuildFault → Participant
 named_by (Ok q) = q
-named_by (Err e) = numbered 0 0
-
-abbrev IsGood : Result Participant BuildFault → Type 0
-IsGood r = r ≡ Ok (named_by r)
+named_by (Err e) = (record { 0 = 0 }, record { 0 = 0 })
 
 -- the order of the words doesn't count
 pub names_in_any_order : NamesInAnyOrder
@@ -196,27 +158,14 @@ names_in_any_order m words others qs moved is =
     let n = (names_participants m words qs).0 is in
     let found : List (Result Participant BuildFault) = map (participant_named m) words in
     let found' : List (Result Participant BuildFault) = map (participant_named m) others in
+    let IsGood : Result Participant BuildFault → Type 0 = λ r. Ok (named_by r) ≡ r in
     let across : IsPermutation found found' = IsPermutation-map (participant_named m) words others moved in
-    let good : All IsGood found' = All-permutation IsGood found found' across (All-same IsGood found (map Ok n.named) n.one_each (all_good n.named)) in
-    let same : map named_by found ≡ n.named = ap (map named_by) n.one_each ∙ back n.named in
+    let good : All IsGood found' = All-permutation IsGood found found' across (All-same IsGood found (map Ok n.named) n.one_each (All-map IsGood Ok n.named (λ k d within. refl))) in
+    let same : map named_by found ≡ n.named = ap (map named_by) n.one_each ∙ (map-map named_by Ok n.named ∙ map-id n.named) in
     let named_moved : IsPermutation n.named (map named_by found') = rw same at (IsPermutation-map named_by found found' across) in
     (names_participants m others qs).1 (record {
       named = map named_by found';
-      one_each = forth found' good;
+      one_each = sym (map-map Ok named_by found' ∙ map_fixed (λ r. Ok (named_by r)) found' good);
       these = IsPermutation-trans (map named_by found') n.named qs (IsPermutation-sym n.named (map named_by found') named_moved) n.these;
       rising = n.rising;
     })
-  where
-    all_good : (ps : List Participant) → All IsGood (map Ok ps)
-    all_good [] = All-nil IsGood
-    all_good (p ∷ ps) = All-cons IsGood (Ok p) (map Ok ps) refl (all_good ps)
-
-    back : (ps : List Participant) → map named_by (map Ok ps) ≡ ps
-    back [] = refl
-    back (p ∷ ps) = rw (back ps) refl
-
-    forth : (rs : List (Result Participant BuildFault)) → All IsGood rs → rs ≡ map Ok (map named_by rs)
-    forth [] good = refl
-    forth (r ∷ rs) good =
-        let first : r ≡ Ok (named_by r) = All-head IsGood r rs good in
-        rw (← first) (ap (λ ts. r ∷ ts) (forth rs (All-tail IsGood r rs good)))

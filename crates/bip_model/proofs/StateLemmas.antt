@@ -1,10 +1,9 @@
 -- States of a model: the first one, and those to which joint steps lead.
-use Rattle.std.proofs.Common.{◌≡◌, ◌&&◌, ℕ, Bool, true, false, cond, eqb, List, [], ◌∷◌, Option, None, Some, refl, sym, ◌∙◌, subst, arith, inl, inr}
-use Rattle.std.specs.Prelude.{All, IsSomeAnd, find, slice_get, unwrap_or}
+use Rattle.std.proofs.Common.{◌≡◌, ℕ, List, [], ◌∷◌, Option, None, Some, refl, sym, ◌∙◌, arith, inl, inr}
+use Rattle.std.specs.Prelude.{IsSomeAnd, slice_get, unwrap_or}
 use Rattle.std.specs.Option.{option_map}
-use Rattle.std.proofs.lemmas.Bool.Decides.{eqb_tells}
-use Rattle.std.proofs.lemmas.List.Elements.{All-head, All-tail}
-use Rattle.std.proofs.lemmas.Option.{slice_get_cases, slice_get_within}
+use Rattle.std.proofs.lemmas.Bool.Decides.{eqb_tells, nat_tests}
+use Rattle.std.proofs.lemmas.Option.{slice_get_past}
 use Rattle.bip_model.specs.declared.numbering.PortId.{PortId}
 use Rattle.bip_model.specs.declared.parts.Component.{Component}
 use Rattle.bip_model.specs.declared.parts.System.{System}
@@ -15,17 +14,8 @@ use Rattle.bip_model.specs.Components.{moved, transition_for}
 use Rattle.bip_model.specs.Parts.{IsComponent, IsSystem, IsTransitionOf, Participant}
 use Rattle.bip_model.specs.States.{IsLocalStateOf, IsStateOf, State}
 use Rattle.bip_model.specs.Steps.{led, led_all, participants_of, start_of}
-use Rattle.bip_model.proofs.ListLemmas.{All-slice_get}
+use Rattle.bip_model.proofs.ListLemmas.{All-find, All-slice_get}
 use Rattle.bip_model.proofs.StepLemmas.{after_led}
-
--- what holds of each element holds of the one that is found
-find-All : {X : Type 0} (P : X → Type 0) (p : X → Bool) (xs : List X) (x : X) → All P xs → find p xs ≡ Some x → P x
-find-All P p [] x all is = cc
-find-All {X} P p (y ∷ ys) x all is =
-    elim (p y) as (λ b. cond b (Some y) (find p ys) ≡ Some x → P x) [
-      | true ↦ λ here. let e : y ≡ x = cc in subst P e (All-head P y ys all)
-      | false ↦ λ later. find-All P p ys x (All-tail P y ys all) later
-    ] is
 
 -- a transition leads to a local state of its component
 pub moved_valid : (k : Component) (local : LocalState) (port : PortId) (target : LocalState) → IsComponent k
@@ -37,16 +27,14 @@ moved_valid k local port target sound valid is =
         → option_map (λ (t : Transition). record local { location = t.target }) o ≡ Some target → IsLocalStateOf k target
     by_transition None found at = cc
     by_transition (Some t) found at =
-        let joins : IsTransitionOf k t = find-All (IsTransitionOf k) (λ u. eqb u.source.0 local.location.0 && eqb u.port.0 port.0) k.transitions t sound.so_far.transitions found in
-        let made : LocalState = record local { location = t.target } in
-        let same : made ≡ target = cc in
-        subst (λ (l : LocalState). IsLocalStateOf k l) same (record { location = joins.target; values = valid.values })
+        let joins : IsTransitionOf k t = All-find (IsTransitionOf k) _ k.transitions t sound.so_far.transitions found in
+        let same : record local { location = t.target } ≡ target = cc in
+        rw (← same) (record { location = joins.target; values = valid.values })
 
 -- a component goes from a local state of its own to one
 led_valid : (m : System) (c : ℕ) (k : Component) (port : PortId) (local : LocalState) → IsSystem m → slice_get m.components c ≡ Some k
     → IsLocalStateOf k local → IsLocalStateOf k (led m c port local)
 led_valid m c k port local valid at own =
-    let sound : IsComponent k = All-slice_get IsComponent m.components c k valid.so_far.components at in
     rw at (by_target (moved k local port) refl)
   where
     by_target : (o : Option LocalState) → moved k local port ≡ o → IsLocalStateOf k (unwrap_or o local)
@@ -67,25 +55,17 @@ led_all_valid m s (q ∷ qs) c k valid at own = elim (eqb_tells c q.0.0) [
 
 led_all_none : (m : System) (s : State) (qs : List Participant) (c : ℕ) → s c ≡ None → led_all m s qs c ≡ None
 led_all_none m s [] c none = none
-led_all_none m s (q ∷ qs) c none = elim (eqb_tells c q.0.0) [
-  | inl here ↦ rw (here.0, ← here.1, none) refl
-  | inr other ↦ rw other.0 (led_all_none m s qs c none)
-]
+led_all_none m s (q ∷ qs) c none = grind (arith, nat_tests, led_all_none m s qs c none)
 
 pub states_lead_to_states : (m : System) → IsSystem m → StatesLeadToStates m
 states_lead_to_states m valid s a own = record {
-  components = λ c k at. subst (λ (o : Option LocalState). IsSomeAnd o (IsLocalStateOf k)) (after_led m s a c) (led_all_valid m s (participants_of m a) c k valid at (own.components c k at));
+  components = λ c k at. rw (← after_led m s a c) (led_all_valid m s (participants_of m a) c k valid at (own.components c k at));
   others = λ c past. sym (after_led m s a c) ∙ led_all_none m s (participants_of m a) c (own.others c past);
 }
 
 -- the first state is one of the model
 pub start_valid : (m : System) → IsSystem m → IsStateOf m (start_of m)
 start_valid m valid = record {
-  components = λ c k at.
-      let sound : IsComponent k = All-slice_get IsComponent m.components c k valid.so_far.components at in
-      rw at (record { location = sound.located; values = refl });
-  others = λ c past. elim (slice_get_cases m.components c).1 [
-    | inl here ↦ absurd (omega (arith, slice_get_within m.components c here.0 here.2))
-    | inr none ↦ rw none.1 refl
-  ];
+  components = λ c k at. rw at (record { location = (All-slice_get IsComponent m.components c k valid.so_far.components at).located; values = refl });
+  others = λ c past. rw (slice_get_past m.components c past) refl;
 }

@@ -2,7 +2,8 @@ use Rattle.std.proofs.Common.{◌≡◌, ◌+◌, ◌≤◌, ◌++◌, ◌∷◌
 use Rattle.std.specs.List.{list_any}
 use Rattle.std.proofs.lemmas.List.{length_push}
 use Rattle.bip_model.specs.Drafts.{participant_named}
-use Rattle.bip_model.specs.Parts.{Participant}
+use Rattle.bip_model.specs.Parts.{IsPortIn, Participant}
+use Rattle.std.proofs.lemmas.Result.{IfOk-at_ok}
 use Rattle.bip_model.specs.declared.parts.System.{System}
 use Rattle.smallvec.proofs.SmallVecLemmas.{items-with_items}
 use Rattle.std.proofs.lemmas.List.Sorted.{IsNonDecreasingBy-from_sort_by_key}
@@ -16,7 +17,7 @@ push_reserved-requires c =
     let q : Participant = c.in_ok-participant.participant in
     let named : participant_named m c.word-item.result ≡ Ok q = sym c.participant.ensures ∙ c.in_ok-participant.was in
     let new : list_any (λ (r : Participant). eqb r.0.0 q.0.0) found ≡ false = rw (← c.as_slice.ensures) (sym c.takes_part.ensures ∙ c.if-takes_part.false) in
-    let valid : AreParticipants m.components (found ++ q ∷ []) = push_valid m.components q found c.loop-word.invariant.1 (participant_named-valid m c.word-item.result q named) new in
+    let valid : AreParticipants m.components (found ++ q ∷ []) = push_valid m.components q found c.loop-word.invariant.1 (IfOk-at_ok (IsPortIn m.components) named (participant_named-valid m c.word-item.result)) new in
     let few : length (found ++ q ∷ []) ≤ length m.components = few_participants m.components (found ++ q ∷ []) valid in
     let longer : length (found ++ q ∷ []) ≡ length found + 1 = length_push found q in
     omega arith
@@ -28,7 +29,7 @@ loop-word-preserved c =
     let q : Participant = c.in_ok-participant.participant in
     let named : participant_named m c.word-item.result ≡ Ok q = sym c.participant.ensures ∙ c.in_ok-participant.was in
     let new : list_any (λ (r : Participant). eqb r.0.0 q.0.0) found ≡ false = rw (← c.as_slice.ensures) (sym c.takes_part.ensures ∙ c.if-takes_part.false) in
-    let valid : AreParticipants m.components (found ++ q ∷ []) = push_valid m.components q found c.loop-word.invariant.1 (participant_named-valid m c.word-item.result q named) new in
+    let valid : AreParticipants m.components (found ++ q ∷ []) = push_valid m.components q found c.loop-word.invariant.1 (IfOk-at_ok (IsPortIn m.components) named (participant_named-valid m c.word-item.result)) new in
     let more = participants_named-more m found c.args.words.now c.loop-word.word-index c.word-item.result q c.loop-word-test.true (rw (← c.word-item.is) named) new in
     rw c.push_reserved.ensures.items (sym more ∙ c.loop-word.invariant.0, valid, c.push_reserved.ensures.capacity ∙ c.loop-word.invariant.2)
 
