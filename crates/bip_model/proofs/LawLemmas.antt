@@ -12,7 +12,7 @@ use Rattle.bip_model.specs.declared.parts.Component.{Component}
 use Rattle.bip_model.specs.declared.parts.System.{System}
 use Rattle.bip_model.specs.declared.parts.Transition.{Transition}
 use Rattle.bip_model.specs.declared.states.LocalState.{LocalState}
-use Rattle.bip_model.specs.Laws.{AgreeOn, CanGo, Commute, EnabledWhereAllCanGo, EndsAfterItsLast, GoesOnByWhatMayRun, IsItsTransition, IsLocal, MoveApart, OneTransition, OthersStay, ParticipantsGo}
+use Rattle.bip_model.specs.Laws.{AgreeOn, CanGo, Commute, EnabledWhereAllCanGo, EndsAfterItsLast, GoesOnByWhatMayRun, IsItsTransition, MoveApart, OneTransition, OthersStay, ParticipantsGo}
 use Rattle.bip_model.specs.declared.numbering.LocId.{LocId}
 use Rattle.bip_model.specs.declared.numbering.PortId.{PortId}
 use Rattle.bip_model.specs.Components.{transition_for, offers_at}
@@ -111,12 +111,6 @@ enabled-agree m s t a agree enabled = record {
 
 pub agree_too : (m : System) (s t : State) (a : ℕ) → AgreeOn m a s t → AgreeOn m a t s
 agree_too m s t a agree c takes = sym (agree c takes)
-
-pub is_local : (m : System) → IsLocal m
-is_local m s t a agree = (
-  (enabled-agree m s t a agree, enabled-agree m t s a (agree_too m s t a agree)),
-  λ c takes. after-same m s t a c (agree c takes),
-)
 
 -- apart is apart in either order
 pub apart_too : (m : System) (a b : ℕ) → MoveApart m a b → MoveApart m b a

@@ -1,5 +1,5 @@
 -- Lists: a search that finds nothing, elements by their places, numbers that rise.
-use Rattle.std.proofs.Common.{◌||◌, ◌≡◌, ℕ, ◌<◌, Bool, true, false, List, ◌∷◌, length, map, get_or, suc, None, Some, refl, sym, ◌∙◌, arith, find, eqb, ◌≢◌, ◌+◌, cond, ltb, not, Option}
+use Rattle.std.proofs.Common.{take-append-drop, take, drop, drop-cons, ◌++◌, ◌||◌, ◌≡◌, ℕ, ◌<◌, Bool, true, false, List, ◌∷◌, length, map, get_or, suc, None, Some, refl, sym, ◌∙◌, arith, find, eqb, ◌≢◌, ◌+◌, cond, ltb, not, Option}
 use Rattle.std.specs.Prelude.{All, position, slice_get}
 use Rattle.std.specs.List.Sorted.{IsStrictlyIncreasing}
 use Rattle.std.proofs.lemmas.Bool.{ne_eqb, or_parts}
@@ -15,6 +15,10 @@ use Rattle.std.proofs.lemmas.Option.{slice_get_within, slice_get-get_or, get_or_
 -- the test of two numbers that differ
 pub neq_eqb : (a b : ℕ) → a ≢ b → eqb a b ≡ false
 neq_eqb = ne_eqb
+
+-- a list in two parts and what stands between
+pub parted : {X : Type 0} (xs : List X) (i : ℕ) (d : X) → i < length xs → take i xs ++ get_or xs i d ∷ drop (suc i) xs ≡ xs
+parted xs i d within = rw (← drop-cons xs i d within) (take-append-drop i xs)
 
 -- of numbers that rise, each is below those at later places
 pub below_later : {X : Type 0} (f : X → ℕ) (xs : List X) → IsStrictlyIncreasing (map f xs) → (i j : ℕ) (d : X) → i < j → j < length xs → f (get_or xs i d) < f (get_or xs j d)

@@ -3,7 +3,6 @@ use Rattle.std.proofs.Common.{◌≡◌, ℕ, List, [], ◌∷◌, Option, None,
 use Rattle.std.specs.Prelude.{IsSomeAnd, slice_get, unwrap_or}
 use Rattle.std.specs.Option.{option_map}
 use Rattle.std.proofs.lemmas.Bool.Decides.{eqb_tells, nat_tests}
-use Rattle.std.proofs.lemmas.Option.{slice_get_past}
 use Rattle.bip_model.specs.declared.numbering.PortId.{PortId}
 use Rattle.bip_model.specs.declared.parts.Component.{Component}
 use Rattle.bip_model.specs.declared.parts.System.{System}
@@ -12,8 +11,8 @@ use Rattle.bip_model.specs.declared.states.LocalState.{LocalState}
 use Rattle.bip_model.specs.Laws.{StatesLeadToStates}
 use Rattle.bip_model.specs.Components.{moved, transition_for}
 use Rattle.bip_model.specs.Parts.{IsComponent, IsSystem, IsTransitionOf, Participant}
-use Rattle.bip_model.specs.States.{IsLocalStateOf, IsStateOf, State}
-use Rattle.bip_model.specs.Steps.{led, led_all, participants_of, start_of}
+use Rattle.bip_model.specs.States.{IsLocalStateOf, State}
+use Rattle.bip_model.specs.Steps.{led, led_all, participants_of}
 use Rattle.bip_model.proofs.ListLemmas.{All-find, All-slice_get}
 use Rattle.bip_model.proofs.StepLemmas.{after_led}
 
@@ -61,11 +60,4 @@ pub states_lead_to_states : (m : System) → IsSystem m → StatesLeadToStates m
 states_lead_to_states m valid s a own = record {
   components = λ c k at. rw (← after_led m s a c) (led_all_valid m s (participants_of m a) c k valid at (own.components c k at));
   others = λ c past. sym (after_led m s a c) ∙ led_all_none m s (participants_of m a) c (own.others c past);
-}
-
--- the first state is one of the model
-pub start_valid : (m : System) → IsSystem m → IsStateOf m (start_of m)
-start_valid m valid = record {
-  components = λ c k at. rw at (record { location = (All-slice_get IsComponent m.components c k valid.so_far.components at).located; values = refl });
-  others = λ c past. rw (slice_get_past m.components c past) refl;
 }

@@ -1,12 +1,13 @@
 -- Lines and words, taken off the front of a text.
 use Rattle.std.proofs.Common.{◌≡◌, ℕ, zero, suc, ◌<◌, Bool, true, false, not, List, [], ◌∷◌, ◌++◌, length, get_or, take, drop, drop-cons, Option, None, Some, refl, sym, ap, ◌∙◌, inl, inr, arith, eqb-true}
 use Rattle.std.specs.Prelude.{All, IsTrue, filter, position}
-use Rattle.std.specs.List.{slice_split}
 use Rattle.std.specs.List.{position_or_len}
-use Rattle.std.proofs.lemmas.Bool.{cases_lt, false_from_ne_true, le-ltb, lt-ltb}
+use Rattle.std.proofs.lemmas.Bool.{cases_lt, false_from_ne_true, lt-ltb, not-false}
+use Rattle.std.proofs.lemmas.Bool.Decides.{nat_tests}
+use Rattle.bip_model.proofs.ListLemmas.{parted}
 use Rattle.std.proofs.lemmas.List.Sums.{fails_before_first, position_or_len_is}
 use Rattle.std.proofs.lemmas.Option.{none-some}
-use Rattle.std.proofs.lemmas.List.{get_or-take, length-take-le, take-append-drop}
+use Rattle.std.proofs.lemmas.List.{get_or-take, length-take-le}
 use Rattle.std.proofs.lemmas.List.Elements.{All-from_get_or}
 use Rattle.std.proofs.lemmas.List.Splits.{slice_split_at, slice_split_none}
 use Rattle.memchr.specs.Find.{IsFirstByte, is_byte}
@@ -38,11 +39,7 @@ lines_whole b (c ∷ cs) none =
     rw first (ap (onto_first_line b) (lines_whole c cs (fails_behind is_line_feed b (c ∷ cs) (suc (length cs)) none)))
 
 pub line_parts : (text : List ℕ) (i : ℕ) → i < length text → is_line_feed (get_or text i 0) ≡ true → text ≡ take i text ++ 10 ∷ drop (suc i) text
-line_parts text i within ends =
-    let feed : get_or text i 0 ≡ 10 = eqb-true (get_or text i 0) 10 ends in
-    let rest : drop i text ≡ get_or text i 0 ∷ drop (suc i) text = drop-cons text i 0 within in
-    sym (take-append-drop i text)
-    ∙ ap (λ (ys : List ℕ). take i text ++ ys) (rest ∙ ap (λ (b : ℕ). b ∷ drop (suc i) text) feed)
+line_parts text i within ends = rw (← eqb-true (get_or text i 0) 10 ends) (sym (parted text i 0 within))
 
 -- where no place is found, the test fails everywhere
 pub position_none : (p : ℕ → Bool) (xs : List ℕ) → position p xs ≡ None → FailsBelow p xs (length xs)
@@ -56,62 +53,44 @@ position_none p xs none k below =
 pub words_blank : (b : ℕ) (bs : List ℕ) → is_blank b ≡ true → words (b ∷ bs) ≡ words bs
 words_blank b bs blank = rw blank refl
 
-not_not : (t : Bool) → not t ≡ false → t ≡ true
-not_not true h = refl
-not_not false h = sym h
-
 -- what stands before the first byte of a word
 pub blanks_before : (xs : List ℕ) (i : ℕ) → i < length xs → FailsBelow is_inked xs i → All (λ b. IsTrue (is_blank b)) (take i xs)
-blanks_before xs i within blanks = All-from_get_or (λ b. IsTrue (is_blank b)) (take i xs) 0 early
-  where
-    early : (k : ℕ) → k < length (take i xs) → is_blank (get_or (take i xs) k 0) ≡ true
-    early k below =
-        let shorter : length (take i xs) ≡ i = length-take-le i xs (omega arith) in
-        let before : k < i = omega arith in
-        rw (get_or-take i xs k 0 before) (not_not (is_blank (get_or xs k 0)) (blanks k before))
+blanks_before xs i within blanks = All-from_get_or (λ b. IsTrue (is_blank b)) (take i xs) 0 (λ k below.
+    let before : k < i = omega (arith, length-take-le i xs (omega arith)) in
+    rw (get_or-take i xs k 0 before) (not-false (is_blank (get_or xs k 0)) (blanks k before)))
 
 pub words_behind : (xs : List ℕ) (i : ℕ) → i < length xs → FailsBelow is_inked xs i → words xs ≡ words (drop i xs)
 words_behind [] i within blanks = absurd (omega arith)
 words_behind (b ∷ bs) zero within blanks = refl
 words_behind (b ∷ bs) (suc i) within blanks =
-    words_blank b bs (not_not (is_blank b) (blanks 0 (omega arith))) ∙ words_behind bs i (omega arith) (fails_behind is_inked b bs i blanks)
+    words_blank b bs (not-false (is_blank b) (blanks 0 (omega arith))) ∙ words_behind bs i (omega arith) (fails_behind is_inked b bs i blanks)
 
 pub words_none : (xs : List ℕ) → FailsBelow is_inked xs (length xs) → words xs ≡ []
 words_none [] blanks = refl
 words_none (b ∷ bs) blanks =
-    words_blank b bs (not_not (is_blank b) (blanks 0 (omega arith))) ∙ words_none bs (fails_behind is_inked b bs (length bs) blanks)
+    words_blank b bs (not-false (is_blank b) (blanks 0 (omega arith))) ∙ words_none bs (fails_behind is_inked b bs (length bs) blanks)
 
 -- a line that is one word
 pub words_whole : (b : ℕ) (bs : List ℕ) → FailsBelow is_blank (b ∷ bs) (suc (length bs)) → words (b ∷ bs) ≡ (b ∷ bs) ∷ []
-words_whole b bs inked =
-    let line : List ℕ = b ∷ bs in
-    ap (filter is_longer)
-    (slice_split_none is_blank line (All-from_get_or (λ c. is_blank c ≡ false) line 0 (λ k below. inked k below)))
+words_whole b bs inked = ap (filter is_longer) (slice_split_none is_blank (b ∷ bs) (All-from_get_or (λ c. is_blank c ≡ false) (b ∷ bs) 0 (λ k below. inked k below)))
 
 -- a line that begins with a word
 pub words_at : (b : ℕ) (bs : List ℕ) (i : ℕ) → i < length bs → is_blank (get_or bs i 0) ≡ true → FailsBelow is_blank (b ∷ bs) (suc i) → words (b ∷ bs) ≡ take (suc i) (b ∷ bs) ∷ words (drop i bs)
 words_at b bs i within blank inked =
-    let line : List ℕ = b ∷ bs in
-    let rest : drop i bs ≡ get_or bs i 0 ∷ drop (suc i) bs = drop-cons bs i 0 within in
-    let split : slice_split is_blank (take (suc i) line ++ get_or bs i 0 ∷ drop (suc i) bs) ≡ take (suc i) line ∷ slice_split is_blank (drop (suc i) bs) =
-    slice_split_at is_blank (take (suc i) line) (get_or bs i 0) (drop (suc i) bs)
-    (All-from_get_or (λ c. is_blank c ≡ false) (take (suc i) line) 0 (λ k below. early k below)) blank in
-    let whole : line ≡ take (suc i) line ++ get_or bs i 0 ∷ drop (suc i) bs = ap (λ (ys : List ℕ). b ∷ ys) (sym (take-append-drop i bs) ∙ ap (λ (ys : List ℕ). take i bs ++ ys) rest) in
-    ap words whole
-    ∙ (ap (filter is_longer) split
-    ∙ ap (λ (ws : List (List ℕ)). take (suc i) line ∷ ws) (sym (words_blank (get_or bs i 0) (drop (suc i) bs) blank) ∙ ap words (sym rest)))
-  where
-    early : (k : ℕ) → k < length (take (suc i) (b ∷ bs)) → is_blank (get_or (take (suc i) (b ∷ bs)) k 0) ≡ false
-    early k below =
-        let shorter : length (take (suc i) (b ∷ bs)) ≡ suc i = length-take-le (suc i) (b ∷ bs) (omega arith) in
-        rw (get_or-take (suc i) (b ∷ bs) k 0 (omega arith)) (inked k (omega arith))
+    let front : List ℕ = take (suc i) (b ∷ bs) in
+    let rest : List ℕ = drop (suc i) bs in
+    let inked' : All (λ c. is_blank c ≡ false) front = All-from_get_or (λ c. is_blank c ≡ false) front 0 (λ k below.
+    let before : k < suc i = omega (arith, length-take-le (suc i) (b ∷ bs) (omega arith)) in
+    rw (get_or-take (suc i) (b ∷ bs) k 0 before) (inked k before)) in
+    ap (λ (ys : List ℕ). words (b ∷ ys)) (sym (parted bs i 0 within))
+    ∙ (ap (filter is_longer) (slice_split_at is_blank front (get_or bs i 0) rest inked' blank)
+    ∙ ap (λ (ws : List (List ℕ)). front ∷ ws) (sym (words_blank (get_or bs i 0) rest blank) ∙ ap words (sym (drop-cons bs i 0 within))))
 
 -- the first byte that is a line feed, by its place
 pub first_is_position : (text : List ℕ) (found : Option ℕ) → IsFirstByte (is_byte 10) text found → found ≡ position is_line_feed text
 first_is_position text None none =
     let at = position_or_len_is is_line_feed text (length text) 0 (omega arith) (λ k below. false_from_ne_true (is_line_feed (get_or text k 0)) (none k (omega arith) below)) (λ within. absurd (omega arith)) in
-    rw (at, le-ltb (length text) (length text) (omega arith)) refl
+    grind (arith, nat_tests)
 first_is_position text (Some i) first =
-    let within : i < length text = first.0.high in
-    let at = position_or_len_is is_line_feed text i 0 (omega arith) (λ k below. false_from_ne_true (is_line_feed (get_or text k 0)) (first.0.before k (omega arith) below)) (λ within'. first.1) in
-    rw (at, lt-ltb i (length text) within) refl
+    let at = position_or_len_is is_line_feed text i 0 (omega (arith, first.0.high)) (λ k below. false_from_ne_true (is_line_feed (get_or text k 0)) (first.0.before k (omega arith) below)) (λ within'. first.1) in
+    grind (arith, nat_tests, first.0.high)

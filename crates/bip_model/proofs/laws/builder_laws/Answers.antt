@@ -1,10 +1,7 @@
 use Rattle.bip_model.specs.Components.{loc_line, port_line, trans_line}
-use Rattle.bip_model.proofs.GrowthLemmas.{component_grows, end_grows, inside_grows, interaction_grows, loc_grows, port_grows, trans_grows}
+use Rattle.bip_model.proofs.GrowthLemmas.{inside_grows, loc_grows, port_grows, trans_grows}
 use Rattle.bip_model.proofs.ParticipantLemmas.{names_in_any_order, names_participants}
 use Rattle.bip_model.proofs.laws.builder_laws.Goals as goal
-
-pub returns-clause-component : goal.returns-clause-component
-returns-clause-component c = component_grows
 
 pub returns-clause-loc : goal.returns-clause-loc
 returns-clause-loc c = λ d e name is. inside_grows (loc_line name) (loc_grows name) d e is
@@ -14,12 +11,6 @@ returns-clause-port c = λ d e name is. inside_grows (port_line name) (port_grow
 
 pub returns-clause-trans : goal.returns-clause-trans
 returns-clause-trans c = λ d e port source target is. inside_grows (trans_line port source target) (trans_grows port source target) d e is
-
-pub returns-clause-end : goal.returns-clause-end
-returns-clause-end c = end_grows
-
-pub returns-clause-interaction : goal.returns-clause-interaction
-returns-clause-interaction c = interaction_grows
 
 pub returns-clause-participants : goal.returns-clause-participants
 returns-clause-participants c = names_participants

@@ -1,4 +1,4 @@
-use Rattle.bip_model.proofs.LawLemmas.{commute, enabled_where, ends_after, goes_on, is_local, one_transition, others_stay, participants_go}
+use Rattle.bip_model.proofs.LawLemmas.{commute, enabled_where, ends_after, goes_on, one_transition, others_stay, participants_go}
 use Rattle.bip_model.proofs.StateLemmas.{states_lead_to_states}
 use Rattle.bip_model.proofs.laws.step_laws.Goals as goal
 
@@ -16,9 +16,6 @@ returns-clause-one c = one_transition
 
 pub returns-clause-states : goal.returns-clause-states
 returns-clause-states c = states_lead_to_states
-
-pub returns-clause-local : goal.returns-clause-local
-returns-clause-local c = is_local
 
 pub returns-clause-commute : goal.returns-clause-commute
 returns-clause-commute c = commute
