@@ -1,7 +1,5 @@
 -- Each line keeps all that earlier lines said.
-use Rattle.std.proofs.Common.{◌≡◌, ℕ, List, [], ◌∷◌, ◌++◌, Option, None, Some, Ok, refl, sym, inl, rules, arith}
-use Rattle.std.specs.Prelude.{IfSome, Result, unwrap_or}
-use Rattle.std.proofs.lemmas.List.{append-nil}
+use Rattle.std.proofs.Common.{◌≡◌, ℕ, List, [], ◌∷◌, ◌++◌, Option, None, Some, Ok, refl, sym, inl, rules, arith, IfSome, Result, unwrap_or, append-nil}
 use Rattle.std.proofs.lemmas.Grind.{common_steps}
 use Rattle.std.proofs.lemmas.Result.{IfOk-at_ok}
 use Rattle.bip_model.specs.Components.{loc_line, no_component, port_line, trans_line}

@@ -1,6 +1,5 @@
 -- Histories: one grant more, the greatest number used, and no component moved twice with one number.
-use Rattle.std.proofs.Common.{◌≡◌, ℕ, zero, suc, ◌<◌, ◌≤◌, true, ◌&&◌, eqb, List, [], ◌∷◌, ◌++◌, length, Some, refl, ap, get_or, eq-eqb, eqb-true, inl, inr, arith}
-use Rattle.std.specs.Prelude.{slice_get}
+use Rattle.std.proofs.Common.{◌≡◌, ℕ, zero, suc, ◌<◌, ◌≤◌, true, ◌&&◌, eqb, List, [], ◌∷◌, ◌++◌, length, Some, refl, ap, get_or, eq-eqb, eqb-true, inl, inr, arith, slice_get}
 use Rattle.std.proofs.lemmas.Bool.{and_parts, cases_lt, cond_both, ne_eqb}
 use Rattle.std.proofs.lemmas.List.Elements.{All-cons, All-nil}
 use Rattle.bip_model.specs.declared.grants.Grant.{Grant}

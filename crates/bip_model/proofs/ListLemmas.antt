@@ -1,6 +1,5 @@
 -- Lists: a search that finds nothing, elements by their places, numbers that rise.
-use Rattle.std.proofs.Common.{take-append-drop, take, drop, drop-cons, ◌++◌, ◌||◌, ◌≡◌, ℕ, ◌<◌, Bool, true, false, List, ◌∷◌, length, map, get_or, suc, None, Some, refl, sym, ◌∙◌, arith, find, eqb, ◌≢◌, ◌+◌, cond, ltb, not, Option}
-use Rattle.std.specs.Prelude.{All, position, slice_get}
+use Rattle.std.proofs.Common.{take-append-drop, take, drop, drop-cons, ◌++◌, ◌||◌, ◌≡◌, ℕ, ◌<◌, Bool, true, false, List, ◌∷◌, length, map, get_or, suc, None, Some, refl, sym, ◌∙◌, arith, find, eqb, ◌≢◌, ◌+◌, cond, ltb, not, Option, All, position, slice_get, option_map}
 use Rattle.std.specs.List.Sorted.{IsStrictlyIncreasing}
 use Rattle.std.proofs.lemmas.Bool.{ne_eqb, or_parts}
 use Rattle.std.proofs.lemmas.List.Sums.{position_or_len_is}
@@ -8,7 +7,6 @@ use Rattle.std.proofs.lemmas.Bool.Decides.{nat_tests}
 use Rattle.std.proofs.lemmas.List.{get_or-map, length-map}
 use Rattle.std.proofs.lemmas.List.Folds.{find_at}
 use Rattle.std.specs.List.{position_or_len}
-use Rattle.std.specs.Option.{option_map}
 use Rattle.std.proofs.lemmas.List.Kept.{AllPairs-from_increasing}
 use Rattle.std.proofs.lemmas.Option.{slice_get_within, slice_get-get_or, get_or_from_slice_get}
 

@@ -1,7 +1,5 @@
 -- States of a model: the first one, and those to which joint steps lead.
-use Rattle.std.proofs.Common.{◌≡◌, ℕ, List, [], ◌∷◌, Option, None, Some, refl, sym, ◌∙◌, arith, inl, inr}
-use Rattle.std.specs.Prelude.{IsSomeAnd, slice_get, unwrap_or}
-use Rattle.std.specs.Option.{option_map}
+use Rattle.std.proofs.Common.{◌≡◌, ℕ, List, [], ◌∷◌, Option, None, Some, refl, sym, ◌∙◌, arith, inl, inr, IsSomeAnd, slice_get, unwrap_or, option_map}
 use Rattle.std.proofs.lemmas.Bool.Decides.{eqb_tells, nat_tests}
 use Rattle.bip_model.specs.declared.numbering.PortId.{PortId}
 use Rattle.bip_model.specs.declared.parts.Component.{Component}

@@ -1,6 +1,5 @@
 -- The joint step, one participant after another.
-use Rattle.std.proofs.Common.{◌≡◌, ◌+◌, ℕ, ◌<◌, take, drop, false, cond, eqb, List, [], ◌∷◌, ◌++◌, length, get_or, suc, Option, None, Some, refl, sym, ◌∙◌, eq-eqb, add-one, zero, arith}
-use Rattle.std.specs.Prelude.{position, slice_get}
+use Rattle.std.proofs.Common.{◌≡◌, ◌+◌, ℕ, ◌<◌, take, drop, false, cond, eqb, List, [], ◌∷◌, ◌++◌, length, get_or, suc, Option, None, Some, refl, sym, ◌∙◌, eq-eqb, add-one, zero, arith, position, slice_get}
 use Rattle.std.specs.List.{list_any}
 use Rattle.std.specs.List.Sorted.{IsStrictlyIncreasing}
 use Rattle.std.specs.Option.{option_map, option_map_or}

@@ -1,13 +1,11 @@
 -- Lines and words, taken off the front of a text.
-use Rattle.std.proofs.Common.{◌≡◌, ℕ, zero, suc, ◌<◌, Bool, true, false, not, List, [], ◌∷◌, ◌++◌, length, get_or, take, drop, drop-cons, Option, None, Some, refl, sym, ap, ◌∙◌, inl, inr, arith, eqb-true}
-use Rattle.std.specs.Prelude.{All, IsTrue, filter, position}
+use Rattle.std.proofs.Common.{◌≡◌, ℕ, zero, suc, ◌<◌, Bool, true, false, not, List, [], ◌∷◌, ◌++◌, length, get_or, take, drop, drop-cons, Option, None, Some, refl, sym, ap, ◌∙◌, inl, inr, arith, eqb-true, All, IsTrue, filter, position, get_or-take, length-take-le}
 use Rattle.std.specs.List.{position_or_len}
 use Rattle.std.proofs.lemmas.Bool.{cases_lt, false_from_ne_true, lt-ltb, not-false}
 use Rattle.std.proofs.lemmas.Bool.Decides.{nat_tests}
 use Rattle.bip_model.proofs.ListLemmas.{parted}
 use Rattle.std.proofs.lemmas.List.Sums.{fails_before_first, position_or_len_is}
 use Rattle.std.proofs.lemmas.Option.{none-some}
-use Rattle.std.proofs.lemmas.List.{get_or-take, length-take-le}
 use Rattle.std.proofs.lemmas.List.Elements.{All-from_get_or}
 use Rattle.std.proofs.lemmas.List.Splits.{slice_split_at, slice_split_none}
 use Rattle.memchr.specs.Find.{IsFirstByte, is_byte}
@@ -32,11 +30,12 @@ lines_at (b ∷ bs) (suc i) within ends none =
     let first : is_line_feed b ≡ false = none 0 (omega arith) in
     rw first (ap (onto_first_line b) (lines_at bs i (omega arith) ends (fails_behind is_line_feed b bs i none)))
 
-pub lines_whole : (b : ℕ) (bs : List ℕ) → FailsBelow is_line_feed (b ∷ bs) (suc (length bs)) → lines (b ∷ bs) ≡ (b ∷ bs) ∷ []
-lines_whole b [] none = rw (none 0 (omega arith)) refl
-lines_whole b (c ∷ cs) none =
+pub lines_whole : (text : List ℕ) → 0 < length text → FailsBelow is_line_feed text (length text) → lines text ≡ text ∷ []
+lines_whole [] longer none = absurd (omega arith)
+lines_whole (b ∷ []) longer none = rw (none 0 (omega arith)) refl
+lines_whole (b ∷ c ∷ cs) longer none =
     let first : is_line_feed b ≡ false = none 0 (omega arith) in
-    rw first (ap (onto_first_line b) (lines_whole c cs (fails_behind is_line_feed b (c ∷ cs) (suc (length cs)) none)))
+    rw first (ap (onto_first_line b) (lines_whole (c ∷ cs) (omega arith) (fails_behind is_line_feed b (c ∷ cs) (suc (length cs)) none)))
 
 pub line_parts : (text : List ℕ) (i : ℕ) → i < length text → is_line_feed (get_or text i 0) ≡ true → text ≡ take i text ++ 10 ∷ drop (suc i) text
 line_parts text i within ends = rw (← eqb-true (get_or text i 0) 10 ends) (sym (parted text i 0 within))
@@ -71,20 +70,23 @@ words_none (b ∷ bs) blanks =
     words_blank b bs (not-false (is_blank b) (blanks 0 (omega arith))) ∙ words_none bs (fails_behind is_inked b bs (length bs) blanks)
 
 -- a line that is one word
-pub words_whole : (b : ℕ) (bs : List ℕ) → FailsBelow is_blank (b ∷ bs) (suc (length bs)) → words (b ∷ bs) ≡ (b ∷ bs) ∷ []
-words_whole b bs inked = ap (filter is_longer) (slice_split_none is_blank (b ∷ bs) (All-from_get_or (λ c. is_blank c ≡ false) (b ∷ bs) 0 (λ k below. inked k below)))
+pub words_whole : (line : List ℕ) → 0 < length line → FailsBelow is_blank line (length line) → words line ≡ line ∷ []
+words_whole [] longer inked = absurd (omega arith)
+words_whole (b ∷ bs) longer inked = ap (filter is_longer) (slice_split_none is_blank (b ∷ bs) (All-from_get_or (λ c. is_blank c ≡ false) (b ∷ bs) 0 (λ k below. inked k below)))
 
 -- a line that begins with a word
-pub words_at : (b : ℕ) (bs : List ℕ) (i : ℕ) → i < length bs → is_blank (get_or bs i 0) ≡ true → FailsBelow is_blank (b ∷ bs) (suc i) → words (b ∷ bs) ≡ take (suc i) (b ∷ bs) ∷ words (drop i bs)
-words_at b bs i within blank inked =
+pub words_at : (line : List ℕ) (end : ℕ) → is_blank (get_or line 0 0) ≡ false → end < length line → is_blank (get_or line end 0) ≡ true → FailsBelow is_blank line end → words line ≡ take end line ∷ words (drop end line)
+words_at [] end begins within blank inked = absurd (omega arith)
+words_at (b ∷ bs) zero begins within blank inked = cc
+words_at (b ∷ bs) (suc i) begins within blank inked =
     let front : List ℕ = take (suc i) (b ∷ bs) in
     let rest : List ℕ = drop (suc i) bs in
     let inked' : All (λ c. is_blank c ≡ false) front = All-from_get_or (λ c. is_blank c ≡ false) front 0 (λ k below.
     let before : k < suc i = omega (arith, length-take-le (suc i) (b ∷ bs) (omega arith)) in
     rw (get_or-take (suc i) (b ∷ bs) k 0 before) (inked k before)) in
-    ap (λ (ys : List ℕ). words (b ∷ ys)) (sym (parted bs i 0 within))
+    ap (λ (ys : List ℕ). words (b ∷ ys)) (sym (parted bs i 0 (omega arith)))
     ∙ (ap (filter is_longer) (slice_split_at is_blank front (get_or bs i 0) rest inked' blank)
-    ∙ ap (λ (ws : List (List ℕ)). front ∷ ws) (sym (words_blank (get_or bs i 0) rest blank) ∙ ap words (sym (drop-cons bs i 0 within))))
+    ∙ ap (λ (ws : List (List ℕ)). front ∷ ws) (sym (words_blank (get_or bs i 0) rest blank) ∙ ap words (sym (drop-cons bs i 0 (omega arith)))))
 
 -- the first byte that is a line feed, by its place
 pub first_is_position : (text : List ℕ) (found : Option ℕ) → IsFirstByte (is_byte 10) text found → found ≡ position is_line_feed text

@@ -1,4 +1,4 @@
-use Rattle.std.proofs.Common.{refl, ◌≡◌, ◌++◌, ◌∷◌, [], List, ℕ}
+use Rattle.std.proofs.Common.{refl, ◌≡◌, ◌++◌, ◌∷◌, []}
 use Rattle.bip_model.proofs.NameLemmas.{apart_push}
 use Rattle.bip_model.proofs.naming.Names.push.Goals as goal
 
@@ -7,6 +7,6 @@ returns-clause-ok c = rw c.in_ok-insert.ensures.keys (rw c.self.view_is (rw c.re
 
 pub invariant_of-self-2 : goal.invariant_of-self-2
 invariant_of-self-2 c =
-    let old : List (List ℕ) = c.args.self.now in
+    let old = c.args.self.now in
     let new : c.insert.new.self.keys ≡ old ++ c.args.name ∷ [] = rw c.in_ok-insert.ensures.keys (rw c.self.view_is (rw c.requires refl)) in
     rw new (apart_push c.args.name old c.requires (rw (← c.self.view_is) c.self.invariant))

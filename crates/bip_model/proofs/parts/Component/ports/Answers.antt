@@ -1,5 +1,4 @@
-use Rattle.std.proofs.Common.{◌≡◌, List, take, arith, ◌∙◌, refl}
-use Rattle.std.proofs.lemmas.List.{take_all}
+use Rattle.std.proofs.Common.{◌≡◌, List, take, arith, ◌∙◌, refl, take_all}
 use Rattle.bip_model.specs.declared.parts.Transition.{Transition}
 use Rattle.bip_model.proofs.PortLemmas.{is_some-find, leaves}
 use Rattle.bip_model.proofs.parts.Component.ports.Goals as goal
