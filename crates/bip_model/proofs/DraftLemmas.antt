@@ -1,5 +1,5 @@
 -- Each line leads from a draft that lines lead to, to another one.
-use Rattle.std.proofs.Common.{◌≡◌, ℕ, zero, suc, ◌+◌, ◌<◌, ◌≤◌, false, ◌||◌, eqb, leb, ltb, List, [], ◌∷◌, ◌++◌, length, get_or, Option, None, Some, Ok, Err, refl, sym, ◌∙◌, subst, arith, unwrap_or, IfOk, IsNone, IsSome, OnErr, Result, slice_get}
+use Rattle.std.proofs.Common.{◌≡◌, ℕ, zero, suc, ◌+◌, ◌<◌, ◌≤◌, false, ◌||◌, eqb, leb, ltb, List, [], ◌∷◌, ◌++◌, length, get_or, Option, None, Some, Ok, Err, refl, sym, ◌∙◌, arith, unwrap_or, IfOk, IsNone, IsSome, OnErr, Result, slice_get}
 use Rattle.bip_model.specs.Faults.{Answers, new_or_fault}
 use Rattle.std.specs.List.{list_any}
 use Rattle.std.proofs.lemmas.Bool.Decides.{nat_tests}
@@ -27,10 +27,10 @@ use Rattle.bip_model.proofs.ParticipantLemmas.{bound, guarded, named_valid, numb
 pub answers_keeps : {X : Type 0} (P : X → Type 0) (said : Result X BuildFault) (old : X)
     (result : Result (Unit {0}) BuildFault) (new : X) → Answers Memory said (new_or_fault result new)
     → OnErr result (new ≡ old) → P old → ((d : X) → said ≡ Ok d → P d) → P new
-answers_keeps P (Ok d) old (Ok u) new answers kept before after' = subst (λ (x : _). P x) (sym answers) (after' d refl)
-answers_keeps P (Ok d) old (Err e) new answers kept before after' = subst (λ (x : _). P x) (sym kept) before
+answers_keeps P (Ok d) old (Ok u) new answers kept before after' = rw answers (after' d refl)
+answers_keeps P (Ok d) old (Err e) new answers kept before after' = rw kept before
 answers_keeps P (Err f) old (Ok u) new answers kept before after' = absurd answers
-answers_keeps P (Err f) old (Err e) new answers kept before after' = subst (λ (x : _). P x) (sym kept) before
+answers_keeps P (Err f) old (Err e) new answers kept before after' = rw kept before
 
 empty_valid : IsComponentSoFar no_component
 empty_valid = record { few_locations = omega arith; few_ports = omega arith; few_transitions = omega arith; apart = tt; transitions = All-nil (IsTransitionOf no_component); one_each = λ i j d before within. absurd (omega arith) }
@@ -65,6 +65,11 @@ begun_keeps d c new valid is keeps =
 pub inside_keeps : (f : Component → Result Component BuildFault) (d e : Draft) → IsDraft d → IsSome d.begun → ((c c' : Component) → IsComponentSoFar c → f c ≡ Ok c' → IsComponentSoFar c') → inside f d ≡ Ok e → IsDraft e
 inside_keeps f d e valid begun keeps is = IfOk-at_ok IsDraft is (bound IsDraft (f (begun_in d)) _ (λ c said.
     begun_keeps d (begun_in d) c valid (begun_some d.begun begun) (λ old. keeps (begun_in d) c old said)))
+
+-- a builder's draft after the component that is begun answered
+pub inside_ends : (f : Component → Result Component BuildFault) → ((c c' : Component) → IsComponentSoFar c → f c ≡ Ok c' → IsComponentSoFar c') → (d : Draft) (c new : Component) (result : Result (Unit {0}) BuildFault)
+    → IsDraft d → d.begun ≡ Some c → Answers Memory (f c) (new_or_fault result new) → OnErr result (new ≡ c) → IsDraft (record d { begun = Some new })
+inside_ends f keeps d c new result valid is said kept = begun_keeps d c new valid is (λ old. answers_keeps IsComponentSoFar (f c) c result new said kept old (λ e. keeps c e old))
 
 -- a transition of a component is one of it with more names
 more_names : (c : Component) (locations ports : List (List ℕ)) → length c.locations ≤ length locations → length c.ports ≤ length ports → (t : Transition) → IsTransitionOf c t → IsTransitionOf (record c { locations = locations; ports = ports }) t
@@ -160,3 +165,7 @@ interaction_keeps d e name words valid some is = IfOk-at_ok IsDraft is
       apart_push name d.system.interaction_names new valid.so_far.interactions_apart,
       All-push (IsInteraction d.system.components) d.system.interactions i valid.so_far.interactions whole,
     )))))))
+
+-- a builder's draft after `end`
+pub end_ends : (d new : Draft) (result : Result (Unit {0}) BuildFault) → IsDraft d → IsSome d.begun → Answers Memory (end_line d) (new_or_fault result new) → OnErr result (new ≡ d) → IsDraft new
+end_ends d new result valid begun said kept = answers_keeps IsDraft (end_line d) d result new said kept valid (λ e. end_keeps d e valid begun)

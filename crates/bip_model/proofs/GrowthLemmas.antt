@@ -16,9 +16,6 @@ begins_same xs = ([], sym (append-nil xs))
 begins_push : {X : Type 0} (xs : List X) (x : X) → Begins xs (xs ++ x ∷ [])
 begins_push xs x = (x ∷ [], refl)
 
-same_component : (c : Component) → KeepsComponent c c
-same_component c = search (rules, begins_same, begins_push)
-
 pub loc_grows : (name : List ℕ) (c e : Component) → loc_line name c ≡ Ok e → KeepsComponent c e
 loc_grows name c e is = grind (arith, common_steps)
 
@@ -36,4 +33,4 @@ for_begun (Some c) P holds = holds
 pub inside_grows : (f : Component → Result Component BuildFault) → ((c e : Component) → f c ≡ Ok e → KeepsComponent c e) → (d e : Draft) → inside f d ≡ Ok e → KeepsDraft d e
 inside_grows f grows d e is = IfOk-at_ok (KeepsDraft d) is (bound (KeepsDraft d) (f (begun_in d)) _ (λ c said.
     let begun = for_begun d.begun (λ b. GoesOn d b (record d { begun = Some c })) (c, grows (begun_in d) c said, inl refl) in
-    search (rules, begins_same, begins_push)))
+    search (rules, begins_same)))

@@ -1,5 +1,5 @@
 -- Histories: one grant more, the greatest number used, and no component moved twice with one number.
-use Rattle.std.proofs.Common.{◌≡◌, ℕ, zero, suc, ◌<◌, ◌≤◌, true, ◌&&◌, eqb, List, [], ◌∷◌, ◌++◌, length, Some, refl, ap, get_or, eq-eqb, eqb-true, inl, inr, arith, slice_get}
+use Rattle.std.proofs.Common.{rules, ◌≡◌, ℕ, zero, suc, ◌<◌, ◌≤◌, true, ◌&&◌, eqb, List, [], ◌∷◌, ◌++◌, length, Some, refl, ap, get_or, eq-eqb, eqb-true, inl, inr, arith, slice_get}
 use Rattle.std.proofs.lemmas.Bool.{and_parts, cases_lt, cond_both, ne_eqb}
 use Rattle.std.proofs.lemmas.List.Elements.{All-cons, All-nil}
 use Rattle.bip_model.specs.declared.grants.Grant.{Grant}
@@ -39,10 +39,10 @@ greatest_used floor [] c = record { floor_within = omega arith; moves_within = A
 greatest_used floor (g ∷ gs) c = greatest_behind floor g gs c (used_by (raised floor g.wants) gs c) (greatest_used (raised floor g.wants) gs c)
 
 pub IsHistory-append : HistoryGoesOn
-IsHistory-append floor [] hs = (λ history. (tt, history), λ both. both.1)
+IsHistory-append floor [] hs = assumption
 IsHistory-append floor (g ∷ gs) hs =
     let rest = IsHistory-append (raised floor g.wants) gs hs in
-    (λ history. ((history.0, (rest.0 history.1).0), (rest.0 history.1).1), λ both. (both.0.0, rest.1 (both.0.1, both.1)))
+    search (rules, rest.0, rest.1)
 
 -- the number with which fresh wants move a component is above its used number
 pub moved_above : (used : ℕ → ℕ) (wants : List Want) (c : ℕ) → IsFresh used wants → 0 < moved_in wants c → used c < moved_in wants c

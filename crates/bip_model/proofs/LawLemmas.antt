@@ -1,21 +1,19 @@
 -- The laws of the joint step.
-use Rattle.std.proofs.Common.{◌≡◌, ℕ, ◌<◌, true, false, eqb, [], ◌∷◌, get_or, Option, None, Some, refl, sym, ap, ◌∙◌, inl, inr, arith, eq-eqb, eqb-true, ◌&&◌, Contains, slice_get}
+use Rattle.std.proofs.Common.{rules, ◌≡◌, ℕ, true, false, eqb, [], ◌∷◌, get_or, Option, None, Some, refl, sym, ap, ◌∙◌, inl, inr, arith, eq-eqb, eqb-true, Contains, slice_get}
 use Rattle.std.specs.Option.{option_map, option_map_or}
 use Rattle.std.specs.List.Sorted.{IsStrictlyIncreasing}
 use Rattle.std.proofs.Math.Path.{fun_ext}
 use Rattle.std.proofs.lemmas.List.Folds.{Any-from_list_any, list_any_at}
 use Rattle.bip_model.proofs.PortLemmas.{is_some-find, leaves}
 use Rattle.std.proofs.lemmas.Option.{slice_get_cases}
-use Rattle.std.proofs.lemmas.Bool.{and_parts, cases_Bool, false_from_ne_true, false≢true}
+use Rattle.std.proofs.lemmas.Bool.{ne_eqb, and_parts, cases_Bool, false_from_ne_true, false≢true}
 use Rattle.bip_model.specs.declared.parts.Component.{Component}
 use Rattle.bip_model.specs.declared.parts.System.{System}
 use Rattle.bip_model.specs.declared.parts.Transition.{Transition}
 use Rattle.bip_model.specs.declared.states.LocalState.{LocalState}
-use Rattle.bip_model.specs.Laws.{AgreeOn, CanGo, Commute, EnabledWhereAllCanGo, EndsAfterItsLast, GoesOnByWhatMayRun, IsItsTransition, MoveApart, OneTransition, OthersStay, ParticipantsGo}
-use Rattle.bip_model.specs.declared.numbering.LocId.{LocId}
-use Rattle.bip_model.specs.declared.numbering.PortId.{PortId}
+use Rattle.bip_model.specs.Laws.{AgreeOn, CanGo, Commute, EnabledWhereAllCanGo, EndsAfterItsLast, GoesOnByWhatMayRun, IsItsTransition, OneTransition, OthersStay, ParticipantsGo}
 use Rattle.bip_model.specs.Components.{transition_for, offers_at}
-use Rattle.bip_model.proofs.ListLemmas.{All-slice_get, below_later, find_first, neq_eqb}
+use Rattle.bip_model.proofs.ListLemmas.{All-slice_get, below_later, find_first}
 use Rattle.bip_model.specs.States.{State}
 use Rattle.bip_model.specs.Steps.{IsEnabled, after, led, moves, offered, participants_of}
 use Rattle.bip_model.proofs.StepLemmas.{after_led, led_all-member, led_all-stays}
@@ -36,24 +34,16 @@ rising_of m a valid = elim (slice_get_cases m.interactions a).1 [
 pub after-member : (m : System) (s : State) (a : ℕ) (q : Participant) → IsSystem m → Contains (participants_of m a) q
     → after m s a q.0.0 ≡ option_map (led m q.0.0 q.1) (s q.0.0)
 after-member m s a q valid member =
-    let qs = participants_of m a in
-    sym (after_led m s a q.0.0)
-    ∙ led_all-member m s qs member.0 q member.1 member.2
-    (λ i early.
-    let less : (get_or qs i q).0.0 < (get_or qs member.0 q).0.0 = below_later (λ (r : Participant). r.0.0) qs (rising_of m a valid) i member.0 q early member.1 in
-    let at : (get_or qs member.0 q).0.0 ≡ q.0.0 = ap (λ (r : Participant). r.0.0) member.2 in
-    neq_eqb q.0.0 (get_or qs i q).0.0 (λ same. let e : q.0.0 ≡ (get_or qs i q).0.0 = same in omega arith))
+    sym (after_led m s a q.0.0) ∙ led_all-member m s (participants_of m a) member.0 q member.1 member.2 (λ i early. ne_eqb _ _ (λ same.
+    omega (arith, same, ap (λ (r : Participant). r.0.0) member.2, below_later (λ (r : Participant). r.0.0) (participants_of m a) (rising_of m a valid) i member.0 q early member.1)))
 
--- the one transition with a port from a location is the one that is found
-pub transition_for-member : (component : Component) (location : LocId) (port : PortId) (t : Transition) → IsComponent component → Contains component.transitions t → t.source.0 ≡ location.0 → t.port.0 ≡ port.0 → transition_for component location port ≡ Some t
-transition_for-member component location port t valid member source with =
-    find_first (λ u. eqb u.source.0 location.0 && eqb u.port.0 port.0) component.transitions member.0 t t member.1 (sym member.2) (rw (eq-eqb t.source.0 location.0 source, eq-eqb t.port.0 port.0 with) refl)
-    (λ i early. cc (valid.so_far.one_each i member.0 t early member.1, member.2))
-
--- the transition of a participant is the one that is found
+-- the one transition of a participant is the one that is found
 transition_found : (m : System) (s : State) (q : Participant) (local : LocalState) (t : Transition) → IsSystem m → (its : IsItsTransition m s q local t) → transition_for its.component local.location q.1 ≡ Some t
 transition_found m s q local t valid its =
-    transition_for-member its.component local.location q.1 t (All-slice_get IsComponent m.components q.0.0 its.component valid.so_far.components its.declared) its.declares its.source its.port
+    let sound : IsComponent its.component = All-slice_get IsComponent m.components q.0.0 its.component valid.so_far.components its.declared in
+    let member = its.declares in
+    find_first (leaves local.location.0 q.1.0) its.component.transitions member.0 t t member.1 (sym member.2) (rw (eq-eqb t.source.0 local.location.0 its.source, eq-eqb t.port.0 q.1.0 its.port) refl)
+    (λ i early. cc (sound.so_far.one_each i member.0 t early member.1, member.2, its.source, its.port))
 
 pub participants_go : (m : System) → IsSystem m → ParticipantsGo m
 participants_go m valid s a q local t member its =
@@ -82,16 +72,8 @@ offered_where m s q valid go = rw (go.2.declared, go.2.at, transition_found m s 
 
 pub enabled_where : (m : System) → IsSystem m → EnabledWhereAllCanGo m
 enabled_where m valid s a = (
-  λ enabled. (
-    enabled.declared,
-    λ k d within.
-        let q = get_or (participants_of m a) k d in
-        can_go m s q (slice_get m.components q.0.0) (s q.0.0) refl refl (enabled.offered_all k d within),
-  ),
-  λ known. record {
-    declared = known.0;
-    offered_all = λ k d within. offered_where m s (get_or (participants_of m a) k d) valid (known.1 k d within);
-  },
+  λ enabled. (enabled.declared, λ k d within. can_go m s _ _ _ refl refl (enabled.offered_all k d within)),
+  λ known. record { declared = known.0; offered_all = λ k d within. offered_where m s _ valid (known.1 k d within) },
 )
 
 -- what an interaction does to a component depends on where that one is
@@ -104,25 +86,17 @@ enabled-agree m s t a agree enabled = record {
   declared = enabled.declared;
   offered_all = λ k d within.
       let q = get_or (participants_of m a) k d in
-      let takes : moves m a q.0.0 ≡ true = list_any_at (λ (r : Participant). eqb r.0.0 q.0.0) (participants_of m a) k d within (eq-eqb q.0.0 q.0.0 refl) in
-      rw (agree q.0.0 takes) at (enabled.offered_all k d within);
+      rw (agree q.0.0 (list_any_at (λ (r : Participant). eqb r.0.0 q.0.0) (participants_of m a) k d within (eq-eqb q.0.0 q.0.0 refl))) at (enabled.offered_all k d within);
 }
-
-pub agree_too : (m : System) (s t : State) (a : ℕ) → AgreeOn m a s t → AgreeOn m a t s
-agree_too m s t a agree c takes = sym (agree c takes)
-
--- apart is apart in either order
-pub apart_too : (m : System) (a b : ℕ) → MoveApart m a b → MoveApart m b a
-apart_too m a b apart c takes = false_from_ne_true (moves m a c) (λ also. false≢true (sym (apart c also) ∙ takes))
 
 pub commute : (m : System) → Commute m
 commute m s a b apart = (
-  (enabled-agree m (after m s a) s b stay, enabled-agree m s (after m s a) b (agree_too m (after m s a) s b stay)),
+  (enabled-agree m (after m s a) s b stay, enabled-agree m s (after m s a) b (λ c takes. sym (stay c takes))),
   fun_ext same,
 )
   where
     stay : AgreeOn m b (after m s a) s
-    stay c takes = others_stay m s a c (apart_too m a b apart c takes)
+    stay c takes = others_stay m s a c (false_from_ne_true (moves m a c) (λ also. false≢true (sym (apart c also) ∙ takes)))
 
     same : (c : ℕ) → after m (after m s a) b c ≡ after m (after m s b) a c
     same c = elim (cases_Bool (moves m a c)) [
@@ -136,9 +110,7 @@ ends_after m s [] a = refl
 ends_after m s (b ∷ bs) a = ends_after m (after m s b) bs a
 
 pub goes_on : (m : System) → GoesOnByWhatMayRun m
-goes_on m s [] a = (λ run. (tt, run.0), λ both. (both.1, tt))
+goes_on m s [] a = assumption
 goes_on m s (b ∷ bs) a =
-    let rest = goes_on m (after m s b) bs a in (
-      λ run. ((run.0, (rest.0 run.1).0), (rest.0 run.1).1),
-      λ both. (both.0.0, rest.1 (both.0.1, both.1)),
-    )
+    let rest = goes_on m (after m s b) bs a in
+    search (rules, rest.0, rest.1)

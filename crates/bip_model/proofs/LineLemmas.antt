@@ -1,6 +1,7 @@
 -- A text line by line: the lines that were read, and those that are left with their numbers.
 use Rattle.std.proofs.Common.{◌≡◌, ℕ, zero, suc, ◌+◌, ◌≤◌, Bool, true, false, if◌then◌else◌, List, [], ◌∷◌, ◌++◌, length, refl, sym, ap, ◌∙◌, append_assoc, arith, length-append, append-nil, slice_get, slice_index_or}
 use Rattle.std.specs.Option.{option_map_or}
+use Rattle.std.proofs.lemmas.Option.{some_pair_parts}
 use Rattle.bip_model.specs.Texts.{is_line_feed, lines, numbered, numbered_lines, onto_first_line}
 
 -- these lines were read, and those are left
@@ -22,9 +23,6 @@ lines_short : (text : List ℕ) → length (lines text) ≤ length text
 lines_short [] = omega arith
 lines_short (b ∷ bs) = omega (arith, lines_on b (lines bs) (is_line_feed b), lines_short bs)
 
-same_first : (x y : ℕ × List ℕ) (xs ys : List (ℕ × List ℕ)) → x ∷ xs ≡ y ∷ ys → x ≡ y
-same_first x y xs ys e = cc
-
 -- the line that comes next
 pub record IsNextLine (text : List ℕ) (front : List (List ℕ)) (n : ℕ) (line : List ℕ) (after : List (ℕ × List ℕ)) : Type 0 where
   pub number : n ≡ length front + 1
@@ -39,23 +37,16 @@ line_read text front left after n line so next = by_behind so.behind so.whole (s
     by_behind : (behind : List (List ℕ)) → lines text ≡ front ++ behind → numbered (length front + 1) behind ≡ (n, line) ∷ after → IsNextLine text front n line after
     by_behind [] whole is = cc
     by_behind (x ∷ rest) whole is =
-        let first = same_first (length front + 1, x) (n, line) (numbered (length front + 1 + 1) rest) after is in
-        let same : x ≡ line = ap (λ (p : ℕ × List ℕ). p.1) first in
-        let split : lines text ≡ front ++ line ∷ rest = rw same at whole in
-        let longer : length front + 1 ≡ length (front ++ line ∷ []) = omega (arith, length-append front (line ∷ [])) in
+        let parts = some_pair_parts (length front + 1) n x line (cc) in
         let behind : numbered (length front + 1 + 1) rest ≡ after = cc in
-        let many : length (lines text) ≡ length front + length (line ∷ rest) = ap length split ∙ length-append front (line ∷ rest) in
-        let number : n ≡ length front + 1 = sym (ap (λ (p : ℕ × List ℕ). p.0) first) in
+        let split : lines text ≡ front ++ line ∷ rest = rw parts.1 at whole in
+        let longer : length front + 1 ≡ length (front ++ line ∷ []) = omega (arith, length-append front (line ∷ [])) in
         record {
-          number = number;
-          short = omega (arith, many, number, lines_short text);
+          number = sym parts.0;
+          short = omega (arith, parts.0, ap length split, length-append front (line ∷ rest), lines_short text);
           rest = rest;
           split = split;
-          left = record {
-            behind = rest;
-            whole = split ∙ sym (append_assoc front (line ∷ []) rest);
-            numbers = rw longer at (sym behind);
-          };
+          left = record { behind = rest; whole = split ∙ sym (append_assoc front (line ∷ []) rest); numbers = rw longer at (sym behind) };
         }
 
 pub all_read : (text : List ℕ) (front : List (List ℕ)) (left : List (ℕ × List ℕ)) → AreLeft text front left → left ≡ [] → lines text ≡ front

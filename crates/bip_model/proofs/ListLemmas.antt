@@ -1,7 +1,7 @@
 -- Lists: a search that finds nothing, elements by their places, numbers that rise.
-use Rattle.std.proofs.Common.{take-append-drop, take, drop, drop-cons, ◌++◌, ◌||◌, ◌≡◌, ℕ, ◌<◌, Bool, true, false, List, ◌∷◌, length, map, get_or, suc, None, Some, refl, sym, ◌∙◌, arith, find, eqb, ◌≢◌, ◌+◌, cond, ltb, not, Option, All, position, slice_get, option_map}
+use Rattle.std.proofs.Common.{take-append-drop, take, drop, drop-cons, ◌++◌, ◌||◌, ◌≡◌, ℕ, ◌<◌, Bool, true, false, List, ◌∷◌, length, map, get_or, suc, Some, refl, sym, ◌∙◌, arith, find, ◌+◌, cond, All, position, slice_get, option_map}
 use Rattle.std.specs.List.Sorted.{IsStrictlyIncreasing}
-use Rattle.std.proofs.lemmas.Bool.{ne_eqb, or_parts}
+use Rattle.std.proofs.lemmas.Bool.{cases_Bool, or_parts}
 use Rattle.std.proofs.lemmas.List.Sums.{position_or_len_is}
 use Rattle.std.proofs.lemmas.Bool.Decides.{nat_tests}
 use Rattle.std.proofs.lemmas.List.{get_or-map, length-map}
@@ -9,10 +9,6 @@ use Rattle.std.proofs.lemmas.List.Folds.{find_at}
 use Rattle.std.specs.List.{position_or_len}
 use Rattle.std.proofs.lemmas.List.Kept.{AllPairs-from_increasing}
 use Rattle.std.proofs.lemmas.Option.{slice_get_within, slice_get-get_or, get_or_from_slice_get}
-
--- the test of two numbers that differ
-pub neq_eqb : (a b : ℕ) → a ≢ b → eqb a b ≡ false
-neq_eqb = ne_eqb
 
 -- a list in two parts and what stands between
 pub parted : {X : Type 0} (xs : List X) (i : ℕ) (d : X) → i < length xs → take i xs ++ get_or xs i d ∷ drop (suc i) xs ≡ xs
@@ -45,14 +41,4 @@ neither = or_parts
 
 -- the place of the first element that passes, by the first element
 pub position_cons : {X : Type 0} (p : X → Bool) (x : X) (xs : List X) → position p (x ∷ xs) ≡ cond (p x) (Some 0) (option_map (λ i. i + 1) (position p xs))
-position_cons {X} p x xs =
-    elim (p x) as (λ b. first b ≡ cond b (Some 0) (option_map (λ i. i + 1) (position p xs))) [ true ↦ grind (arith, nat_tests) | false ↦ later ]
-  where
-    rest : ℕ
-    rest = position_or_len p xs
-
-    first : Bool → Option ℕ
-    first b = let n : ℕ = cond (not b) (1 + rest) 0 in cond (ltb n (suc (length xs))) (Some n) None
-
-    later : cond (ltb (1 + rest) (suc (length xs))) (Some (1 + rest)) None ≡ option_map (λ i. i + 1) (cond (ltb rest (length xs)) (Some rest) None)
-    later = grind (arith, nat_tests)
+position_cons p x xs = grind (arith, nat_tests, cases_Bool (p x))

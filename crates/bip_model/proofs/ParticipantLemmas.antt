@@ -1,8 +1,8 @@
 -- Participants: those that words name, and that they are few.
-use Rattle.std.proofs.Common.{◌≡◌, ℕ, ◌+◌, ◌<◌, ◌≤◌, Bool, true, false, cond, eqb, List, [], ◌∷◌, ◌++◌, length, map, get_or, drop, Option, None, Some, Ok, Err, refl, sym, ap, ◌∙◌, All, IfOk, Result, position, slice_get, ok_or}
+use Rattle.std.proofs.Common.{arith, ◌≡◌, ℕ, ◌+◌, ◌<◌, ◌≤◌, Bool, true, false, cond, eqb, List, [], ◌∷◌, ◌++◌, length, map, get_or, drop, Option, None, Some, Ok, Err, refl, sym, ap, ◌∙◌, All, IfOk, Result, position, slice_get, ok_or}
 use Rattle.std.specs.List.{IsDistinct, list_any}
 use Rattle.std.specs.List.Sorted.{IsNonDecreasingBy, IsPermutation, IsStrictlyIncreasing}
-use Rattle.std.proofs.lemmas.List.{append_assoc, append-nil, at_drop_all, at_drop_more, get_or-map, length-map, map-id}
+use Rattle.std.proofs.lemmas.List.{append_assoc, append-nil, at_drop_all, at_drop_more, get_or-map, length_push, length-map, map-id}
 use Rattle.std.proofs.lemmas.List.Folds.{map_fixed}
 use Rattle.std.proofs.lemmas.Simd.{map-map}
 use Rattle.std.proofs.lemmas.Result.{IfOk-at_ok, IfOk-weaker}
@@ -75,8 +75,11 @@ participant_named-valid m word =
     record { component = slice_get_within m.components c component at; port = rw at (number_in-below component.ports word.1 p is_p) })))
 
 -- one more word that names a new participant
-pub participants_named-more : (m : System) (found : List Participant) (words : List (List ℕ × List ℕ)) (i : ℕ) (d : List ℕ × List ℕ) (q : Participant) → i < length words → participant_named m (get_or words i d) ≡ Ok q → list_any (λ (r : Participant). eqb r.0.0 q.0.0) found ≡ false → participants_named m found (drop i words) ≡ participants_named m (found ++ q ∷ []) (drop (i + 1) words)
-participants_named-more m found words i d q within names new = at_drop_more (participants_named m found) words i d within ∙ rw (names, new) refl
+pub named_more : (m : System) (found : List Participant) (words : List (List ℕ × List ℕ)) (i : ℕ) (d : List ℕ × List ℕ) (q : Participant) → i < length words → participant_named m (get_or words i d) ≡ Ok q → list_any (λ (r : Participant). eqb r.0.0 q.0.0) found ≡ false → AreParticipants m.components found
+    → (participants_named m found (drop i words) ≡ participants_named m (found ++ q ∷ []) (drop (i + 1) words)) × AreParticipants m.components (found ++ q ∷ []) × (length found < length m.components)
+named_more m found words i d q within names new valid =
+    let valid' = push_valid m.components q found valid (IfOk-at_ok (IsPortIn m.components) names (participant_named-valid m (get_or words i d))) new in
+    (at_drop_more (participants_named m found) words i d within ∙ rw (names, new) refl, valid', omega (arith, length_push found q, few_participants m.components (found ++ q ∷ []) valid'))
 
 -- no more words
 pub participants_named-end : (m : System) (found : List Participant) (words : List (List ℕ × List ℕ)) (i : ℕ) → length words ≤ i → Ok (by_component found) ≡ participants_named m found (drop i words)

@@ -1,11 +1,9 @@
 -- Lines and words, taken off the front of a text.
-use Rattle.std.proofs.Common.{◌≡◌, ℕ, zero, suc, ◌<◌, Bool, true, false, not, List, [], ◌∷◌, ◌++◌, length, get_or, take, drop, drop-cons, Option, None, Some, refl, sym, ap, ◌∙◌, inl, inr, arith, eqb-true, All, IsTrue, filter, position, get_or-take, length-take-le}
-use Rattle.std.specs.List.{position_or_len}
-use Rattle.std.proofs.lemmas.Bool.{cases_lt, false_from_ne_true, lt-ltb, not-false}
+use Rattle.std.proofs.Common.{◌≡◌, ℕ, zero, suc, ◌<◌, Bool, true, false, not, List, [], ◌∷◌, ◌++◌, length, get_or, take, drop, drop-cons, Option, None, Some, refl, sym, ap, ◌∙◌, arith, eqb-true, All, IsTrue, filter, position, get_or-take, length-take-le}
+use Rattle.std.proofs.lemmas.Bool.{false_from_ne_true, not-false}
 use Rattle.std.proofs.lemmas.Bool.Decides.{nat_tests}
 use Rattle.bip_model.proofs.ListLemmas.{parted}
 use Rattle.std.proofs.lemmas.List.Sums.{fails_before_first, position_or_len_is}
-use Rattle.std.proofs.lemmas.Option.{none-some}
 use Rattle.std.proofs.lemmas.List.Elements.{All-from_get_or}
 use Rattle.std.proofs.lemmas.List.Splits.{slice_split_at, slice_split_none}
 use Rattle.memchr.specs.Find.{IsFirstByte, is_byte}
@@ -42,11 +40,7 @@ line_parts text i within ends = rw (← eqb-true (get_or text i 0) 10 ends) (sym
 
 -- where no place is found, the test fails everywhere
 pub position_none : (p : ℕ → Bool) (xs : List ℕ) → position p xs ≡ None → FailsBelow p xs (length xs)
-position_none p xs none k below =
-    elim (cases_lt (position_or_len p xs) (length xs)) [
-      | inl found ↦ absurd (none-some (position_or_len p xs) (sym none ∙ rw (lt-ltb (position_or_len p xs) (length xs) found) refl))
-      | inr past ↦ fails_before_first p xs k 0 (omega arith)
-    ]
+position_none p xs none k below = fails_before_first p xs k 0 (grind (arith, nat_tests))
 
 -- a blank at the front says nothing
 pub words_blank : (b : ℕ) (bs : List ℕ) → is_blank b ≡ true → words (b ∷ bs) ≡ words bs

@@ -117,6 +117,7 @@ impl Builder {
     }
 
     /// `end` ends the component that is begun. Missing: it has no location.
+    #[tactic(auto, using(crate::proofs::DraftLemmas::end_ends))]
     pub fn end(&mut self) -> Result<(), BuildFault>
         requires { IsSome self.old.begun }
         ensures said { Answers Memory (end_line self.old) (new_or_fault result self.new) }
