@@ -6,7 +6,7 @@ use Rattle.std.specs.List.Sorted.{IsNonDecreasing, IsNonDecreasingBy, IsPermutat
 use Rattle.std.proofs.lemmas.Bool.{cond_both, eqb-false, eqb-true, ltb-false, ltb-true, ne_eqb}
 use Rattle.std.proofs.lemmas.Cmp.{nat_eq_equiv}
 use Rattle.std.proofs.lemmas.List.{get_or-map, length-map, map_push}
-use Rattle.std.proofs.lemmas.List.Elements.{All-map, recursion_from_All}
+use Rattle.std.proofs.lemmas.List.Elements.{All-map, Contains-append_right, recursion_from_All}
 use Rattle.std.proofs.lemmas.List.Folds.{Any-from_list_any}
 use Rattle.std.proofs.lemmas.Map.Made.{Contains-tail}
 use Rattle.std.proofs.lemmas.Map.Steps.{length-le_from_distinct_below}
@@ -112,9 +112,6 @@ module _ {X : Type 0} (number : X → ℕ) where
   first_or_later x xs z (zero, within, is) = inl is
   first_or_later x xs z (suc k, within, is) = inr (k, omega arith, is)
 
-  later : (x : X) (xs : List X) (z : X) → Contains xs z → Contains (x ∷ xs) z
-  later x xs z (k, within, is) = (suc k, omega arith, is)
-
   above_member : (n : ℕ) (xs : List X) (z : X) → AllByRecursion (λ k. n < k) (map number xs) → Contains xs z → n < number z
   above_member n [] z all (k, within, is) = absurd (omega arith)
   above_member n (x ∷ xs) z all member = elim (first_or_later x xs z member) [ inl same ↦ rw (← same) all.0 | inr in' ↦ above_member n xs z all.1 in' ]
@@ -133,8 +130,8 @@ module _ {X : Type 0} (number : X → ℕ) where
         ]
       ] in
       let rest : xs ≡ ys = same_list xs ys rise.1 rise'.1
-      (λ z in'. Contains-tail y ys z (λ e. omega (arith, above_member (number x) xs z rise.0 in', ap number (first ∙ e))) (there z (later x xs z in')))
-      (λ z in'. Contains-tail x xs z (λ e. omega (arith, above_member (number y) ys z rise'.0 in', ap number (sym first ∙ e))) (back z (later y ys z in'))) in
+      (λ z in'. Contains-tail y ys z (λ e. omega (arith, above_member (number x) xs z rise.0 in', ap number (first ∙ e))) (there z (Contains-append_right (x ∷ []) xs z in')))
+      (λ z in'. Contains-tail x xs z (λ e. omega (arith, above_member (number y) ys z rise'.0 in', ap number (sym first ∙ e))) (back z (Contains-append_right (y ∷ []) ys z in'))) in
       rw (first, rest) refl
 
   -- the same things that rise are those in order

@@ -3,7 +3,8 @@ use Rattle.std.proofs.Common.{◌≡◌, ℕ, zero, suc, ◌+◌, ◌-◌, ◌^�
 use Rattle.std.specs.List.{AllByRecursion, IsDistinct, list_any}
 use Rattle.std.specs.List.Sorted.{IsNonDecreasingBy, IsPermutation, IsStrictlyIncreasing}
 use Rattle.std.proofs.lemmas.Bool.{cases_eq, cases_lt, false_from_ne_true, false≢true}
-use Rattle.std.proofs.lemmas.List.Folds.{list_any_at}
+use Rattle.std.proofs.lemmas.List.Folds.{fold-map, list_any_at}
+use Rattle.std.proofs.Math.Path.{fun_ext}
 use Rattle.std.proofs.lemmas.Bool.Decides.{nat_tests}
 use Rattle.std.proofs.lemmas.Cmp.{nat_list_eq_equiv}
 use Rattle.std.proofs.lemmas.List.{length-map}
@@ -90,7 +91,7 @@ classes_of_partition {C} name members count classes kept valid is_count is_names
   filled = of_each (λ class. 0 < length class) (λ k d within. rw (length_permutation _ _ (moved (get_or classes k d))) (valid.filled k d within));
   rising = of_each (λ class. IsStrictlyIncreasing (numbers_in class)) (λ k d within. (is_in_order (members (get_or classes k d)) (differ_in_classes name members count classes valid k d within)).rising);
   known = rw is_count (of_each (All (λ a. a.0 < count)) (λ k d within. All-permutation (λ (a : InterId). a.0 < count) _ _ (moved (get_or classes k d)) (valid.known k d within)));
-  once = λ a within. rw is_members (mapped a classes ∙ valid.once a (rw is_count at within));
+  once = λ a within. rw is_members (fold-map (λ n class. n + times_in class a) (λ c. in_order (members c)) 0 classes ∙ (ap (λ f. sum_by f classes) (fun_ext (same a)) ∙ valid.once a (rw is_count at within)));
 }
   where
     moved : (c : C) → IsPermutation (members c) (in_order (members c))
@@ -99,11 +100,8 @@ classes_of_partition {C} name members count classes kept valid is_count is_names
     of_each : (P : List InterId → Type 0) → All (λ c. P (in_order (members c))) classes → All P kept.members
     of_each P all = rw is_members (All-map P (λ c. in_order (members c)) classes all)
 
-    mapped : (a : ℕ) (cs : List C) → sum_by (λ class. times_in class a) (map (λ c. in_order (members c)) cs) ≡ sum_by (λ c. times_in (members c) a) cs
-    mapped a [] = refl
-    mapped a (c ∷ cs) =
-        rw (sum_by-cons (λ class. times_in class a) (in_order (members c)) (map (λ c'. in_order (members c')) cs), sum_by-cons (λ c'. times_in (members c') a) c cs)
-        (rw (mapped a cs, sum_by-IsPermutation (λ (b : InterId). cond (eqb b.0 a) 1 0) (members c) (in_order (members c)) (moved c)) refl)
+    same : (a : ℕ) (c : C) → times_in (in_order (members c)) a ≡ times_in (members c) a
+    same a c = sum_by-IsPermutation (λ (b : InterId). cond (eqb b.0 a) 1 0) (members c) (in_order (members c)) (moved c)
 
 -- each below a count makes one, or one of them doesn't
 once_or_not : (f : ℕ → ℕ) (count : ℕ) → ((a : ℕ) → a < count → f a ≡ 1) ⊎ ((a : ℕ) × (a < count) × ((f a ≡ 0) ⊎ (1 < f a)))

@@ -1,5 +1,5 @@
 -- Lines and words, taken off the front of a text.
-use Rattle.std.proofs.Common.{◌≡◌, ℕ, zero, suc, ◌<◌, Bool, true, false, not, List, [], ◌∷◌, ◌++◌, length, get_or, take, drop, drop-cons, Option, None, Some, refl, sym, ap, ◌∙◌, arith, eqb-true, All, IsTrue, filter, position, get_or-take, length-take-le}
+use Rattle.std.proofs.Common.{◌≤◌, ◌≡◌, ℕ, zero, suc, ◌<◌, Bool, true, false, not, List, [], ◌∷◌, ◌++◌, length, get_or, take, drop, drop-cons, Option, None, Some, refl, sym, ap, ◌∙◌, arith, eqb-true, All, IsTrue, filter, position, get_or-take, length-take-le}
 use Rattle.std.proofs.lemmas.Bool.{false_from_ne_true, not-false}
 use Rattle.std.proofs.lemmas.Bool.Decides.{nat_tests}
 use Rattle.bip_model.proofs.ListLemmas.{parted}
@@ -46,11 +46,15 @@ position_none p xs none k below = fails_before_first p xs k 0 (grind (arith, nat
 pub words_blank : (b : ℕ) (bs : List ℕ) → is_blank b ≡ true → words (b ∷ bs) ≡ words bs
 words_blank b bs blank = rw blank refl
 
+-- what fails below a place fails of each byte before that place
+front_fails : (p : ℕ → Bool) (xs : List ℕ) (i : ℕ) → i ≤ length xs → FailsBelow p xs i → All (λ b. p b ≡ false) (take i xs)
+front_fails p xs i within fails = All-from_get_or (λ b. p b ≡ false) (take i xs) 0 (λ k below.
+    let before : k < i = omega (arith, length-take-le i xs within) in
+    rw (get_or-take i xs k 0 before) (fails k before))
+
 -- what stands before the first byte of a word
 pub blanks_before : (xs : List ℕ) (i : ℕ) → i < length xs → FailsBelow is_inked xs i → All (λ b. IsTrue (is_blank b)) (take i xs)
-blanks_before xs i within blanks = All-from_get_or (λ b. IsTrue (is_blank b)) (take i xs) 0 (λ k below.
-    let before : k < i = omega (arith, length-take-le i xs (omega arith)) in
-    rw (get_or-take i xs k 0 before) (not-false (is_blank (get_or xs k 0)) (blanks k before)))
+blanks_before xs i within blanks = λ k d below. not-false _ (front_fails is_inked xs i (omega arith) blanks k d below)
 
 pub words_behind : (xs : List ℕ) (i : ℕ) → i < length xs → FailsBelow is_inked xs i → words xs ≡ words (drop i xs)
 words_behind [] i within blanks = absurd (omega arith)
@@ -75,9 +79,7 @@ words_at (b ∷ bs) zero begins within blank inked = cc
 words_at (b ∷ bs) (suc i) begins within blank inked =
     let front : List ℕ = take (suc i) (b ∷ bs) in
     let rest : List ℕ = drop (suc i) bs in
-    let inked' : All (λ c. is_blank c ≡ false) front = All-from_get_or (λ c. is_blank c ≡ false) front 0 (λ k below.
-    let before : k < suc i = omega (arith, length-take-le (suc i) (b ∷ bs) (omega arith)) in
-    rw (get_or-take (suc i) (b ∷ bs) k 0 before) (inked k before)) in
+    let inked' = front_fails is_blank (b ∷ bs) (suc i) (omega arith) inked in
     ap (λ (ys : List ℕ). words (b ∷ ys)) (sym (parted bs i 0 (omega arith)))
     ∙ (ap (filter is_longer) (slice_split_at is_blank front (get_or bs i 0) rest inked' blank)
     ∙ ap (λ (ws : List (List ℕ)). front ∷ ws) (sym (words_blank (get_or bs i 0) rest blank) ∙ ap words (sym (drop-cons bs i 0 (omega arith)))))
