@@ -1,9 +1,11 @@
 -- Each line leads from a draft that lines lead to, to another one.
-use Rattle.std.proofs.Common.{◌≡◌, ℕ, zero, suc, ◌+◌, ◌<◌, ◌≤◌, false, ◌||◌, eqb, leb, ltb, List, [], ◌∷◌, ◌++◌, length, get_or, Option, None, Some, Ok, Err, refl, sym, ◌∙◌, arith, unwrap_or, IfOk, IsNone, IsSome, OnErr, Result, slice_get}
+use Rattle.std.proofs.Common.{◌≡◌, ℕ, ◌+◌, ◌<◌, ◌≤◌, false, ◌||◌, eqb, leb, ltb, List, [], ◌∷◌, ◌++◌, length, get_or, Option, None, Some, Ok, Err, refl, sym, ◌∙◌, arith, unwrap_or, IfOk, IsNone, IsSome, OnErr, Result, slice_get}
 use Rattle.bip_model.specs.Faults.{Answers, new_or_fault}
 use Rattle.std.specs.List.{list_any}
 use Rattle.std.proofs.lemmas.Bool.Decides.{nat_tests}
 use Rattle.std.proofs.lemmas.Result.{IfOk-at_ok}
+use Rattle.std.proofs.lemmas.Grind.{common_steps}
+use Rattle.std.proofs.lemmas.Option.{gets}
 use Rattle.std.proofs.lemmas.Bool.{false_from_ne_true, false≢true, leb-false, ltb-false}
 use Rattle.std.proofs.lemmas.List.{length_push, append_assoc}
 use Rattle.std.proofs.lemmas.List.Elements.{All-push, All-weaker, All-nil}
@@ -121,9 +123,7 @@ trans_keeps port source target c c' valid is = IfOk-at_ok IsComponentSoFar is
 
 -- what stands at a place stands there with more behind
 slice_get-more : {X : Type 0} (xs ys : List X) (k : ℕ) → k < length xs → slice_get (xs ++ ys) k ≡ slice_get xs k
-slice_get-more [] ys k within = absurd (omega arith)
-slice_get-more (x ∷ xs) ys zero within = refl
-slice_get-more (x ∷ xs) ys (suc k) within = slice_get-more xs ys k (omega arith)
+slice_get-more xs ys k within = grind (arith, common_steps, gets)
 
 port_stays : (components : List Component) (c : Component) (q : Participant) → IsPortIn components q → IsPortIn (components ++ c ∷ []) q
 port_stays components c q valid =

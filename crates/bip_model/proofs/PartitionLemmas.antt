@@ -1,5 +1,5 @@
 -- Names that are apart, and sums that stop at a greatest number.
-use Rattle.std.proofs.Common.{◌≡◌, ℕ, zero, suc, ◌+◌, ◌-◌, ◌^◌, ◌<◌, ◌≤◌, min, false, cond, eqb, ◌||◌, List, [], ◌∷◌, length, map, get_or, take, refl, sym, ap, ◌∙◌, inl, inr, arith, All, sum_by, ◌⊎◌}
+use Rattle.std.proofs.Common.{◌≡◌, ℕ, zero, suc, ◌+◌, ◌<◌, ◌≤◌, false, cond, eqb, ◌||◌, List, [], ◌∷◌, length, map, get_or, take, refl, sym, ap, ◌∙◌, inl, inr, arith, All, sum_by, ◌⊎◌}
 use Rattle.std.specs.List.{AllByRecursion, IsDistinct, list_any}
 use Rattle.std.specs.List.Sorted.{IsNonDecreasingBy, IsPermutation, IsStrictlyIncreasing}
 use Rattle.std.proofs.lemmas.Bool.{cases_eq, cases_lt, false_from_ne_true, false≢true}
@@ -31,10 +31,6 @@ unknown_before name (c ∷ cs) (suc i) d apart within =
     let differs : same_text (name c) (name (get_or cs i d)) ≡ false = false_from_ne_true _ (λ same.
     false≢true (sym apart.0 ∙ (list_any-named name (name c) cs ∙ list_any_at (λ k. same_text (name c) (name k)) cs i d (omega arith) same))) in
     rw (nat_list_eq_equiv.symm (name (get_or cs i d)) (name c) ∙ differs) (unknown_before name cs i d apart.1 (omega arith))
-
--- one more term of a sum that stops at a greatest number
-pub stopped_more : (sum stopped more : ℕ) → stopped ≡ min sum (2 ^ 64 - 1) → min (stopped + more) (2 ^ 64 - 1) ≡ min (sum + more) (2 ^ 64 - 1)
-stopped_more sum stopped more is = omega arith
 
 abbrev pub number_of : InterId → ℕ
 number_of a = a.0

@@ -1,6 +1,6 @@
 -- States of a model: the first one, and those to which joint steps lead.
-use Rattle.std.proofs.Common.{◌≡◌, ℕ, List, [], ◌∷◌, Option, None, Some, refl, sym, ◌∙◌, arith, inl, inr, IsSomeAnd, slice_get, unwrap_or, option_map}
-use Rattle.std.proofs.lemmas.Bool.Decides.{eqb_tells, nat_tests}
+use Rattle.std.proofs.Common.{◌≡◌, ℕ, List, [], ◌∷◌, Option, None, Some, refl, sym, ◌∙◌, arith, IsSomeAnd, slice_get, unwrap_or, option_map}
+use Rattle.std.proofs.lemmas.Bool.Decides.{nat_tests}
 use Rattle.bip_model.specs.declared.numbering.PortId.{PortId}
 use Rattle.bip_model.specs.declared.parts.Component.{Component}
 use Rattle.bip_model.specs.declared.parts.System.{System}
@@ -41,14 +41,9 @@ led_valid m c k port local valid at own =
 led_all_valid : (m : System) (s : State) (qs : List Participant) (c : ℕ) (k : Component) → IsSystem m → slice_get m.components c ≡ Some k
     → IsSomeAnd (s c) (IsLocalStateOf k) → IsSomeAnd (led_all m s qs c) (IsLocalStateOf k)
 led_all_valid m s [] c k valid at own = own
-led_all_valid m s (q ∷ qs) c k valid at own = elim (eqb_tells c q.0.0) [
-  | inl here ↦ rw (here.0, ← here.1) (goes (s c) own)
-  | inr other ↦ rw other.0 (led_all_valid m s qs c k valid at own)
-]
-  where
-    goes : (o : Option LocalState) → IsSomeAnd o (IsLocalStateOf k) → IsSomeAnd (option_map (led m c q.1) o) (IsLocalStateOf k)
-    goes None bad = bad
-    goes (Some local) good = led_valid m c k q.1 local valid at good
+led_all_valid m s (q ∷ qs) c k valid at own =
+    let goes : (local : LocalState) → IsLocalStateOf k local → IsLocalStateOf k (led m c q.1 local) = λ local. led_valid m c k q.1 local valid at in
+    grind (arith, nat_tests, led_all_valid m s qs c k valid at own, goes)
 
 led_all_none : (m : System) (s : State) (qs : List Participant) (c : ℕ) → s c ≡ None → led_all m s qs c ≡ None
 led_all_none m s [] c none = none
