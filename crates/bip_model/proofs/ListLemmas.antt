@@ -1,4 +1,4 @@
--- Lists: a search that finds nothing, elements by their places, numbers that rise.
+-- Lists: a search, elements by their places, numbers that rise.
 use Rattle.std.proofs.Common.{take-append-drop, take, drop, drop-cons, ◌++◌, ◌||◌, ◌≡◌, ℕ, ◌<◌, Bool, true, false, List, ◌∷◌, length, map, get_or, suc, Some, refl, sym, ◌∙◌, arith, find, ◌+◌, cond, All, position, slice_get, option_map}
 use Rattle.std.specs.List.Sorted.{IsStrictlyIncreasing}
 use Rattle.std.proofs.lemmas.Bool.{cases_Bool, or_parts}

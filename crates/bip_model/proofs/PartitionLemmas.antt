@@ -1,4 +1,4 @@
--- Names that are apart, and sums that stop at a greatest number.
+-- Names that are apart, interactions that stand once, and partitions as they are kept.
 use Rattle.std.proofs.Common.{◌≡◌, ℕ, zero, suc, ◌+◌, ◌<◌, ◌≤◌, false, cond, eqb, ◌||◌, List, [], ◌∷◌, length, map, get_or, take, refl, sym, ap, ◌∙◌, inl, inr, arith, All, sum_by, ◌⊎◌}
 use Rattle.std.specs.List.{AllByRecursion, IsDistinct, list_any}
 use Rattle.std.specs.List.Sorted.{IsNonDecreasingBy, IsPermutation, IsStrictlyIncreasing}
