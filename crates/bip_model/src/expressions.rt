@@ -7,8 +7,8 @@ ghost use Rattle.bip_model.specs.Expressions.{transferred, updated, value_in, va
 
 use crate::{Seq, Values, VarId};
 
-/// A variable: whose it is, by the place among an interaction's participants (0 in a component), and
-/// its number there.
+/// A variable: whose it is, by the place among an interaction's participants (0 in a component),
+/// and its number there.
 #[derive(Clone, Copy, Debug, PartialEq, Eq)]
 pub struct Variable {
     pub owner: u8,

@@ -19,8 +19,8 @@ ghost use Rattle.bip_model.specs.declared.grants.Grant.{Grant};
 ghost use Rattle.bip_model.specs.declared.numbering.InterId.{InterId};
 ghost use Rattle.bip_model.specs.declared.parts.System.{System};
 
-/// What sums, transfers and updates mean: a sum is that of the integers modulo 2^32, the assignments
-/// of a transfer are done at once and those of an update in written order (docs/DEFINITIONS.md,
+/// What sums, transfers and updates mean: a sum is that of the integers modulo 2^32, a transfer's
+/// assignments are done at once, and those of an update in written order (docs/DEFINITIONS.md,
 /// "Expressions").
 pub fn expression_laws()
     ensures sums { SumsAreIntegers }

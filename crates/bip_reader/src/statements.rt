@@ -8,10 +8,9 @@ ghost use Rattle.bip_model.specs.Texts.{words};
 ghost use Rattle.bip_reader.specs.declared.faults.Why.TheVariants.{Memory, Syntax};
 ghost use Rattle.bip_reader.specs.declared.statements.Keyword.TheVariants as keyword_is;
 ghost use Rattle.bip_reader.specs.Statements.{class_form, end_form, header_form, interaction_form};
-ghost use Rattle.bip_reader.specs.Statements.{is_of_list, keyword_in, keyword_of, name_and_words, name_of};
-ghost use Rattle.bip_reader.specs.Statements.{one_name};
-ghost use Rattle.bip_reader.specs.Statements.{one_or_more_of, participant_of, statement_of};
-ghost use Rattle.bip_reader.specs.Statements.{trans_form};
+ghost use Rattle.bip_reader.specs.Statements.{is_of_list, keyword_in, keyword_of, name_and_words};
+ghost use Rattle.bip_reader.specs.Statements.{name_of, one_name, one_or_more_of, participant_of};
+ghost use Rattle.bip_reader.specs.Statements.{statement_of, trans_form};
 
 use crate::Why;
 use bip_model::{Name, split_pair, split_word};
