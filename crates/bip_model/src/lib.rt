@@ -36,7 +36,7 @@ pub use parts::{Component, Interaction, System, Transition};
 pub use sequence::Seq;
 pub use states::{LocalState, State, Values};
 pub use texts::{
-    Line, Lines, is_plain, parse_number, read_words, split_line, split_pair, split_word,
+    Line, NumberedLines, is_plain, parse_number, read_words, split_line, split_pair, split_word,
 };
 pub use wants::{MOST_WANTS, Role, Want, Wants};
 

@@ -18,13 +18,13 @@ pub(crate) const NUMBER_DIGITS: usize = 20;
 /// The lines of a text, one after another, each with its number. Contracts see the list of those
 /// that are left.
 #[derive(Drop)]
-pub struct Lines<'a> {
+pub struct NumberedLines<'a> {
     rest: &'a [u8],
     // The number of the line before the rest, 0 where it begins the text.
     before: u64,
 }
 
-impl<'a> marker::Model for Lines<'a> {
+impl<'a> marker::Model for NumberedLines<'a> {
     ghost use Rattle.std.specs.Prelude.{◌+◌, ◌<◌, ◌^◌, List, length, ℕ};
     ghost use Rattle.bip_model.specs.Texts.{lines, numbered};
 
@@ -36,21 +36,21 @@ impl<'a> marker::Model for Lines<'a> {
     ghost invariant = { λ l. l.before + length l.rest.now < 2 ^ 64 };
 }
 
-impl<'a> Lines<'a> {
+impl<'a> NumberedLines<'a> {
     ghost use Rattle.bip_model.specs.Texts.{numbered_lines};
 
     /// The lines of a text, numbered from 1.
-    pub fn of(text: &'a [u8]) -> Lines<'a>
+    pub fn of(text: &'a [u8]) -> NumberedLines<'a>
         ensures { result ≡ numbered_lines text.now }
     {
-        Lines {
+        NumberedLines {
             rest: text,
             before: 0,
         }
     }
 }
 
-impl<'a> Iterator for Lines<'a> {
+impl<'a> Iterator for NumberedLines<'a> {
     ghost use Rattle.std.specs.Iterator.{YieldsFirstBy, item_count};
 
     type Item = (u64, &'a [u8]);

@@ -9,7 +9,7 @@ ghost use Rattle.bip_reader.specs.Texts.{Means, classes_of, reading_of};
 
 use crate::reading::{ClassLines, Reading};
 use crate::{ReadFault, Why};
-use bip_model::{Classes, Lines, Model};
+use bip_model::{Classes, Model, NumberedLines};
 use std::alloc::Global;
 
 /// The model and the classes that a text means, or its first fault: the one of the lowest line, and
@@ -76,7 +76,7 @@ fn read_lines(alloc: Global, text: &[u8]) -> Result<(Reading, u64), ReadFault>
 {
     let mut reading = Reading::new(alloc);
     let mut last = 1;
-    for (line, bytes) in Lines::of(text) {
+    for (line, bytes) in NumberedLines::of(text) {
         if let Err(why) = reading.read_line(alloc, bytes) {
             return Err(ReadFault { line, why });
         }

@@ -5,7 +5,7 @@ ghost use Rattle.bip_replay.specs.Replays.{IsReplayFault, IsRunOf, Takes};
 
 use crate::rooms::Room;
 use crate::{Position, ReplayFault};
-use bip_model::{Lines, Model, Number};
+use bip_model::{Model, Number, NumberedLines};
 use std::alloc::Global;
 
 /// Reads and checks a trace line by line: how many grants it has where they are a run of the model
@@ -28,7 +28,7 @@ pub fn replay(
         return Err((1, told_without_memory(&mut room, model, text)));
     };
     let mut count = 0;
-    for (number, line) in Lines::of(text) {
+    for (number, line) in NumberedLines::of(text) {
         match take_line(&mut position, &mut room, line) {
             Ok(found) => count += u64::from(found),
             Err(fault) => return Err((number, fault)),
@@ -42,7 +42,7 @@ pub fn replay(
 fn told_without_memory(room: &mut Room, model: &Model, text: &[u8]) -> ReplayFault
     ensures { (base : ℕ) → IsReplayFault model.now base text.now 1 result }
 {
-    let Some((_, line)) = Lines::of(text).next() else {
+    let Some((_, line)) = NumberedLines::of(text).next() else {
         return ReplayFault::Memory;
     };
     match room.read(model, line) {

@@ -4,7 +4,7 @@ ghost use Rattle.bip_replay.specs.Traces.{IsTraceFault, Reads, grants_of};
 
 use crate::TraceFault;
 use crate::rooms::Room;
-use bip_model::{Grant, Lines, Model, Wants};
+use bip_model::{Grant, Model, NumberedLines, Wants};
 use std::alloc::Global;
 
 /// The grants of a trace of a model, or the number of the first line at fault with its fault; what
@@ -20,7 +20,7 @@ pub fn read_trace(
 {
     let mut room = Room::new();
     let mut grants = Vec::new(alloc);
-    for (number, line) in Lines::of(text) {
+    for (number, line) in NumberedLines::of(text) {
         if let Err(fault) = read_one(alloc, &mut grants, &mut room, model, line) {
             return Err((number, fault));
         }

@@ -5,7 +5,7 @@ ghost use Rattle.bip_replay.specs.Writing.{name_in};
 ghost use Rattle.bipr.specs.Wording.{interaction_on, model_refusal, run_text, step_text};
 ghost use Rattle.bipr.specs.Wording.{trace_refusal, verdict_text};
 
-use bip_model::{CompId, InterId, Lines, Model, split_word};
+use bip_model::{CompId, InterId, Model, NumberedLines, split_word};
 use bip_reader::ReadFault;
 use bip_replay::{BookFault, ReplayFault};
 use std::alloc::{AllocError, Global};
@@ -115,7 +115,7 @@ fn interaction_on(trace: &[u8], number: u64) -> &[u8]
 fn line_at(text: &[u8], number: u64) -> &[u8]
     ensures { result.now ≡ slice_index_or (lines text.now) (number - 1) [] }
 {
-    match Lines::of(text).nth(number.saturating_sub(1) as usize) {
+    match NumberedLines::of(text).nth(number.saturating_sub(1) as usize) {
         None => &[],
         Some((_, line)) => line,
     }
