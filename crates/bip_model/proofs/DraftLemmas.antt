@@ -13,7 +13,7 @@ use Rattle.std.proofs.lemmas.List.Folds.{list_any-append, list_any_at}
 use Rattle.std.proofs.lemmas.List.Quantifiers.{all_pairs_push}
 use Rattle.bip_model.specs.Components.{is_taken, loc_line, no_component, number_in, port_line, trans_line, with_transition}
 use Rattle.bip_model.specs.Drafts.{IsDraft, begun_in, component_line, end_line, inside, interaction_line, participants_named, with_interaction}
-use Rattle.bip_model.specs.Naming.{is_known, same_text}
+use Rattle.bip_model.specs.Naming.{AreApart, is_known, same_text}
 use Rattle.bip_model.specs.Parts.{IsComponent, IsComponentSoFar, IsInteraction, IsPortIn, IsTransitionOf, Participant, same_start}
 use Rattle.bip_model.specs.declared.drafts.Draft.{Draft}
 use Rattle.bip_model.specs.declared.faults.BuildFault.{BuildFault}
@@ -73,31 +73,34 @@ pub inside_ends : (f : Component → Result Component BuildFault) → ((c c' : C
     → IsDraft d → d.begun ≡ Some c → Answers Memory (f c) (new_or_fault result new) → OnErr result (new ≡ c) → IsDraft (record d { begun = Some new })
 inside_ends f keeps d c new result valid is said kept = begun_keeps d c new valid is (λ old. answers_keeps IsComponentSoFar (f c) c result new said kept old (λ e. keeps c e old))
 
--- a transition of a component is one of it with more names
-more_names : (c : Component) (locations ports : List (List ℕ)) → length c.locations ≤ length locations → length c.ports ≤ length ports → (t : Transition) → IsTransitionOf c t → IsTransitionOf (record c { locations = locations; ports = ports }) t
-more_names c locations ports more_locations more_ports t valid = record { port = omega arith; source = omega arith; target = omega arith }
+-- a component with more names
+module _ (c : Component) (valid : IsComponentSoFar c) (locations ports : List (List ℕ)) (more_locations : length c.locations ≤ length locations) (more_ports : length c.ports ≤ length ports) where
+  more : Component
+  more = record c { locations = locations; ports = ports }
+
+  more_names : (t : Transition) → IsTransitionOf c t → IsTransitionOf more t
+  more_names t of_it = record { port = omega arith; source = omega arith; target = omega arith }
+
+  names_keep : length locations ≤ 64 → length ports ≤ 16 → AreApart (locations ++ ports) → IsComponentSoFar more
+  names_keep few_locations few_ports apart = assumption (All-weaker (IsTransitionOf c) (IsTransitionOf more) more_names c.transitions valid.transitions)
 
 pub loc_keeps : (name : List ℕ) (c c' : Component) → IsComponentSoFar c → loc_line name c ≡ Ok c' → IsComponentSoFar c'
 loc_keeps name c c' valid is = IfOk-at_ok IsComponentSoFar is
     (guarded IsComponentSoFar (is_taken name c) Twice _ (λ new.
     guarded IsComponentSoFar (leb 64 (length c.locations)) TooMany _ (λ room.
     let longer = length_push c.locations name in
-    let few : length (c.locations ++ name ∷ []) ≤ 64 = omega (arith, leb-false 64 (length c.locations) room) in
-    assumption (
-      apart_between name c.locations c.ports (list_any-append (same_text name) c.locations c.ports ∙ new) valid.apart,
-      All-weaker (IsTransitionOf c) _ (more_names c (c.locations ++ name ∷ []) c.ports (omega arith) (omega arith)) c.transitions valid.transitions,
-    ))))
+    names_keep c valid (c.locations ++ name ∷ []) c.ports (omega arith) (omega arith)
+    (omega (arith, leb-false 64 (length c.locations) room)) valid.few_ports
+    (apart_between name c.locations c.ports (list_any-append (same_text name) c.locations c.ports ∙ new) valid.apart))))
 
 pub port_keeps : (name : List ℕ) (c c' : Component) → IsComponentSoFar c → port_line name c ≡ Ok c' → IsComponentSoFar c'
 port_keeps name c c' valid is = IfOk-at_ok IsComponentSoFar is
     (guarded IsComponentSoFar (is_taken name c) Twice _ (λ new.
     guarded IsComponentSoFar (leb 16 (length c.ports)) TooMany _ (λ room.
     let longer = length_push c.ports name in
-    let few : length (c.ports ++ name ∷ []) ≤ 16 = omega (arith, leb-false 16 (length c.ports) room) in
-    assumption (
-      rw append_assoc at (apart_push name (c.locations ++ c.ports) (list_any-append (same_text name) c.locations c.ports ∙ new) valid.apart),
-      All-weaker (IsTransitionOf c) _ (more_names c c.locations (c.ports ++ name ∷ []) (omega arith) (omega arith)) c.transitions valid.transitions,
-    ))))
+    names_keep c valid c.locations (c.ports ++ name ∷ []) (omega arith) (omega arith)
+    valid.few_locations (omega (arith, leb-false 16 (length c.ports) room))
+    (rw append_assoc at (apart_push name (c.locations ++ c.ports) (list_any-append (same_text name) c.locations c.ports ∙ new) valid.apart)))))
 
 transition_keeps : (t : Transition) (c : Component) → IsComponentSoFar c → IsTransitionOf c t → IfOk (with_transition t c) IsComponentSoFar
 transition_keeps t c valid joins =

@@ -13,7 +13,7 @@ use Rattle.bip_model.specs.declared.expressions.Sign.TheVariants.{Plus, Minus}
 use Rattle.bip_model.specs.declared.expressions.Term.{Term}
 use Rattle.bip_model.specs.declared.expressions.Variable.{Variable}
 use Rattle.bip_model.specs.Expressions.{AreAssignmentsIn, AreTargetsApart, IsAssignmentIn, IsVariableIn, all_joined, assigned, counts, is_same, joined, put_in, term_value, transferred, value_in, value_of}
-use Rattle.bip_model.specs.Laws.{SumsAreIntegers, TransfersAtOnce, TransfersInAnyOrder, UpdatesInOrder, added, taken}
+use Rattle.bip_model.specs.Laws.{SumsAreIntegers, TransfersAtOnce, TransfersInAnyOrder, UpdatesInOrder, added, taken_away}
 
 pub counts-put_in : (values : List (List ℕ)) (v : Variable) (n : ℕ) → counts (put_in values v n) ≡ counts values
 counts-put_in values v n =
@@ -26,19 +26,28 @@ counts-transferred (a ∷ rest) values =
     counts-put_in (transferred rest values) a.target (value_of values a.sum) ∙ counts-transferred rest values
 
 -- a term joined to a sum
-joined_sum : (values : List (List ℕ)) (t : Sign × Term) (n a b w : ℕ) → (w + b) % 2 ^ 32 ≡ (joined t.0 n (term_value values t.1) + a) % 2 ^ 32 → (w + (taken values t + b)) % 2 ^ 32 ≡ (n + (added values t + a)) % 2 ^ 32
+joined_sum : (values : List (List ℕ)) (t : Sign × Term) (n a b w : ℕ) → (w + b) % 2 ^ 32 ≡ (joined t.0 n (term_value values t.1) + a) % 2 ^ 32 → (w + (taken_away values t + b)) % 2 ^ 32 ≡ (n + (added values t + a)) % 2 ^ 32
 joined_sum values (Plus, t) n a b w h = omega arith
 joined_sum values (Minus, t) n a b w h = omega arith
 
-all_joined_sum : (values : List (List ℕ)) (n : ℕ) (terms : List (Sign × Term)) → (all_joined values n terms + sum_by (taken values) terms) % 2 ^ 32 ≡ (n + sum_by (added values) terms) % 2 ^ 32
+all_joined_sum : (values : List (List ℕ)) (n : ℕ) (terms : List (Sign × Term)) → (all_joined values n terms + sum_by (taken_away values) terms) % 2 ^ 32 ≡ (n + sum_by (added values) terms) % 2 ^ 32
 all_joined_sum values n [] = refl
 all_joined_sum values n (t ∷ terms) =
     let k : ℕ = joined t.0 n (term_value values t.1) in
-    rw (sum_by-cons (taken values) t terms, sum_by-cons (added values) t terms)
-    (joined_sum values t n (sum_by (added values) terms) (sum_by (taken values) terms) (all_joined values k terms) (all_joined_sum values k terms))
+    rw (sum_by-cons (taken_away values) t terms, sum_by-cons (added values) t terms)
+    (joined_sum values t n (sum_by (added values) terms) (sum_by (taken_away values) terms) (all_joined values k terms) (all_joined_sum values k terms))
+
+-- a sum to which terms are joined is below 2^32
+joined_fits : (sign : Sign) (n k : ℕ) → joined sign n k < 2 ^ 32
+joined_fits Plus n k = omega arith
+joined_fits Minus n k = omega arith
+
+all_joined_fits : (values : List (List ℕ)) (n : ℕ) (terms : List (Sign × Term)) → n < 2 ^ 32 → all_joined values n terms < 2 ^ 32
+all_joined_fits values n [] fits = fits
+all_joined_fits values n (t ∷ terms) fits = all_joined_fits values (joined t.0 n (term_value values t.1)) terms (joined_fits t.0 n (term_value values t.1))
 
 pub sums_are_integers : SumsAreIntegers
-sums_are_integers values e = all_joined_sum values (term_value values e.first) e.rest
+sums_are_integers values e = (all_joined_sum values (term_value values e.first) e.rest, all_joined_fits values (term_value values e.first) e.rest)
 
 -- a variable that is there, as bounds on the lists
 within_values : (values : List (List ℕ)) (v : Variable) → IsVariableIn (counts values) v → (v.owner < length values) × (v.number.0 < length (get_or values v.owner []))

@@ -35,16 +35,18 @@ abbrev pub added : List (List ℕ) → Sign × Term → ℕ
 added values (Plus, t) = term_value values t
 added values (Minus, t) = 0
 
-abbrev pub taken : List (List ℕ) → Sign × Term → ℕ
-taken values (Plus, t) = 0
-taken values (Minus, t) = term_value values t
+abbrev pub taken_away : List (List ℕ) → Sign × Term → ℕ
+taken_away values (Plus, t) = 0
+taken_away values (Minus, t) = term_value values t
 
--- a sum and all that it takes away are all that it adds: it is the sum of the integers, modulo 2^32
+-- a sum and all that it takes away are all that it adds: it is the sum of the integers, modulo
+-- 2^32; and it is below 2^32, where its first term is
 abbrev pub SumsAreIntegers : Type 0
 SumsAreIntegers =
     (values : List (List ℕ)) (e : Expr)
-    → (value_of values e + sum_by (taken values) e.rest) % 2 ^ 32
-    ≡ (term_value values e.first + sum_by (added values) e.rest) % 2 ^ 32
+    → ((value_of values e + sum_by (taken_away values) e.rest) % 2 ^ 32
+    ≡ (term_value values e.first + sum_by (added values) e.rest) % 2 ^ 32)
+    × (term_value values e.first < 2 ^ 32 → value_of values e < 2 ^ 32)
 
 -- assignments that were done at once: each variable has its assignment's sum of the values before,
 -- or what it had

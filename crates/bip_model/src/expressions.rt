@@ -165,11 +165,11 @@ pub(crate) fn transfer(assignments: &[Assignment], values: &mut [Values])
     if let [first, rest @ ..] = assignments {
         let number = first.sum.eval(values);
         transfer(rest, values);
-        put(values, first.target, number);
+        set_variable(values, first.target, number);
     }
 }
 
-fn put(values: &mut [Values], target: Variable, number: u32)
+fn set_variable(values: &mut [Values], target: Variable, number: u32)
     requires { IsVariableIn (counts values.old) target }
     ensures { values.new ≡ put_in values.old target number }
 {

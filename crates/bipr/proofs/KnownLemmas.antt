@@ -12,7 +12,7 @@ use Rattle.bipr.specs.Laws as laws
 use Rattle.bipr.specs.Laws.{IsOfOne, IsOfTwo}
 use Rattle.bipr.specs.Stops.{unread}
 use Rattle.bipr.specs.declared.answers.Answer.{Answer}
-use Rattle.bipr.specs.declared.command_line.Request.{Request}
+use Rattle.bipr.specs.declared.command_line.ReplayArguments.{ReplayArguments}
 use Rattle.bipr.specs.declared.inputs.InputFault.{InputFault}
 use Rattle.bipr.specs.declared.inputs.InputFault.TheVariants.{Failed, TooLong, NoMemory}
 
@@ -26,22 +26,22 @@ is_read known read text same reading =
     let all : IsAll (Some text) most_bytes (Ok read) = subst (λ (n : Named). IsReading n (Ok read)) same reading in
     record { same = all.text; fits = subst (λ (t : List ℕ). length t ≤ most_bytes) all.text all.fits }
 
-model_unread : (asked : Request) (model trace : List ℕ) (fault : InputFault) → IsOfTwo asked model trace (unread asked.model.now fault)
+model_unread : (asked : ReplayArguments) (model trace : List ℕ) (fault : InputFault) → IsOfTwo asked model trace (unread asked.model.now fault)
 model_unread asked model trace Failed = laws.model_unread
 model_unread asked model trace TooLong = laws.model_unread
 model_unread asked model trace NoMemory = laws.lacking
 
-trace_unread : (asked : Request) (model trace : List ℕ) (fault : InputFault) → IsModelText model → IsOfTwo asked model trace (unread asked.trace.now fault)
+trace_unread : (asked : ReplayArguments) (model trace : List ℕ) (fault : InputFault) → IsModelText model → IsOfTwo asked model trace (unread asked.trace.now fault)
 trace_unread asked model trace Failed means = laws.trace_unread means
 trace_unread asked model trace TooLong means = laws.trace_unread means
 trace_unread asked model trace NoMemory means = laws.lacking
 
-one_unread : (asked : Request) (text : List ℕ) (fault : InputFault) → IsOfOne asked text (unread asked.model.now fault)
+one_unread : (asked : ReplayArguments) (text : List ℕ) (fault : InputFault) → IsOfOne asked text (unread asked.model.now fault)
 one_unread asked text Failed = laws.one_unread
 one_unread asked text TooLong = laws.one_unread
 one_unread asked text NoMemory = laws.one_lacking
 
-pub two_texts_decide : NoFault → (named : List ℕ → Named) (asked : Request) (model trace : List ℕ) (answer : Answer)
+pub two_texts_decide : NoFault → (named : List ℕ → Named) (asked : ReplayArguments) (model trace : List ℕ) (answer : Answer)
     → is_joined asked ≡ false → named asked.model.now ≡ bytes model → named asked.trace.now ≡ bytes trace
     → IsReplay (λ path. IsReading (named path)) asked answer → IsOfTwo asked model trace answer
 two_texts_decide either named asked model trace answer apart at_model at_trace (replay.of_two m t answer' apart' read_m means read_t is) =
@@ -60,7 +60,7 @@ two_texts_decide either named asked model trace answer apart at_model at_trace (
     trace_unread asked model trace fault (subst IsModelText of_model.same means)
 two_texts_decide either named asked model trace answer apart at_model at_trace replay.lacking = laws.lacking
 
-pub one_text_decides : (named : List ℕ → Named) (asked : Request) (text : List ℕ) (answer : Answer)
+pub one_text_decides : (named : List ℕ → Named) (asked : ReplayArguments) (text : List ℕ) (answer : Answer)
     → is_joined asked ≡ true → named asked.model.now ≡ bytes text
     → IsReplay (λ path. IsReading (named path)) asked answer → IsOfOne asked text answer
 one_text_decides named asked text answer joined at (replay.of_two m t answer' apart read_m means read_t is) = absurd cc

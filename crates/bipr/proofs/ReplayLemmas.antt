@@ -2,16 +2,16 @@
 use Rattle.std.proofs.Common.{◌≡◌, false, ℕ, List, Result, Ok, Err, sym, subst}
 use Rattle.bipr.specs.Commands.Replay.{IsModelText, IsReplay, first_unread, is_joined, second_unread}
 use Rattle.bipr.specs.Stops.{answer_of_stop, unread}
-use Rattle.bipr.specs.declared.command_line.Request.{Request}
+use Rattle.bipr.specs.declared.command_line.ReplayArguments.{ReplayArguments}
 use Rattle.bipr.specs.declared.inputs.InputFault.{InputFault}
 use Rattle.bipr.specs.declared.stops.Stop.{Stop}
 
-pub stopped_at_first : (gives : List ℕ → Result (List ℕ) InputFault → Type 0) (asked : Request) (why : Stop)
+pub stopped_at_first : (gives : List ℕ → Result (List ℕ) InputFault → Type 0) (asked : ReplayArguments) (why : Stop)
     → (fault : InputFault) × gives asked.model.now (Err fault) × (answer_of_stop why ≡ unread asked.model.now fault)
     → IsReplay gives asked (answer_of_stop why)
 stopped_at_first gives asked why (fault, given, same) = subst (IsReplay gives asked) (sym same) (first_unread fault given)
 
-pub stopped_at_second : (gives : List ℕ → Result (List ℕ) InputFault → Type 0) (asked : Request) (why : Stop) (model : List ℕ)
+pub stopped_at_second : (gives : List ℕ → Result (List ℕ) InputFault → Type 0) (asked : ReplayArguments) (why : Stop) (model : List ℕ)
     → is_joined asked ≡ false → gives asked.model.now (Ok model) → IsModelText model
     → (fault : InputFault) × gives asked.trace.now (Err fault) × (answer_of_stop why ≡ unread asked.trace.now fault)
     → IsReplay gives asked (answer_of_stop why)

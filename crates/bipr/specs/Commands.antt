@@ -3,20 +3,20 @@ pub mod Replay
 use Rattle.std.specs.Prelude.{List, ℕ, Result}
 use Rattle.clap.specs.declared.error.Error.{Error}
 use Rattle.clap.specs.declared.parser.matches.ArgMatches.{ArgMatches}
-use Rattle.bipr.specs.CommandLine.{IsRequest}
+use Rattle.bipr.specs.CommandLine.{AsksToReplay}
 use Rattle.bipr.specs.Commands.Replay.{IsReplay}
 use Rattle.bipr.specs.Refusals.{IsErrorAnswer, bad_base}
 use Rattle.bipr.specs.Stops.{out_of_memory}
 use Rattle.bipr.specs.declared.answers.Answer.{Answer}
-use Rattle.bipr.specs.declared.command_line.Request.{Request}
+use Rattle.bipr.specs.declared.command_line.ReplayArguments.{ReplayArguments}
 use Rattle.bipr.specs.declared.inputs.InputFault.{InputFault}
 
 -- what words that are parsed may answer, where reading a path may give these texts: what they ask
 -- for, or that the base is out of range
 pub data IsCarriedOutBy (words : ArgMatches)
     (gives : List ℕ → Result (List ℕ) InputFault → Type 0) : Answer → Type 0 where
-  asked : (request : Request) (answer : Answer) → IsRequest words request
-      → IsReplay gives request answer → IsCarriedOutBy words gives answer
+  asked : (arguments : ReplayArguments) (answer : Answer) → AsksToReplay words arguments
+      → IsReplay gives arguments answer → IsCarriedOutBy words gives answer
   unasked : IsCarriedOutBy words gives bad_base
 
 -- what the program may answer, where reading a path may give these texts

@@ -7,7 +7,7 @@ use Rattle.bipr.specs.Inputs.{IsReading, Named, bytes, most_bytes}
 use Rattle.bipr.specs.Stops.{out_of_memory, unread_text}
 use Rattle.bipr.specs.declared.answers.Answer.{Answer}
 use Rattle.bipr.specs.declared.answers.Status.TheVariants.{Refused}
-use Rattle.bipr.specs.declared.command_line.Request.{Request}
+use Rattle.bipr.specs.declared.command_line.ReplayArguments.{ReplayArguments}
 
 -- two texts in one are parted by lines
 abbrev pub PartedByLines : Type 0
@@ -24,7 +24,7 @@ SomeAnswer = (base : ℕ) (model trace : List ℕ)
     → (answer : Answer) × IsAnswer base model trace answer
 
 -- what may be answered where the two paths name these texts
-pub data IsOfTwo (asked : Request) (model trace : List ℕ) : Answer → Type 0 where
+pub data IsOfTwo (asked : ReplayArguments) (model trace : List ℕ) : Answer → Type 0 where
   -- the answer of the two texts, neither of which is too long; the trace may be where the model's
   -- text is none
   answered : (answer : Answer) → length model ≤ most_bytes
@@ -36,7 +36,7 @@ pub data IsOfTwo (asked : Request) (model trace : List ℕ) : Answer → Type 0 
   lacking : IsOfTwo asked model trace out_of_memory
 
 -- what may be answered where one input has both texts
-pub data IsOfOne (asked : Request) (text : List ℕ) : Answer → Type 0 where
+pub data IsOfOne (asked : ReplayArguments) (text : List ℕ) : Answer → Type 0 where
   one_answered : (answer : Answer) → length text ≤ most_bytes
       → IsAnswer asked.base (before_mark text) (after_mark text) answer → IsOfOne asked text answer
   one_unread : IsOfOne asked text (complaining Refused (unread_text asked.model.now))
@@ -44,13 +44,15 @@ pub data IsOfOne (asked : Request) (text : List ℕ) : Answer → Type 0 where
 
 -- what paths name decides what is answered: the first path names the model, the second the trace
 abbrev pub TwoTextsDecide : Type 0
-TwoTextsDecide = (named : List ℕ → Named) (asked : Request) (model trace : List ℕ) (answer : Answer)
+TwoTextsDecide =
+    (named : List ℕ → Named) (asked : ReplayArguments) (model trace : List ℕ) (answer : Answer)
     → is_joined asked ≡ false
     → named asked.model.now ≡ bytes model → named asked.trace.now ≡ bytes trace
     → IsReplay (λ path. IsReading (named path)) asked answer → IsOfTwo asked model trace answer
 
 -- and so does the text of one input
 abbrev pub OneTextDecides : Type 0
-OneTextDecides = (named : List ℕ → Named) (asked : Request) (text : List ℕ) (answer : Answer)
+OneTextDecides =
+    (named : List ℕ → Named) (asked : ReplayArguments) (text : List ℕ) (answer : Answer)
     → is_joined asked ≡ true → named asked.model.now ≡ bytes text
     → IsReplay (λ path. IsReading (named path)) asked answer → IsOfOne asked text answer

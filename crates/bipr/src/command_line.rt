@@ -1,6 +1,6 @@
 //! The command line.
 ghost use Rattle.std.specs.Prelude.{IfSome};
-ghost use Rattle.bipr.specs.CommandLine.{IsAsked, IsRequest};
+ghost use Rattle.bipr.specs.CommandLine.{AsksToReplay, IsAsked};
 
 use bip_model::Number;
 use clap::{Arg, ArgMatches, Command, value_parser};
@@ -44,7 +44,7 @@ line `---`, and the trace what stands behind it.";
 /// What the command line asks: the replay of a trace on a model, each named by its path, from a
 /// base.
 #[derive(Drop)]
-pub struct Request<'a> {
+pub struct ReplayArguments<'a> {
     pub model: &'a str,
     pub trace: &'a str,
     pub base: Number,
@@ -85,22 +85,22 @@ fn replay<'a>(alloc: Global) -> Result<Command<'a>, AllocError> {
 }
 
 /// What a command line asks; none where it asks for no replay, or its base is out of range
-/// (docs/DEFINITIONS.md, "Requests").
-pub fn read_request<'a>(matches: &ArgMatches<'a>) -> Option<Request<'a>>
-    ensures { IfSome result (IsRequest matches.now) }
+/// (docs/DEFINITIONS.md, "Arguments").
+pub fn read_arguments<'a>(matches: &ArgMatches<'a>) -> Option<ReplayArguments<'a>>
+    ensures { IfSome result (AsksToReplay matches.now) }
 {
     read_replay(matches.subcommand_matches("replay")?)
 }
 
 // What the words behind `replay` ask.
-fn read_replay<'a>(matches: &ArgMatches<'a>) -> Option<Request<'a>>
+fn read_replay<'a>(matches: &ArgMatches<'a>) -> Option<ReplayArguments<'a>>
     ensures { IfSome result (IsAsked matches.now) }
 {
     let base = matches.get_one::<u64>("base")?;
     if base > GREATEST_BASE {
         return None;
     }
-    Some(Request {
+    Some(ReplayArguments {
         model: matches.get_str("model")?,
         trace: matches.get_str("trace")?,
         base,

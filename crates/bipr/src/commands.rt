@@ -9,7 +9,7 @@ ghost use Rattle.bipr.specs.declared.inputs.InputFault.{InputFault};
 pub mod replay;
 
 use crate::answers::Status;
-use crate::command_line::{command, read_request};
+use crate::command_line::{command, read_arguments};
 use crate::endings::complain;
 use crate::inputs::Inputs;
 use crate::refusals::{refuse_base, refuse_parse};
@@ -52,7 +52,7 @@ fn carry_out_matches<I: Inputs, O: Stream, E: Stream>(
     ensures { Ends (IsCarriedOutBy matches.now (I.gives inputs.now))
         (Puts O.writes output.old output.new) (Puts E.writes errors.old errors.new) result }
 {
-    match read_request(matches) {
+    match read_arguments(matches) {
         Some(asked) => replay(alloc, inputs, &asked, output, errors),
         None => refuse_base(output, errors),
     }

@@ -2,7 +2,7 @@
 mod commands;
 
 use crate::answers::Status;
-use crate::command_line::Request;
+use crate::command_line::ReplayArguments;
 use crate::commands::replay::replay;
 use crate::inputs::Open;
 use crate::laws::{answer_laws, replay_laws};
@@ -108,7 +108,7 @@ fn ends(
     (status, output, complaint): (Status, &str, &str),
 ) {
     let (mut written, mut told) = (Vec::new(alloc), Vec::new(alloc));
-    let asked = Request {
+    let asked = ReplayArguments {
         model: paths.0,
         trace: paths.1,
         base: 0,
@@ -170,7 +170,7 @@ fn writes_fail_at_each_call(rt: HostRuntime) {
         trace: Some(("grant x A:1", 1000)),
         input: None,
     };
-    let asked = Request {
+    let asked = ReplayArguments {
         model: "m",
         trace: "t",
         base: 0,

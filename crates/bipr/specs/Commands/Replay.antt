@@ -1,4 +1,4 @@
--- What the replay may answer that a request asks for.
+-- What the replay may answer that is asked for.
 use Rattle.std.specs.Prelude.{◌≡◌, ◌≢◌, ℕ, Bool, false, true, ◌&&◌, List, Result, Ok, Err}
 use Rattle.bip_model.specs.declared.parts.System.{System}
 use Rattle.bip_model.specs.declared.partitions.Partition.{Partition}
@@ -12,7 +12,7 @@ use Rattle.bipr.specs.Stops.{out_of_memory, unread}
 use Rattle.bipr.specs.Wording.{model_refusal}
 use Rattle.bipr.specs.declared.answers.Answer.{Answer}
 use Rattle.bipr.specs.declared.answers.Status.TheVariants.{Refused}
-use Rattle.bipr.specs.declared.command_line.Request.{Request}
+use Rattle.bipr.specs.declared.command_line.ReplayArguments.{ReplayArguments}
 use Rattle.bipr.specs.declared.inputs.InputFault.{InputFault}
 
 -- a text means a model
@@ -20,12 +20,12 @@ abbrev pub IsModelText : List ℕ → Type 0
 IsModelText text = (m : System) × (classes : Partition) × Means text m classes
 
 -- both texts are in standard input
-abbrev pub is_joined : Request → Bool
+abbrev pub is_joined : ReplayArguments → Bool
 is_joined asked = is_standard_input asked.model.now && is_standard_input asked.trace.now
 
 -- what the replay that is asked for may answer, where reading a path may give these texts
 pub data IsReplay (gives : List ℕ → Result (List ℕ) InputFault → Type 0)
-    (asked : Request) : Answer → Type 0 where
+    (asked : ReplayArguments) : Answer → Type 0 where
   -- the text that the first path names means a model, and the second path names a trace
   of_two : (model trace : List ℕ) (answer : Answer) → is_joined asked ≡ false
       → gives asked.model.now (Ok model) → IsModelText model → gives asked.trace.now (Ok trace)

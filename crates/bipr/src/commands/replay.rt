@@ -8,7 +8,7 @@ ghost use Rattle.bipr.specs.Endings.{AllOutcomes, Ends};
 ghost use Rattle.bipr.specs.Streams.{Puts};
 
 use crate::answers::{Answer, Status, answer_fault, answer_replay, answer_trace};
-use crate::command_line::Request;
+use crate::command_line::ReplayArguments;
 use crate::commands::read_input;
 use crate::dividing::divide;
 use crate::endings::end;
@@ -20,14 +20,14 @@ use bip_model::Model;
 use bip_reader::read_model;
 use std::alloc::Global;
 
-/// Replays the trace that a request's second path names on the model that its first path names,
-/// writes the answer, and says with which status the command ends. The trace is read only where the
-/// model's text is one; where both paths are standard input, that has both texts
-/// (docs/DEFINITIONS.md, "The replay that is asked for").
+/// Replays the trace that the second path names on the model that the first path names, writes the
+/// answer, and says with which status the command ends. The trace is read only where the model's
+/// text is one; where both paths are standard input, that has both texts (docs/DEFINITIONS.md, "The
+/// replay that is asked for").
 pub fn replay<I: Inputs, O: Stream, E: Stream>(
     alloc: Global,
     inputs: &I,
-    asked: &Request<'_>,
+    asked: &ReplayArguments<'_>,
     output: &mut O,
     errors: &mut E,
 ) -> Status
@@ -35,14 +35,14 @@ pub fn replay<I: Inputs, O: Stream, E: Stream>(
     ensures { Ends (IsReplay (I.gives inputs.now) asked.now) (Puts O.writes output.old output.new)
         (Puts E.writes errors.old errors.new) result }
 {
-    end(alloc, output, errors, answer_request(alloc, inputs, asked))
+    end(alloc, output, errors, answer_asked(alloc, inputs, asked))
 }
 
-// The answer to a request.
-fn answer_request<'a, I: Inputs>(
+// The answer to what is asked.
+fn answer_asked<'a, I: Inputs>(
     alloc: Global,
     inputs: &I,
-    asked: &Request<'a>,
+    asked: &ReplayArguments<'a>,
 ) -> Result<Answer, Stop<'a>>
     requires { asked.now.base ≤ greatest_base }
     ensures { AllOutcomes result (IsReplay (I.gives inputs.now) asked.now) }
@@ -58,7 +58,7 @@ fn answer_request<'a, I: Inputs>(
 fn answer_one<'a, I: Inputs>(
     alloc: Global,
     inputs: &I,
-    asked: &Request<'a>,
+    asked: &ReplayArguments<'a>,
 ) -> Result<Answer, Stop<'a>>
     requires bound { asked.now.base ≤ greatest_base }
     requires joined { is_joined asked.now ≡ true }
@@ -73,7 +73,7 @@ fn answer_one<'a, I: Inputs>(
 fn answer_two<'a, I: Inputs>(
     alloc: Global,
     inputs: &I,
-    asked: &Request<'a>,
+    asked: &ReplayArguments<'a>,
 ) -> Result<Answer, Stop<'a>>
     requires bound { asked.now.base ≤ greatest_base }
     requires apart { is_joined asked.now ≡ false }
@@ -90,7 +90,7 @@ fn answer_two<'a, I: Inputs>(
 fn answer_second<'a, I: Inputs>(
     alloc: Global,
     inputs: &I,
-    asked: &Request<'a>,
+    asked: &ReplayArguments<'a>,
     model: &Model,
 ) -> Result<Answer, Stop<'a>>
     requires bound { asked.now.base ≤ greatest_base }

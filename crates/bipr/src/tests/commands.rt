@@ -1,6 +1,6 @@
 //! What a command opens and writes, in which order and in how many calls.
 use crate::answers::Status;
-use crate::command_line::Request;
+use crate::command_line::ReplayArguments;
 use crate::commands::carry_out;
 use crate::commands::replay::replay;
 use crate::inputs::Open;
@@ -68,7 +68,7 @@ fn opens(rt: &impl Abort, alloc: Global, model: &str, status: Status, count: u32
         opened: &opened,
     };
     let (mut written, mut told) = (Vec::new(alloc), Vec::new(alloc));
-    let asked = Request {
+    let asked = ReplayArguments {
         model: "m",
         trace: "t",
         base: 0,
