@@ -75,7 +75,7 @@ inside_ends f keeps d c new result valid is said kept = begun_keeps d c new vali
 
 -- a component with more names
 module _ (c : Component) (valid : IsComponentSoFar c) (locations ports : List (List ℕ)) (more_locations : length c.locations ≤ length locations) (more_ports : length c.ports ≤ length ports) where
-  more : Component
+  abbrev more : Component
   more = record c { locations = locations; ports = ports }
 
   more_names : (t : Transition) → IsTransitionOf c t → IsTransitionOf more t
