@@ -12,7 +12,7 @@ use Rattle.bip_model.specs.declared.expressions.Sign.{Sign}
 use Rattle.bip_model.specs.declared.expressions.Sign.TheVariants.{Plus, Minus}
 use Rattle.bip_model.specs.declared.expressions.Term.{Term}
 use Rattle.bip_model.specs.declared.expressions.Variable.{Variable}
-use Rattle.bip_model.specs.Expressions.{AreAssignmentsIn, AreTargetsApart, IsAssignmentIn, IsVariableIn, all_joined, assigned, counts, is_same, joined, put_in, term_value, transferred, value_in, value_of}
+use Rattle.bip_model.specs.Expressions.{AreAssignmentsIn, AreTargetsApart, IsAssignmentIn, IsVariableIn, all_joined, assigned, counts, is_same, joined, put_in, term_value, transferred, updated, value_in, value_of}
 use Rattle.bip_model.specs.Laws.{SumsAreIntegers, TransfersAtOnce, TransfersInAnyOrder, UpdatesInOrder, added, taken_away}
 
 pub counts-put_in : (values : List (List ℕ)) (v : Variable) (n : ℕ) → counts (put_in values v n) ≡ counts values
@@ -20,17 +20,23 @@ counts-put_in values v n =
     let own : List ℕ = get_or values v.owner [] in
     map-set_same length values v.owner (set own v.number.0 n) [] (length-set own v.number.0 n)
 
-pub counts-transferred : (assignments : List Assignment) (values : List (List ℕ)) → counts (transferred assignments values) ≡ counts values
+pub counts-transferred : (assignments : List (Assignment Variable)) (values : List (List ℕ)) → counts (transferred assignments values) ≡ counts values
 counts-transferred [] values = refl
 counts-transferred (a ∷ rest) values =
     counts-put_in (transferred rest values) a.target (value_of values a.sum) ∙ counts-transferred rest values
 
+-- an update keeps how many variables there are
+pub length-updated : (assignments : List (Assignment Variable)) (values : List ℕ) → length (updated assignments values) ≡ length values
+length-updated [] values = refl
+length-updated (a ∷ rest) values =
+    length-updated rest (assigned values a) ∙ length-set values a.target.number.0 (value_of (values ∷ []) a.sum)
+
 -- a term joined to a sum
-joined_sum : (values : List (List ℕ)) (t : Sign × Term) (n a b w : ℕ) → (w + b) % 2 ^ 32 ≡ (joined t.0 n (term_value values t.1) + a) % 2 ^ 32 → (w + (taken_away values t + b)) % 2 ^ 32 ≡ (n + (added values t + a)) % 2 ^ 32
+joined_sum : (values : List (List ℕ)) (t : Sign × Term Variable) (n a b w : ℕ) → (w + b) % 2 ^ 32 ≡ (joined t.0 n (term_value values t.1) + a) % 2 ^ 32 → (w + (taken_away values t + b)) % 2 ^ 32 ≡ (n + (added values t + a)) % 2 ^ 32
 joined_sum values (Plus, t) n a b w h = omega arith
 joined_sum values (Minus, t) n a b w h = omega arith
 
-all_joined_sum : (values : List (List ℕ)) (n : ℕ) (terms : List (Sign × Term)) → (all_joined values n terms + sum_by (taken_away values) terms) % 2 ^ 32 ≡ (n + sum_by (added values) terms) % 2 ^ 32
+all_joined_sum : (values : List (List ℕ)) (n : ℕ) (terms : List (Sign × Term Variable)) → (all_joined values n terms + sum_by (taken_away values) terms) % 2 ^ 32 ≡ (n + sum_by (added values) terms) % 2 ^ 32
 all_joined_sum values n [] = refl
 all_joined_sum values n (t ∷ terms) =
     let k : ℕ = joined t.0 n (term_value values t.1) in
@@ -42,7 +48,7 @@ joined_fits : (sign : Sign) (n k : ℕ) → joined sign n k < 2 ^ 32
 joined_fits Plus n k = omega arith
 joined_fits Minus n k = omega arith
 
-all_joined_fits : (values : List (List ℕ)) (n : ℕ) (terms : List (Sign × Term)) → n < 2 ^ 32 → all_joined values n terms < 2 ^ 32
+all_joined_fits : (values : List (List ℕ)) (n : ℕ) (terms : List (Sign × Term Variable)) → n < 2 ^ 32 → all_joined values n terms < 2 ^ 32
 all_joined_fits values n [] fits = fits
 all_joined_fits values n (t ∷ terms) fits = all_joined_fits values (joined t.0 n (term_value values t.1)) terms (joined_fits t.0 n (term_value values t.1))
 
@@ -88,7 +94,7 @@ same_variable v w same =
     ap (λ (o : ℕ). record { owner = o; number = v.number }) both.0 ∙ ap (λ (n : ℕ). record { owner = w.owner; number = record { 0 = n } }) both.1
 
 -- what a transfer's first assignment puts, behind the others
-module _ (a : Assignment) (rest : List Assignment) (values : List (List ℕ)) (there : AreAssignmentsIn (counts values) (a ∷ rest)) where
+module _ (a : Assignment Variable) (rest : List (Assignment Variable)) (values : List (List ℕ)) (there : AreAssignmentsIn (counts values) (a ∷ rest)) where
   first_in : IsVariableIn (counts (transferred rest values)) a.target
   first_in = rw counts-transferred (All-head (IsAssignmentIn (counts values)) a rest there).target
 
@@ -102,7 +108,7 @@ module _ (a : Assignment) (rest : List Assignment) (values : List (List ℕ)) (t
   others_stay v differ = value-put_other (transferred rest values) a.target v (value_of values a.sum) first_in differ
 
 -- a transfer gives each target its sum of the values before
-given : (assignments : List Assignment) (values : List (List ℕ)) → AreAssignmentsIn (counts values) assignments → AreTargetsApart assignments → (k : ℕ) (d : Assignment) → k < length assignments
+given : (assignments : List (Assignment Variable)) (values : List (List ℕ)) → AreAssignmentsIn (counts values) assignments → AreTargetsApart assignments → (k : ℕ) (d : Assignment Variable) → k < length assignments
     → value_in (transferred assignments values) (get_or assignments k d).target ≡ value_of values (get_or assignments k d).sum
 given [] values there apart k d within = absurd (omega arith)
 given (a ∷ rest) values there apart zero d within = first_put a rest values there
@@ -112,11 +118,11 @@ given (a ∷ rest) values there apart (suc k) d within =
     ∙ given rest values (rest_in a rest values there) (λ i j e before inside. apart (suc i) (suc j) e (omega arith) (omega arith)) k d (omega arith)
 
 -- the variable is no target
-abbrev IsOther : Variable → Assignment → Type 0
+abbrev IsOther : Variable → Assignment Variable → Type 0
 IsOther v a = is_same v a.target ≡ false
 
 -- a transfer keeps what is no target
-kept : (assignments : List Assignment) (values : List (List ℕ)) (v : Variable) → AreAssignmentsIn (counts values) assignments → All (IsOther v) assignments → value_in (transferred assignments values) v ≡ value_in values v
+kept : (assignments : List (Assignment Variable)) (values : List (List ℕ)) (v : Variable) → AreAssignmentsIn (counts values) assignments → All (IsOther v) assignments → value_in (transferred assignments values) v ≡ value_in values v
 kept [] values v there none = refl
 kept (a ∷ rest) values v there none =
     others_stay a rest values there v (All-head (IsOther v) a rest none) ∙ kept rest values v (rest_in a rest values there) (All-tail (IsOther v) a rest none)
@@ -129,11 +135,11 @@ transfers_at_once assignments values is = record {
 }
 
 -- a variable is the target of an assignment
-abbrev IsGiven : Variable → List Assignment → Type 0
-IsGiven v assignments = (a : Assignment) × Contains assignments a × (v ≡ a.target)
+abbrev IsGiven : Variable → List (Assignment Variable) → Type 0
+IsGiven v assignments = (a : Assignment Variable) × Contains assignments a × (v ≡ a.target)
 
 -- a variable is the target of an assignment, or of none
-pick : (v : Variable) (assignments : List Assignment) → IsGiven v assignments ⊎ All (IsOther v) assignments
+pick : (v : Variable) (assignments : List (Assignment Variable)) → IsGiven v assignments ⊎ All (IsOther v) assignments
 pick v [] = inr (All-nil (IsOther v))
 pick v (a ∷ rest) = by_first (is_same v a.target) refl (pick v rest)
   where

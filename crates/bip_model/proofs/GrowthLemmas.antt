@@ -2,13 +2,20 @@
 use Rattle.std.proofs.Common.{◌≡◌, ℕ, List, [], ◌∷◌, ◌++◌, Option, None, Some, Ok, refl, sym, inl, rules, arith, IfSome, Result, unwrap_or, append-nil}
 use Rattle.std.proofs.lemmas.Grind.{common_steps}
 use Rattle.std.proofs.lemmas.Result.{IfOk-at_ok}
-use Rattle.bip_model.specs.Components.{loc_line, no_component, port_line, trans_line}
+use Rattle.std.proofs.Common.{◌||◌, leb, length}
+use Rattle.std.specs.List.{list_any}
+use Rattle.bip_model.specs.Scopes.{are_long_assignments, is_long_guard, knows_assignments, knows_guard, own}
+use Rattle.bip_model.specs.declared.faults.BuildFault.TheVariants.{Unknown, TooMany, TwoTransitions}
+use Rattle.bip_model.specs.Components.{leaves, number_in, loc_line, no_component, port_line, trans_line, var_line}
 use Rattle.bip_model.specs.Drafts.{begun_in, inside}
 use Rattle.bip_model.specs.Laws.{Begins, GoesOn, KeepsComponent, KeepsDraft}
 use Rattle.bip_model.specs.declared.drafts.Draft.{Draft}
+use Rattle.bip_model.specs.declared.expressions.Assignment.{Assignment}
+use Rattle.bip_model.specs.declared.expressions.Comparison.{Comparison}
 use Rattle.bip_model.specs.declared.faults.BuildFault.{BuildFault}
+use Rattle.bip_model.specs.declared.scopes.VariableName.{VariableName}
 use Rattle.bip_model.specs.declared.parts.Component.{Component}
-use Rattle.bip_model.proofs.ParticipantLemmas.{bound}
+use Rattle.bip_model.proofs.ParticipantLemmas.{allowed, bound, guarded}
 
 begins_same : {X : Type 0} (xs : List X) → Begins xs xs
 begins_same xs = ([], sym (append-nil xs))
@@ -16,14 +23,25 @@ begins_same xs = ([], sym (append-nil xs))
 begins_push : {X : Type 0} (xs : List X) (x : X) → Begins xs (xs ++ x ∷ [])
 begins_push xs x = (x ∷ [], refl)
 
+pub var_grows : (name : List ℕ) (value : ℕ) (c e : Component) → var_line name value c ≡ Ok e → KeepsComponent c e
+var_grows name value c e is = grind (arith, common_steps)
+
 pub loc_grows : (name : List ℕ) (c e : Component) → loc_line name c ≡ Ok e → KeepsComponent c e
 loc_grows name c e is = grind (arith, common_steps)
 
 pub port_grows : (name : List ℕ) (c e : Component) → port_line name c ≡ Ok e → KeepsComponent c e
 port_grows name c e is = grind (arith, common_steps)
 
-pub trans_grows : (port source target : List ℕ) (c e : Component) → trans_line port source target c ≡ Ok e → KeepsComponent c e
-trans_grows port source target c e is = grind (arith, common_steps)
+pub trans_grows : (port source target : List ℕ) (guard : List (Comparison VariableName)) (update : List (Assignment VariableName)) (c e : Component) → trans_line port source target guard update c ≡ Ok e → KeepsComponent c e
+trans_grows port source target guard update c e is = IfOk-at_ok (KeepsComponent c) is
+    (bound (KeepsComponent c) (number_in c.ports port) _ (λ p is_p.
+    bound (KeepsComponent c) (number_in c.locations source) _ (λ s is_s.
+    bound (KeepsComponent c) (number_in c.locations target) _ (λ t is_t.
+    allowed (KeepsComponent c) (knows_guard (own c.variables) guard) Unknown _ (λ known.
+    allowed (KeepsComponent c) (knows_assignments (own c.variables) update) Unknown _ (λ known_update.
+    guarded (KeepsComponent c) (leb 256 (length c.transitions) || is_long_guard guard || are_long_assignments update) TooMany _ (λ fits.
+    guarded (KeepsComponent c) (list_any (leaves (record { 0 = s }) (record { 0 = p })) c.transitions) TwoTransitions _ (λ new.
+    search (rules, begins_same, begins_push)))))))))
 
 -- what holds of the component that is begun, where one is
 for_begun : (begun : Option Component) (P : Component → Type 0) → P (unwrap_or begun no_component) → IfSome begun P

@@ -11,7 +11,9 @@ pub mod NumberingLemmas
 pub mod ParticipantLemmas
 pub mod PartitionLemmas
 pub mod PortLemmas
+pub mod ScopeLemmas
 pub mod SequenceLemmas
 pub mod StateLemmas
 pub mod StepLemmas
 pub mod TextLemmas
+pub mod TransitionLemmas

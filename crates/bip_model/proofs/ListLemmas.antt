@@ -1,5 +1,5 @@
 -- Lists: a search, elements by their places, numbers that rise.
-use Rattle.std.proofs.Common.{take-append-drop, take, drop, drop-cons, ◌++◌, ◌||◌, ◌≡◌, ℕ, ◌<◌, Bool, true, false, List, ◌∷◌, length, map, get_or, suc, Some, refl, sym, ◌∙◌, arith, find, ◌+◌, cond, All, position, slice_get, option_map}
+use Rattle.std.proofs.Common.{take-append-drop, take, drop, drop-cons, ◌++◌, ◌||◌, ◌≡◌, ℕ, ◌<◌, Bool, true, false, List, [], ◌∷◌, Contains, length, map, get_or, suc, Some, refl, sym, ◌∙◌, arith, find, ◌+◌, cond, All, position, slice_get, option_map}
 use Rattle.std.specs.List.Sorted.{IsStrictlyIncreasing}
 use Rattle.std.proofs.lemmas.Bool.{cases_Bool, or_parts}
 use Rattle.std.proofs.lemmas.List.Sums.{position_or_len_is}
@@ -34,6 +34,17 @@ All-slice_get P xs k x all at = rw (get_or_from_slice_get xs k x x at) at (all k
 -- what holds of each element holds of the one that is found
 pub All-find : {X : Type 0} (P : X → Type 0) (p : X → Bool) (xs : List X) (x : X) → All P xs → find p xs ≡ Some x → P x
 All-find P p xs x all is = All-slice_get P xs (position_or_len p xs) x all (sym (find_at p xs) ∙ is)
+
+-- what is found stands in the list, and passes
+pub found_at : {X : Type 0} (p : X → Bool) (xs : List X) (x : X) → find p xs ≡ Some x → Contains xs x × (p x ≡ true)
+found_at p [] x is = cc
+found_at p (y ∷ ys) x is = by_first (p y) refl (found_at p ys x) is
+  where
+    by_first : (b : Bool) → p y ≡ b → (find p ys ≡ Some x → Contains ys x × (p x ≡ true)) → cond b (Some y) (find p ys) ≡ Some x → Contains (y ∷ ys) x × (p x ≡ true)
+    by_first true here later found = let same : y ≡ x = cc in rw (← same) ((0, omega arith, refl), here)
+    by_first false other later found =
+        let more = later found in
+        ((suc more.0.0, omega (arith, more.0.1), more.0.2), more.1)
 
 -- where neither of two tests passes
 pub neither : (a b : Bool) → (a || b) ≡ false → (a ≡ false) × (b ≡ false)

@@ -1,5 +1,5 @@
 -- Participants: those that words name, and that they are few.
-use Rattle.std.proofs.Common.{arith, ◌≡◌, ℕ, ◌+◌, ◌<◌, ◌≤◌, Bool, true, false, cond, eqb, List, [], ◌∷◌, ◌++◌, length, map, get_or, drop, Option, None, Some, Ok, Err, refl, sym, ap, ◌∙◌, All, IfOk, Result, position, slice_get, ok_or}
+use Rattle.std.proofs.Common.{arith, ◌≡◌, ℕ, ◌+◌, ◌<◌, ◌≤◌, Bool, not, true, false, cond, eqb, List, [], ◌∷◌, ◌++◌, length, map, get_or, drop, Option, None, Some, Ok, Err, refl, sym, ap, ◌∙◌, All, IfOk, Result, position, slice_get, ok_or}
 use Rattle.std.specs.List.{IsDistinct, list_any}
 use Rattle.std.specs.List.Sorted.{IsNonDecreasingBy, IsPermutation, IsStrictlyIncreasing}
 use Rattle.std.proofs.lemmas.List.{append_assoc, append-nil, at_drop_all, at_drop_more, get_or-map, length_push, length-map, map-id}
@@ -47,10 +47,15 @@ few_participants components qs valid =
 pub sorted_by_component : (qs rs : List Participant) → IsDistinct eqb (components_in qs) → IsPermutation qs rs → IsNonDecreasingBy component_of rs → by_component qs ≡ rs
 sorted_by_component qs rs apart moved up = sorted-is component_of qs rs moved up apart
 
--- what holds of a good answer behind a test that stops, and behind an answer that is gone on with
+-- what holds of a good answer behind a test that stops, or lets go on, and behind an answer that is
+-- gone on with
 pub guarded : {X : Type 0} (P : X → Type 0) (b : Bool) (e : BuildFault) (r : Result X BuildFault) → (b ≡ false → IfOk r P) → IfOk (cond b (Err e) r) P
 guarded P true e r holds = tt
 guarded P false e r holds = holds refl
+
+pub allowed : {X : Type 0} (P : X → Type 0) (b : Bool) (e : BuildFault) (r : Result X BuildFault) → (b ≡ true → IfOk r P) → IfOk (cond (not b) (Err e) r) P
+allowed P true e r holds = holds refl
+allowed P false e r holds = tt
 
 pub bound : {A B : Type 0} (P : B → Type 0) (r : Result A BuildFault) (f : A → Result B BuildFault) → ((x : A) → r ≡ Ok x → IfOk (f x) P) → IfOk (r >>= f) P
 bound P (Ok x) f holds = holds x refl

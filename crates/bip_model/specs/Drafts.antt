@@ -1,5 +1,5 @@
 -- What each line of a model's text says: from a draft to the draft with it, or to the first fault.
-use Rattle.std.specs.Prelude.{◌≡◌, ℕ, ◌+◌, ◌<◌, ◌==◌, ◌||◌, nat_lt, nat_le, List, [], ◌∷◌, ◌++◌}
+use Rattle.std.specs.Prelude.{◌≡◌, ℕ, ◌+◌, ◌<◌, not, ◌==◌, ◌||◌, nat_lt, nat_le, List, [], ◌∷◌, ◌++◌}
 use Rattle.std.specs.Prelude.{length, None, Some, Result, Ok, Err, IfSome, IsNone, is_some}
 use Rattle.std.specs.Prelude.{slice_get, unwrap_or, if◌then◌else◌}
 use Rattle.std.specs.List.{list_any}
@@ -10,14 +10,20 @@ use Rattle.bip_model.specs.Numbering.{by_number}
 use Rattle.bip_model.specs.Faults.{◌>>=◌}
 use Rattle.bip_model.specs.Steps.{IsCyclic}
 use Rattle.bip_model.specs.Parts.{IsComponentSoFar, IsSystemSoFar, Participant}
+use Rattle.bip_model.specs.Scopes.{are_long_assignments, assignments_with, guard_with}
+use Rattle.bip_model.specs.Scopes.{is_long_guard, knows_guard, shared, transfer_said}
 use Rattle.bip_model.specs.declared.drafts.Draft.{Draft}
+use Rattle.bip_model.specs.declared.expressions.Assignment.{Assignment}
+use Rattle.bip_model.specs.declared.expressions.Comparison.{Comparison}
 use Rattle.bip_model.specs.declared.faults.BuildFault.{BuildFault}
 use Rattle.bip_model.specs.declared.faults.BuildFault.TheVariants.{Unknown, Twice, TooMany, Missing}
 use Rattle.bip_model.specs.declared.faults.BuildFault.TheVariants.{PriorityCycle}
 use Rattle.bip_model.specs.declared.parts.Component.{Component}
+use Rattle.bip_model.specs.declared.parts.Interaction.{Interaction}
 use Rattle.bip_model.specs.declared.parts.System.{System}
 use Rattle.bip_model.specs.declared.parts.TheConstants.{MOST_COMPONENTS, MOST_INTERACTIONS}
 use Rattle.bip_model.specs.declared.parts.TheConstants.{MOST_PARTICIPANTS}
+use Rattle.bip_model.specs.declared.scopes.VariableName.{VariableName}
 
 abbrev pub no_system : System
 no_system =
@@ -76,22 +82,44 @@ participants_named m before (word ∷ words) =
     >>= λ q. (if list_any (λ (r : Participant). r.0.0 == q.0.0) before then Err Twice
     else participants_named m (before ++ q ∷ []) words)
 
+-- the interaction of participants, with the guard and the transfer of which a text names the
+-- variables
+abbrev pub interaction_of : System → List Participant → List (Comparison VariableName)
+    → List (Assignment VariableName) → Interaction
+interaction_of m participants guard transfer =
+    record {
+      participants = participants;
+      guard = guard_with (shared m participants) guard;
+      transfer = assignments_with (shared m participants) transfer;
+    }
+
 -- an interaction joins those of a system
-abbrev pub with_interaction : List ℕ → List Participant → System → Result System BuildFault
-with_interaction name participants m =
+abbrev pub with_interaction : List ℕ → List Participant → List (Comparison VariableName)
+    → List (Assignment VariableName) → System → Result System BuildFault
+with_interaction name participants guard transfer m =
     if nat_le MOST_INTERACTIONS (length m.interactions)
-    || nat_lt MOST_PARTICIPANTS (length participants) then Err TooMany
+    || nat_lt MOST_PARTICIPANTS (length participants)
+    || is_long_guard guard || are_long_assignments transfer then Err TooMany
     else Ok (record m {
       interaction_names = m.interaction_names ++ name ∷ [];
-      interactions = m.interactions ++ record { participants = participants } ∷ [];
+      interactions = m.interactions ++ interaction_of m participants guard transfer ∷ [];
     })
 
--- `interaction NAME C.p C.p ..`
-abbrev pub interaction_line : Draft → List ℕ → List (List ℕ × List ℕ) → Result Draft BuildFault
-interaction_line d name words =
+-- so does one of which the names of variables are looked up among the participants'
+abbrev pub interaction_over : List ℕ → List Participant → List (Comparison VariableName)
+    → List (Assignment VariableName) → System → Result System BuildFault
+interaction_over name participants guard transfer m =
+    if not (knows_guard (shared m participants) guard) then Err Unknown
+    else transfer_said (shared m participants) [] transfer
+    >>= λ _. with_interaction name participants guard transfer m
+
+-- `interaction NAME C.p C.p .. [when GUARD] [do ASSIGNS]`
+abbrev pub interaction_line : Draft → List ℕ → List (List ℕ × List ℕ)
+    → List (Comparison VariableName) → List (Assignment VariableName) → Result Draft BuildFault
+interaction_line d name words guard transfer =
     if is_known name d.system.interaction_names then Err Twice
     else participants_named d.system [] words
-    >>= λ participants. with_interaction name participants d.system
+    >>= λ participants. interaction_over name participants guard transfer d.system
     >>= λ m. Ok (record d { system = m })
 
 -- what the lines have declared is whole: no component is begun, and there is one

@@ -2,17 +2,19 @@
 use Rattle.std.specs.Prelude.{◌≤◌, ◌+◌, ◌%◌, ◌^◌, Any, Ok, map, sum_by}
 use Rattle.std.specs.List.Sorted.{IsPermutation, IsStrictlyIncreasing}
 use Rattle.std.specs.Prelude.{◌≡◌, ◌↔◌, ℕ, ◌<◌, false, true, [], ◌∷◌, ◌++◌, List, length, Some}
-use Rattle.std.specs.Prelude.{slice_get, All, Contains, ◌⊎◌, IfSome}
+use Rattle.std.specs.Prelude.{slice_get, All, Contains, ◌⊎◌, IfSome, IsTrue}
 use Rattle.bip_model.specs.Drafts.{participant_named, participants_named}
 use Rattle.bip_model.specs.Expressions.{AreAssignmentsIn, AreTargetsApart, counts, is_same}
-use Rattle.bip_model.specs.Expressions.{term_value, transferred, updated, value_in, value_of}
+use Rattle.bip_model.specs.Expressions.{holds, term_value, transferred, updated, value_in}
+use Rattle.bip_model.specs.Expressions.{value_of}
 use Rattle.bip_model.specs.Grants.{IsHistory, used_by}
 use Rattle.bip_model.specs.Wants.{IsWants, moved_in}
 use Rattle.bip_model.specs.Naming.{AreApart}
 use Rattle.bip_model.specs.Partitions.{IsPartition, numbers_in, times_in}
 use Rattle.bip_model.specs.Parts.{Participant, components_in}
 use Rattle.bip_model.specs.States.{IsStateOf, State}
-use Rattle.bip_model.specs.Steps.{IsEnabled, IsRun, MayRun, after, end_of, moves, participants_of}
+use Rattle.bip_model.specs.Steps.{IsEnabled, IsRun, MayRun, after, end_of, guard_of, moves}
+use Rattle.bip_model.specs.Steps.{participants_of, told, values_of}
 use Rattle.bip_model.specs.declared.drafts.Draft.{Draft}
 use Rattle.bip_model.specs.declared.expressions.Assignment.{Assignment}
 use Rattle.bip_model.specs.declared.expressions.Expr.{Expr}
@@ -31,11 +33,11 @@ use Rattle.bip_model.specs.declared.parts.Transition.{Transition}
 use Rattle.bip_model.specs.declared.states.LocalState.{LocalState}
 
 -- what a term with a sign adds to a sum, and what it takes away
-abbrev pub added : List (List ℕ) → Sign × Term → ℕ
+abbrev pub added : List (List ℕ) → Sign × Term Variable → ℕ
 added values (Plus, t) = term_value values t
 added values (Minus, t) = 0
 
-abbrev pub taken_away : List (List ℕ) → Sign × Term → ℕ
+abbrev pub taken_away : List (List ℕ) → Sign × Term Variable → ℕ
 taken_away values (Plus, t) = 0
 taken_away values (Minus, t) = term_value values t
 
@@ -43,43 +45,43 @@ taken_away values (Minus, t) = term_value values t
 -- 2^32; and it is below 2^32, where its first term is
 abbrev pub SumsAreIntegers : Type 0
 SumsAreIntegers =
-    (values : List (List ℕ)) (e : Expr)
+    (values : List (List ℕ)) (e : Expr Variable)
     → ((value_of values e + sum_by (taken_away values) e.rest) % 2 ^ 32
     ≡ (term_value values e.first + sum_by (added values) e.rest) % 2 ^ 32)
     × (term_value values e.first < 2 ^ 32 → value_of values e < 2 ^ 32)
 
 -- assignments that were done at once: each variable has its assignment's sum of the values before,
 -- or what it had
-pub record AreDoneAtOnce (assignments : List Assignment) (before later : List (List ℕ)) : Type 0
+pub record AreDoneAtOnce (assignments : List (Assignment Variable)) (before later : List (List ℕ)) : Type 0
   where
     pub counts : counts later ≡ counts before
-    pub given : (a : Assignment) → Contains assignments a
+    pub given : (a : Assignment Variable) → Contains assignments a
         → value_in later a.target ≡ value_of before a.sum
-    pub kept : (v : Variable) → All (λ (a : Assignment). is_same v a.target ≡ false) assignments
+    pub kept : (v : Variable) → All (λ (a : Assignment Variable). is_same v a.target ≡ false) assignments
         → value_in later v ≡ value_in before v
 
 -- what a transfer may be, over values: its variables are there, and no two have one target
-abbrev pub IsTransferIn : List (List ℕ) → List Assignment → Type 0
+abbrev pub IsTransferIn : List (List ℕ) → List (Assignment Variable) → Type 0
 IsTransferIn values assignments =
     AreAssignmentsIn (counts values) assignments × AreTargetsApart assignments
 
 -- a transfer is done at once
 abbrev pub TransfersAtOnce : Type 0
 TransfersAtOnce =
-    (assignments : List Assignment) (values : List (List ℕ)) → IsTransferIn values assignments
+    (assignments : List (Assignment Variable)) (values : List (List ℕ)) → IsTransferIn values assignments
     → AreDoneAtOnce assignments values (transferred assignments values)
 
 -- the order of a transfer's assignments doesn't count
 abbrev pub TransfersInAnyOrder : Type 0
 TransfersInAnyOrder =
-    (xs ys : List Assignment) (values : List (List ℕ)) → IsTransferIn values xs
-    → IsTransferIn values ys → ((a : Assignment) → Contains xs a ↔ Contains ys a)
+    (xs ys : List (Assignment Variable)) (values : List (List ℕ)) → IsTransferIn values xs
+    → IsTransferIn values ys → ((a : Assignment Variable) → Contains xs a ↔ Contains ys a)
     → (v : Variable) → value_in (transferred xs values) v ≡ value_in (transferred ys values) v
 
 -- an update is done in written order: what comes later reads what is there then
 abbrev pub UpdatesInOrder : Type 0
 UpdatesInOrder =
-    (xs ys : List Assignment) (values : List ℕ)
+    (xs ys : List (Assignment Variable)) (values : List ℕ)
     → updated (xs ++ ys) values ≡ updated ys (updated xs values)
 
 -- a component that takes no part stays where it is
@@ -96,22 +98,33 @@ pub record IsItsTransition (m : System) (s : State) (q : Participant) (local : L
   pub at : s q.0.0 ≡ Some local
   pub source : t.source.0 ≡ local.location.0
 
--- a participant has a local state, and a transition with its port from there
+-- a participant has a local state, and a transition with its port from there, whose guard holds
 abbrev pub CanGo : System → State → Participant → Type 0
-CanGo m s q = (local : LocalState) × (t : Transition) × IsItsTransition m s q local t
+CanGo m s q =
+    (local : LocalState) × (t : Transition) × IsItsTransition m s q local t
+    × IsTrue (holds t.guard (local.values ∷ []))
 
--- an interaction is enabled exactly where the model has it and each of its participants can go
+-- the model has an interaction, each of its participants can go, and its own guard holds
+pub record CanAllGo (m : System) (s : State) (a : ℕ) : Type 0 where
+  pub declared : a < length m.interactions
+  pub each : All (CanGo m s) (participants_of m a)
+  pub guard : IsTrue (holds (guard_of m a) (values_of m s a))
+
+-- where an interaction is enabled all can go, and in a state of the model it is enabled where they
+-- can
 abbrev pub EnabledWhereAllCanGo : System → Type 0
 EnabledWhereAllCanGo m =
     (s : State) (a : ℕ)
-    → IsEnabled m s a ↔ ((a < length m.interactions) × All (CanGo m s) (participants_of m a))
+    → (IsEnabled m s a → CanAllGo m s a) × (IsStateOf m s → CanAllGo m s a → IsEnabled m s a)
 
--- each participant ends where its transition leads
+-- each participant ends where its transition leads, with the values that it is told, after the
+-- update
 abbrev pub ParticipantsGo : System → Type 0
 ParticipantsGo m =
-    (s : State) (a : ℕ) (q : Participant) (local : LocalState) (t : Transition)
-    → Contains (participants_of m a) q → IsItsTransition m s q local t
-    → after m s a q.0.0 ≡ Some (record local { location = t.target })
+    (s : State) (a i : ℕ) (q : Participant) (local : LocalState) (t : Transition)
+    → slice_get (participants_of m a) i ≡ Some q → IsItsTransition m s q local t
+    → after m s a q.0.0
+    ≡ Some (record { location = t.target; values = updated t.update (told m s a i) })
 
 -- a participant has at most one transition from where it is
 abbrev pub OneTransition : System → Type 0
@@ -162,6 +175,8 @@ Begins {X} old new = (more : List X) × (new ≡ old ++ more)
 
 -- a component that has all that it had
 pub record KeepsComponent (old new : Component) : Type 0 where
+  pub variables : Begins old.variables new.variables
+  pub start : Begins old.start new.start
   pub locations : Begins old.locations new.locations
   pub ports : Begins old.ports new.ports
   pub transitions : Begins old.transitions new.transitions

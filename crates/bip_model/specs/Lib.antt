@@ -9,6 +9,7 @@ pub mod Naming
 pub mod Numbering
 pub mod Partitions
 pub mod Parts
+pub mod Scopes
 pub mod Sequence
 pub mod States
 pub mod Steps

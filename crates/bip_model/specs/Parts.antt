@@ -1,8 +1,14 @@
 -- What a model may declare.
 use Rattle.std.specs.Prelude.{◌≡◌, ℕ, ◌≤◌, ◌<◌, Bool, false, ◌==◌, ◌&&◌, List, ◌++◌, length, map}
-use Rattle.std.specs.Prelude.{slice_get, All, AllPairs, IfSome}
+use Rattle.std.specs.Prelude.{[], ◌∷◌, slice_get, All, AllPairs, IfSome}
 use Rattle.std.specs.List.Sorted.{IsStrictlyIncreasing}
+use Rattle.std.specs.Option.{option_map_or}
+use Rattle.bip_model.specs.Expressions.{AreAssignmentsIn, AreComparisonsIn, AreTargetsApart}
 use Rattle.bip_model.specs.Naming.{AreApart}
+use Rattle.bip_model.specs.declared.expressions.Assignment.{Assignment}
+use Rattle.bip_model.specs.declared.expressions.Comparison.{Comparison}
+use Rattle.bip_model.specs.declared.expressions.Expr.{Expr}
+use Rattle.bip_model.specs.declared.expressions.Variable.{Variable}
 use Rattle.bip_model.specs.declared.numbering.CompId.{CompId}
 use Rattle.bip_model.specs.declared.numbering.PortId.{PortId}
 use Rattle.bip_model.specs.declared.parts.Component.{Component}
@@ -11,7 +17,9 @@ use Rattle.bip_model.specs.declared.parts.System.{System}
 use Rattle.bip_model.specs.declared.parts.Transition.{Transition}
 use Rattle.bip_model.specs.declared.parts.TheConstants.{MOST_COMPONENTS, MOST_LOCATIONS, MOST_PORTS}
 use Rattle.bip_model.specs.declared.parts.TheConstants.{MOST_TRANSITIONS, MOST_INTERACTIONS}
-use Rattle.bip_model.specs.declared.parts.TheConstants.{MOST_PARTICIPANTS}
+use Rattle.bip_model.specs.declared.parts.TheConstants.{MOST_PARTICIPANTS, MOST_TERMS}
+use Rattle.bip_model.specs.declared.parts.TheConstants.{MOST_ASSIGNMENTS, MOST_COMPARISONS}
+use Rattle.bip_model.specs.declared.states.TheConstants.{MOST_VALUES}
 
 -- a participant of an interaction: a component and one of its ports
 abbrev pub Participant : Type 0
@@ -25,18 +33,40 @@ components_in participants = map (λ (q : Participant). q.0.0) participants
 abbrev pub same_start : Transition → Transition → Bool
 same_start t u = (t.source.0 == u.source.0) && (t.port.0 == u.port.0)
 
--- a transition between locations of a component, with a port of it
+-- a sum of at most 16 terms
+abbrev pub IsShortSum : Expr Variable → Type 0
+IsShortSum e = length e.rest < MOST_TERMS
+
+-- a guard over variables of which each owner has a count
+pub record IsGuardOver (counts : List ℕ) (guard : List (Comparison Variable)) : Type 0 where
+  pub few : length guard ≤ MOST_COMPARISONS
+  pub there : AreComparisonsIn counts guard
+  pub short : All (λ c. IsShortSum c.left × IsShortSum c.right) guard
+
+-- assignments over variables of which each owner has a count
+pub record AreAssignmentsOver (counts : List ℕ) (assignments : List (Assignment Variable))
+    : Type 0 where
+  pub few : length assignments ≤ MOST_ASSIGNMENTS
+  pub there : AreAssignmentsIn counts assignments
+  pub short : All (λ a. IsShortSum a.sum) assignments
+
+-- a transition between locations of a component, with a port of it, whose guard and update are over
+-- its variables
 pub record IsTransitionOf (component : Component) (t : Transition) : Type 0 where
   pub port : t.port.0 < length component.ports
   pub source : t.source.0 < length component.locations
   pub target : t.target.0 < length component.locations
+  pub guard : IsGuardOver (length component.variables ∷ []) t.guard
+  pub update : AreAssignmentsOver (length component.variables ∷ []) t.update
 
 -- what a component may declare, and have declared so far
 pub record IsComponentSoFar (component : Component) : Type 0 where
+  pub few_variables : length component.variables ≤ MOST_VALUES
+  pub started : length component.start ≡ length component.variables
   pub few_locations : length component.locations ≤ MOST_LOCATIONS
   pub few_ports : length component.ports ≤ MOST_PORTS
   pub few_transitions : length component.transitions ≤ MOST_TRANSITIONS
-  pub apart : AreApart (component.locations ++ component.ports)
+  pub apart : AreApart (component.variables ++ component.locations ++ component.ports)
   pub transitions : All (IsTransitionOf component) component.transitions
   pub one_each : AllPairs (λ t u. same_start t u ≡ false) component.transitions
 
@@ -50,12 +80,25 @@ pub record IsPortIn (components : List Component) (q : Participant) : Type 0 whe
   pub component : q.0.0 < length components
   pub port : IfSome (slice_get components q.0.0) (λ c. q.1.0 < length c.ports)
 
--- what an interaction may declare: ports of different components, by component
+-- how many variables the component of a participant has
+abbrev pub count_of : List Component → Participant → ℕ
+count_of components q = option_map_or (λ c. length c.variables) (slice_get components q.0.0) 0
+
+-- how many variables each participant has
+abbrev pub counts_of : List Component → List Participant → List ℕ
+counts_of components participants = map (count_of components) participants
+
+-- what an interaction may declare: ports of different components, by component; a guard and a
+-- transfer over the participants' variables, no two assignments of which have one target
 pub record IsInteraction (components : List Component) (interaction : Interaction) : Type 0 where
   pub some : 0 < length interaction.participants
   pub few : length interaction.participants ≤ MOST_PARTICIPANTS
   pub rising : IsStrictlyIncreasing (components_in interaction.participants)
   pub ports : All (IsPortIn components) interaction.participants
+  pub guard : IsGuardOver (counts_of components interaction.participants) interaction.guard
+  pub transfer : AreAssignmentsOver (counts_of components interaction.participants)
+      interaction.transfer
+  pub apart : AreTargetsApart interaction.transfer
 
 -- what a model may declare, and have declared so far
 pub record IsSystemSoFar (m : System) : Type 0 where

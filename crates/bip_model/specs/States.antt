@@ -14,19 +14,15 @@ State = ℕ → Option LocalState
 abbrev pub state_of : List LocalState → State
 state_of locals c = slice_get locals c
 
--- a local state at a location, with the same values
-abbrev pub at_location : LocId → LocalState → LocalState
-at_location location local = record local { location = location }
-
 -- a location with values, as a local state
 abbrev pub local_of : LocId × List ℕ → LocalState
 local_of p = record { location = p.0; values = p.1 }
 
 -- a local state that a component can be in: one of its locations, and a value for each of its
--- variables, of which a plain component has none
+-- variables
 pub record IsLocalStateOf (component : Component) (local : LocalState) : Type 0 where
   pub location : local.location.0 < length component.locations
-  pub values : length local.values ≡ 0
+  pub values : length local.values ≡ length component.variables
 
 -- a state of a model: each of its components is in a local state of its own, and nobody else in any
 pub record IsStateOf (m : System) (s : State) : Type 0 where

@@ -1,22 +1,27 @@
 -- What is enabled in a state, what may run there, and what the joint step of an interaction does.
 use Rattle.std.specs.Prelude.{ℕ, ◌<◌, Bool, false, ◌==◌, List, [], ◌∷◌, length, Option, position}
-use Rattle.std.specs.Prelude.{slice_get, unwrap_or, All, IsTrue, ⊤, if◌then◌else◌}
+use Rattle.std.specs.Prelude.{map, slice_get, slice_index_or, unwrap_or, All, IsTrue, ⊤}
+use Rattle.std.specs.Prelude.{if◌then◌else◌}
 use Rattle.std.specs.List.{list_any}
 use Rattle.std.specs.Option.{option_map, option_map_or, option_and_then}
+use Rattle.bip_model.specs.declared.expressions.Assignment.{Assignment}
+use Rattle.bip_model.specs.declared.expressions.Comparison.{Comparison}
+use Rattle.bip_model.specs.declared.expressions.Variable.{Variable}
 use Rattle.bip_model.specs.declared.faults.NotNow.{NotNow}
 use Rattle.bip_model.specs.declared.faults.NotNow.TheVariants.{NotEnabled, Below}
-use Rattle.bip_model.specs.declared.numbering.LocId.{LocId}
 use Rattle.bip_model.specs.declared.numbering.PortId.{PortId}
 use Rattle.bip_model.specs.declared.parts.System.{System}
 use Rattle.bip_model.specs.declared.states.LocalState.{LocalState}
-use Rattle.bip_model.specs.Components.{offers_at, moved, transition_for}
+use Rattle.bip_model.specs.Components.{offers_at, moved}
+use Rattle.bip_model.specs.Expressions.{holds, transferred}
 use Rattle.bip_model.specs.Parts.{Participant}
 use Rattle.bip_model.specs.States.{State}
 
--- the state in which each component is in its first location
+-- the state in which each component is in its first location, with the values of its start
 abbrev pub start_of : System → State
 start_of m c =
-    option_map (λ _. record { location = record { 0 = 0 }; values = [] }) (slice_get m.components c)
+    option_map (λ component. record { location = record { 0 = 0 }; values = component.start })
+    (slice_get m.components c)
 
 -- whether a component offers a port in a state
 abbrev pub offered : System → State → Participant → Bool
@@ -25,14 +30,30 @@ offered m s q =
     (λ component. option_map_or (λ local. offers_at component local q.1) (s q.0.0) false)
     (slice_get m.components q.0.0) false
 
--- the participants of an interaction, none where the model lacks it
+-- the participants, the guard and the transfer of an interaction, none where the model lacks it
 abbrev pub participants_of : System → ℕ → List Participant
 participants_of m a = option_map_or (λ i. i.participants) (slice_get m.interactions a) []
 
--- an interaction is enabled: the model has it, and each participant's port is offered
+abbrev pub guard_of : System → ℕ → List (Comparison Variable)
+guard_of m a = option_map_or (λ i. i.guard) (slice_get m.interactions a) []
+
+abbrev pub transfer_of : System → ℕ → List (Assignment Variable)
+transfer_of m a = option_map_or (λ i. i.transfer) (slice_get m.interactions a) []
+
+-- the values of a component in a state, none where it has no local state
+abbrev pub values_at : State → Participant → List ℕ
+values_at s q = option_map_or (λ local. local.values) (s q.0.0) []
+
+-- the values of the participants of an interaction, which its guard and its transfer read
+abbrev pub values_of : System → State → ℕ → List (List ℕ)
+values_of m s a = map (values_at s) (participants_of m a)
+
+-- an interaction is enabled: the model has it, each participant's port is offered, and its guard
+-- holds
 pub record IsEnabled (m : System) (s : State) (a : ℕ) : Type 0 where
   pub declared : a < length m.interactions
   pub offered_all : All (λ q. IsTrue (offered m s q)) (participants_of m a)
+  pub guard : IsTrue (holds (guard_of m a) (values_of m s a))
 
 -- the second interaction stands above the first; a plain model declares no priorities
 abbrev pub IsAbove : System → ℕ → ℕ → Type 0
@@ -71,32 +92,31 @@ abbrev pub port_at : System → ℕ → ℕ → PortId
 port_at m a i =
     option_map_or (λ (q : Participant). q.1) (slice_get (participants_of m a) i) (record { 0 = 0 })
 
--- the location to which a component's transition with a port leads in a state; none where it has no
--- such transition
-abbrev pub target_of : System → State → Participant → Option LocId
-target_of m s q =
-    option_and_then
-    (λ component. option_and_then
-    (λ local. option_map (λ t. t.target) (transition_for component local.location q.1)) (s q.0.0))
-    (slice_get m.components q.0.0)
+-- what the participant at a place is told: its values after the transfer
+abbrev pub told : System → State → ℕ → ℕ → List ℕ
+told m s a i = slice_index_or (transferred (transfer_of m a) (values_of m s a)) i []
 
--- where a component goes by a port; it stays where it has no such transition
-abbrev pub led : System → ℕ → PortId → LocalState → LocalState
-led m c port local =
+-- where a component goes by a port with the values that it is told; it stays where it has no such
+-- transition
+abbrev pub led : System → ℕ → PortId → List ℕ → LocalState → LocalState
+led m c port values local =
     unwrap_or
-    (option_and_then (λ component. moved component local port) (slice_get m.components c)) local
+    (option_and_then (λ component. moved component (record local { values = values }) port)
+    (slice_get m.components c)) local
 
--- the state after the joint step of an interaction: each participant goes by its port, and all
--- others stay
+-- the state after the joint step of an interaction: the transfer is done, and then each participant
+-- goes by its port with what it is told, and does its update; all others stay
 abbrev pub after : System → State → ℕ → State
 after m s a c =
-    option_map_or (λ i. option_map (led m c (port_at m a i)) (s c)) (place_of m a c) (s c)
+    option_map_or (λ i. option_map (led m c (port_at m a i) (told m s a i)) (s c)) (place_of m a c)
+    (s c)
 
--- the same, one participant after another
-abbrev pub led_all : System → State → List Participant → State
-led_all m s [] c = s c
-led_all m s (q ∷ qs) c =
-    if c == q.0.0 then option_map (led m q.0.0 q.1) (s q.0.0) else led_all m s qs c
+-- the state after participants went, each with what it is told, and all others stayed
+abbrev pub led_all : System → State → List Participant → List (List ℕ) → State
+led_all m s [] values c = s c
+led_all m s (q ∷ qs) [] c = s c
+led_all m s (q ∷ qs) (own ∷ values) c =
+    if c == q.0.0 then option_map (led m q.0.0 q.1 own) (s q.0.0) else led_all m s qs values c
 
 -- interactions, each of which may run where those before it lead
 abbrev pub IsRun : System → State → List ℕ → Type 0

@@ -4,14 +4,14 @@ ghost use Rattle.std.specs.Prelude.{IfOk, OnErr, OnOk};
 ghost use Rattle.std.specs.Option.{option_map};
 ghost use Rattle.bip_model.specs.Drafts.{component_line, empty_draft, IsEndFault, IsWhole};
 ghost use Rattle.bip_model.specs.Drafts.{end_line, inside, interaction_line};
-ghost use Rattle.bip_model.specs.Components.{loc_line, port_line, trans_line};
+ghost use Rattle.bip_model.specs.Components.{loc_line, port_line, trans_line, var_line};
 ghost use Rattle.bip_model.specs.Naming.{same_text};
 ghost use Rattle.bip_model.specs.Faults.{Answers, new_or_fault};
 ghost use Rattle.bip_model.specs.Steps.{IsCyclic};
 ghost use Rattle.bip_model.specs.declared.faults.BuildFault.TheVariants.{Memory};
 
 use crate::drafts::Draft;
-use crate::{BuildFault, InterId, Model, Name};
+use crate::{Assignment, BuildFault, Comparison, InterId, Model, Name, VariableName};
 use std::alloc::{AllocError, Global};
 use std::marker;
 
@@ -73,8 +73,23 @@ impl Builder {
         self.draft.component(self.alloc, name)
     }
 
+    /// `var NAME VALUE` adds a variable to the component that is begun, with its value at the start.
+    /// Twice: one of its variables, locations or ports has this name; then TooMany: it has 8
+    /// variables.
+    pub fn var(&mut self, name: Name, value: u32) -> Result<(), BuildFault>
+        requires { IsSome self.old.begun }
+        ensures said { Answers Memory (inside (var_line name value) self.old)
+            (new_or_fault result self.new) }
+        ensures err { OnErr result (self.new ≡ self.old) }
+    {
+        match &mut self.draft.begun {
+            None => unreachable!(),
+            Some(component) => component.add_variable(name, value),
+        }
+    }
+
     /// `loc NAME` adds a location to the component that is begun; the first is its start. Twice:
-    /// one of its locations or ports has this name; then TooMany: it has 64 locations.
+    /// one of its variables, locations or ports has this name; then TooMany: it has 64 locations.
     pub fn loc(&mut self, name: Name) -> Result<(), BuildFault>
         requires { IsSome self.old.begun }
         ensures said { Answers Memory (inside (loc_line name) self.old)
@@ -87,8 +102,8 @@ impl Builder {
         }
     }
 
-    /// `port NAME` adds a port to the component that is begun. Twice: one of its locations or ports
-    /// has this name; then TooMany: it has 16 ports.
+    /// `port NAME` adds a port to the component that is begun. Twice: one of its variables, locations
+    /// or ports has this name; then TooMany: it has 16 ports.
     pub fn port(&mut self, name: Name) -> Result<(), BuildFault>
         requires { IsSome self.old.begun }
         ensures said { Answers Memory (inside (port_line name) self.old)
@@ -101,18 +116,30 @@ impl Builder {
         }
     }
 
-    /// `trans PORT FROM TO` adds a transition to the component that is begun. Unknown: it lacks the
-    /// port or a location; then TooMany: it has 256 transitions; then TwoTransitions: one with this
-    /// port leaves the location already.
-    pub fn trans(&mut self, port: Name, source: Name, target: Name) -> Result<(), BuildFault>
+    /// `trans PORT FROM TO [when GUARD] [do ASSIGNS]` adds a transition to the component that is
+    /// begun. Unknown: it lacks the port, a location, or a variable that is named by its own name
+    /// alone; then TooMany: it has 256 transitions, or there are more than 16 comparisons, 16
+    /// assignments or 16 terms of a sum; then TwoTransitions: one with this port leaves the
+    /// location already.
+    pub fn trans(
+        &mut self,
+        port: Name,
+        source: Name,
+        target: Name,
+        guard: &[Comparison<VariableName>],
+        update: &[Assignment<VariableName>],
+    ) -> Result<(), BuildFault>
         requires { IsSome self.old.begun }
-        ensures said { Answers Memory (inside (trans_line port source target) self.old)
+        ensures said { Answers Memory
+            (inside (trans_line port source target guard.now update.now) self.old)
             (new_or_fault result self.new) }
         ensures err { OnErr result (self.new ≡ self.old) }
     {
         match &mut self.draft.begun {
             None => unreachable!(),
-            Some(component) => component.add_named_transition(&port, &source, &target),
+            Some(component) => {
+                component.add_named_transition(self.alloc, &port, &source, &target, guard, update)
+            }
         }
     }
 
@@ -126,22 +153,28 @@ impl Builder {
         self.draft.end()
     }
 
-    /// `interaction NAME C.p C.p ..` adds an interaction of these ports, each of a component. By
-    /// the first word from the left that is at fault, Twice: an interaction has the name, or the
-    /// component takes part already; Unknown: there is no such component, or it lacks the port.
-    /// Then TooMany: there are 128 interactions, or more than 8 participants.
+    /// `interaction NAME C.p C.p .. [when GUARD] [do ASSIGNS]` adds an interaction of these ports,
+    /// each of a component. By the first word from the left that is at fault, Twice: an interaction
+    /// has the name, the component takes part already, or the variable is assigned to already;
+    /// Unknown: there is no such component, it lacks the port, or no participant has the variable.
+    /// Then TooMany: there are 128 interactions, or more than 8 participants, 16 comparisons, 16
+    /// assignments or 16 terms of a sum.
     pub fn interaction(
         &mut self,
         name: Name,
         participants: &[(Name, Name)],
+        guard: &[Comparison<VariableName>],
+        transfer: &[Assignment<VariableName>],
     ) -> Result<(), BuildFault>
         requires outside { IsNone self.old.begun }
         requires some { 0 < length participants.now }
-        ensures said { Answers Memory (interaction_line self.old name participants.now)
+        ensures said { Answers Memory
+            (interaction_line self.old name participants.now guard.now transfer.now)
             (new_or_fault result self.new) }
         ensures err { OnErr result (self.new ≡ self.old) }
     {
-        self.draft.interaction(self.alloc, name, participants)
+        self.draft
+            .interaction(self.alloc, name, participants, guard, transfer)
     }
 
     /// The model that the lines have declared. Missing: a component is begun and not ended, or

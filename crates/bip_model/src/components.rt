@@ -1,17 +1,22 @@
 //! One component: what the lines inside it declare, and what it can do by itself in a local state.
-ghost use Rattle.std.specs.Prelude.{◌≡◌, ◌<◌, ◌==◌, ℕ, if◌then◌else◌, OnErr};
+ghost use Rattle.std.specs.Prelude.{◌≡◌, ◌<◌, ◌==◌, ℕ, length, if◌then◌else◌, OnErr};
 ghost use Rattle.std.specs.Int.{bit_at};
 ghost use Rattle.std.specs.Option.{option_map};
 ghost use Rattle.std.specs.List.{list_any};
-ghost use Rattle.bip_model.specs.Components.{AreOffered, is_taken, loc_line, moved, no_component};
-ghost use Rattle.bip_model.specs.Components.{offers_at, port_line, trans_line, transition_for};
-ghost use Rattle.bip_model.specs.Components.{with_transition};
+ghost use Rattle.bip_model.specs.Components.{AreOffered, is_taken, leaves, loc_line, moved};
+ghost use Rattle.bip_model.specs.Components.{no_component, offers_at, port_line, trans_line};
+ghost use Rattle.bip_model.specs.Components.{transition_for, var_line, with_transition};
 ghost use Rattle.bip_model.specs.Faults.{Answers, new_or_fault};
-ghost use Rattle.bip_model.specs.Parts.{IsComponent, IsComponentSoFar, same_start};
+ghost use Rattle.bip_model.specs.Parts.{IsComponent, IsComponentSoFar};
+ghost use Rattle.bip_model.specs.States.{IsLocalStateOf};
 ghost use Rattle.bip_model.specs.declared.faults.BuildFault.TheVariants.{Memory};
 
+use crate::expressions::{holds, update};
 use crate::parts::{MOST_LOCATIONS, MOST_PORTS, MOST_TRANSITIONS};
-use crate::{BuildFault, Component, LocId, LocalState, Name, Names, PortId, Seq, Transition};
+use crate::scopes::{Scope, are_long_assignments, is_long_guard};
+use crate::states::MOST_VALUES;
+use crate::{Assignment, BuildFault, Comparison, Component, LocId, LocalState, Name, Names, PortId};
+use crate::{Seq, Transition, Values, VariableName};
 use std::alloc::Global;
 
 impl Component {
@@ -20,6 +25,8 @@ impl Component {
         ensures { result ≡ no_component }
     {
         Component {
+            variables: Names::new(alloc),
+            start: Values::none(),
             locations: Names::new(alloc),
             ports: Names::new(alloc),
             transitions: Seq::of(Vec::new(alloc)),
@@ -29,7 +36,27 @@ impl Component {
     fn is_taken(&self, name: &Name) -> bool
         ensures { result ≡ is_taken name.now self.now }
     {
-        self.locations.contains(name) || self.ports.contains(name)
+        self.variables.contains(name) || self.locations.contains(name) || self.ports.contains(name)
+    }
+
+    /// `var NAME VALUE`
+    pub(crate) fn add_variable(&mut self, name: Name, value: u32) -> Result<(), BuildFault>
+        requires { IsComponentSoFar self.old }
+        ensures said { Answers Memory (var_line name value self.old)
+            (new_or_fault result self.new) }
+        ensures err { OnErr result (self.new ≡ self.old) }
+    {
+        if self.is_taken(&name) {
+            return Err(BuildFault::Twice);
+        }
+        if MOST_VALUES <= self.variables.len() {
+            return Err(BuildFault::TooMany);
+        }
+        if self.variables.push(name).is_err() {
+            return Err(BuildFault::Memory);
+        }
+        self.start.push(value);
+        Ok(())
     }
 
     /// `loc NAME`
@@ -60,38 +87,71 @@ impl Component {
         self.ports.push(name).map_err(|_| BuildFault::Memory)
     }
 
-    fn add_transition(&mut self, transition: Transition) -> Result<(), BuildFault>
-        ensures said { Answers Memory (with_transition transition self.old)
+    fn add_transition(
+        &mut self,
+        alloc: Global,
+        port: PortId,
+        source: LocId,
+        target: LocId,
+        guard: &[Comparison<VariableName>],
+        update: &[Assignment<VariableName>],
+    ) -> Result<(), BuildFault>
+        requires { IsComponentSoFar self.old }
+        ensures said { Answers Memory
+            (with_transition port source target guard.now update.now self.old)
             (new_or_fault result self.new) }
         ensures err { OnErr result (self.new ≡ self.old) }
     {
-        if MOST_TRANSITIONS <= self.transitions.len() {
+        if MOST_TRANSITIONS <= self.transitions.len()
+            || is_long_guard(guard)
+            || are_long_assignments(update)
+        {
             return Err(BuildFault::TooMany);
         }
-        if self.has_start_of(&transition) {
+        if self.has_start(source, port) {
             return Err(BuildFault::TwoTransitions);
         }
+        let scope = Scope::Own(&self.variables);
+        let Ok(guard) = scope.guard(alloc, guard) else {
+            return Err(BuildFault::Memory);
+        };
+        let Ok(update) = scope.assignments(alloc, update) else {
+            return Err(BuildFault::Memory);
+        };
+        let transition = Transition {
+            port,
+            source,
+            target,
+            guard,
+            update,
+        };
         self.transitions
             .push(transition)
             .map_err(|_| BuildFault::Memory)
     }
 
-    fn has_start_of(&self, transition: &Transition) -> bool
-        ensures { result ≡ list_any (λ u. same_start u transition.now) self.now.transitions }
+    fn has_start(&self, source: LocId, port: PortId) -> bool
+        ensures { result ≡ list_any (leaves source port) self.now.transitions }
     {
-        self.transitions.as_slice().iter().any(|t| t.source == transition.source
-            && t.port == transition.port)
+        self.transitions
+            .as_slice()
+            .iter()
+            .any(|t| t.source == source && t.port == port)
     }
 
-    /// `trans PORT FROM TO`
+    /// `trans PORT FROM TO [when GUARD] [do ASSIGNS]`
     pub(crate) fn add_named_transition(
         &mut self,
+        alloc: Global,
         port: &Name,
         source: &Name,
         target: &Name,
+        guard: &[Comparison<VariableName>],
+        update: &[Assignment<VariableName>],
     ) -> Result<(), BuildFault>
         requires { IsComponentSoFar self.old }
-        ensures said { Answers Memory (trans_line port.now source.now target.now self.old)
+        ensures said { Answers Memory
+            (trans_line port.now source.now target.now guard.now update.now self.old)
             (new_or_fault result self.new) }
         ensures err { OnErr result (self.new ≡ self.old) }
     {
@@ -104,11 +164,21 @@ impl Component {
         let Some(target) = self.locations.number_of(target) else {
             return Err(BuildFault::Unknown);
         };
-        self.add_transition(Transition {
-            port: PortId(port as u8),
-            source: LocId(source as u8),
-            target: LocId(target as u8),
-        })
+        let scope = Scope::Own(&self.variables);
+        if !scope.knows_guard(guard) {
+            return Err(BuildFault::Unknown);
+        }
+        if !scope.knows_assignments(update) {
+            return Err(BuildFault::Unknown);
+        }
+        self.add_transition(
+            alloc,
+            PortId(port as u8),
+            LocId(source as u8),
+            LocId(target as u8),
+            guard,
+            update,
+        )
     }
 
     fn transition_for(&self, location: LocId, port: PortId) -> Option<&Transition>
@@ -120,21 +190,31 @@ impl Component {
             .find(|t| t.source == location && t.port == port)
     }
 
-    /// Whether a transition with this port leaves the local state.
+    /// Whether a transition with this port leaves the local state, and its guard holds there. A
+    /// local state with another count of values offers nothing.
     pub(crate) fn offers(&self, local: &LocalState, port: PortId) -> bool
+        requires { IsComponent self.now }
         ensures { result ≡ offers_at self.now local.now port }
     {
-        self.transition_for(local.location, port).is_some()
+        if local.values.len() != self.variables.len() {
+            return false;
+        }
+        match self.transition_for(local.location, port) {
+            None => false,
+            Some(transition) => holds(transition.guard.as_slice(), &[local.values]),
+        }
     }
 
     /// Bit p says whether port p is offered in the local state.
     pub(crate) fn ports(&self, local: &LocalState) -> u16
-        requires { IsComponent self.now }
+        requires component { IsComponent self.now }
+        requires local { IsLocalStateOf self.now local.now }
         ensures { AreOffered self.now local.now result }
     {
+        let values = [local.values];
         let mut ports = 0;
         for transition in self.transitions.as_slice() {
-            if transition.source == local.location {
+            if transition.source == local.location && holds(transition.guard.as_slice(), &values) {
                 ports = with_port(ports, transition.port);
             }
         }
@@ -142,21 +222,19 @@ impl Component {
     }
 
     /// Where the transition with this port leads from the local state; none where there is none.
+    /// Its guard isn't asked.
     pub(crate) fn moved(&self, local: &LocalState, port: PortId) -> Option<LocalState>
+        requires component { IsComponent self.now }
+        requires local { length local.now.values ≡ length self.now.variables }
         ensures { result ≡ moved self.now local.now port }
     {
-        let location = self.target(local.location, port)?;
+        let transition = self.transition_for(local.location, port)?;
+        let mut values = local.values;
+        update(transition.update.as_slice(), &mut values);
         Some(LocalState {
-            location,
-            values: local.values,
+            location: transition.target,
+            values,
         })
-    }
-
-    /// The target of the transition with this port from the location; none where there is none.
-    pub(crate) fn target(&self, location: LocId, port: PortId) -> Option<LocId>
-        ensures { result ≡ option_map (λ t. t.target) (transition_for self.now location port) }
-    {
-        Some(self.transition_for(location, port)?.target)
     }
 }
 

@@ -1,18 +1,23 @@
 //! What the lines of a model's text have said so far, and what one more line says.
-ghost use Rattle.std.specs.Prelude.{◌≡◌, ◌==◌, [], false, IsSome, IsNone, OnErr};
+ghost use Rattle.std.specs.Prelude.{◌≡◌, ◌≤◌, ◌==◌, [], false, length, IsSome, IsNone, IfOk, OnErr};
 ghost use Rattle.bip_model.specs.Drafts.{component_line, empty_draft, end_line, interaction_line};
-ghost use Rattle.bip_model.specs.Drafts.{participant_named, participants_named, with_interaction};
+ghost use Rattle.bip_model.specs.Drafts.{interaction_of, interaction_over, participant_named};
+ghost use Rattle.bip_model.specs.Drafts.{participants_named};
+ghost use Rattle.bip_model.specs.Drafts.{with_interaction};
 ghost use Rattle.bip_model.specs.Naming.{is_known};
 ghost use Rattle.bip_model.specs.Faults.{Answers, new_or_fault};
 ghost use Rattle.bip_model.specs.declared.faults.BuildFault.TheVariants.{Memory};
+ghost use Rattle.bip_model.specs.declared.parts.TheConstants.{MOST_COMPONENTS};
 ghost use Rattle.bip_model.specs.Parts.{IsSystemSoFar, Participant};
 ghost use Rattle.std.specs.List.{list_any};
 ghost use Rattle.std.specs.Result.{result_map_both};
 
 use crate::parts::{MOST_COMPONENTS, MOST_INTERACTIONS, MOST_PARTICIPANTS, System};
-use crate::{BuildFault, CompId, Component, Interaction, Name, Names, PortId, Seq};
+use crate::scopes::{Scope, are_long_assignments, is_long_guard};
+use crate::{Assignment, BuildFault, CompId, Comparison, Component, Interaction, Name, Names};
+use crate::{PortId, Seq, VariableName};
 use smallvec::SmallVec;
-use std::alloc::Global;
+use std::alloc::{AllocError, Global};
 
 /// What the lines so far have said: all that is declared whole, and the component that is begun and
 /// not ended. The name of a begun component is the last of the components' names.
@@ -47,8 +52,9 @@ impl System {
         words: &[(Name, Name)],
     ) -> Result<SmallVec<(CompId, PortId), 64>, BuildFault>
         requires { IsSystemSoFar self.now }
-        ensures { result_map_both (λ found. found.items) (λ e. e) result
+        ensures named { result_map_both (λ found. found.items) (λ e. e) result
             ≡ participants_named self.now [] words.now }
+        ensures few { IfOk result (λ found. length found.items ≤ MOST_COMPONENTS) }
     {
         let mut found = SmallVec::new(alloc);
         for word in words {
@@ -62,29 +68,53 @@ impl System {
         Ok(found)
     }
 
+    fn interaction_of(
+        &self,
+        alloc: Global,
+        participants: &[(CompId, PortId)],
+        guard: &[Comparison<VariableName>],
+        transfer: &[Assignment<VariableName>],
+    ) -> Result<Interaction, AllocError>
+        requires system { IsSystemSoFar self.now }
+        requires few { length participants.now ≤ MOST_COMPONENTS }
+        ensures { IfOk result (λ interaction. interaction
+            ≡ interaction_of self.now participants.now guard.now transfer.now) }
+    {
+        let scope = Scope::Shared(self, participants);
+        Ok(Interaction {
+            participants: Seq::of(Vec::from_slice(alloc, participants)?),
+            guard: scope.guard(alloc, guard)?,
+            transfer: scope.assignments(alloc, transfer)?,
+        })
+    }
+
     fn add_interaction(
         &mut self,
         alloc: Global,
         name: Name,
         participants: &[(CompId, PortId)],
+        guard: &[Comparison<VariableName>],
+        transfer: &[Assignment<VariableName>],
     ) -> Result<(), BuildFault>
-        requires { is_known name self.old.interaction_names ≡ false }
-        ensures said { Answers Memory (with_interaction name participants.now self.old)
+        requires known { is_known name self.old.interaction_names ≡ false }
+        requires system { IsSystemSoFar self.old }
+        requires few { length participants.now ≤ MOST_COMPONENTS }
+        ensures said { Answers Memory
+            (with_interaction name participants.now guard.now transfer.now self.old)
             (new_or_fault result self.new) }
         ensures err { OnErr result (self.new ≡ self.old) }
     {
-        if MOST_INTERACTIONS <= self.interactions.len() || MOST_PARTICIPANTS < participants.len() {
+        if MOST_INTERACTIONS <= self.interactions.len()
+            || MOST_PARTICIPANTS < participants.len()
+            || is_long_guard(guard)
+            || are_long_assignments(transfer)
+        {
             return Err(BuildFault::TooMany);
         }
-        let Ok(participants) = Vec::from_slice(alloc, participants) else {
+        let Ok(interaction) = self.interaction_of(alloc, participants, guard, transfer) else {
             return Err(BuildFault::Memory);
         };
-        let participants = Seq::of(participants);
-        if self
-            .interactions
-            .push(Interaction { participants })
-            .is_err()
-        {
+        if self.interactions.push(interaction).is_err() {
             return Err(BuildFault::Memory);
         }
         if self.interaction_names.push(name).is_err() {
@@ -92,6 +122,33 @@ impl System {
             return Err(BuildFault::Memory);
         }
         Ok(())
+    }
+
+    /// The same, of which the names of variables are looked up among the participants'.
+    fn add_named_interaction(
+        &mut self,
+        alloc: Global,
+        name: Name,
+        participants: &[(CompId, PortId)],
+        guard: &[Comparison<VariableName>],
+        transfer: &[Assignment<VariableName>],
+    ) -> Result<(), BuildFault>
+        requires known { is_known name self.old.interaction_names ≡ false }
+        requires system { IsSystemSoFar self.old }
+        requires few { length participants.now ≤ MOST_COMPONENTS }
+        ensures said { Answers Memory
+            (interaction_over name participants.now guard.now transfer.now self.old)
+            (new_or_fault result self.new) }
+        ensures err { OnErr result (self.new ≡ self.old) }
+    {
+        let scope = Scope::Shared(self, participants);
+        if !scope.knows_guard(guard) {
+            return Err(BuildFault::Unknown);
+        }
+        match scope.check_transfer(transfer) {
+            Err(fault) => Err(fault),
+            Ok(()) => self.add_interaction(alloc, name, participants, guard, transfer),
+        }
     }
 }
 
@@ -161,15 +218,18 @@ impl Draft {
         }
     }
 
-    /// `interaction NAME C.p C.p ..`
+    /// `interaction NAME C.p C.p .. [when GUARD] [do ASSIGNS]`
     pub(crate) fn interaction(
         &mut self,
         alloc: Global,
         name: Name,
         words: &[(Name, Name)],
+        guard: &[Comparison<VariableName>],
+        transfer: &[Assignment<VariableName>],
     ) -> Result<(), BuildFault>
         requires { IsSystemSoFar self.old.system }
-        ensures said { Answers Memory (interaction_line self.old name words.now)
+        ensures said { Answers Memory
+            (interaction_line self.old name words.now guard.now transfer.now)
             (new_or_fault result self.new) }
         ensures err { OnErr result (self.new ≡ self.old) }
     {
@@ -178,10 +238,13 @@ impl Draft {
         }
         match self.system.participants(alloc, words) {
             Err(fault) => Err(fault),
-            Ok(participants) => {
-                self.system
-                    .add_interaction(alloc, name, participants.as_slice())
-            }
+            Ok(participants) => self.system.add_named_interaction(
+                alloc,
+                name,
+                participants.as_slice(),
+                guard,
+                transfer,
+            ),
         }
     }
 }

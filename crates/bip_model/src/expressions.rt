@@ -16,10 +16,10 @@ pub struct Variable {
 }
 
 /// A number, or the value of a variable.
-#[derive(Clone, Copy, Debug, PartialEq, Eq)]
-pub enum Term {
+#[derive(Clone, Copy, Debug)]
+pub enum Term<V> {
     Value(u32),
-    Of(Variable),
+    Of(V),
 }
 
 /// Whether a term is added or taken away.
@@ -31,9 +31,9 @@ pub enum Sign {
 
 /// A sum of terms, joined from the left modulo 2^32.
 #[derive(Drop)]
-pub struct Expr {
-    pub first: Term,
-    pub rest: Seq<(Sign, Term)>,
+pub struct Expr<V> {
+    pub first: Term<V>,
+    pub rest: Seq<(Sign, Term<V>)>,
 }
 
 /// How the left of a comparison must stand to its right.
@@ -49,17 +49,17 @@ pub enum Relation {
 
 /// A comparison of two sums.
 #[derive(Drop)]
-pub struct Comparison {
-    pub left: Expr,
+pub struct Comparison<V> {
+    pub left: Expr<V>,
     pub relation: Relation,
-    pub right: Expr,
+    pub right: Expr<V>,
 }
 
 /// A variable that gets the value of a sum.
 #[derive(Drop)]
-pub struct Assignment {
-    pub target: Variable,
-    pub sum: Expr,
+pub struct Assignment<V> {
+    pub target: V,
+    pub sum: Expr<V>,
 }
 
 impl Variable {
@@ -71,7 +71,7 @@ impl Variable {
     }
 }
 
-impl Term {
+impl Term<Variable> {
     fn value(self, values: &[Values]) -> u32
         requires { IsTermIn (counts values.now) self }
         ensures { result ≡ term_value values.now self }
@@ -94,7 +94,7 @@ impl Sign {
     }
 }
 
-impl Expr {
+impl Expr<Variable> {
     /// The value of the sum, modulo 2^32, over the values of a component alone or of each
     /// participant of an interaction (docs/DEFINITIONS.md, "Expressions").
     pub fn eval(&self, values: &[Values]) -> u32
@@ -124,7 +124,7 @@ impl Relation {
     }
 }
 
-impl Comparison {
+impl Comparison<Variable> {
     fn holds(&self, values: &[Values]) -> bool
         requires { IsComparisonIn (counts values.now) self.now }
         ensures { result ≡ holds_in values.now self.now }
@@ -135,7 +135,7 @@ impl Comparison {
 }
 
 /// Whether all comparisons of a guard hold.
-pub(crate) fn holds(guard: &[Comparison], values: &[Values]) -> bool
+pub(crate) fn holds(guard: &[Comparison<Variable>], values: &[Values]) -> bool
     requires { AreComparisonsIn (counts values.now) guard.now }
     ensures { result ≡ holds guard.now values.now }
 {
@@ -144,7 +144,7 @@ pub(crate) fn holds(guard: &[Comparison], values: &[Values]) -> bool
 
 /// Does the assignments of a component one after another, each with the values that those before
 /// it left.
-pub(crate) fn update(assignments: &[Assignment], values: &mut Values)
+pub(crate) fn update(assignments: &[Assignment<Variable>], values: &mut Values)
     requires { AreAssignmentsIn (counts (values.old ∷ [])) assignments.now }
     ensures { values.new ≡ updated assignments.now values.old }
 {
@@ -158,7 +158,7 @@ pub(crate) fn update(assignments: &[Assignment], values: &mut Values)
 }
 
 /// Does the assignments of an interaction at once: each sum is of the values that are there before.
-pub(crate) fn transfer(assignments: &[Assignment], values: &mut [Values])
+pub(crate) fn transfer(assignments: &[Assignment<Variable>], values: &mut [Values])
     requires { AreAssignmentsIn (counts values.old) assignments.now }
     ensures { values.new ≡ transferred assignments.now values.old }
 {

@@ -2,7 +2,7 @@
 //! nothing, and has the laws for its contract.
 ghost use Rattle.std.specs.Prelude.{◌≡◌, ℕ, ◌↔◌, List, [], ◌∷◌, ◌++◌, Ok, IsNone};
 ghost use Rattle.bip_model.specs.Drafts.{component_line, end_line, inside, interaction_line};
-ghost use Rattle.bip_model.specs.Components.{loc_line, port_line, trans_line};
+ghost use Rattle.bip_model.specs.Components.{loc_line, port_line, trans_line, var_line};
 ghost use Rattle.bip_model.specs.Laws.{KeepsDraft, Commute, EnabledWhereAllCanGo, EndsAfterItsLast};
 ghost use Rattle.bip_model.specs.Laws.{GoesOnByWhatMayRun, IsLocal, OneTransition, OthersStay};
 ghost use Rattle.bip_model.specs.Laws.{ParticipantsGo, StatesLeadToStates, HistoryGoesOn};
@@ -14,10 +14,13 @@ ghost use Rattle.bip_model.specs.Grants.{IsGreatestUsed, IsHistory, MovesOnceEac
 ghost use Rattle.bip_model.specs.Parts.{IsSystem};
 ghost use Rattle.bip_model.specs.Wants.{IsFresh, raised};
 ghost use Rattle.bip_model.specs.declared.drafts.Draft.{Draft};
+ghost use Rattle.bip_model.specs.declared.expressions.Assignment.{Assignment};
+ghost use Rattle.bip_model.specs.declared.expressions.Comparison.{Comparison};
 ghost use Rattle.bip_model.specs.Partitions.{AreDifferent, in_order};
 ghost use Rattle.bip_model.specs.declared.grants.Grant.{Grant};
 ghost use Rattle.bip_model.specs.declared.numbering.InterId.{InterId};
 ghost use Rattle.bip_model.specs.declared.parts.System.{System};
+ghost use Rattle.bip_model.specs.declared.scopes.VariableName.{VariableName};
 
 /// What sums, transfers and updates mean: a sum is that of the integers modulo 2^32, a transfer's
 /// assignments are done at once, and those of an update in written order (docs/DEFINITIONS.md,
@@ -49,15 +52,19 @@ pub fn step_laws()
 pub fn builder_laws()
     ensures component { (d e : Draft) (name : List ℕ) → IsNone d.begun
         → component_line d name ≡ Ok e → KeepsDraft d e }
+    ensures var { (d e : Draft) (name : List ℕ) (value : ℕ)
+        → inside (var_line name value) d ≡ Ok e → KeepsDraft d e }
     ensures loc { (d e : Draft) (name : List ℕ) → inside (loc_line name) d ≡ Ok e → KeepsDraft d e }
     ensures port { (d e : Draft) (name : List ℕ) → inside (port_line name) d ≡ Ok e
         → KeepsDraft d e }
     ensures trans { (d e : Draft) (port source target : List ℕ)
-        → inside (trans_line port source target) d ≡ Ok e → KeepsDraft d e }
+        (guard : List (Comparison VariableName)) (update : List (Assignment VariableName))
+        → inside (trans_line port source target guard update) d ≡ Ok e → KeepsDraft d e }
     ensures end { (d e : Draft) → end_line d ≡ Ok e → KeepsDraft d e }
     ensures interaction { (d e : Draft) (name : List ℕ) (words : List (List ℕ × List ℕ))
+        (guard : List (Comparison VariableName)) (transfer : List (Assignment VariableName))
         → IsNone d.begun
-        → interaction_line d name words ≡ Ok e → KeepsDraft d e }
+        → interaction_line d name words guard transfer ≡ Ok e → KeepsDraft d e }
     ensures participants { NamesParticipants }
     ensures any_order { NamesInAnyOrder }
 {}

@@ -15,6 +15,7 @@ mod naming;
 mod numbering;
 mod partitions;
 mod parts;
+mod scopes;
 mod sequence;
 mod states;
 mod steps;
@@ -33,6 +34,7 @@ pub use naming::{Name, Names};
 pub use numbering::{ClassId, CompId, InterId, LocId, Number, PortId, VarId};
 pub use partitions::{Classes, MOST_CLASSES, Partition};
 pub use parts::{Component, Interaction, System, Transition};
+pub use scopes::VariableName;
 pub use sequence::Seq;
 pub use states::{LocalState, State, Values};
 pub use texts::{

@@ -1,5 +1,6 @@
 //! States: the local state of each component.
-ghost use Rattle.std.specs.Prelude.{◌≡◌, ◌↔◌, ◌≤◌, ◌<◌, ℕ, [], length, slice_set, IsSome, IfSome};
+ghost use Rattle.std.specs.Prelude.{◌≡◌, ◌↔◌, ◌≤◌, ◌<◌, ℕ, [], ◌∷◌, ◌++◌, length, slice_set};
+ghost use Rattle.std.specs.Prelude.{IsSome, IfSome};
 
 use crate::{CompId, LocId};
 use std::marker::Model;
@@ -73,6 +74,24 @@ impl Values {
         &self.values[..self.len as usize]
     }
 
+    /// How many values there are.
+    pub(crate) fn len(&self) -> usize
+        ensures { result ≡ length self.now }
+    {
+        self.len as usize
+    }
+
+    /// Puts a value last.
+    pub(crate) fn push(&mut self, value: u32)
+        requires { length self.old < MOST_VALUES }
+        ensures { self.new ≡ self.old ++ value ∷ [] }
+    {
+        let len = self.len as usize;
+        let values = &mut self.values;
+        values[len] = value;
+        self.len += 1;
+    }
+
     /// Puts a value in the place of the one at the index.
     pub(crate) fn set(&mut self, index: usize, value: u32)
         requires { index < length self.old }
@@ -108,7 +127,7 @@ impl Model for State {
 impl State {
     ghost use Rattle.std.specs.Prelude.{◌==◌, if◌then◌else◌};
     ghost use Rattle.std.specs.Option.{option_map};
-    ghost use Rattle.bip_model.specs.States.{at_location, state_of};
+    ghost use Rattle.bip_model.specs.States.{state_of};
 
     /// The state with these local states, by component.
     pub(crate) fn of(locals: Vec<LocalState>) -> State
@@ -131,15 +150,14 @@ impl State {
         self.locals.get(comp.0 as usize)
     }
 
-    /// Brings a component to a location, with the values that it has; one that has no local state
-    /// stays without.
-    pub(crate) fn bring(&mut self, comp: CompId, location: LocId)
+    /// Puts a component that has a local state in another one; one that has none stays without.
+    pub(crate) fn put(&mut self, comp: CompId, local: Option<LocalState>)
+        requires { IsSome local ↔ IsSome (state_of self.old comp.0) }
         ensures { (c : ℕ) → state_of self.new c
-            ≡ (if c == comp.0 then option_map (at_location location) (state_of self.old c)
-            else state_of self.old c) }
+            ≡ (if c == comp.0 then local else state_of self.old c) }
     {
-        if (comp.0 as usize) < self.locals.len() {
-            self.locals[comp.0 as usize].location = location;
+        if let Some(local) = local {
+            self.locals[comp.0 as usize] = local;
         }
     }
 }

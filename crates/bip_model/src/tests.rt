@@ -38,7 +38,13 @@ fn trans(
     target: &str,
 ) -> Result<(), BuildFault> {
     assert!(rt; builder.is_inside());
-    builder.trans(name(rt, port), name(rt, source), name(rt, target))
+    builder.trans(
+        name(rt, port),
+        name(rt, source),
+        name(rt, target),
+        &[],
+        &[],
+    )
 }
 
 fn end(rt: &impl Abort, builder: &mut Builder) -> Result<(), BuildFault> {
@@ -54,7 +60,12 @@ fn interaction(
     component: &str,
 ) -> Result<(), BuildFault> {
     assert!(rt; !builder.is_inside());
-    builder.interaction(name(rt, text), &[(name(rt, component), name(rt, "s"))])
+    builder.interaction(
+        name(rt, text),
+        &[(name(rt, component), name(rt, "s"))],
+        &[],
+        &[],
+    )
 }
 
 /// A component that goes from `off` to `on` by its port `s`.

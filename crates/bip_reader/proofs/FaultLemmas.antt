@@ -40,7 +40,7 @@ participants_faults m before (word ∷ words) =
     let rest : (more : List Participant) → is_among is_of_line (participants_named m more words) ≡ true = λ more. participants_faults m more words in
     grind (arith, rest)
 
-interaction_faults : (d : Draft) (name : List ℕ) (words : List (List ℕ × List ℕ)) → is_among is_of_line (interaction_line d name words) ≡ true
+interaction_faults : (d : Draft) (name : List ℕ) (words : List (List ℕ × List ℕ)) → is_among is_of_line (interaction_line d name words [] []) ≡ true
 interaction_faults d name words = let named = participants_faults d.system [] words in grind arith
 
 draft_faults : (s : Statement) (d : Draft) → is_among is_of_line (draft_with s d) ≡ true

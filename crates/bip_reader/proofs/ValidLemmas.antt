@@ -72,9 +72,9 @@ draft_keeps statement.Header d e place some valid is = absurd (cc)
 draft_keeps (statement.Component name) d e place some valid is = component_keeps d e name valid (not_begun d.begun place) is
 draft_keeps (statement.Loc name) d e place some valid is = inside_keeps (loc_line name) d e valid place (loc_keeps name) is
 draft_keeps (statement.Port name) d e place some valid is = inside_keeps (port_line name) d e valid place (port_keeps name) is
-draft_keeps (statement.Trans port source target) d e place some valid is = inside_keeps (trans_line port source target) d e valid place (trans_keeps port source target) is
+draft_keeps (statement.Trans port source target) d e place some valid is = inside_keeps (trans_line port source target [] []) d e valid place (trans_keeps port source target [] []) is
 draft_keeps statement.End d e place some valid is = end_keeps d e valid place is
-draft_keeps (statement.Interaction name participants) d e place some valid is = interaction_keeps d e name participants valid (grind (arith, nat_tests)) is
+draft_keeps (statement.Interaction name participants) d e place some valid is = interaction_keeps d e name participants [] [] valid (grind (arith, nat_tests)) is
 draft_keeps (statement.Class name interactions) d e place some valid is = let same : d ≡ e = cc in subst IsDraft same valid
 
 empty_is : IsDraft empty_draft

@@ -68,9 +68,9 @@ abbrev pub draft_with : Statement → Draft → Result Draft BuildFault
 draft_with (Component name) d = component_line d name
 draft_with (Loc name) d = inside (loc_line name) d
 draft_with (Port name) d = inside (port_line name) d
-draft_with (Trans port source target) d = inside (trans_line port source target) d
+draft_with (Trans port source target) d = inside (trans_line port source target [] []) d
 draft_with End d = end_line d
-draft_with (Interaction name participants) d = interaction_line d name participants
+draft_with (Interaction name participants) d = interaction_line d name participants [] []
 draft_with s d = Ok d
 
 -- what was said to the draft, said to the reading

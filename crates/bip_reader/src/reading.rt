@@ -262,10 +262,10 @@ fn build(builder: &mut Builder, statement: Statement) -> Result<(), BuildFault>
             port,
             source,
             target,
-        } => builder.trans(port, source, target),
+        } => builder.trans(port, source, target, &[], &[]),
         Statement::End => builder.end(),
         Statement::Interaction { name, participants } => {
-            builder.interaction(name, participants.as_slice())
+            builder.interaction(name, participants.as_slice(), &[], &[])
         }
         Statement::Header | Statement::Class { .. } => Ok(()),
     }

@@ -32,7 +32,13 @@ fn port(rt: &impl Abort, builder: &mut Builder) -> Result<(), BuildFault> {
 
 fn trans(rt: &impl Abort, builder: &mut Builder) -> Result<(), BuildFault> {
     assert!(rt; builder.is_inside());
-    builder.trans(name(rt, "s"), name(rt, "off"), name(rt, "on"))
+    builder.trans(
+        name(rt, "s"),
+        name(rt, "off"),
+        name(rt, "on"),
+        &[],
+        &[],
+    )
 }
 
 fn end(rt: &impl Abort, builder: &mut Builder) -> Result<(), BuildFault> {
@@ -58,7 +64,12 @@ fn alone(
     component: &str,
 ) -> Result<(), BuildFault> {
     assert!(rt; !builder.is_inside());
-    builder.interaction(name(rt, text), &[(name(rt, component), name(rt, "s"))])
+    builder.interaction(
+        name(rt, text),
+        &[(name(rt, component), name(rt, "s"))],
+        &[],
+        &[],
+    )
 }
 
 /// An interaction of a component and R by their ports `s`.
@@ -73,7 +84,7 @@ fn with_third(
         (name(rt, component), name(rt, "s")),
         (name(rt, "R"), name(rt, "s")),
     ];
-    builder.interaction(name(rt, text), &participants)
+    builder.interaction(name(rt, text), &participants, &[], &[])
 }
 
 /// The model of lines that are all taken.

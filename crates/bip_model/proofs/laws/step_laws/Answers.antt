@@ -1,6 +1,4 @@
-use Rattle.std.proofs.Common.{arith}
-use Rattle.std.proofs.lemmas.Grind.{common_steps}
-use Rattle.bip_model.proofs.LawLemmas.{commute, enabled_where, ends_after, goes_on, one_transition, others_stay, participants_go}
+use Rattle.bip_model.proofs.LawLemmas.{commute, enabled_where, ends_after, goes_on, is_local, one_transition, others_stay, participants_go}
 use Rattle.bip_model.proofs.StateLemmas.{states_lead_to_states}
 use Rattle.bip_model.proofs.laws.step_laws.Goals as goal
 
@@ -11,7 +9,7 @@ returns c = record {
   go = participants_go;
   one = one_transition;
   states = states_lead_to_states;
-  local = grind (arith, common_steps);
+  local = is_local;
   commute = commute;
   end = ends_after;
   run = goes_on;

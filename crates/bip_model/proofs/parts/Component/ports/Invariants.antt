@@ -5,4 +5,4 @@ use Rattle.bip_model.proofs.parts.Component.ports.Given as goal
 
 abbrev pub invariant-loop-transition : goal.invariant-loop-transition
 invariant-loop-transition l =
-    (port : ℕ) → bit_at l.ports port ≡ offered_bit l.local.location.0 port (take l.transition-index l.transition-items)
+    (port : ℕ) → bit_at l.ports port ≡ offered_bit l.local.location l.local.values port (take l.transition-index l.transition-items)

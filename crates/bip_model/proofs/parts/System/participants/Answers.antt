@@ -1,8 +1,8 @@
 use Rattle.std.proofs.Common.{List, Ok, arith, rules, refl, ap, sym, ◌∙◌}
 use Rattle.bip_model.specs.Parts.{Participant}
 use Rattle.smallvec.proofs.SmallVecLemmas.{items-with_items}
-use Rattle.std.proofs.lemmas.List.Sorted.{IsNonDecreasingBy-from_sort_by_key}
-use Rattle.bip_model.proofs.ParticipantLemmas.{component_of, named_more, none_valid, participants_named-end, sorted_by_component}
+use Rattle.std.proofs.lemmas.List.Sorted.{IsNonDecreasingBy-from_sort_by_key, length_permutation}
+use Rattle.bip_model.proofs.ParticipantLemmas.{component_of, few_participants, named_more, none_valid, participants_named-end, sorted_by_component}
 use Rattle.bip_model.proofs.parts.System.participants.Goals as goal
 
 pub push_reserved-requires : goal.push_reserved-requires
@@ -20,11 +20,19 @@ loop-word-preserved c =
 pub loop-word-init : goal.loop-word-init
 loop-word-init c = rw c.new-found.ensures.items (refl, none_valid c.args.self.now.components, c.new-found.ensures.capacity)
 
-pub returns : goal.returns
-returns c =
+pub returns-clause-named : goal.returns-clause-named
+returns-clause-named c =
     let found : List Participant = c.loop-word.found.items in
     let new : List Participant = c.sort_unstable_by_key.new.self in
     let back = items-with_items c.loop-word.found new (search rules) in
     let up = IsNonDecreasingBy-from_sort_by_key component_of new c.sort_unstable_by_key.ensures.sorted (λ a r q k. search rules) in
     let sorted = sorted_by_component found new c.loop-word.invariant.1.apart (rw c.deref_mut.ensures.value at c.sort_unstable_by_key.ensures.permutation) up in
     rw back (ap Ok (sym sorted) ∙ participants_named-end c.args.self.now found c.args.words.now c.loop-word.word-index c.loop-word-test.false ∙ c.loop-word.invariant.0)
+
+pub returns-clause-few : goal.returns-clause-few
+returns-clause-few c =
+    let found : List Participant = c.loop-word.found.items in
+    let new : List Participant = c.sort_unstable_by_key.new.self in
+    let back = items-with_items c.loop-word.found new (search rules) in
+    let same = length_permutation found new (rw c.deref_mut.ensures.value at c.sort_unstable_by_key.ensures.permutation) in
+    rw back (omega (arith, same, few_participants c.args.self.now.components found c.loop-word.invariant.1, c.requires.enough_names, c.requires.few_components))
