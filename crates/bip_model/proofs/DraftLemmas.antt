@@ -87,28 +87,28 @@ inside_ends f keeps d c new result valid is said kept = begun_keeps d c new vali
 
 -- a component with more names
 module _ (c : Component) (valid : IsComponentSoFar c) (variables locations ports : List (List ℕ)) (start : List ℕ)
-  (more_variables : length c.variables ≤ length variables) (more_locations : length c.locations ≤ length locations) (more_ports : length c.ports ≤ length ports) where
-    abbrev more : Component
-    more = record c { variables = variables; start = start; locations = locations; ports = ports }
+    (more_variables : length c.variables ≤ length variables) (more_locations : length c.locations ≤ length locations) (more_ports : length c.ports ≤ length ports) where
+  abbrev more : Component
+  more = record c { variables = variables; start = start; locations = locations; ports = ports }
 
-    more_there : (v : Variable) → IsVariableIn (length c.variables ∷ []) v → IsVariableIn (length variables ∷ []) v
-    more_there v there = one_owner v.owner v.number.0 there
-      where
-        one_owner : (owner number : ℕ) → (owner < 1) × (number < get_or (length c.variables ∷ []) owner 0) → (owner < 1) × (number < get_or (length variables ∷ []) owner 0)
-        one_owner zero number there = (there.0, omega (arith, there.1))
-        one_owner (suc n) number there = absurd (omega (arith, there.0))
+  more_there : (v : Variable) → IsVariableIn (length c.variables ∷ []) v → IsVariableIn (length variables ∷ []) v
+  more_there v there = one_owner v.owner v.number.0 there
+    where
+      one_owner : (owner number : ℕ) → (owner < 1) × (number < get_or (length c.variables ∷ []) owner 0) → (owner < 1) × (number < get_or (length variables ∷ []) owner 0)
+      one_owner zero number there = (there.0, omega (arith, there.1))
+      one_owner (suc n) number there = absurd (omega (arith, there.0))
 
-    more_names : (t : Transition) → IsTransitionOf c t → IsTransitionOf more t
-    more_names t of_it = record {
-      port = omega (arith, of_it.port);
-      source = omega (arith, of_it.source);
-      target = omega (arith, of_it.target);
-      guard = guard_more (length c.variables ∷ []) (length variables ∷ []) more_there t.guard of_it.guard;
-      update = assignments_more (length c.variables ∷ []) (length variables ∷ []) more_there t.update of_it.update;
-    }
+  more_names : (t : Transition) → IsTransitionOf c t → IsTransitionOf more t
+  more_names t of_it = record {
+    port = omega (arith, of_it.port);
+    source = omega (arith, of_it.source);
+    target = omega (arith, of_it.target);
+    guard = guard_more (length c.variables ∷ []) (length variables ∷ []) more_there t.guard of_it.guard;
+    update = assignments_more (length c.variables ∷ []) (length variables ∷ []) more_there t.update of_it.update;
+  }
 
-    names_keep : length variables ≤ 8 → length start ≡ length variables → length locations ≤ 64 → length ports ≤ 16 → AreApart (variables ++ locations ++ ports) → IsComponentSoFar more
-    names_keep few_variables started few_locations few_ports apart = assumption (All-weaker (IsTransitionOf c) (IsTransitionOf more) more_names c.transitions valid.transitions)
+  names_keep : length variables ≤ 8 → length start ≡ length variables → length locations ≤ 64 → length ports ≤ 16 → AreApart (variables ++ locations ++ ports) → IsComponentSoFar more
+  names_keep few_variables started few_locations few_ports apart = assumption (All-weaker (IsTransitionOf c) (IsTransitionOf more) more_names c.transitions valid.transitions)
 
 -- a name that isn't taken
 free : (name : List ℕ) (c : Component) → is_taken name c ≡ false → is_known name (c.variables ++ c.locations ++ c.ports) ≡ false
@@ -173,7 +173,7 @@ transition_keeps port source target guard update c valid of_port of_source of_ta
       apart = valid.apart;
       few_transitions = few;
       transitions = All-push (IsTransitionOf made) c.transitions t (All-weaker (IsTransitionOf c) (IsTransitionOf made) (λ u ok. record { port = ok.port; source = ok.source; target = ok.target; guard = ok.guard; update = ok.update }) c.transitions valid.transitions)
-      (record { port = joins.port; source = joins.source; target = joins.target; guard = joins.guard; update = joins.update });
+          (record { port = joins.port; source = joins.source; target = joins.target; guard = joins.guard; update = joins.update });
       one_each = all_pairs_push (λ u v. same_start u v ≡ false) c.transitions t valid.one_each apart;
     }))
 

@@ -50,7 +50,7 @@ module _ (find : VariableName → Option Variable) (counts : List ℕ) (sound : 
       record {
         first = term_in e.first parts.0;
         rest = All-map (λ (t : Sign × Term Variable). IsTermIn counts t.1) (λ (t : Sign × Term VariableName). (t.0, term_with (variable_of find) t.1)) e.rest
-        (All-weaker _ _ (λ t. term_in t.1) e.rest (AllPass-from_list_all (λ (t : Sign × Term VariableName). knows_term find t.1) e.rest parts.1));
+            (All-weaker _ _ (λ t. term_in t.1) e.rest (AllPass-from_list_all (λ (t : Sign × Term VariableName). knows_term find t.1) e.rest parts.1));
       }
 
   guard_in : (guard : List (Comparison VariableName)) → knows_guard find guard ≡ true → AreComparisonsIn counts (guard_with find guard)
@@ -81,8 +81,8 @@ guard_over find counts sound guard known short =
       few = simp length-map (ltb-false 16 (length guard) parts.0);
       there = guard_in find counts sound guard known;
       short = All-map (λ (c : Comparison Variable). IsShortSum c.left × IsShortSum c.right) (comparison_with (variable_of find)) guard
-      (All-weaker _ (λ c. IsShortSum (sum_with (variable_of find) c.left) × IsShortSum (sum_with (variable_of find) c.right)) (λ c none. let both = or_parts (is_long_sum c.left) (is_long_sum c.right) none in (short_sum (variable_of find) c.left both.0, short_sum (variable_of find) c.right both.1)) guard
-      (none_pass (λ (c : Comparison VariableName). is_long_sum c.left || is_long_sum c.right) guard parts.1));
+          (All-weaker _ (λ c. IsShortSum (sum_with (variable_of find) c.left) × IsShortSum (sum_with (variable_of find) c.right)) (λ c none. let both = or_parts (is_long_sum c.left) (is_long_sum c.right) none in (short_sum (variable_of find) c.left both.0, short_sum (variable_of find) c.right both.1)) guard
+          (none_pass (λ (c : Comparison VariableName). is_long_sum c.left || is_long_sum c.right) guard parts.1));
     }
 
 -- so are assignments
@@ -94,7 +94,7 @@ assignments_over find counts sound assignments known short =
       few = simp length-map (ltb-false 16 (length assignments) parts.0);
       there = assignments_in find counts sound assignments known;
       short = All-map (λ (a : Assignment Variable). IsShortSum a.sum) (assignment_with (variable_of find)) assignments
-      (All-weaker _ _ (λ a none. short_sum (variable_of find) a.sum none) assignments (none_pass (λ (a : Assignment VariableName). is_long_sum a.sum) assignments parts.1));
+          (All-weaker _ _ (λ a none. short_sum (variable_of find) a.sum none) assignments (none_pass (λ (a : Assignment VariableName). is_long_sum a.sum) assignments parts.1));
     }
 
 -- what is over variables is over more of them
@@ -203,7 +203,7 @@ transfer_ok find before (a ∷ rest) is = by_first (assignment_said find before 
           known = rw (here.0, here.2, more.known) refl;
           new = All-cons (λ b. is_twice find before b ≡ false) a rest here.1 (All-weaker (λ b. is_twice find (before ++ a ∷ []) b ≡ false) _ (λ b none. (parted b none).0) rest more.new);
           apart = AllPairs-cons (λ (b c : Assignment Variable). is_same b.target c.target ≡ false) (assignment_with (variable_of find) a) (assignments_with find rest)
-          (All-map (λ (b : Assignment Variable). is_same (target_of find a) b.target ≡ false) (assignment_with (variable_of find)) rest (All-weaker (λ b. is_twice find (before ++ a ∷ []) b ≡ false) _ (λ b none. (parted b none).1) rest more.new)) more.apart;
+              (All-map (λ (b : Assignment Variable). is_same (target_of find a) b.target ≡ false) (assignment_with (variable_of find)) rest (All-weaker (λ b. is_twice find (before ++ a ∷ []) b ≡ false) _ (λ b none. (parted b none).1) rest more.new)) more.apart;
         }
 
 -- a transfer without a fault is one over the variables, with targets apart

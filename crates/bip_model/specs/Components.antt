@@ -22,7 +22,6 @@ use Rattle.bip_model.specs.declared.parts.TheConstants.{MOST_TRANSITIONS}
 use Rattle.bip_model.specs.declared.parts.Transition.{Transition}
 use Rattle.bip_model.specs.declared.scopes.VariableName.{VariableName}
 use Rattle.bip_model.specs.declared.states.LocalState.{LocalState}
-use Rattle.bip_model.specs.declared.states.TheConstants.{MOST_VALUES}
 
 -- a component that has declared nothing
 abbrev pub no_component : Component
@@ -43,7 +42,7 @@ is_taken name c =
 abbrev pub var_line : List ℕ → ℕ → Component → Result Component BuildFault
 var_line name value c =
     if is_taken name c then Err Twice
-    else if nat_le MOST_VALUES (length c.variables) then Err TooMany
+    else if nat_le 8 (length c.variables) then Err TooMany
     else Ok (record c { variables = c.variables ++ name ∷ []; start = c.start ++ value ∷ [] })
 
 -- `loc NAME`

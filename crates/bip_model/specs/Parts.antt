@@ -17,9 +17,7 @@ use Rattle.bip_model.specs.declared.parts.System.{System}
 use Rattle.bip_model.specs.declared.parts.Transition.{Transition}
 use Rattle.bip_model.specs.declared.parts.TheConstants.{MOST_COMPONENTS, MOST_LOCATIONS, MOST_PORTS}
 use Rattle.bip_model.specs.declared.parts.TheConstants.{MOST_TRANSITIONS, MOST_INTERACTIONS}
-use Rattle.bip_model.specs.declared.parts.TheConstants.{MOST_PARTICIPANTS, MOST_TERMS}
-use Rattle.bip_model.specs.declared.parts.TheConstants.{MOST_ASSIGNMENTS, MOST_COMPARISONS}
-use Rattle.bip_model.specs.declared.states.TheConstants.{MOST_VALUES}
+use Rattle.bip_model.specs.declared.parts.TheConstants.{MOST_PARTICIPANTS}
 
 -- a participant of an interaction: a component and one of its ports
 abbrev pub Participant : Type 0
@@ -35,18 +33,18 @@ same_start t u = (t.source.0 == u.source.0) && (t.port.0 == u.port.0)
 
 -- a sum of at most 16 terms
 abbrev pub IsShortSum : Expr Variable → Type 0
-IsShortSum e = length e.rest < MOST_TERMS
+IsShortSum e = length e.rest < 16
 
 -- a guard over variables of which each owner has a count
 pub record IsGuardOver (counts : List ℕ) (guard : List (Comparison Variable)) : Type 0 where
-  pub few : length guard ≤ MOST_COMPARISONS
+  pub few : length guard ≤ 16
   pub there : AreComparisonsIn counts guard
   pub short : All (λ c. IsShortSum c.left × IsShortSum c.right) guard
 
 -- assignments over variables of which each owner has a count
 pub record AreAssignmentsOver (counts : List ℕ) (assignments : List (Assignment Variable))
     : Type 0 where
-  pub few : length assignments ≤ MOST_ASSIGNMENTS
+  pub few : length assignments ≤ 16
   pub there : AreAssignmentsIn counts assignments
   pub short : All (λ a. IsShortSum a.sum) assignments
 
@@ -61,7 +59,7 @@ pub record IsTransitionOf (component : Component) (t : Transition) : Type 0 wher
 
 -- what a component may declare, and have declared so far
 pub record IsComponentSoFar (component : Component) : Type 0 where
-  pub few_variables : length component.variables ≤ MOST_VALUES
+  pub few_variables : length component.variables ≤ 8
   pub started : length component.start ≡ length component.variables
   pub few_locations : length component.locations ≤ MOST_LOCATIONS
   pub few_ports : length component.ports ≤ MOST_PORTS

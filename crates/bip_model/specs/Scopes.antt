@@ -18,12 +18,10 @@ use Rattle.bip_model.specs.declared.expressions.Variable.{Variable}
 use Rattle.bip_model.specs.declared.faults.BuildFault.{BuildFault}
 use Rattle.bip_model.specs.declared.faults.BuildFault.TheVariants.{Unknown, Twice}
 use Rattle.bip_model.specs.declared.parts.System.{System}
-use Rattle.bip_model.specs.declared.parts.TheConstants.{MOST_ASSIGNMENTS, MOST_COMPARISONS}
-use Rattle.bip_model.specs.declared.parts.TheConstants.{MOST_COMPONENTS, MOST_TERMS}
+use Rattle.bip_model.specs.declared.parts.TheConstants.{MOST_COMPONENTS}
 use Rattle.bip_model.specs.declared.scopes.Scope.{Scope}
 use Rattle.bip_model.specs.declared.scopes.Scope.TheVariants.{Own, Shared}
 use Rattle.bip_model.specs.declared.scopes.VariableName.{VariableName}
-use Rattle.bip_model.specs.declared.states.TheConstants.{MOST_VALUES}
 
 -- the variable with a name among those of an owner
 abbrev pub variable_named : List (List ℕ) → ℕ → List ℕ → Option Variable
@@ -56,7 +54,7 @@ variable_in (Shared m participants) v = shared m.now participants.now v
 
 -- where names are looked up, so that each variable has a number
 abbrev pub IsScope : Scope → Type 0
-IsScope (Own names) = length names.now ≤ MOST_VALUES
+IsScope (Own names) = length names.now ≤ 8
 IsScope (Shared m participants) =
     IsSystemSoFar m.now × (length participants.now ≤ MOST_COMPONENTS)
 
@@ -88,7 +86,7 @@ abbrev pub assignment_said : (VariableName → Option Variable) → List (Assign
 assignment_said find before a =
     if not (is_some (find a.target)) then Err Unknown
     else if list_any (λ (b : Assignment VariableName).
-      is_same (variable_of find b.target) (variable_of find a.target)) before then Err Twice
+    is_same (variable_of find b.target) (variable_of find a.target)) before then Err Twice
     else if not (knows_sum find a.sum) then Err Unknown
     else Ok tt
 
@@ -128,16 +126,16 @@ abbrev pub assignments_with : (VariableName → Option Variable) → List (Assig
     → List (Assignment Variable)
 assignments_with find assignments = map (assignment_with (variable_of find)) assignments
 
--- more terms, comparisons or assignments than a model may have
+-- more than 16 terms, comparisons or assignments
 abbrev pub is_long_sum : Expr VariableName → Bool
-is_long_sum e = nat_le MOST_TERMS (length e.rest)
+is_long_sum e = nat_le 16 (length e.rest)
 
 abbrev pub is_long_guard : List (Comparison VariableName) → Bool
 is_long_guard guard =
-    nat_lt MOST_COMPARISONS (length guard)
+    nat_lt 16 (length guard)
     || list_any (λ c. is_long_sum c.left || is_long_sum c.right) guard
 
 abbrev pub are_long_assignments : List (Assignment VariableName) → Bool
 are_long_assignments assignments =
-    nat_lt MOST_ASSIGNMENTS (length assignments)
+    nat_lt 16 (length assignments)
     || list_any (λ a. is_long_sum a.sum) assignments

@@ -15,8 +15,10 @@ use crate::expressions::{holds, update};
 use crate::parts::{MOST_LOCATIONS, MOST_PORTS, MOST_TRANSITIONS};
 use crate::scopes::{Scope, are_long_assignments, is_long_guard};
 use crate::states::MOST_VALUES;
-use crate::{Assignment, BuildFault, Comparison, Component, LocId, LocalState, Name, Names, PortId};
-use crate::{Seq, Transition, Values, VariableName};
+use crate::{
+    Assignment, BuildFault, Comparison, Component, LocId, LocalState, Name, Names, PortId, Seq,
+    Transition, Values, VariableName,
+};
 use std::alloc::Global;
 
 impl Component {

@@ -14,8 +14,10 @@ ghost use Rattle.std.specs.Result.{result_map_both};
 
 use crate::parts::{MOST_COMPONENTS, MOST_INTERACTIONS, MOST_PARTICIPANTS, System};
 use crate::scopes::{Scope, are_long_assignments, is_long_guard};
-use crate::{Assignment, BuildFault, CompId, Comparison, Component, Interaction, Name, Names};
-use crate::{PortId, Seq, VariableName};
+use crate::{
+    Assignment, BuildFault, CompId, Comparison, Component, Interaction, Name, Names, PortId, Seq,
+    VariableName,
+};
 use smallvec::SmallVec;
 use std::alloc::{AllocError, Global};
 
@@ -238,13 +240,9 @@ impl Draft {
         }
         match self.system.participants(alloc, words) {
             Err(fault) => Err(fault),
-            Ok(participants) => self.system.add_named_interaction(
-                alloc,
-                name,
-                participants.as_slice(),
-                guard,
-                transfer,
-            ),
+            Ok(participants) => self
+                .system
+                .add_named_interaction(alloc, name, participants.as_slice(), guard, transfer),
         }
     }
 }

@@ -10,11 +10,12 @@ ghost use Rattle.bip_model.specs.Scopes.{transfer_said, variable_among, variable
 ghost use Rattle.bip_model.specs.Scopes.{variable_named, variable_of};
 ghost use Rattle.bip_model.specs.Parts.{IsSystemSoFar, Participant};
 ghost use Rattle.bip_model.specs.declared.parts.TheConstants.{MOST_COMPONENTS};
-ghost use Rattle.bip_model.specs.declared.states.TheConstants.{MOST_VALUES};
 
 use crate::parts::{MOST_ASSIGNMENTS, MOST_COMPARISONS, MOST_TERMS, System};
-use crate::{Assignment, BuildFault, CompId, Comparison, Expr, Name, Names, PortId, Seq, Term};
-use crate::{Sign, VarId, Variable};
+use crate::{
+    Assignment, BuildFault, CompId, Comparison, Expr, Name, Names, PortId, Seq, Sign, Term, VarId,
+    Variable,
+};
 use std::alloc::{AllocError, Global};
 
 /// A variable as a text names it: in a component by its name alone, in an interaction by its
@@ -34,7 +35,7 @@ pub(crate) enum Scope<'a> {
 }
 
 fn variable_named(names: &Names, owner: u8, name: &Name) -> Option<Variable>
-    requires { length names.now ≤ MOST_VALUES }
+    requires { length names.now ≤ 8 }
     ensures { result ≡ variable_named names.now owner name.now }
 {
     let number = names.number_of(name)?;
@@ -55,12 +56,12 @@ fn variable_among(
     ensures { result ≡ variable_among system.now participants.now owner.now name.now }
 {
     let comp = system.component_names.number_of(owner)?;
-    let place = place_of(participants, CompId(comp as u16))?;
+    let place = place_among(participants, CompId(comp as u16))?;
     let component = system.components.as_slice().get(comp)?;
     variable_named(&component.variables, place as u8, name)
 }
 
-fn place_of(participants: &[(CompId, PortId)], comp: CompId) -> Option<usize>
+fn place_among(participants: &[(CompId, PortId)], comp: CompId) -> Option<usize>
     ensures { result ≡ position (λ (q : Participant). q.0.0 == comp.0) participants.now }
 {
     participants.iter().position(|q| q.0 == comp)
@@ -122,7 +123,9 @@ impl<'a> Scope<'a> {
         requires { IsScope self.now }
         ensures { result ≡ knows_guard (variable_in self.now) guard.now }
     {
-        guard.iter().all(|c| self.knows_sum(&c.left) && self.knows_sum(&c.right))
+        guard
+            .iter()
+            .all(|c| self.knows_sum(&c.left) && self.knows_sum(&c.right))
     }
 
     /// Whether all names of a list of assignments are known.
@@ -130,9 +133,7 @@ impl<'a> Scope<'a> {
         requires { IsScope self.now }
         ensures { result ≡ knows_assignments (variable_in self.now) assignments.now }
     {
-        assignments
-            .iter()
-            .all(|a| self.variable(&a.target).is_some() && self.knows_sum(&a.sum))
+        assignments.iter().all(|a| self.variable(&a.target).is_some() && self.knows_sum(&a.sum))
     }
 
     fn is_target(&self, target: Variable, before: &[Assignment<VariableName>]) -> bool

@@ -83,7 +83,7 @@ impl Values {
 
     /// Puts a value last.
     pub(crate) fn push(&mut self, value: u32)
-        requires { length self.old < MOST_VALUES }
+        requires { length self.old < 8 }
         ensures { self.new ≡ self.old ++ value ∷ [] }
     {
         let len = self.len as usize;

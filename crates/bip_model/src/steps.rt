@@ -13,7 +13,9 @@ ghost use Rattle.bip_model.specs.Steps.{values_at};
 
 use crate::expressions::{holds, transfer};
 use crate::parts::MOST_PARTICIPANTS;
-use crate::{CompId, InterId, Interaction, LocId, LocalState, Model, NotNow, PortId, State, Values};
+use crate::{
+    CompId, InterId, Interaction, LocId, LocalState, Model, NotNow, PortId, State, Values,
+};
 use std::alloc::{AllocError, Global};
 
 /// The values of participants in a state, in front of as many empty ones as make eight.
@@ -112,7 +114,10 @@ impl Model {
             ≡ counts_of self.now.components (participants_of self.now inter.0) }
         ensures { result ≡ holds (guard_of self.now inter.0) values.now }
     {
-        holds(self.interactions()[inter.0 as usize].guard.as_slice(), values)
+        holds(
+            self.interactions()[inter.0 as usize].guard.as_slice(),
+            values,
+        )
     }
 
     /// Does the transfer of an interaction on the values of its participants, in their order.

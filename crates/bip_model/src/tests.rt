@@ -1,6 +1,7 @@
 //! What no clause and no text of `cases/` says: each call with ample memory, and calls that no text
 //! makes.
 mod building;
+mod counting;
 mod granting;
 mod naming;
 mod parting;
@@ -38,13 +39,7 @@ fn trans(
     target: &str,
 ) -> Result<(), BuildFault> {
     assert!(rt; builder.is_inside());
-    builder.trans(
-        name(rt, port),
-        name(rt, source),
-        name(rt, target),
-        &[],
-        &[],
-    )
+    builder.trans(name(rt, port), name(rt, source), name(rt, target), &[], &[])
 }
 
 fn end(rt: &impl Abort, builder: &mut Builder) -> Result<(), BuildFault> {
