@@ -14,14 +14,13 @@ use Rattle.bip_model.specs.declared.states.LocalState.{LocalState}
 use Rattle.bip_model.specs.Laws.{AgreeOn, CanGo, Commute, EnabledWhereAllCanGo, EndsAfterItsLast, GoesOnByWhatMayRun, IsItsTransition, IsLocal, OneTransition, OthersStay, ParticipantsGo}
 use Rattle.bip_model.specs.Components.{leaves, transition_for, offers_at}
 use Rattle.bip_model.specs.Expressions.{holds}
-use Rattle.bip_model.proofs.ListLemmas.{All-slice_get, below_later, find_first, found_at}
-use Rattle.bip_model.specs.States.{IsLocalStateOf, IsStateOf, State}
+use Rattle.bip_model.proofs.ListLemmas.{All-slice_get, below_later, find_first, found_at, position_first, position_none}
+use Rattle.bip_model.specs.States.{IsLocalStateOf, IsStateOf, State, with_values}
 use Rattle.bip_model.specs.Steps.{IsEnabled, after, led, moves, offered, participants_of, told, values_at, values_of}
-use Rattle.bip_model.proofs.StepLemmas.{after_led, all_told, led_all-member, led_all-stays, length_told}
 use Rattle.bip_model.specs.Parts.{IsComponent, IsSystem, IsInteraction, Participant, components_in}
 
 pub others_stay : (m : System) → OthersStay m
-others_stay m s a c none = sym (after_led m s a c) ∙ led_all-stays m s (participants_of m a) (all_told m s a) c none
+others_stay m s a c none = rw (position_none (λ (q : Participant). eqb q.0.0 c) (participants_of m a) none) refl
 
 -- the participants of an interaction of a model stand by component
 pub rising_of : (m : System) (a : ℕ) → IsSystem m → IsStrictlyIncreasing (components_in (participants_of m a))
@@ -31,14 +30,15 @@ rising_of m a valid = elim (slice_get_cases m.interactions a).1 [
   | inr past ↦ rw past.1 (λ k below. absurd (omega arith))
 ]
 
--- a participant of an interaction of a model goes by its port
+-- a participant of an interaction of a model goes by its port, with what it is told
 pub after-member : (m : System) (s : State) (a i : ℕ) (q : Participant) → IsSystem m → slice_get (participants_of m a) i ≡ Some q
-    → after m s a q.0.0 ≡ option_map (led m q.0.0 q.1 (told m s a i)) (s q.0.0)
+    → after m s a q.0.0 ≡ option_map (λ local. led m q.0.0 q.1 (with_values (told m s a i) local)) (s q.0.0)
 after-member m s a i q valid at =
     let within = slice_get_within (participants_of m a) i q at in
     let is = get_or_from_slice_get (participants_of m a) i q q at in
-    sym (after_led m s a q.0.0) ∙ led_all-member m s (participants_of m a) (all_told m s a) i q (length_told m s a) within is (λ k early. ne_eqb _ _ (λ same.
-    omega (arith, same, ap (λ (r : Participant). r.0.0) is, below_later (λ (r : Participant). r.0.0) (participants_of m a) (rising_of m a valid) k i q early within)))
+    let place = position_first (λ (r : Participant). eqb r.0.0 q.0.0) (participants_of m a) i q within (rw is (eq-eqb q.0.0 q.0.0 refl)) (λ k early. ne_eqb _ _ (λ same.
+    omega (arith, same, ap (λ (r : Participant). r.0.0) is, below_later (λ (r : Participant). r.0.0) (participants_of m a) (rising_of m a valid) k i q early within))) in
+    rw (place, at) refl
 
 -- the one transition of a participant is the one that is found
 transition_found : (m : System) (s : State) (q : Participant) (local : LocalState) (t : Transition) → IsSystem m → (its : IsItsTransition m s q local t) → transition_for its.component local.location q.1 ≡ Some t

@@ -1,12 +1,12 @@
 -- Lists: a search, elements by their places, numbers that rise.
-use Rattle.std.proofs.Common.{take-append-drop, take, drop, drop-cons, ◌++◌, ◌||◌, ◌≡◌, ℕ, ◌<◌, Bool, true, false, List, [], ◌∷◌, Contains, length, map, get_or, suc, Some, refl, sym, ◌∙◌, arith, find, ◌+◌, cond, All, position, slice_get, option_map}
+use Rattle.std.proofs.Common.{take-append-drop, take, drop, drop-cons, ◌++◌, ◌||◌, ◌≡◌, ℕ, ◌<◌, Bool, true, false, List, [], ◌∷◌, eqb, Contains, length, map, get_or, suc, None, Some, refl, sym, ◌∙◌, arith, find, ◌+◌, cond, All, position, slice_get, option_map}
 use Rattle.std.specs.List.Sorted.{IsStrictlyIncreasing}
 use Rattle.std.proofs.lemmas.Bool.{cases_Bool, or_parts}
 use Rattle.std.proofs.lemmas.List.Sums.{position_or_len_is}
 use Rattle.std.proofs.lemmas.Bool.Decides.{nat_tests}
 use Rattle.std.proofs.lemmas.List.{get_or-map, length-map}
 use Rattle.std.proofs.lemmas.List.Folds.{find_at}
-use Rattle.std.specs.List.{position_or_len}
+use Rattle.std.specs.List.{list_any, position_or_len}
 use Rattle.std.proofs.lemmas.List.Kept.{AllPairs-from_increasing}
 use Rattle.std.proofs.lemmas.Option.{slice_get_within, slice_get-get_or, get_or_from_slice_get}
 
@@ -46,10 +46,28 @@ found_at p (y ∷ ys) x is = by_first (p y) refl (found_at p ys x) is
         let more = later found in
         ((suc more.0.0, omega (arith, more.0.1), more.0.2), more.1)
 
+-- a list of no elements is empty
+pub empty_is : {X : Type 0} (xs : List X) → true ≡ eqb (length xs) 0 → xs ≡ []
+empty_is [] is = refl
+empty_is (x ∷ xs) is = grind (arith, nat_tests)
+
 -- where neither of two tests passes
 pub neither : (a b : Bool) → (a || b) ≡ false → (a ≡ false) × (b ≡ false)
 neither = or_parts
 
+-- the first element that passes has a place
+pub position_first : {X : Type 0} (p : X → Bool) (xs : List X) (k : ℕ) (d : X) → k < length xs → p (get_or xs k d) ≡ true → ((i : ℕ) → i < k → p (get_or xs i d) ≡ false) → position p xs ≡ Some k
+position_first p xs k d within passes fail =
+    let at : position_or_len p xs ≡ k = position_or_len_is p xs k d (omega arith) fail (λ _. passes) in
+    rw at (grind (arith, nat_tests))
+
 -- the place of the first element that passes, by the first element
 pub position_cons : {X : Type 0} (p : X → Bool) (x : X) (xs : List X) → position p (x ∷ xs) ≡ cond (p x) (Some 0) (option_map (λ i. i + 1) (position p xs))
 position_cons p x xs = grind (arith, nat_tests, cases_Bool (p x))
+
+-- where no element passes none has
+pub position_none : {X : Type 0} (p : X → Bool) (xs : List X) → list_any p xs ≡ false → position p xs ≡ None
+position_none p [] none = refl
+position_none p (x ∷ xs) none =
+    let parts = or_parts (p x) (list_any p xs) none in
+    rw (position_cons p x xs, parts.0, position_none p xs parts.1) refl

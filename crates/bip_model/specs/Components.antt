@@ -104,12 +104,14 @@ offers_at component local port =
     && option_map_or (λ t. holds t.guard (local.values ∷ []))
     (transition_for component local.location port) false
 
--- where a component's transition with a port leads from a local state: to its target, with the
--- values after its update
+-- where a transition leads from a local state: to its target, with the values after its update
+abbrev pub followed : Transition → LocalState → LocalState
+followed t local = record { location = t.target; values = updated t.update local.values }
+
+-- where a component's transition with a port leads from a local state
 abbrev pub moved : Component → LocalState → PortId → Option LocalState
 moved component local port =
-    option_map (λ t. record { location = t.target; values = updated t.update local.values })
-    (transition_for component local.location port)
+    option_map (λ t. followed t local) (transition_for component local.location port)
 
 -- bits that say, each for the port of its number, whether a component offers it in a local state
 abbrev pub AreOffered : Component → LocalState → ℕ → Type 0

@@ -14,6 +14,10 @@ State = ℕ → Option LocalState
 abbrev pub state_of : List LocalState → State
 state_of locals c = slice_get locals c
 
+-- a local state with other values
+abbrev pub with_values : List ℕ → LocalState → LocalState
+with_values values local = record local { values = values }
+
 -- a location with values, as a local state
 abbrev pub local_of : LocId × List ℕ → LocalState
 local_of p = record { location = p.0; values = p.1 }

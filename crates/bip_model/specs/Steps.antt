@@ -11,11 +11,12 @@ use Rattle.bip_model.specs.declared.faults.NotNow.{NotNow}
 use Rattle.bip_model.specs.declared.faults.NotNow.TheVariants.{NotEnabled, Below}
 use Rattle.bip_model.specs.declared.numbering.PortId.{PortId}
 use Rattle.bip_model.specs.declared.parts.System.{System}
+use Rattle.bip_model.specs.declared.parts.Transition.{Transition}
 use Rattle.bip_model.specs.declared.states.LocalState.{LocalState}
-use Rattle.bip_model.specs.Components.{offers_at, moved}
+use Rattle.bip_model.specs.Components.{offers_at, moved, transition_for}
 use Rattle.bip_model.specs.Expressions.{holds, transferred}
 use Rattle.bip_model.specs.Parts.{Participant}
-use Rattle.bip_model.specs.States.{State}
+use Rattle.bip_model.specs.States.{State, with_values}
 
 -- the state in which each component is in its first location, with the values of its start
 abbrev pub start_of : System → State
@@ -96,27 +97,40 @@ port_at m a i =
 abbrev pub told : System → State → ℕ → ℕ → List ℕ
 told m s a i = slice_index_or (transferred (transfer_of m a) (values_of m s a)) i []
 
--- where a component goes by a port with the values that it is told; it stays where it has no such
--- transition
-abbrev pub led : System → ℕ → PortId → List ℕ → LocalState → LocalState
-led m c port values local =
-    unwrap_or
-    (option_and_then (λ component. moved component (record local { values = values }) port)
-    (slice_get m.components c)) local
+-- the transition of a component with a port from where it is in a state
+abbrev pub transition_of : System → State → Participant → Option Transition
+transition_of m s q =
+    option_and_then
+    (λ component. option_and_then (λ local. transition_for component local.location q.1) (s q.0.0))
+    (slice_get m.components q.0.0)
 
--- the state after the joint step of an interaction: the transfer is done, and then each participant
--- goes by its port with what it is told, and does its update; all others stay
+-- where a component goes by a port; it stays where it has no such transition
+abbrev pub led : System → ℕ → PortId → LocalState → LocalState
+led m c port local =
+    unwrap_or
+    (option_and_then (λ component. moved component local port) (slice_get m.components c)) local
+
+-- the state after the joint step of an interaction: each participant goes by its port with the
+-- values that the transfer tells it, and does its update; all others stay
 abbrev pub after : System → State → ℕ → State
 after m s a c =
-    option_map_or (λ i. option_map (led m c (port_at m a i) (told m s a i)) (s c)) (place_of m a c)
-    (s c)
+    option_map_or
+    (λ i. option_map (λ local. led m c (port_at m a i) (with_values (told m s a i) local)) (s c))
+    (place_of m a c) (s c)
 
--- the state after participants went, each with what it is told, and all others stayed
-abbrev pub led_all : System → State → List Participant → List (List ℕ) → State
-led_all m s [] values c = s c
-led_all m s (q ∷ qs) [] c = s c
-led_all m s (q ∷ qs) (own ∷ values) c =
-    if c == q.0.0 then option_map (led m q.0.0 q.1 own) (s q.0.0) else led_all m s qs values c
+-- the state after participants are told values
+abbrev pub told_all : State → List Participant → List (List ℕ) → State
+told_all s [] values c = s c
+told_all s (q ∷ qs) [] c = s c
+told_all s (q ∷ qs) (own ∷ values) c =
+    if c == q.0.0 then option_map (with_values own) (told_all s qs values c)
+    else told_all s qs values c
+
+-- the state after participants went, one after another
+abbrev pub led_all : System → State → List Participant → State
+led_all m s [] c = s c
+led_all m s (q ∷ qs) c =
+    if c == q.0.0 then option_map (led m q.0.0 q.1) (s q.0.0) else led_all m s qs c
 
 -- interactions, each of which may run where those before it lead
 abbrev pub IsRun : System → State → List ℕ → Type 0

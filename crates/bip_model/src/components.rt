@@ -183,7 +183,7 @@ impl Component {
         )
     }
 
-    fn transition_for(&self, location: LocId, port: PortId) -> Option<&Transition>
+    pub(crate) fn transition_for(&self, location: LocId, port: PortId) -> Option<&Transition>
         ensures { option_map (λ t. t.now) result ≡ transition_for self.now location port }
     {
         self.transitions

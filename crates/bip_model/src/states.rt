@@ -2,7 +2,8 @@
 ghost use Rattle.std.specs.Prelude.{◌≡◌, ◌↔◌, ◌≤◌, ◌<◌, ℕ, [], ◌∷◌, ◌++◌, length, slice_set};
 ghost use Rattle.std.specs.Prelude.{IsSome, IfSome};
 
-use crate::{CompId, LocId};
+use crate::expressions::update;
+use crate::{CompId, LocId, Transition};
 use std::marker::Model;
 
 /// How many values a local state has at most.
@@ -127,7 +128,9 @@ impl Model for State {
 impl State {
     ghost use Rattle.std.specs.Prelude.{◌==◌, if◌then◌else◌};
     ghost use Rattle.std.specs.Option.{option_map};
-    ghost use Rattle.bip_model.specs.States.{state_of};
+    ghost use Rattle.bip_model.specs.Components.{followed};
+    ghost use Rattle.bip_model.specs.Expressions.{AreAssignmentsIn};
+    ghost use Rattle.bip_model.specs.States.{state_of, with_values};
 
     /// The state with these local states, by component.
     pub(crate) fn of(locals: Vec<LocalState>) -> State
@@ -150,14 +153,30 @@ impl State {
         self.locals.get(comp.0 as usize)
     }
 
-    /// Puts a component that has a local state in another one; one that has none stays without.
-    pub(crate) fn put(&mut self, comp: CompId, local: Option<LocalState>)
-        requires { IsSome local ↔ IsSome (state_of self.old comp.0) }
+    /// Gives a component other values; one that has no local state stays without.
+    pub(crate) fn tell(&mut self, comp: CompId, values: &Values)
         ensures { (c : ℕ) → state_of self.new c
-            ≡ (if c == comp.0 then local else state_of self.old c) }
+            ≡ (if c == comp.0 then option_map (with_values values.now) (state_of self.old c)
+            else state_of self.old c) }
     {
-        if let Some(local) = local {
-            self.locals[comp.0 as usize] = local;
+        if (comp.0 as usize) < self.locals.len() {
+            self.locals[comp.0 as usize].values = *values;
+        }
+    }
+
+    /// Leads a component along a transition, to its target and with its update done; one that has no
+    /// local state stays without.
+    pub(crate) fn follow(&mut self, comp: CompId, transition: &Transition)
+        requires { IfSome (state_of self.old comp.0)
+            (λ local. AreAssignmentsIn (length local.values ∷ []) transition.now.update) }
+        ensures { (c : ℕ) → state_of self.new c
+            ≡ (if c == comp.0 then option_map (followed transition.now) (state_of self.old c)
+            else state_of self.old c) }
+    {
+        if (comp.0 as usize) < self.locals.len() {
+            let local = &mut self.locals[comp.0 as usize];
+            local.location = transition.target;
+            update(transition.update.as_slice(), &mut local.values);
         }
     }
 }

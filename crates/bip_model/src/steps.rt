@@ -1,20 +1,23 @@
 //! The steps of a model: what is enabled in a state, and where an interaction leads.
 ghost use Rattle.std.specs.Prelude.{◌≡◌, ◌<◌, ◌≤◌, ◌↔◌, ℕ, IsTrue, length, map, take, slice_get};
-ghost use Rattle.std.specs.Prelude.{true, IfOk, IfSome, OnOk, OnErr, IfErr};
+ghost use Rattle.std.specs.Prelude.{◌==◌, if◌then◌else◌, true, IfOk, IfSome, OnOk, OnErr, IfErr};
+ghost use Rattle.std.specs.List.Sorted.{IsStrictlyIncreasing};
 ghost use Rattle.std.specs.List.{list_all};
 ghost use Rattle.std.specs.Option.{option_map};
 ghost use Rattle.bip_model.specs.Components.{AreOffered, moved};
-ghost use Rattle.bip_model.specs.Expressions.{counts, holds, transferred};
-ghost use Rattle.bip_model.specs.Parts.{IsInteraction, counts_of};
+ghost use Rattle.bip_model.specs.Expressions.{AreAssignmentsIn, counts, holds, transferred};
+ghost use Rattle.bip_model.specs.Parts.{IsInteraction, IsSystem, components_in, count_of};
+ghost use Rattle.bip_model.specs.Parts.{counts_of};
 ghost use Rattle.bip_model.specs.States.{IsLocalStateOf, IsStateOf, local_of, state_of};
 ghost use Rattle.bip_model.specs.Steps.{IsEnabled, IsHeldBack, MayRun, after, guard_of, led};
 ghost use Rattle.bip_model.specs.Steps.{led_all, offered, participants_of, start_of, transfer_of};
-ghost use Rattle.bip_model.specs.Steps.{values_at};
+ghost use Rattle.bip_model.specs.Steps.{told_all, transition_of, values_at};
 
 use crate::expressions::{holds, transfer};
 use crate::parts::MOST_PARTICIPANTS;
 use crate::{
-    CompId, InterId, Interaction, LocId, LocalState, Model, NotNow, PortId, State, Values,
+    CompId, InterId, Interaction, LocId, LocalState, Model, NotNow, PortId, State, Transition,
+    Values,
 };
 use std::alloc::{AllocError, Global};
 
@@ -100,11 +103,8 @@ impl Model {
             → IsStateOf self.now (state_of state.new) }
     {
         let interaction = &self.interactions()[inter.0 as usize];
-        let participants = interaction.participants.as_slice();
-        let mut values = values_of(state, participants);
-        let told = &mut values[..participants.len()];
-        transfer(interaction.transfer.as_slice(), told);
-        self.lead_all(state, participants, told);
+        exchange(state, interaction);
+        self.lead_all(state, interaction.participants.as_slice());
     }
 
     /// Whether the guard of an interaction holds of the values of its participants, in their order.
@@ -180,6 +180,9 @@ impl Model {
         ensures { result ≡ holds interaction.now.guard
             (map (values_at (state_of state.now)) interaction.now.participants) }
     {
+        if interaction.guard.is_empty() {
+            return true;
+        }
         let participants = interaction.participants.as_slice();
         let values = values_of(state, participants);
         holds(interaction.guard.as_slice(), &values[..participants.len()])
@@ -202,49 +205,73 @@ impl Model {
         }
     }
 
-    /// Brings participants to where their ports lead, each with the values that it is told.
-    fn lead_all(&self, state: &mut State, participants: &[(CompId, PortId)], told: &[Values])
-        requires { counts told.now ≡ counts_of self.now.components participants.now }
+    /// Brings participants to where their ports lead, with the values that they have.
+    fn lead_all(&self, state: &mut State, participants: &[(CompId, PortId)])
+        requires model { IsSystem self.now }
+        requires rising { IsStrictlyIncreasing (components_in participants.now) }
+        requires values { counts (map (values_at (state_of state.old)) participants.now)
+            ≡ counts_of self.now.components participants.now }
         ensures { (c : ℕ) → state_of state.new c
-            ≡ led_all self.now (state_of state.old) participants.now told.now c }
+            ≡ led_all self.now (state_of state.old) participants.now c }
     {
-        if let ([participant, rest @ ..], [values, more @ ..]) = (participants, told) {
-            let local = self.local_led(state, participant.0, participant.1, values);
-            self.lead_all(state, rest, more);
-            state.put(participant.0, local);
+        for participant in participants {
+            self.lead(state, participant.0, participant.1);
         }
     }
 
-    fn local_led(
-        &self,
-        state: &State,
-        comp: CompId,
-        port: PortId,
-        values: &Values,
-    ) -> Option<LocalState>
-        requires { IfSome (slice_get self.now.components comp.0)
-            (λ component. length values.now ≡ length component.variables) }
-        ensures { result ≡ option_map (led self.now comp.0 port values.now)
-            (state_of state.now comp.0) }
+    /// Brings a component to where its port leads; it stays where it has no such transition.
+    fn lead(&self, state: &mut State, comp: CompId, port: PortId)
+        requires model { IsSystem self.now }
+        requires values { length (values_at (state_of state.old) (comp, port))
+            ≡ count_of self.now.components (comp, port) }
+        ensures { (c : ℕ) → state_of state.new c
+            ≡ (if c == comp.0 then option_map (led self.now comp.0 port) (state_of state.old c)
+            else state_of state.old c) }
     {
-        let local = state.local(comp)?;
-        Some(self.led(comp, port, values, local))
-    }
-
-    /// Where a component goes by a port with the values that it is told; it stays where it has no
-    /// such transition.
-    fn led(&self, comp: CompId, port: PortId, values: &Values, local: LocalState) -> LocalState
-        requires { IfSome (slice_get self.now.components comp.0)
-            (λ component. length values.now ≡ length component.variables) }
-        ensures { result ≡ led self.now comp.0 port values.now local }
-    {
-        let told = LocalState {
-            location: local.location,
-            values: *values,
-        };
-        match self.components().get(comp.0 as usize) {
-            None => local,
-            Some(component) => component.moved(&told, port).unwrap_or(local),
+        if let Some(transition) = self.transition(state, comp, port) {
+            state.follow(comp, transition);
         }
     }
+
+    fn transition(&self, state: &State, comp: CompId, port: PortId) -> Option<&Transition>
+        ensures { option_map (λ t. t.now) result
+            ≡ transition_of self.now (state_of state.now) (comp, port) }
+    {
+        let component = self.components().get(comp.0 as usize)?;
+        let local = state.at(comp)?;
+        component.transition_for(local.location, port)
+    }
+}
+
+fn tell_all(state: &mut State, participants: &[(CompId, PortId)], told: &[Values])
+    ensures { (c : ℕ) → state_of state.new c
+        ≡ told_all (state_of state.old) participants.now told.now c }
+{
+    if let [participant, rest @ ..] = participants {
+        if let [values, more @ ..] = told {
+            tell_all(state, rest, more);
+            state.tell(participant.0, values);
+        }
+    }
+}
+
+/// Tells the participants of an interaction what its transfer gives them.
+fn exchange(state: &mut State, interaction: &Interaction)
+    requires few { length interaction.now.participants ≤ MOST_PARTICIPANTS }
+    requires there { AreAssignmentsIn
+        (counts (map (values_at (state_of state.old)) interaction.now.participants))
+        interaction.now.transfer }
+    ensures { (c : ℕ) → state_of state.new c
+        ≡ told_all (state_of state.old) interaction.now.participants
+        (transferred interaction.now.transfer
+        (map (values_at (state_of state.old)) interaction.now.participants)) c }
+{
+    if interaction.transfer.is_empty() {
+        return;
+    }
+    let participants = interaction.participants.as_slice();
+    let mut values = values_of(state, participants);
+    let told = &mut values[..participants.len()];
+    transfer(interaction.transfer.as_slice(), told);
+    tell_all(state, participants, told);
 }

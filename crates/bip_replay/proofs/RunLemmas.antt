@@ -3,19 +3,18 @@
 use Rattle.std.proofs.Common.{◌≡◌, ℕ, ◌+◌, ◌<◌, List, [], ◌∷◌, ◌++◌, refl, arith, Bool, length, Option, None, Some, find, subst, inl, inr, ◌⊎◌, sym, ap, ◌∙◌, ◌≢◌, true, false, cond, ◌&&◌, eqb, max, take, get_or}
 use Rattle.std.proofs.lemmas.List.Elements.{All-head, All-tail, filter-append, All-from_get_or}
 use Rattle.std.specs.Prelude.{◌↔◌, All, filter, nat_lt}
-use Rattle.std.specs.List.{list_all}
 use Rattle.std.specs.List.Sorted.{IsStrictlyIncreasing}
-use Rattle.std.proofs.lemmas.Bool.{cases_Bool, cases_lt}
+use Rattle.std.proofs.lemmas.Bool.{cases_Bool}
 use Rattle.std.proofs.lemmas.List.{length-append, get_or-take, length-take-le, take_more}
-use Rattle.std.proofs.lemmas.List.Sums.{AllPass-from_list_all, list_all-from_AllPass}
 use Rattle.bip_model.specs.declared.grants.Grant.{Grant}
 use Rattle.bip_model.specs.declared.wants.Want.{Want}
 use Rattle.bip_model.specs.declared.parts.System.{System}
 use Rattle.bip_model.specs.Grants.{IsHistory, used_by}
 use Rattle.bip_model.specs.States.{State}
-use Rattle.bip_model.specs.Steps.{IsRun, after, end_of, start_of, IsEnabled, MayRun, offered, participants_of}
+use Rattle.bip_model.specs.Steps.{IsRun, after, end_of, start_of, MayRun, participants_of}
 use Rattle.bip_model.specs.Wants.{raised, components_of, moved_in, is_moved}
 use Rattle.bip_model.proofs.LawLemmas.{rising_of}
+use Rattle.bip_model.proofs.StepLemmas.{enabled_or_not}
 use Rattle.bip_model.specs.Parts.{IsSystem}
 use Rattle.bip_replay.specs.Runs.{HasNextNumber, IsModelRun, IsNext, IsRunFrom, interactions_of, state_after, used_after, are_parties, is_wrong, IsNextAt, StandsAfter, Standing, standing_after, standing_on}
 use Rattle.bip_replay.specs.declared.faults.StepFault.{StepFault}
@@ -100,22 +99,12 @@ numbered m base front rest g c run moves =
     let more = filter-append (moves_one c) front (g ∷ []) in
     grind (arith, length-append (filter (moves_one c) front) (filter (moves_one c) (g ∷ [])))
 
--- an interaction is enabled, or it isn't
-is_enabled : (m : System) (s : State) (a : ℕ) → IsEnabled m s a ⊎ (¬ IsEnabled m s a)
-is_enabled m s a = elim (cases_lt a (length m.interactions)) [
-  | inl known ↦ elim (cases_Bool (list_all (offered m s) (participants_of m a))) [
-    | inl all ↦ inl (record { declared = known; offered_all = AllPass-from_list_all (offered m s) (participants_of m a) all })
-    | inr some ↦ inr (λ is. let all = list_all-from_AllPass (offered m s) (participants_of m a) is.offered_all in cc)
-  ]
-  | inr past ↦ inr (λ is. grind (arith, is.declared))
-]
-
 -- a grant is next, or has a fault
 abbrev pub NextOrFault : System → State → (ℕ → ℕ) → Grant → Type 0
 NextOrFault m s used g = IsNext m s used g ⊎ ((fault : StepFault) × IsFaultOf m s used g fault)
 
 pub next_or_fault : (m : System) (s : State) (used : ℕ → ℕ) (g : Grant) → IsSystem m → IsStrictlyIncreasing (components_of g.wants) → NextOrFault m s used g
-next_or_fault m s used g valid rising = elim (is_enabled m s g.inter.0) [
+next_or_fault m s used g valid rising = elim (enabled_or_not m s g.inter.0) [
   | inl is ↦ by_wrong (may_run m s g.inter.0 is) (find (is_wrong (length m.components) used) g.wants) refl
   | inr not_now ↦ inr (NotEnabled, not_now)
 ]

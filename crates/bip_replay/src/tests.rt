@@ -32,13 +32,7 @@ fn port(rt: &impl Abort, builder: &mut Builder) -> Result<(), BuildFault> {
 
 fn trans(rt: &impl Abort, builder: &mut Builder) -> Result<(), BuildFault> {
     assert!(rt; builder.is_inside());
-    builder.trans(
-        name(rt, "s"),
-        name(rt, "off"),
-        name(rt, "on"),
-        &[],
-        &[],
-    )
+    builder.trans(name(rt, "s"), name(rt, "off"), name(rt, "on"), &[], &[])
 }
 
 fn end(rt: &impl Abort, builder: &mut Builder) -> Result<(), BuildFault> {
