@@ -1,6 +1,6 @@
 -- One component: what the lines inside it declare, and what it can do by itself in a local state.
-use Rattle.std.specs.Prelude.{◌≡◌, ℕ, Bool, not, ◌==◌, ◌&&◌, ◌||◌, ◌∷◌, ◌++◌, [], List, length, Option}
-use Rattle.std.specs.Prelude.{Result, Ok, Err, false, find, nat_le, position, if◌then◌else◌}
+use Rattle.std.specs.Prelude.{◌≡◌, ℕ, Bool, not, ◌==◌, ◌&&◌, ◌||◌, ◌∷◌, ◌++◌, [], List, length}
+use Rattle.std.specs.Prelude.{Option, Result, Ok, Err, false, find, nat_le, position, if◌then◌else◌}
 use Rattle.std.specs.Int.{bit_at}
 use Rattle.std.specs.List.{list_any}
 use Rattle.std.specs.Option.{ok_or, option_map, option_map_or}

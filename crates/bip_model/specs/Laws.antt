@@ -52,13 +52,14 @@ SumsAreIntegers =
 
 -- assignments that were done at once: each variable has its assignment's sum of the values before,
 -- or what it had
-pub record AreDoneAtOnce (assignments : List (Assignment Variable)) (before later : List (List ℕ)) : Type 0
-  where
-    pub counts : counts later ≡ counts before
-    pub given : (a : Assignment Variable) → Contains assignments a
-        → value_in later a.target ≡ value_of before a.sum
-    pub kept : (v : Variable) → All (λ (a : Assignment Variable). is_same v a.target ≡ false) assignments
-        → value_in later v ≡ value_in before v
+pub record AreDoneAtOnce (assignments : List (Assignment Variable)) (before later : List (List ℕ))
+    : Type 0 where
+  pub counts : counts later ≡ counts before
+  pub given : (a : Assignment Variable) → Contains assignments a
+      → value_in later a.target ≡ value_of before a.sum
+  pub kept : (v : Variable)
+      → All (λ (a : Assignment Variable). is_same v a.target ≡ false) assignments
+      → value_in later v ≡ value_in before v
 
 -- what a transfer may be, over values: its variables are there, and no two have one target
 abbrev pub IsTransferIn : List (List ℕ) → List (Assignment Variable) → Type 0
@@ -68,7 +69,8 @@ IsTransferIn values assignments =
 -- a transfer is done at once
 abbrev pub TransfersAtOnce : Type 0
 TransfersAtOnce =
-    (assignments : List (Assignment Variable)) (values : List (List ℕ)) → IsTransferIn values assignments
+    (assignments : List (Assignment Variable)) (values : List (List ℕ))
+    → IsTransferIn values assignments
     → AreDoneAtOnce assignments values (transferred assignments values)
 
 -- the order of a transfer's assignments doesn't count

@@ -69,7 +69,8 @@ knows_term find (Of v) = is_some (find v)
 
 abbrev pub knows_sum : (VariableName → Option Variable) → Expr VariableName → Bool
 knows_sum find e =
-    knows_term find e.first && list_all (λ (t : Sign × Term VariableName). knows_term find t.1) e.rest
+    knows_term find e.first
+    && list_all (λ (t : Sign × Term VariableName). knows_term find t.1) e.rest
 
 abbrev pub knows_guard : (VariableName → Option Variable) → List (Comparison VariableName) → Bool
 knows_guard find guard = list_all (λ c. knows_sum find c.left && knows_sum find c.right) guard

@@ -73,9 +73,9 @@ impl Builder {
         self.draft.component(self.alloc, name)
     }
 
-    /// `var NAME VALUE` adds a variable to the component that is begun, with its value at the start.
-    /// Twice: one of its variables, locations or ports has this name; then TooMany: it has 8
-    /// variables.
+    /// `var NAME VALUE` adds a variable to the component that is begun, with its value at the
+    /// start. Twice: one of its variables, locations or ports has this name; then TooMany: it has
+    /// 8 variables.
     pub fn var(&mut self, name: Name, value: u32) -> Result<(), BuildFault>
         requires { IsSome self.old.begun }
         ensures said { Answers Memory (inside (var_line name value) self.old)
@@ -102,8 +102,8 @@ impl Builder {
         }
     }
 
-    /// `port NAME` adds a port to the component that is begun. Twice: one of its variables, locations
-    /// or ports has this name; then TooMany: it has 16 ports.
+    /// `port NAME` adds a port to the component that is begun. Twice: one of its variables,
+    /// locations or ports has this name; then TooMany: it has 16 ports.
     pub fn port(&mut self, name: Name) -> Result<(), BuildFault>
         requires { IsSome self.old.begun }
         ensures said { Answers Memory (inside (port_line name) self.old)

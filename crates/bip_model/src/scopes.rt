@@ -3,7 +3,8 @@ ghost use Rattle.std.specs.Prelude.{◌≡◌, ◌≤◌, ◌==◌, ◌||◌, []
 ghost use Rattle.std.specs.List.{list_all, list_any};
 ghost use Rattle.bip_model.specs.Expressions.{is_same};
 ghost use Rattle.bip_model.specs.Scopes.{IsScope, are_long_assignments, assignment_said};
-ghost use Rattle.bip_model.specs.Scopes.{assignment_with, assignments_with, comparison_with, guard_with};
+ghost use Rattle.bip_model.specs.Scopes.{assignment_with, assignments_with, comparison_with};
+ghost use Rattle.bip_model.specs.Scopes.{guard_with};
 ghost use Rattle.bip_model.specs.Scopes.{is_long_guard, is_long_sum, knows_assignments};
 ghost use Rattle.bip_model.specs.Scopes.{knows_guard, knows_sum, knows_term, sum_with, term_with};
 ghost use Rattle.bip_model.specs.Scopes.{transfer_said, variable_among, variable_in};

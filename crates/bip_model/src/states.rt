@@ -164,8 +164,8 @@ impl State {
         }
     }
 
-    /// Leads a component along a transition, to its target and with its update done; one that has no
-    /// local state stays without.
+    /// Leads a component along a transition, to its target and with its update done; one that has
+    /// no local state stays without.
     pub(crate) fn follow(&mut self, comp: CompId, transition: &Transition)
         requires { IfSome (state_of self.old comp.0)
             (λ local. AreAssignmentsIn (length local.values ∷ []) transition.now.update) }

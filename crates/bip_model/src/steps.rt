@@ -77,8 +77,9 @@ impl Model {
     }
 
     /// Runs an interaction that may run: its transfer is done, each participant goes where its
-    /// transition leads and does its update, and all others stay; a state of the model stays one. Else the first cause is told, in the order not
-    /// enabled, below, and the state stays as it was (docs/DEFINITIONS.md, "The joint step").
+    /// transition leads and does its update, and all others stay; a state of the model stays one.
+    /// Else the first cause is told, in the order not enabled, below, and the state stays as it was
+    /// (docs/DEFINITIONS.md, "The joint step").
     pub fn fire(&self, state: &mut State, inter: InterId) -> Result<(), NotNow>
         ensures may { OnOk result (MayRun self.now (state_of state.old) inter.0) }
         ensures fired { OnOk result
