@@ -136,6 +136,13 @@ fn parts_of_a_step_with_values(rt: HostRuntime) {
     assert!(rt; !model.enabled(&state, InterId(0)));
     let zero = Values::of(&[0]).expect(&rt, "one value");
     let seven = Values::of(&[7]).expect(&rt, "one value");
+    assert_eq!(rt; zero.as_slice().len(), 1);
+    assert_eq!(rt; seven.as_slice().len(), 1);
+    assert_eq!(rt; model.components().len(), 2);
+    assert_eq!(rt; model.components()[0].variables.len(), 1);
+    assert_eq!(rt; model.components()[0].locations.len(), 1);
+    assert_eq!(rt; model.components()[1].variables.len(), 1);
+    assert_eq!(rt; model.components()[1].locations.len(), 1);
     assert_eq!(rt; model.ports(CompId(0), LocId(0), &zero), 1);
     assert_eq!(rt; model.ports(CompId(1), LocId(0), &seven), 0);
     let moved = model.move_one(CompId(1), LocId(0), &seven, PortId(0));

@@ -95,6 +95,7 @@ fn parts_of_a_step(rt: HostRuntime) {
     let none = Values::none();
     assert_eq!(rt; none.as_slice().len(), 0);
     assert_eq!(rt; model.components().len(), 1);
+    assert_eq!(rt; model.components()[0].variables.len(), 0);
     assert_eq!(rt; model.components()[0].locations.len(), 2);
     assert_eq!(rt; model.ports(CompId(0), LocId(0), &none), 1);
     assert_eq!(rt; model.ports(CompId(0), LocId(1), &none), 2);
