@@ -1,3 +1,6 @@
+pub mod AboveLemmas
+pub mod AboveLists
+pub mod ClimbLemmas
 pub mod DraftLemmas
 pub mod ExpressionLemmas
 pub mod GrowthLemmas
@@ -13,6 +16,7 @@ pub mod PartitionLemmas
 pub mod PortLemmas
 pub mod ScopeLemmas
 pub mod SequenceLemmas
+pub mod SetLemmas
 pub mod StateLemmas
 pub mod StepLemmas
 pub mod TextLemmas

@@ -1,5 +1,7 @@
 -- Lists: a search, elements by their places, numbers that rise.
 use Rattle.std.proofs.Common.{take-append-drop, take, drop, drop-cons, ◌++◌, ◌||◌, ◌≡◌, ℕ, ◌<◌, Bool, true, false, List, [], ◌∷◌, eqb, Contains, length, map, get_or, suc, None, Some, refl, sym, ◌∙◌, arith, find, ◌+◌, cond, All, position, slice_get, option_map}
+use Rattle.std.proofs.Common.{filter, All, inl, inr, ◌⊎◌}
+use Rattle.std.proofs.lemmas.List.Elements.{All-nil, All-cons, All-contains, Contains-append_left, Contains-append_right, Contains-append_cases, Contains-push}
 use Rattle.std.specs.List.Sorted.{IsStrictlyIncreasing}
 use Rattle.std.proofs.lemmas.Bool.{cases_Bool, or_parts}
 use Rattle.std.proofs.lemmas.List.Sums.{position_or_len_is}
@@ -71,3 +73,42 @@ position_none p [] none = refl
 position_none p (x ∷ xs) none =
     let parts = or_parts (p x) (list_any p xs) none in
     rw (position_cons p x xs, parts.0, position_none p xs parts.1) refl
+
+-- what a list's first element, or the rest, contains
+pub Contains-head : {X : Type 0} (x : X) (xs : List X) → Contains (x ∷ xs) x
+Contains-head x xs = Contains-append_left (x ∷ []) xs x (Contains-push [] x)
+
+pub Contains-tail : {X : Type 0} (x y : X) (xs : List X) → Contains xs y → Contains (x ∷ xs) y
+Contains-tail x y xs there = Contains-append_right (x ∷ []) xs y there
+
+-- what no search finds
+pub not_found : {X : Type 0} (p : X → Bool) (xs : List X) → find p xs ≡ None → All (λ x. p x ≡ false) xs
+not_found p [] is = All-nil (λ x. p x ≡ false)
+not_found p (y ∷ ys) is =
+    elim (cases_Bool (p y)) [
+      | inl yes' ↦ let h = rw yes' at is in absurd (cc)
+      | inr no' ↦ All-cons (λ x. p x ≡ false) y ys no' (not_found p ys (rw no' at is))
+    ]
+
+pub Contains-none : {X : Type 0} (x : X) → ¬ Contains [] x
+Contains-none {X} x at = All-contains (λ (_ : X). ⊥) [] x (All-nil (λ (_ : X). ⊥)) at
+
+pub Contains-cases : {X : Type 0} (y : X) (ys : List X) (x : X) → Contains (y ∷ ys) x → (y ≡ x) ⊎ Contains ys x
+Contains-cases y ys x at =
+    elim (Contains-append_cases (y ∷ []) ys x at) [
+      | inl here ↦ inl (All-contains (λ z. y ≡ z) (y ∷ []) x (All-cons (λ z. y ≡ z) y [] refl (All-nil (λ z. y ≡ z))) here)
+      | inr there ↦ inr there
+    ]
+
+pub Contains-filter : {X : Type 0} (p : X → Bool) (xs : List X) (x : X) → Contains xs x → p x ≡ true → Contains (filter p xs) x
+Contains-filter p [] x at passes = at
+Contains-filter p (y ∷ ys) x at passes =
+    elim (Contains-cases y ys x at) [
+      | inl same ↦ rw (same, passes) (Contains-head x (filter p ys))
+      | inr there ↦
+          let rest = Contains-filter p ys x there passes in
+          elim (cases_Bool (p y)) [
+            | inl kept ↦ rw kept (Contains-tail y x (filter p ys) rest)
+            | inr left ↦ rw left rest
+          ]
+    ]

@@ -2,7 +2,7 @@
 use Rattle.std.specs.Prelude.{◌≤◌, ◌+◌, ◌%◌, ◌^◌, Any, Ok, map, sum_by}
 use Rattle.std.specs.List.Sorted.{IsPermutation, IsStrictlyIncreasing}
 use Rattle.std.specs.Prelude.{◌≡◌, ◌↔◌, ℕ, ◌<◌, false, true, [], ◌∷◌, ◌++◌, List, length, Some}
-use Rattle.std.specs.Prelude.{slice_get, All, Contains, ◌⊎◌, IfSome, IsTrue}
+use Rattle.std.specs.Prelude.{slice_get, All, Bool, Contains, ◌⊎◌, IfSome, IsTrue}
 use Rattle.bip_model.specs.Drafts.{participant_named, participants_named}
 use Rattle.bip_model.specs.Expressions.{AreAssignmentsIn, AreTargetsApart, counts, is_same}
 use Rattle.bip_model.specs.Expressions.{holds, term_value, transferred, updated, value_in}
@@ -12,6 +12,7 @@ use Rattle.bip_model.specs.Wants.{IsWants, moved_in}
 use Rattle.bip_model.specs.Naming.{AreApart}
 use Rattle.bip_model.specs.Partitions.{IsPartition, numbers_in, times_in}
 use Rattle.bip_model.specs.Parts.{Participant, components_in}
+use Rattle.bip_model.specs.Priorities.{IsAbove, IsCyclic}
 use Rattle.bip_model.specs.States.{IsStateOf, State}
 use Rattle.bip_model.specs.Steps.{IsEnabled, IsRun, MayRun, after, end_of, guard_of, moves}
 use Rattle.bip_model.specs.Steps.{participants_of, told, values_of}
@@ -28,6 +29,7 @@ use Rattle.bip_model.specs.declared.wants.Want.{Want}
 use Rattle.bip_model.specs.declared.numbering.InterId.{InterId}
 use Rattle.bip_model.specs.declared.partitions.TheConstants.{MOST_CLASSES}
 use Rattle.bip_model.specs.declared.parts.Component.{Component}
+use Rattle.bip_model.specs.declared.parts.Pair.{Pair}
 use Rattle.bip_model.specs.declared.parts.System.{System}
 use Rattle.bip_model.specs.declared.parts.Transition.{Transition}
 use Rattle.bip_model.specs.declared.states.LocalState.{LocalState}
@@ -170,6 +172,18 @@ abbrev pub GoesOnByWhatMayRun : System → Type 0
 GoesOnByWhatMayRun m =
     (s : State) (before : List ℕ) (a : ℕ)
     → IsRun m s (before ++ a ∷ []) ↔ (IsRun m s before × MayRun m (end_of m s before) a)
+
+-- what stands above stands above what is below
+abbrev pub AboveGoesOn : Type 0
+AboveGoesOn =
+    (pairs : List Pair) (a b c : ℕ) → IsAbove pairs a b → IsAbove pairs b c → IsAbove pairs a c
+
+-- where nothing stands above itself, and some interaction is able, there is one that is able while
+-- nothing above it is: priorities never hold everything back
+abbrev pub SomethingStandsFree : Type 0
+SomethingStandsFree =
+    (pairs : List Pair) → ¬ IsCyclic pairs → (able : ℕ → Bool) (a : ℕ) → able a ≡ true
+    → (b : ℕ) × (able b ≡ true) × ((c : ℕ) → IsAbove pairs b c → able c ≡ false)
 
 -- a list with more behind it
 abbrev pub Begins : {X : Type 0} → List X → List X → Type 0

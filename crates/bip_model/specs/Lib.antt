@@ -9,8 +9,10 @@ pub mod Naming
 pub mod Numbering
 pub mod Partitions
 pub mod Parts
+pub mod Priorities
 pub mod Scopes
 pub mod Sequence
+pub mod Sets
 pub mod States
 pub mod Steps
 pub mod Texts

@@ -8,7 +8,7 @@ ghost use Rattle.bip_model.specs.Laws.{GoesOnByWhatMayRun, IsLocal, OneTransitio
 ghost use Rattle.bip_model.specs.Laws.{ParticipantsGo, StatesLeadToStates, HistoryGoesOn};
 ghost use Rattle.bip_model.specs.Laws.{IsInOrder, MovedIsWanted, NamesInAnyOrder};
 ghost use Rattle.bip_model.specs.Laws.{SumsAreIntegers, TransfersAtOnce, TransfersInAnyOrder};
-ghost use Rattle.bip_model.specs.Laws.{UpdatesInOrder};
+ghost use Rattle.bip_model.specs.Laws.{AboveGoesOn, SomethingStandsFree, UpdatesInOrder};
 ghost use Rattle.bip_model.specs.Laws.{NamesParticipants, PartsOrMisplaces, UsedGoesOn};
 ghost use Rattle.bip_model.specs.Grants.{IsGreatestUsed, IsHistory, MovesOnceEach, used_by};
 ghost use Rattle.bip_model.specs.Parts.{IsSystem};
@@ -43,6 +43,13 @@ pub fn step_laws()
     ensures commute { (m : System) → Commute m }
     ensures end { (m : System) → EndsAfterItsLast m }
     ensures run { (m : System) → GoesOnByWhatMayRun m }
+{}
+
+/// What priorities mean: what stands above goes on from pair to pair, and where nothing stands above
+/// itself, they never hold everything back (docs/DEFINITIONS.md, "Priorities").
+pub fn priority_laws()
+    ensures above { AboveGoesOn }
+    ensures free { SomethingStandsFree }
 {}
 
 /// A line that is taken keeps all that earlier lines said: names, components, interactions, and

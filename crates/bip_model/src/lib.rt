@@ -15,8 +15,10 @@ mod naming;
 mod numbering;
 mod partitions;
 mod parts;
+mod priorities;
 mod scopes;
 mod sequence;
+mod sets;
 mod states;
 mod steps;
 mod texts;
@@ -27,13 +29,15 @@ pub use drafts::Draft;
 pub use expressions::{Assignment, Comparison, Expr, Relation, Sign, Term, Variable};
 pub use faults::{BuildFault, ClassFault, NotNow};
 pub use grants::Grant;
-pub use laws::{builder_laws, expression_laws, history_laws, partition_laws, step_laws};
+pub use laws::{
+    builder_laws, expression_laws, history_laws, partition_laws, priority_laws, step_laws,
+};
 pub use messages::{MOST_NOTIFIES, Notifies, Notify, Offer, Reply, Request};
 pub use models::Model;
 pub use naming::{Name, Names};
 pub use numbering::{ClassId, CompId, InterId, LocId, Number, PortId, VarId};
 pub use partitions::{Classes, MOST_CLASSES, Partition};
-pub use parts::{Component, Interaction, System, Transition};
+pub use parts::{Component, Interaction, Pair, System, Transition};
 pub use scopes::VariableName;
 pub use sequence::Seq;
 pub use states::{LocalState, State, Values};

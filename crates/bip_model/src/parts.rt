@@ -1,6 +1,6 @@
 //! The declared parts of a model: components with their variables, locations, ports and
 //! transitions, and interactions.
-use crate::{Assignment, CompId, Comparison, LocId, Names, PortId, Seq, Values, Variable};
+use crate::{Assignment, CompId, Comparison, InterId, LocId, Names, PortId, Seq, Values, Variable};
 
 /// How many components a model has at most.
 pub const MOST_COMPONENTS: usize = 64;
@@ -50,6 +50,13 @@ pub struct Interaction {
     pub participants: Seq<(CompId, PortId)>,
     pub guard: Seq<Comparison<Variable>>,
     pub transfer: Seq<Assignment<Variable>>,
+}
+
+/// A priority: the second interaction stands above the first.
+#[derive(Clone, Copy, Debug, PartialEq, Eq)]
+pub struct Pair {
+    pub low: InterId,
+    pub high: InterId,
 }
 
 /// All that a model declares. A name's place in its list is the number of the component or

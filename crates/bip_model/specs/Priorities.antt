@@ -1,0 +1,49 @@
+-- Priorities: what stands above what, and the tables of it.
+use Rattle.std.specs.Prelude.{◌≡◌, ◌↔◌, ℕ, ◌<◌, ◌==◌, ◌||◌, ◌&&◌, not, Bool, List, [], length, map}
+use Rattle.std.specs.Prelude.{filter, Contains, slice_index_or}
+use Rattle.std.specs.List.{range_with_len}
+use Rattle.std.specs.List.Sorted.{IsStrictlyIncreasing}
+use Rattle.bip_model.specs.Sets.{has}
+use Rattle.bip_model.specs.declared.numbering.InterId.{InterId}
+use Rattle.bip_model.specs.declared.parts.Pair.{Pair}
+
+-- the interaction of a number
+abbrev pub inter : ℕ → InterId
+inter a = record { 0 = a }
+
+-- `priority a < b`
+abbrev pub pair : ℕ → ℕ → Pair
+pair a b = record { low = inter a; high = inter b }
+
+-- the second interaction stands above the first: declared pairs lead from the one to the other
+pub data IsAbove (pairs : List Pair) : ℕ → ℕ → Type 0 where
+  declared : {a b : ℕ} → Contains pairs (pair a b) → IsAbove pairs a b
+  through : {a b c : ℕ} → Contains pairs (pair a b) → IsAbove pairs b c → IsAbove pairs a c
+
+-- some interaction stands above itself
+abbrev pub IsCyclic : List Pair → Type 0
+IsCyclic pairs = (a : ℕ) × IsAbove pairs a a
+
+-- a pair of interactions of which there are so many
+pub record IsPairOf (count : ℕ) (p : Pair) : Type 0 where
+  pub low : p.low.0 < count
+  pub high : p.high.0 < count
+
+-- the list of those above an interaction, in order of their numbers
+pub record IsListAbove (pairs : List Pair) (a : ℕ) (list : List InterId) : Type 0 where
+  pub rising : IsStrictlyIncreasing (map (λ (b : InterId). b.0) list)
+  pub exact : (b : ℕ) → Contains list (inter b) ↔ IsAbove pairs a b
+
+-- such a list for each of so many interactions in turn
+pub record AreListsAbove (pairs : List Pair) (count : ℕ) (lists : List (List InterId)) : Type 0
+  where
+    pub each : length lists ≡ count
+    pub list : (a : ℕ) → a < count → IsListAbove pairs a (slice_index_or lists a [])
+
+-- whether a pair leads from an interaction, or from one in a set, to one outside of the set
+abbrev pub leads : ℕ → ℕ → Pair → Bool
+leads a set p = ((p.low.0 == a) || has set p.low.0) && not (has set p.high.0)
+
+-- the interactions in a set, in order of their numbers
+abbrev pub inters_in : ℕ → ℕ → List InterId
+inters_in count set = filter (λ (b : InterId). has set b.0) (map inter (range_with_len 0 count))

@@ -1,0 +1,22 @@
+//! Sets of interactions, each as the bits of a number.
+ghost use Rattle.std.specs.Prelude.{◌≡◌, ◌<◌, ◌==◌, ◌||◌, ℕ, false};
+ghost use Rattle.bip_model.specs.Sets.{has};
+
+use crate::InterId;
+
+/// Whether an interaction is in a set.
+pub(crate) fn has_inter(set: u128, inter: InterId) -> bool
+    requires { inter.0 < 128 }
+    ensures { result ≡ has set inter.0 }
+{
+    (set >> inter.0) & 1 == 1
+}
+
+/// The set with one more interaction.
+pub(crate) fn with_inter(set: u128, inter: InterId) -> u128
+    requires { inter.0 < 128 }
+    ensures has { (b : ℕ) → has result b ≡ ((b == inter.0) || has set b) }
+    ensures more { has set inter.0 ≡ false → set < result }
+{
+    set | 1u128 << inter.0
+}
