@@ -12,17 +12,14 @@ use Rattle.bip_model.specs.Sets.{has}
 use Rattle.bip_model.specs.Priorities.{AreListsAbove, IsAbove, IsPairOf, IsListAbove, inter, inters_in}
 use Rattle.bip_model.specs.declared.numbering.InterId.{InterId}
 use Rattle.bip_model.specs.declared.parts.Pair.{Pair}
+use Rattle.std.proofs.Common.{Bool, inl, inr}
+use Rattle.bip_model.specs.Parts.{IsSystemSoFar}
+use Rattle.bip_model.specs.Steps.{AreListsLookedAt, IsListLookedAt, comps_looked_at, looks_at}
+use Rattle.bip_model.specs.declared.numbering.CompId.{CompId}
+use Rattle.bip_model.specs.declared.parts.System.{System}
+use Rattle.bip_model.proofs.LookLemmas.{looked_at, looked_known, looks_where}
 use Rattle.bip_model.proofs.AboveLemmas.{IsAbove-high}
 use Rattle.bip_model.proofs.ListLemmas.{Contains-filter}
-
--- the numbers of the interactions in a set
-numbers_in : (set : ℕ) (ns : List ℕ) → map (λ (b : InterId). b.0) (filter (λ (b : InterId). has set b.0) (map inter ns)) ≡ filter (has set) ns
-numbers_in set [] = refl
-numbers_in set (n ∷ ns) =
-    elim (cases_Bool (has set n)) [
-      | inl in' ↦ rw in' (ap (λ (l : List ℕ). n ∷ l) (numbers_in set ns))
-      | inr out ↦ rw out (numbers_in set ns)
-    ]
 
 range-rises : (n : ℕ) → IsStrictlyIncreasing (range_with_len 0 n)
 range-rises n k within =
@@ -31,23 +28,64 @@ range-rises n k within =
     let next = get_or-range_with_len 0 n (k + 1) 0 (omega arith) in
     omega arith
 
--- an interaction that is there and in the set is among the inters_in
-is_member : (count set b : ℕ) → b < count → has set b ≡ true → Contains (inters_in count set) (inter b)
-is_member count set b within in' =
-    let all : List InterId = map inter (range_with_len 0 count) in
-    let at : get_or all b (inter 0) ≡ inter b = get_or-map-range_with_len inter 0 count b b (inter 0) within (omega arith) in
-    let below : b < length all = rw (length-map-range_with_len inter 0 count) within in
-    let there : Contains all (inter b) = subst (λ (x : InterId). Contains all x) at (Contains-get_or all b (inter 0) below) in
-    Contains-filter (λ (x : InterId). has set x.0) all (inter b) there in'
+-- things made of the numbers that pass a test, below a bound
+module _ {X : Type 0} (number : X → ℕ) (make : ℕ → X) (same : (n : ℕ) → number (make n) ≡ n) (test : ℕ → Bool) where
+  abbrev pub kept : ℕ → List X
+  kept count = filter (λ x. test (number x)) (map make (range_with_len 0 count))
+
+  numbers_kept : (ns : List ℕ) → map number (filter (λ x. test (number x)) (map make ns)) ≡ filter test ns
+  numbers_kept [] = refl
+  numbers_kept (n ∷ ns) =
+      let e = same n in
+      elim (cases_Bool (test n)) [
+        | inl in' ↦ rw (e, in') (rw e (ap (λ (l : List ℕ). n ∷ l) (numbers_kept ns)))
+        | inr out ↦ rw (e, out) (numbers_kept ns)
+      ]
+
+  pub kept-rises : (count : ℕ) → IsStrictlyIncreasing (map number (kept count))
+  kept-rises count = rw (numbers_kept (range_with_len 0 count)) (IsStrictlyIncreasing-filter test (range_with_len 0 count) (range-rises count))
+
+  -- what is below the bound and passes is kept
+  pub is_kept : (count b : ℕ) → b < count → test b ≡ true → Contains (kept count) (make b)
+  is_kept count b within passes =
+      let all : List X = map make (range_with_len 0 count) in
+      let at : get_or all b (make 0) ≡ make b = get_or-map-range_with_len make 0 count b b (make 0) within (omega arith) in
+      let below : b < length all = rw (length-map-range_with_len make 0 count) within in
+      let there : Contains all (make b) = subst (λ (x : X). Contains all x) at (Contains-get_or all b (make 0) below) in
+      Contains-filter (λ (x : X). test (number x)) all (make b) there (rw (same b) passes)
+
+  -- what is kept passes
+  pub kept_passes : (count b : ℕ) → Contains (kept count) (make b) → test b ≡ true
+  kept_passes count b at =
+      rw (same b) at (All-contains (λ (x : X). test (number x) ≡ true) (kept count) (make b) (filter_passes (λ (x : X). test (number x)) (map make (range_with_len 0 count))) at)
 
 -- the inters_in of the set of all above an interaction
 pub list-above : (pairs : List Pair) (count a set : ℕ) → All (IsPairOf count) pairs → ((b : ℕ) → (has set b ≡ true) ↔ IsAbove pairs a b) → IsListAbove pairs a (inters_in count set)
 list-above pairs count a set known above = record {
-  rising = rw (numbers_in set (range_with_len 0 count)) (IsStrictlyIncreasing-filter (has set) (range_with_len 0 count) (range-rises count));
+  rising = kept-rises (λ (b : InterId). b.0) inter (λ n. refl) (has set) count;
   exact = λ b. (
-    λ at. (above b).0 (All-contains (λ (x : InterId). has set x.0 ≡ true) (inters_in count set) (inter b) (filter_passes (λ (x : InterId). has set x.0) (map inter (range_with_len 0 count))) at),
-    λ up. is_member count set b (IsAbove-high count pairs a b known up) ((above b).1 up),
+    λ at. (above b).0 (kept_passes (λ (x : InterId). x.0) inter (λ n. refl) (has set) count b at),
+    λ up. is_kept (λ (x : InterId). x.0) inter (λ n. refl) (has set) count b (IsAbove-high count pairs a b known up) ((above b).1 up),
   );
+}
+
+-- the components that are kept are those that an interaction looks at
+pub list_looked_at : (m : System) (a : ℕ) (above : List InterId) → IsSystemSoFar m → IsListAbove m.priorities a above → IsListLookedAt m a (comps_looked_at m a above (length m.components))
+list_looked_at m a above valid list = record {
+  rising = kept-rises (λ (c : CompId). c.0) (λ n. record { 0 = n }) (λ n. refl) (looks_at m a above) (length m.components);
+  exact = λ c. (
+    λ at. looked_at m a c above list (kept_passes (λ (x : CompId). x.0) (λ n. record { 0 = n }) (λ n. refl) (looks_at m a above) (length m.components) c at),
+    λ is. is_kept (λ (x : CompId). x.0) (λ n. record { 0 = n }) (λ n. refl) (looks_at m a above) (length m.components) c (looked_known m a c valid is) (looks_where m a c above list is),
+  );
+}
+
+-- one more list
+pub AreListsLookedAt-more : (m : System) (n : ℕ) (lists : List (List CompId)) (list : List CompId) → AreListsLookedAt m n lists → IsListLookedAt m n list → AreListsLookedAt m (n + 1) (lists ++ list ∷ [])
+AreListsLookedAt-more m n lists list before more = record {
+  each = let same = before.each in rw (length-append lists (list ∷ [])) (omega arith);
+  list = below_more _ _
+      (λ a below. let within : a < length lists = let same = before.each in omega arith in rw (get_or_append_left lists (list ∷ []) [] a within) (before.list a below))
+      (rw (get_or_push lists list [] n before.each) more);
 }
 
 -- one more row

@@ -1,10 +1,9 @@
 -- Whether one interaction stands above another, and that something stands free where nothing stands
 -- above itself.
-use Rattle.std.proofs.Common.{refl, ◌≡◌, ℕ, Bool, true, false, List, [], ◌∷◌, ◌⊎◌, inl, inr, ap, sym}
+use Rattle.std.proofs.Common.{◌≡◌, ℕ, List, [], ◌∷◌, ◌⊎◌, inl, inr, ap, sym}
 use Rattle.std.specs.Prelude.{All, Contains}
-use Rattle.std.proofs.lemmas.Bool.{cases_eq, false≢true, false_from_ne_true}
+use Rattle.std.proofs.lemmas.Bool.{cases_eq}
 use Rattle.std.proofs.lemmas.List.Elements.{All-nil, All-cons, All-weaker, All-contains}
-use Rattle.bip_model.specs.Laws.{SomethingStandsFree}
 use Rattle.bip_model.specs.Priorities.{IsAbove, declared, through, IsCyclic, pair}
 use Rattle.bip_model.specs.declared.parts.Pair.{Pair}
 use Rattle.bip_model.proofs.AboveLemmas.{IsAbove-trans}
@@ -109,12 +108,3 @@ pub highest : (pairs : List Pair) → ¬ IsCyclic pairs → (P : ℕ → Type 0)
 highest pairs acyclic P test a here =
     let (m, here', quiet) = climb pairs acyclic P test a here pairs in
     (m, here', λ b up. All-contains (IsQuiet pairs P m) pairs _ quiet (IsAbove-last up).1 up)
-
-decided_true : (t : Bool) → Decided (t ≡ true)
-decided_true true = inl refl
-decided_true false = inr false≢true
-
-pub something_stands_free : SomethingStandsFree
-something_stands_free pairs acyclic able a on =
-    let (m, on', quiet) = highest pairs acyclic (λ b. able b ≡ true) (λ b. decided_true (able b)) a on in
-    (m, on', λ b up. false_from_ne_true (able b) (quiet b up))

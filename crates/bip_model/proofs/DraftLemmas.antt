@@ -14,7 +14,10 @@ use Rattle.std.proofs.lemmas.List.Quantifiers.{all_pairs_push}
 use Rattle.std.proofs.Common.{ap, true, zero, suc, All}
 use Rattle.std.proofs.lemmas.List.Elements.{All-head, All-tail}
 use Rattle.bip_model.specs.Components.{is_taken, leaves, loc_line, no_component, number_in, port_line, trans_line, var_line, with_transition}
-use Rattle.bip_model.specs.Drafts.{IsDraft, begun_in, component_line, end_line, inside, interaction_line, interaction_of, interaction_over, participants_named, with_interaction}
+use Rattle.bip_model.specs.Drafts.{IsDraft, begun_in, component_line, end_line, inside, interaction_line, interaction_of, interaction_over, participants_named, priority_line, with_interaction, with_priority}
+use Rattle.bip_model.specs.Priorities.{IsPairOf, is_same_pair, pair}
+use Rattle.bip_model.specs.declared.parts.Pair.{Pair}
+use Rattle.bip_model.proofs.PriorityLemmas.{put_all, put_in_order}
 use Rattle.bip_model.specs.Expressions.{IsVariableIn}
 use Rattle.bip_model.specs.Scopes.{are_long_assignments, assignments_with, guard_with, is_long_guard, knows_assignments, knows_guard, own, shared, transfer_said}
 use Rattle.bip_model.proofs.ScopeLemmas.{assignments_more, assignments_over, guard_more, guard_over, own_in, shared_in, transfer_over}
@@ -50,7 +53,7 @@ empty_valid : IsComponentSoFar no_component
 empty_valid = record { few_variables = omega arith; started = refl; few_locations = omega arith; few_ports = omega arith; few_transitions = omega arith; apart = tt; transitions = All-nil (IsTransitionOf no_component); one_each = λ i j d before within. absurd (omega arith) }
 
 -- what is begun is none or some
-begun_none : (begun : Option Component) → IsNone begun → begun ≡ None
+pub begun_none : (begun : Option Component) → IsNone begun → begun ≡ None
 begun_none None outside = refl
 begun_none (Some c) outside = cc
 
@@ -256,6 +259,7 @@ with_interaction_keeps d name words qs guard transfer valid some new is_qs known
     assumption (
       apart_push name d.system.interaction_names new valid.so_far.interactions_apart,
       All-push (IsInteraction d.system.components) d.system.interactions i valid.so_far.interactions whole,
+      All-weaker (IsPairOf (length d.system.interactions)) (IsPairOf (length (d.system.interactions ++ i ∷ []))) (λ p of. record { low = omega (arith, of.low); high = omega (arith, of.high) }) d.system.priorities valid.so_far.priorities,
     ))
 
 pub interaction_keeps : (d e : Draft) (name : List ℕ) (words : List (List ℕ × List ℕ)) (guard : List (Comparison VariableName)) (transfer : List (Assignment VariableName)) → IsDraft d → 0 < length words → interaction_line d name words guard transfer ≡ Ok e → IsDraft e
@@ -267,6 +271,38 @@ interaction_keeps d e name words guard transfer valid some is = IfOk-at_ok IsDra
     (allowed (λ s. IsDraft (record d { system = s })) (knows_guard (shared d.system qs) guard) Unknown _ (λ known.
     bound (λ s. IsDraft (record d { system = s })) (transfer_said (shared d.system qs) [] transfer) _ (λ u said.
     with_interaction_keeps d name words qs guard transfer valid some new is_qs known said)))))))
+
+priority_joins : (d : Draft) (p : Pair) → IsDraft d → IsPairOf (length d.system.interactions) p → IfOk (with_priority p d.system) (λ s. IsDraft (record d { system = s }))
+priority_joins d p valid known =
+    guarded (λ s. IsDraft (record d { system = s })) (list_any (is_same_pair p) d.system.priorities) Twice _ (λ new.
+    let so_far = valid.so_far in
+    record {
+      so_far = record {
+        few_components = so_far.few_components;
+        enough_names = so_far.enough_names;
+        components_apart = so_far.components_apart;
+        components = so_far.components;
+        few_interactions = so_far.few_interactions;
+        interactions_named = so_far.interactions_named;
+        interactions_apart = so_far.interactions_apart;
+        interactions = so_far.interactions;
+        priorities = put_all (IsPairOf (length d.system.interactions)) p d.system.priorities known so_far.priorities;
+        in_order = put_in_order p d.system.priorities so_far.in_order new;
+      };
+      begun_so_far = valid.begun_so_far;
+      named = valid.named;
+    })
+
+pub priority_keeps : (d e : Draft) (low high : List ℕ) → IsDraft d → priority_line d low high ≡ Ok e → IsDraft e
+priority_keeps d e low high valid is = IfOk-at_ok IsDraft is
+    (bound IsDraft (number_in d.system.interaction_names low) _ (λ a is_a.
+    bound IsDraft (number_in d.system.interaction_names high) _ (λ b is_b.
+    bound IsDraft (with_priority (pair a b) d.system) _ (λ m is_m.
+    IfOk-at_ok (λ s. IsDraft (record d { system = s })) is_m
+    (priority_joins d (pair a b) valid (record {
+      low = rw (← valid.so_far.interactions_named) (number_in-below d.system.interaction_names low a is_a);
+      high = rw (← valid.so_far.interactions_named) (number_in-below d.system.interaction_names high b is_b);
+    }))))))
 
 -- a builder's draft after `end`
 pub end_ends : (d new : Draft) (result : Result (Unit {0}) BuildFault) → IsDraft d → IsSome d.begun → Answers Memory (end_line d) (new_or_fault result new) → OnErr result (new ≡ d) → IsDraft new

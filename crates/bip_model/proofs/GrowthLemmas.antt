@@ -5,9 +5,13 @@ use Rattle.std.proofs.lemmas.Result.{IfOk-at_ok}
 use Rattle.std.proofs.Common.{◌||◌, leb, length}
 use Rattle.std.specs.List.{list_any}
 use Rattle.bip_model.specs.Scopes.{are_long_assignments, is_long_guard, knows_assignments, knows_guard, own}
-use Rattle.bip_model.specs.declared.faults.BuildFault.TheVariants.{Unknown, TooMany, TwoTransitions}
+use Rattle.bip_model.specs.declared.faults.BuildFault.TheVariants.{Unknown, Twice, TooMany, TwoTransitions}
 use Rattle.bip_model.specs.Components.{leaves, number_in, loc_line, no_component, port_line, trans_line, var_line}
-use Rattle.bip_model.specs.Drafts.{begun_in, inside}
+use Rattle.std.proofs.Common.{IsNone}
+use Rattle.bip_model.specs.Drafts.{begun_in, inside, priority_line, with_priority}
+use Rattle.bip_model.specs.Priorities.{is_same_pair, pair}
+use Rattle.bip_model.proofs.DraftLemmas.{begun_none}
+use Rattle.bip_model.proofs.PriorityLemmas.{put_keeps}
 use Rattle.bip_model.specs.Laws.{Begins, GoesOn, KeepsComponent, KeepsDraft}
 use Rattle.bip_model.specs.declared.drafts.Draft.{Draft}
 use Rattle.bip_model.specs.declared.expressions.Assignment.{Assignment}
@@ -47,6 +51,21 @@ trans_grows port source target guard update c e is = IfOk-at_ok (KeepsComponent 
 for_begun : (begun : Option Component) (P : Component → Type 0) → P (unwrap_or begun no_component) → IfSome begun P
 for_begun None P holds = tt
 for_begun (Some c) P holds = holds
+
+pub priority_grows : (d e : Draft) (low high : List ℕ) → IsNone d.begun → priority_line d low high ≡ Ok e → KeepsDraft d e
+priority_grows d e low high outside is = IfOk-at_ok (KeepsDraft d) is
+    (bound (KeepsDraft d) (number_in d.system.interaction_names low) _ (λ a is_a.
+    bound (KeepsDraft d) (number_in d.system.interaction_names high) _ (λ b is_b.
+    bound (KeepsDraft d) (with_priority (pair a b) d.system) _ (λ m is_m.
+    IfOk-at_ok (λ s. KeepsDraft d (record d { system = s })) is_m
+    (guarded (λ s. KeepsDraft d (record d { system = s })) (list_any (is_same_pair (pair a b)) d.system.priorities) Twice _ (λ new. record {
+      component_names = begins_same d.system.component_names;
+      components = begins_same d.system.components;
+      interaction_names = begins_same d.system.interaction_names;
+      interactions = begins_same d.system.interactions;
+      priorities = λ p at. put_keeps (pair a b) p d.system.priorities at;
+      begun = rw (begun_none d.begun outside) tt;
+    }))))))
 
 pub inside_grows : (f : Component → Result Component BuildFault) → ((c e : Component) → f c ≡ Ok e → KeepsComponent c e) → (d e : Draft) → inside f d ≡ Ok e → KeepsDraft d e
 inside_grows f grows d e is = IfOk-at_ok (KeepsDraft d) is (bound (KeepsDraft d) (f (begun_in d)) _ (λ c said.

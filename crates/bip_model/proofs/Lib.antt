@@ -8,12 +8,15 @@ pub mod HistoryLemmas
 pub mod LawLemmas
 pub mod LineLemmas
 pub mod ListLemmas
+pub mod LookLemmas
+pub mod LowestLemmas
 pub mod NameLemmas
 pub mod NumberLemmas
 pub mod NumberingLemmas
 pub mod ParticipantLemmas
 pub mod PartitionLemmas
 pub mod PortLemmas
+pub mod PriorityLemmas
 pub mod ScopeLemmas
 pub mod SequenceLemmas
 pub mod SetLemmas

@@ -6,7 +6,7 @@ use Rattle.std.specs.List.Sorted.{IsStrictlyIncreasing}
 use Rattle.std.proofs.lemmas.Bool.{cases_Bool, or_parts}
 use Rattle.std.proofs.lemmas.List.Sums.{position_or_len_is}
 use Rattle.std.proofs.lemmas.Bool.Decides.{nat_tests}
-use Rattle.std.proofs.lemmas.List.{get_or-map, length-map}
+use Rattle.std.proofs.lemmas.List.{get_or-map, get_or_default, length-map}
 use Rattle.std.proofs.lemmas.List.Folds.{find_at}
 use Rattle.std.specs.List.{list_any, position_or_len}
 use Rattle.std.proofs.lemmas.List.Kept.{AllPairs-from_increasing}
@@ -52,6 +52,10 @@ found_at p (y ∷ ys) x is = by_first (p y) refl (found_at p ys x) is
 pub empty_is : {X : Type 0} (xs : List X) → true ≡ eqb (length xs) 0 → xs ≡ []
 empty_is [] is = refl
 empty_is (x ∷ xs) is = grind (arith, nat_tests)
+
+-- what is read of a list, whatever stands for what it lacks
+pub read_is : {X : Type 0} (xs : List X) (i : ℕ) (x d : X) → i < length xs → x ≡ get_or xs i x → x ≡ get_or xs i d
+read_is xs i x d within is = is ∙ get_or_default xs i x d within
 
 -- where neither of two tests passes
 pub neither : (a b : Bool) → (a || b) ≡ false → (a ≡ false) × (b ≡ false)

@@ -2,7 +2,7 @@
 use Rattle.std.proofs.Common.{◌≡◌, ℕ, List, [], ◌∷◌, length, get_or, map, Option, None, Some, refl, sym, ap, ◌∙◌, arith, IsSomeAnd, slice_get, unwrap_or, option_map, drop, inl, inr}
 use Rattle.std.specs.Option.{option_map_or}
 use Rattle.std.proofs.lemmas.Bool.Decides.{nat_tests}
-use Rattle.std.proofs.lemmas.Option.{slice_get_cases}
+use Rattle.std.proofs.lemmas.Option.{slice_get_cases, slice_get_past}
 use Rattle.bip_model.specs.declared.numbering.PortId.{PortId}
 use Rattle.bip_model.specs.declared.parts.Component.{Component}
 use Rattle.bip_model.specs.declared.parts.System.{System}
@@ -13,7 +13,7 @@ use Rattle.bip_model.specs.Components.{moved, transition_for}
 use Rattle.bip_model.specs.Expressions.{counts, updated}
 use Rattle.bip_model.specs.Parts.{IsComponent, IsSystem, IsTransitionOf, Participant, count_of, counts_of}
 use Rattle.bip_model.specs.States.{IsLocalStateOf, IsStateOf, State, with_values}
-use Rattle.bip_model.specs.Steps.{led, led_all, participants_of, told_all, transfer_of, values_at, values_of}
+use Rattle.bip_model.specs.Steps.{led, led_all, participants_of, start_of, told_all, transfer_of, values_at, values_of}
 use Rattle.bip_model.proofs.ExpressionLemmas.{counts-transferred, length-updated}
 use Rattle.bip_model.proofs.ListLemmas.{All-find, All-slice_get}
 use Rattle.bip_model.proofs.StepLemmas.{after_led, all_told, told_in}
@@ -84,6 +84,13 @@ count_in m s q own =
 pub counts_in : (m : System) (s : State) (qs : List Participant) → IsStateOf m s → counts (map (values_at s) qs) ≡ counts_of m.components qs
 counts_in m s [] own = refl
 counts_in m s (q ∷ qs) own = rw (count_in m s q own, counts_in m s qs own) refl
+
+-- the first state is one of the model
+pub start_is_state : (m : System) (s : State) → IsSystem m → s ≡ start_of m → IsStateOf m s
+start_is_state m s valid is = record {
+  components = λ c k at. rw (is, at) (record { location = (All-slice_get IsComponent m.components c k valid.so_far.components at).located; values = (All-slice_get IsComponent m.components c k valid.so_far.components at).so_far.started });
+  others = λ c past. rw (is, slice_get_past m.components c past) refl;
+}
 
 pub states_lead_to_states : (m : System) → IsSystem m → StatesLeadToStates m
 states_lead_to_states m valid s a own = record {

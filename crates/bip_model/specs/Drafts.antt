@@ -8,7 +8,7 @@ use Rattle.bip_model.specs.Components.{no_component, number_in}
 use Rattle.bip_model.specs.Naming.{is_known}
 use Rattle.bip_model.specs.Numbering.{by_number}
 use Rattle.bip_model.specs.Faults.{◌>>=◌}
-use Rattle.bip_model.specs.Steps.{IsCyclic}
+use Rattle.bip_model.specs.Priorities.{IsCyclic, is_same_pair, pair, put_pair}
 use Rattle.bip_model.specs.Parts.{IsComponentSoFar, IsSystemSoFar, Participant}
 use Rattle.bip_model.specs.Scopes.{are_long_assignments, assignments_with, guard_with}
 use Rattle.bip_model.specs.Scopes.{is_long_guard, knows_guard, shared, transfer_said}
@@ -17,9 +17,10 @@ use Rattle.bip_model.specs.declared.expressions.Assignment.{Assignment}
 use Rattle.bip_model.specs.declared.expressions.Comparison.{Comparison}
 use Rattle.bip_model.specs.declared.faults.BuildFault.{BuildFault}
 use Rattle.bip_model.specs.declared.faults.BuildFault.TheVariants.{Unknown, Twice, TooMany, Missing}
-use Rattle.bip_model.specs.declared.faults.BuildFault.TheVariants.{PriorityCycle}
+use Rattle.bip_model.specs.declared.faults.BuildFault.TheVariants.{Memory, PriorityCycle}
 use Rattle.bip_model.specs.declared.parts.Component.{Component}
 use Rattle.bip_model.specs.declared.parts.Interaction.{Interaction}
+use Rattle.bip_model.specs.declared.parts.Pair.{Pair}
 use Rattle.bip_model.specs.declared.parts.System.{System}
 use Rattle.bip_model.specs.declared.parts.TheConstants.{MOST_COMPONENTS, MOST_INTERACTIONS}
 use Rattle.bip_model.specs.declared.parts.TheConstants.{MOST_PARTICIPANTS}
@@ -27,7 +28,13 @@ use Rattle.bip_model.specs.declared.scopes.VariableName.{VariableName}
 
 abbrev pub no_system : System
 no_system =
-    record { component_names = []; components = []; interaction_names = []; interactions = [] }
+    record {
+      component_names = [];
+      components = [];
+      interaction_names = [];
+      interactions = [];
+      priorities = [];
+    }
 
 -- nothing has been said yet
 abbrev pub empty_draft : Draft
@@ -122,16 +129,38 @@ interaction_line d name words guard transfer =
     >>= λ participants. interaction_over name participants guard transfer d.system
     >>= λ m. Ok (record d { system = m })
 
+-- a priority joins those of a system
+abbrev pub with_priority : Pair → System → Result System BuildFault
+with_priority p m =
+    if list_any (is_same_pair p) m.priorities then Err Twice
+    else Ok (record m { priorities = put_pair p m.priorities })
+
+-- `priority LOW < HIGH`
+abbrev pub priority_line : Draft → List ℕ → List ℕ → Result Draft BuildFault
+priority_line d low high =
+    number_in d.system.interaction_names low
+    >>= λ a. number_in d.system.interaction_names high
+    >>= λ b. with_priority (pair a b) d.system
+    >>= λ m. Ok (record d { system = m })
+
 -- what the lines have declared is whole: no component is begun, and there is one
 pub record IsWhole (d : Draft) : Type 0 where
   pub ended : IsNone d.begun
   pub some : 0 < length d.system.components
 
+-- why a system declares no model though it is whole: an interaction stands above itself; or memory
+-- is wanting
+abbrev pub IsCycleFault : System → BuildFault → Type 0
+IsCycleFault m PriorityCycle = IsCyclic m.priorities
+IsCycleFault m Memory = ¬ IsCyclic m.priorities
+IsCycleFault m fault = ⊥
+
 -- why lines declare no model where they end, the first that applies: what they declare isn't whole,
--- or an interaction stands above itself
+-- or an interaction stands above itself; or memory is wanting for one that they declare
 abbrev pub IsEndFault : Draft → BuildFault → Type 0
 IsEndFault d Missing = ¬ IsWhole d
-IsEndFault d PriorityCycle = IsWhole d × IsCyclic d.system
+IsEndFault d PriorityCycle = IsWhole d × IsCyclic d.system.priorities
+IsEndFault d Memory = IsWhole d × (¬ IsCyclic d.system.priorities)
 IsEndFault d fault = ⊥
 
 -- drafts that lines lead to

@@ -2,7 +2,7 @@
 use Rattle.std.specs.Prelude.{◌≤◌, ◌+◌, ◌%◌, ◌^◌, Any, Ok, map, sum_by}
 use Rattle.std.specs.List.Sorted.{IsPermutation, IsStrictlyIncreasing}
 use Rattle.std.specs.Prelude.{◌≡◌, ◌↔◌, ℕ, ◌<◌, false, true, [], ◌∷◌, ◌++◌, List, length, Some}
-use Rattle.std.specs.Prelude.{slice_get, All, Bool, Contains, ◌⊎◌, IfSome, IsTrue}
+use Rattle.std.specs.Prelude.{slice_get, All, Contains, ◌⊎◌, IfSome, IsTrue}
 use Rattle.bip_model.specs.Drafts.{participant_named, participants_named}
 use Rattle.bip_model.specs.Expressions.{AreAssignmentsIn, AreTargetsApart, counts, is_same}
 use Rattle.bip_model.specs.Expressions.{holds, term_value, transferred, updated, value_in}
@@ -12,9 +12,9 @@ use Rattle.bip_model.specs.Wants.{IsWants, moved_in}
 use Rattle.bip_model.specs.Naming.{AreApart}
 use Rattle.bip_model.specs.Partitions.{IsPartition, numbers_in, times_in}
 use Rattle.bip_model.specs.Parts.{Participant, components_in}
-use Rattle.bip_model.specs.Priorities.{IsAbove, IsCyclic}
+use Rattle.bip_model.specs.Priorities.{IsAbove}
 use Rattle.bip_model.specs.States.{IsStateOf, State}
-use Rattle.bip_model.specs.Steps.{IsEnabled, IsRun, MayRun, after, end_of, guard_of, moves}
+use Rattle.bip_model.specs.Steps.{IsEnabled, IsLookedAt, IsRun, MayRun, after, end_of, guard_of, moves}
 use Rattle.bip_model.specs.Steps.{participants_of, told, values_of}
 use Rattle.bip_model.specs.declared.drafts.Draft.{Draft}
 use Rattle.bip_model.specs.declared.expressions.Assignment.{Assignment}
@@ -178,12 +178,18 @@ abbrev pub AboveGoesOn : Type 0
 AboveGoesOn =
     (pairs : List Pair) (a b c : ℕ) → IsAbove pairs a b → IsAbove pairs b c → IsAbove pairs a c
 
--- where nothing stands above itself, and some interaction is able, there is one that is able while
--- nothing above it is: priorities never hold everything back
-abbrev pub SomethingStandsFree : Type 0
-SomethingStandsFree =
-    (pairs : List Pair) → ¬ IsCyclic pairs → (able : ℕ → Bool) (a : ℕ) → able a ≡ true
-    → (b : ℕ) × (able b ≡ true) × ((c : ℕ) → IsAbove pairs b c → able c ≡ false)
+-- where an interaction is enabled one may run: priorities alone never stop a model
+abbrev pub SomethingMayRun : System → Type 0
+SomethingMayRun m = (s : State) (a : ℕ) → IsEnabled m s a → (b : ℕ) × MayRun m s b
+
+-- two states agree on all that an interaction moves or looks at
+abbrev pub AgreeOnTouched : System → ℕ → State → State → Type 0
+AgreeOnTouched m a s t = (c : ℕ) → (moves m a c ≡ true) ⊎ IsLookedAt m a c → s c ≡ t c
+
+-- whether an interaction may run depends on them alone
+abbrev pub MayRunIsLocal : System → Type 0
+MayRunIsLocal m =
+    (s t : State) (a : ℕ) → AgreeOnTouched m a s t → (MayRun m s a ↔ MayRun m t a)
 
 -- a list with more behind it
 abbrev pub Begins : {X : Type 0} → List X → List X → Type 0
@@ -209,6 +215,8 @@ pub record KeepsDraft (old new : Draft) : Type 0 where
   pub components : Begins old.system.components new.system.components
   pub interaction_names : Begins old.system.interaction_names new.system.interaction_names
   pub interactions : Begins old.system.interactions new.system.interactions
+  pub priorities : (p : Pair) → Contains old.system.priorities p
+      → Contains new.system.priorities p
   pub begun : IfSome old.begun (λ c. GoesOn old c new)
 
 -- a want of a component with a number moves it

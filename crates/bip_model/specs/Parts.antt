@@ -5,6 +5,7 @@ use Rattle.std.specs.List.Sorted.{IsStrictlyIncreasing}
 use Rattle.std.specs.Option.{option_map_or}
 use Rattle.bip_model.specs.Expressions.{AreAssignmentsIn, AreComparisonsIn, AreTargetsApart}
 use Rattle.bip_model.specs.Naming.{AreApart}
+use Rattle.bip_model.specs.Priorities.{AreInOrder, IsCyclic, IsPairOf}
 use Rattle.bip_model.specs.declared.expressions.Assignment.{Assignment}
 use Rattle.bip_model.specs.declared.expressions.Comparison.{Comparison}
 use Rattle.bip_model.specs.declared.expressions.Expr.{Expr}
@@ -108,9 +109,19 @@ pub record IsSystemSoFar (m : System) : Type 0 where
   pub interactions_named : length m.interaction_names ≡ length m.interactions
   pub interactions_apart : AreApart m.interaction_names
   pub interactions : All (IsInteraction m.components) m.interactions
+  pub priorities : All (IsPairOf (length m.interactions)) m.priorities
+  pub in_order : AreInOrder m.priorities
 
--- what a model may declare: it has a component, and each of its names for components has one
+-- what a model may declare but for cyclic priorities: it has a component, and each of its names for
+-- components has one
+pub record IsWholeSystem (m : System) : Type 0 where
+  pub so_far : IsSystemSoFar m
+  pub some : 0 < length m.components
+  pub components_named : length m.component_names ≡ length m.components
+
+-- what a model may declare: no interaction stands above itself, too
 pub record IsSystem (m : System) : Type 0 where
   pub so_far : IsSystemSoFar m
   pub some : 0 < length m.components
   pub components_named : length m.component_names ≡ length m.components
+  pub acyclic : ¬ IsCyclic m.priorities

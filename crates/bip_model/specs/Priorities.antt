@@ -1,7 +1,8 @@
 -- Priorities: what stands above what, and the tables of it.
 use Rattle.std.specs.Prelude.{◌≡◌, ◌↔◌, ℕ, ◌<◌, ◌==◌, ◌||◌, ◌&&◌, not, Bool, List, [], length, map}
 use Rattle.std.specs.Prelude.{filter, Contains, slice_index_or}
-use Rattle.std.specs.List.{range_with_len}
+use Rattle.std.specs.Prelude.{◌∷◌, nat_lt, IsTrue, ⊤, if◌then◌else◌}
+use Rattle.std.specs.List.{list_all, range_with_len}
 use Rattle.std.specs.List.Sorted.{IsStrictlyIncreasing}
 use Rattle.bip_model.specs.Sets.{has}
 use Rattle.bip_model.specs.declared.numbering.InterId.{InterId}
@@ -10,6 +11,24 @@ use Rattle.bip_model.specs.declared.parts.Pair.{Pair}
 -- the interaction of a number
 abbrev pub inter : ℕ → InterId
 inter a = record { 0 = a }
+
+-- whether two pairs are one
+abbrev pub is_same_pair : Pair → Pair → Bool
+is_same_pair p q = (p.low.0 == q.low.0) && (p.high.0 == q.high.0)
+
+-- whether a pair stands before another: by low, then high number
+abbrev pub is_before : Pair → Pair → Bool
+is_before p q = nat_lt p.low.0 q.low.0 || ((p.low.0 == q.low.0) && nat_lt p.high.0 q.high.0)
+
+-- pairs by low, then high number
+abbrev pub AreInOrder : List Pair → Type 0
+AreInOrder [] = ⊤
+AreInOrder (p ∷ ps) = IsTrue (list_all (is_before p) ps) × AreInOrder ps
+
+-- a pair put among others, before the first one that stands behind it
+abbrev pub put_pair : Pair → List Pair → List Pair
+put_pair p [] = p ∷ []
+put_pair p (q ∷ qs) = if is_before p q then p ∷ q ∷ qs else q ∷ put_pair p qs
 
 -- `priority a < b`
 abbrev pub pair : ℕ → ℕ → Pair

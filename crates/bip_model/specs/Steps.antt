@@ -2,7 +2,11 @@
 use Rattle.std.specs.Prelude.{ℕ, ◌<◌, Bool, false, ◌==◌, List, [], ◌∷◌, length, Option, position}
 use Rattle.std.specs.Prelude.{map, slice_get, slice_index_or, unwrap_or, All, IsTrue, ⊤}
 use Rattle.std.specs.Prelude.{if◌then◌else◌}
-use Rattle.std.specs.List.{list_any}
+use Rattle.std.specs.List.{list_any, range_with_len}
+use Rattle.std.specs.List.Sorted.{IsStrictlyIncreasing}
+use Rattle.std.specs.Prelude.{◌≡◌, ◌↔◌, ◌&&◌, not, filter, true, Contains}
+use Rattle.bip_model.specs.declared.numbering.CompId.{CompId}
+use Rattle.bip_model.specs.declared.numbering.InterId.{InterId}
 use Rattle.std.specs.Option.{option_map, option_map_or, option_and_then}
 use Rattle.bip_model.specs.declared.expressions.Assignment.{Assignment}
 use Rattle.bip_model.specs.declared.expressions.Comparison.{Comparison}
@@ -15,7 +19,8 @@ use Rattle.bip_model.specs.declared.parts.Transition.{Transition}
 use Rattle.bip_model.specs.declared.states.LocalState.{LocalState}
 use Rattle.bip_model.specs.Components.{offers_at, moved, transition_for}
 use Rattle.bip_model.specs.Expressions.{holds, transferred}
-use Rattle.bip_model.specs.Parts.{Participant}
+use Rattle.bip_model.specs.Parts.{IsSystem, Participant}
+use Rattle.bip_model.specs.Priorities.{AreListsAbove, IsAbove}
 use Rattle.bip_model.specs.States.{State, with_values}
 
 -- the state in which each component is in its first location, with the values of its start
@@ -56,24 +61,16 @@ pub record IsEnabled (m : System) (s : State) (a : ℕ) : Type 0 where
   pub offered_all : All (λ q. IsTrue (offered m s q)) (participants_of m a)
   pub guard : IsTrue (holds (guard_of m a) (values_of m s a))
 
--- the second interaction stands above the first; a plain model declares no priorities
-abbrev pub IsAbove : System → ℕ → ℕ → Type 0
-IsAbove m a b = ⊥
-
--- some interaction stands above itself
-abbrev pub IsCyclic : System → Type 0
-IsCyclic m = (a : ℕ) × IsAbove m a a
-
 -- an interaction may run: it is enabled, and nothing above it is
 pub record MayRun (m : System) (s : State) (a : ℕ) : Type 0 where
   pub enabled : IsEnabled m s a
-  pub clear : (b : ℕ) → IsAbove m a b → ¬ IsEnabled m s b
+  pub clear : (b : ℕ) → IsAbove m.priorities a b → ¬ IsEnabled m s b
 
 -- the lowest-numbered of the interactions above one that are enabled
 pub record IsLowestAbove (m : System) (s : State) (a b : ℕ) : Type 0 where
-  pub above : IsAbove m a b
+  pub above : IsAbove m.priorities a b
   pub enabled : IsEnabled m s b
-  pub lower : (c : ℕ) → c < b → IsAbove m a c → ¬ IsEnabled m s c
+  pub lower : (c : ℕ) → c < b → IsAbove m.priorities a c → ¬ IsEnabled m s c
 
 -- why an interaction may not run, the first that applies: it isn't enabled, or one above it is
 abbrev pub IsHeldBack : System → State → ℕ → NotNow → Type 0
@@ -83,6 +80,40 @@ IsHeldBack m s a (Below b) = IsEnabled m s a × IsLowestAbove m s a b.0
 -- whether an interaction moves a component
 abbrev pub moves : System → ℕ → ℕ → Bool
 moves m a c = list_any (λ (q : Participant). q.0.0 == c) (participants_of m a)
+
+-- an interaction looks at a component: it doesn't move it, and one above it does
+pub record IsLookedAt (m : System) (a c : ℕ) : Type 0 where
+  pub other : moves m a c ≡ false
+  pub higher : ℕ
+  pub above : IsAbove m.priorities a higher
+  pub moved : moves m higher c ≡ true
+
+-- the list of the components that an interaction looks at, in order of their numbers
+pub record IsListLookedAt (m : System) (a : ℕ) (list : List CompId) : Type 0 where
+  pub rising : IsStrictlyIncreasing (map (λ (c : CompId). c.0) list)
+  pub exact : (c : ℕ) → Contains list (record { 0 = c }) ↔ IsLookedAt m a c
+
+-- whether an interaction, with those above it in a list, looks at a component
+abbrev pub looks_at : System → ℕ → List InterId → ℕ → Bool
+looks_at m a above c = not (moves m a c) && list_any (λ (b : InterId). moves m b.0 c) above
+
+-- of so many components those that it looks at, in order of their numbers
+abbrev pub comps_looked_at : System → ℕ → List InterId → ℕ → List CompId
+comps_looked_at m a above count =
+    filter (λ (c : CompId). looks_at m a above c.0)
+    (map (λ c. record { 0 = c }) (range_with_len 0 count))
+
+-- such a list for each interaction in turn
+pub record AreListsLookedAt (m : System) (count : ℕ) (lists : List (List CompId)) : Type 0 where
+  pub each : length lists ≡ count
+  pub list : (a : ℕ) → a < count → IsListLookedAt m a (slice_index_or lists a [])
+
+-- a valid model with its tables: for each interaction those above it, and what it looks at
+pub record AreTables (m : System) (above : List (List InterId)) (looks : List (List CompId))
+    : Type 0 where
+  pub valid : IsSystem m
+  pub lists_above : AreListsAbove m.priorities (length m.interactions) above
+  pub lists_looked_at : AreListsLookedAt m (length m.interactions) looks
 
 -- the place of a component among the participants of an interaction
 abbrev pub place_of : System → ℕ → ℕ → Option ℕ

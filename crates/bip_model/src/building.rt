@@ -3,11 +3,11 @@ ghost use Rattle.std.specs.Prelude.{◌≡◌, ◌<◌, ◌↔◌, length, posit
 ghost use Rattle.std.specs.Prelude.{IfOk, OnErr, OnOk};
 ghost use Rattle.std.specs.Option.{option_map};
 ghost use Rattle.bip_model.specs.Drafts.{component_line, empty_draft, IsEndFault, IsWhole};
-ghost use Rattle.bip_model.specs.Drafts.{end_line, inside, interaction_line};
+ghost use Rattle.bip_model.specs.Drafts.{end_line, inside, interaction_line, priority_line};
 ghost use Rattle.bip_model.specs.Components.{loc_line, port_line, trans_line, var_line};
 ghost use Rattle.bip_model.specs.Naming.{same_text};
 ghost use Rattle.bip_model.specs.Faults.{Answers, new_or_fault};
-ghost use Rattle.bip_model.specs.Steps.{IsCyclic};
+ghost use Rattle.bip_model.specs.Priorities.{IsCyclic};
 ghost use Rattle.bip_model.specs.declared.faults.BuildFault.TheVariants.{Memory};
 
 use crate::drafts::Draft;
@@ -177,19 +177,31 @@ impl Builder {
             .interaction(self.alloc, name, participants, guard, transfer)
     }
 
+    /// `priority LOW < HIGH` puts the second interaction above the first. By the first word from the
+    /// left that is at fault, Unknown: there is no such interaction; then Twice: the pair is
+    /// declared already.
+    pub fn priority(&mut self, low: Name, high: Name) -> Result<(), BuildFault>
+        requires { IsNone self.old.begun }
+        ensures said { Answers Memory (priority_line self.old low high)
+            (new_or_fault result self.new) }
+        ensures err { OnErr result (self.new ≡ self.old) }
+    {
+        self.draft.priority(&low, &high)
+    }
+
     /// The model that the lines have declared. Missing: a component is begun and not ended, or
-    /// there is no component; then PriorityCycle: an interaction stands above itself. It takes no
-    /// memory.
+    /// there is no component; then PriorityCycle: an interaction stands above itself; else the
+    /// model, or Memory.
     pub fn finish(self) -> Result<Model, BuildFault>
         ensures model { IfOk result (λ model. model ≡ self.system) }
         ensures whole { OnOk result (IsWhole self) }
-        ensures acyclic { OnOk result (¬ IsCyclic self.system) }
+        ensures acyclic { OnOk result (¬ IsCyclic self.system.priorities) }
         ensures fault { IfErr result (IsEndFault self) }
     {
-        let Builder { draft, alloc: _ } = self;
+        let Builder { draft, alloc } = self;
         if draft.begun.is_some() || draft.system.components.is_empty() {
             return Err(BuildFault::Missing);
         }
-        Ok(Model::of(draft.system))
+        Model::of(alloc, draft.system)
     }
 }

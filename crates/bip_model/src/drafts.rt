@@ -1,5 +1,5 @@
 //! What the lines of a model's text have said so far, and what one more line says.
-ghost use Rattle.std.specs.Prelude.{◌≡◌, ◌≤◌, ◌==◌, [], false, length, IsSome, IsNone, IfOk, OnErr};
+ghost use Rattle.std.specs.Prelude.{◌≡◌, ◌≤◌, ◌==◌, [], false, length, position, IsSome, IsNone, IfOk, OnErr};
 ghost use Rattle.bip_model.specs.Drafts.{component_line, empty_draft, end_line, interaction_line};
 ghost use Rattle.bip_model.specs.Drafts.{interaction_of, interaction_over, participant_named};
 ghost use Rattle.bip_model.specs.Drafts.{participants_named};
@@ -9,14 +9,17 @@ ghost use Rattle.bip_model.specs.Faults.{Answers, new_or_fault};
 ghost use Rattle.bip_model.specs.declared.faults.BuildFault.TheVariants.{Memory};
 ghost use Rattle.bip_model.specs.declared.parts.TheConstants.{MOST_COMPONENTS};
 ghost use Rattle.bip_model.specs.Parts.{IsSystemSoFar, Participant};
-ghost use Rattle.std.specs.List.{list_any};
+ghost use Rattle.std.specs.List.{list_any, position_or_len};
+ghost use Rattle.bip_model.specs.Drafts.{priority_line, with_priority};
+ghost use Rattle.bip_model.specs.Priorities.{is_before, is_same_pair};
 ghost use Rattle.std.specs.Result.{result_map_both};
 
+use crate::looks::takes_part;
 use crate::parts::{MOST_COMPONENTS, MOST_INTERACTIONS, MOST_PARTICIPANTS, System};
 use crate::scopes::{Scope, are_long_assignments, is_long_guard};
 use crate::{
-    Assignment, BuildFault, CompId, Comparison, Component, Interaction, Name, Names, PortId, Seq,
-    VariableName,
+    Assignment, BuildFault, CompId, Comparison, Component, InterId, Interaction, Name, Names, Pair,
+    PortId, Seq, VariableName,
 };
 use smallvec::SmallVec;
 use std::alloc::{AllocError, Global};
@@ -152,12 +155,45 @@ impl System {
             Ok(()) => self.add_interaction(alloc, name, participants, guard, transfer),
         }
     }
+
+    /// Puts a priority among those that there are, by low, then high number.
+    fn add_priority(&mut self, pair: Pair) -> Result<(), BuildFault>
+        ensures said { Answers Memory (with_priority pair self.old) (new_or_fault result self.new) }
+        ensures err { OnErr result (self.new ≡ self.old) }
+    {
+        if has_pair(self.priorities.as_slice(), pair) {
+            return Err(BuildFault::Twice);
+        }
+        let place = place_for(self.priorities.as_slice(), pair);
+        self.priorities
+            .insert(place, pair)
+            .map_err(|_| BuildFault::Memory)
+    }
 }
 
-fn takes_part(participants: &[(CompId, PortId)], comp: CompId) -> bool
-    ensures { result ≡ list_any (λ (q : Participant). q.0.0 == comp.0) participants.now }
+fn has_pair(pairs: &[Pair], pair: Pair) -> bool
+    ensures { result ≡ list_any (is_same_pair pair) pairs.now }
 {
-    participants.iter().any(|q| q.0 == comp)
+    pairs.iter().any(|p| pair.low == p.low && pair.high == p.high)
+}
+
+/// The place of the first pair that stands behind one; behind all where there is none.
+fn place_for(pairs: &[Pair], pair: Pair) -> usize
+    ensures { result ≡ position_or_len (is_before pair) pairs.now }
+{
+    first_behind(pairs, pair).unwrap_or(pairs.len())
+}
+
+fn first_behind(pairs: &[Pair], pair: Pair) -> Option<usize>
+    ensures { result ≡ position (is_before pair) pairs.now }
+{
+    pairs.iter().position(|p| is_before(pair, *p))
+}
+
+fn is_before(pair: Pair, other: Pair) -> bool
+    ensures { result ≡ is_before pair other }
+{
+    pair.low.0 < other.low.0 || (pair.low == other.low && pair.high.0 < other.high.0)
 }
 
 impl Draft {
@@ -171,6 +207,7 @@ impl Draft {
                 components: Seq::of(Vec::new(alloc)),
                 interaction_names: Names::new(alloc),
                 interactions: Seq::of(Vec::new(alloc)),
+                priorities: Seq::of(Vec::new(alloc)),
             },
             begun: None,
         }
@@ -244,5 +281,24 @@ impl Draft {
                 .system
                 .add_named_interaction(alloc, name, participants.as_slice(), guard, transfer),
         }
+    }
+
+    /// `priority LOW < HIGH`
+    pub(crate) fn priority(&mut self, low: &Name, high: &Name) -> Result<(), BuildFault>
+        requires { IsSystemSoFar self.old.system }
+        ensures said { Answers Memory (priority_line self.old low.now high.now)
+            (new_or_fault result self.new) }
+        ensures err { OnErr result (self.new ≡ self.old) }
+    {
+        let Some(low) = self.system.interaction_names.number_of(low) else {
+            return Err(BuildFault::Unknown);
+        };
+        let Some(high) = self.system.interaction_names.number_of(high) else {
+            return Err(BuildFault::Unknown);
+        };
+        self.system.add_priority(Pair {
+            low: InterId(low as u16),
+            high: InterId(high as u16),
+        })
     }
 }

@@ -2,13 +2,14 @@
 //! nothing, and has the laws for its contract.
 ghost use Rattle.std.specs.Prelude.{◌≡◌, ℕ, ◌↔◌, List, [], ◌∷◌, ◌++◌, Ok, IsNone};
 ghost use Rattle.bip_model.specs.Drafts.{component_line, end_line, inside, interaction_line};
+ghost use Rattle.bip_model.specs.Drafts.{priority_line};
 ghost use Rattle.bip_model.specs.Components.{loc_line, port_line, trans_line, var_line};
 ghost use Rattle.bip_model.specs.Laws.{KeepsDraft, Commute, EnabledWhereAllCanGo, EndsAfterItsLast};
 ghost use Rattle.bip_model.specs.Laws.{GoesOnByWhatMayRun, IsLocal, OneTransition, OthersStay};
 ghost use Rattle.bip_model.specs.Laws.{ParticipantsGo, StatesLeadToStates, HistoryGoesOn};
 ghost use Rattle.bip_model.specs.Laws.{IsInOrder, MovedIsWanted, NamesInAnyOrder};
 ghost use Rattle.bip_model.specs.Laws.{SumsAreIntegers, TransfersAtOnce, TransfersInAnyOrder};
-ghost use Rattle.bip_model.specs.Laws.{AboveGoesOn, SomethingStandsFree, UpdatesInOrder};
+ghost use Rattle.bip_model.specs.Laws.{AboveGoesOn, MayRunIsLocal, SomethingMayRun, UpdatesInOrder};
 ghost use Rattle.bip_model.specs.Laws.{NamesParticipants, PartsOrMisplaces, UsedGoesOn};
 ghost use Rattle.bip_model.specs.Grants.{IsGreatestUsed, IsHistory, MovesOnceEach, used_by};
 ghost use Rattle.bip_model.specs.Parts.{IsSystem};
@@ -45,11 +46,13 @@ pub fn step_laws()
     ensures run { (m : System) → GoesOnByWhatMayRun m }
 {}
 
-/// What priorities mean: what stands above goes on from pair to pair, and where nothing stands above
-/// itself, they never hold everything back (docs/DEFINITIONS.md, "Priorities").
+/// What priorities mean: what stands above goes on from pair to pair; where something is enabled
+/// something may run; and whether an interaction may run depends on what it moves and looks at alone
+/// (docs/DEFINITIONS.md, "Priorities").
 pub fn priority_laws()
     ensures above { AboveGoesOn }
-    ensures free { SomethingStandsFree }
+    ensures something { (m : System) → IsSystem m → SomethingMayRun m }
+    ensures local { (m : System) → MayRunIsLocal m }
 {}
 
 /// A line that is taken keeps all that earlier lines said: names, components, interactions, and
@@ -72,6 +75,8 @@ pub fn builder_laws()
         (guard : List (Comparison VariableName)) (transfer : List (Assignment VariableName))
         → IsNone d.begun
         → interaction_line d name words guard transfer ≡ Ok e → KeepsDraft d e }
+    ensures priority { (d e : Draft) (low high : List ℕ) → IsNone d.begun
+        → priority_line d low high ≡ Ok e → KeepsDraft d e }
     ensures participants { NamesParticipants }
     ensures any_order { NamesInAnyOrder }
 {}

@@ -9,6 +9,7 @@ mod expressions;
 mod faults;
 mod grants;
 mod laws;
+mod looks;
 mod messages;
 mod models;
 mod naming;

@@ -1,11 +1,13 @@
 //! Models, and what can be read of them without memory.
-ghost use Rattle.std.specs.Prelude.{◌≡◌, ◌<◌, length, map, slice_get, option_copied, position};
+ghost use Rattle.std.specs.Prelude.{◌≡◌, ◌<◌, length, position, IfErr, IfOk, OnOk};
 ghost use Rattle.std.specs.List.Sorted.{IsStrictlyIncreasing};
 ghost use Rattle.std.specs.Option.{option_map};
 ghost use Rattle.bip_model.specs.Naming.{same_text};
 
 use crate::parts::System;
-use crate::{CompId, Component, InterId, Interaction, LocId, Name, PortId};
+use crate::priorities::{is_cyclic, lists_above};
+use crate::{BuildFault, CompId, Component, InterId, Interaction, LocId, Name, Pair, PortId, Seq};
+use std::alloc::Global;
 use std::marker;
 
 /// A model: components that move together by interactions. It is always valid
@@ -13,29 +15,78 @@ use std::marker;
 #[derive(Drop)]
 pub struct Model {
     system: System,
+    above: Seq<Seq<InterId>>,
+    looks: Seq<Seq<CompId>>,
 }
 
 impl marker::Model for Model {
     ghost use Rattle.bip_model.specs.declared.parts.System.{System};
-    ghost use Rattle.bip_model.specs.Parts.{IsSystem};
+    ghost use Rattle.bip_model.specs.Steps.{AreTables};
 
     ghost Value = { System };
 
     ghost view = { λ m. m.system };
 
-    ghost invariant = { λ m. IsSystem m.system };
+    ghost invariant = { λ m. AreTables m.system m.above m.looks };
 }
 
 impl Model {
-    ghost use Rattle.bip_model.specs.Parts.{IsSystem, components_in};
-    ghost use Rattle.bip_model.specs.Steps.{participants_of};
+    ghost use Rattle.bip_model.specs.Drafts.{IsCycleFault};
+    ghost use Rattle.bip_model.specs.Parts.{IsSystem, IsWholeSystem, components_in};
+    ghost use Rattle.bip_model.specs.Priorities.{IsCyclic, IsListAbove};
+    ghost use Rattle.bip_model.specs.Steps.{IsListLookedAt, participants_of};
 
-    /// The model that declares all this.
-    pub(crate) fn of(system: System) -> Model
-        requires { IsSystem system }
-        ensures { result ≡ system }
+    /// The model that declares all this. PriorityCycle: an interaction stands above itself; else
+    /// the model, or Memory.
+    pub(crate) fn of(alloc: Global, system: System) -> Result<Model, BuildFault>
+        requires { IsWholeSystem system }
+        ensures model { IfOk result (λ model. model ≡ system) }
+        ensures acyclic { OnOk result (¬ IsCyclic system.priorities) }
+        ensures fault { IfErr result (IsCycleFault system) }
     {
-        Model { system }
+        let pairs = system.priorities.as_slice();
+        let count = system.interactions.len() as u16;
+        if is_cyclic(count, pairs) {
+            return Err(BuildFault::PriorityCycle);
+        }
+        let Ok(above) = lists_above(alloc, count, pairs) else {
+            return Err(BuildFault::Memory);
+        };
+        let Ok(looks) = system.lists_looked_at(alloc, above.as_slice()) else {
+            return Err(BuildFault::Memory);
+        };
+        Ok(Model {
+            system,
+            above,
+            looks,
+        })
+    }
+
+    /// The interactions above one, in order of their numbers.
+    pub fn above(&self, inter: InterId) -> &[InterId]
+        requires { inter.0 < length self.now.interactions }
+        ensures above { IsListAbove self.now.priorities inter.0 result.now }
+        ensures valid { IsSystem self.now }
+    {
+        self.above.as_slice()[inter.0 as usize].as_slice()
+    }
+
+    /// The components that an interaction looks at, in order of their numbers: those that one above
+    /// it moves, and it doesn't.
+    pub fn looks(&self, inter: InterId) -> &[CompId]
+        requires { inter.0 < length self.now.interactions }
+        ensures looks { IsListLookedAt self.now inter.0 result.now }
+        ensures valid { IsSystem self.now }
+    {
+        self.looks.as_slice()[inter.0 as usize].as_slice()
+    }
+
+    /// The declared priorities, by low, then high number.
+    pub fn priorities(&self) -> &[Pair]
+        ensures priorities { result.now ≡ self.now.priorities }
+        ensures valid { IsSystem self.now }
+    {
+        self.system.priorities.as_slice()
     }
 
     /// What the components declare, in order of their numbers.

@@ -60,11 +60,12 @@ pub struct Pair {
 }
 
 /// All that a model declares. A name's place in its list is the number of the component or
-/// interaction.
+/// interaction. Priorities stand by low, then high number.
 #[derive(Drop)]
 pub struct System {
     pub component_names: Names,
     pub components: Seq<Component>,
     pub interaction_names: Names,
     pub interactions: Seq<Interaction>,
+    pub priorities: Seq<Pair>,
 }

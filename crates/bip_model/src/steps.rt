@@ -1,6 +1,6 @@
 //! The steps of a model: what is enabled in a state, and where an interaction leads.
 ghost use Rattle.std.specs.Prelude.{◌≡◌, ◌<◌, ◌≤◌, ◌↔◌, ℕ, IsTrue, length, map, take, slice_get};
-ghost use Rattle.std.specs.Prelude.{◌==◌, if◌then◌else◌, true, IfOk, IfSome, OnOk, OnErr, IfErr};
+ghost use Rattle.std.specs.Prelude.{◌==◌, if◌then◌else◌, true, IfNone, IfOk, IfSome, OnOk, OnErr, IfErr};
 ghost use Rattle.std.specs.List.Sorted.{IsStrictlyIncreasing};
 ghost use Rattle.std.specs.List.{list_all};
 ghost use Rattle.std.specs.Option.{option_map};
@@ -8,8 +8,9 @@ ghost use Rattle.bip_model.specs.Components.{AreOffered, moved};
 ghost use Rattle.bip_model.specs.Expressions.{AreAssignmentsIn, counts, holds, transferred};
 ghost use Rattle.bip_model.specs.Parts.{IsInteraction, IsSystem, components_in, count_of};
 ghost use Rattle.bip_model.specs.Parts.{counts_of};
+ghost use Rattle.bip_model.specs.Priorities.{IsAbove, IsListAbove};
 ghost use Rattle.bip_model.specs.States.{IsLocalStateOf, IsStateOf, local_of, state_of};
-ghost use Rattle.bip_model.specs.Steps.{IsEnabled, IsHeldBack, MayRun, after, guard_of, led};
+ghost use Rattle.bip_model.specs.Steps.{IsEnabled, IsHeldBack, IsLowestAbove, MayRun, after, guard_of, led};
 ghost use Rattle.bip_model.specs.Steps.{led_all, offered, participants_of, start_of, transfer_of};
 ghost use Rattle.bip_model.specs.Steps.{told_all, transition_of, values_at};
 
@@ -50,6 +51,13 @@ impl Model {
         ensures start { IfOk result (λ state. state_of state ≡ start_of self.now) }
         ensures of_model { IfOk result (λ state. IsStateOf self.now (state_of state)) }
     {
+        let _valid = self.components();
+        self.first_state(alloc)
+    }
+
+    fn first_state(&self, alloc: Global) -> Result<State, AllocError>
+        ensures { IfOk result (λ state. state_of state ≡ start_of self.now) }
+    {
         let locals = self
             .components()
             .iter()
@@ -76,6 +84,35 @@ impl Model {
         }
     }
 
+    /// The lowest-numbered of the interactions above one that are enabled in a state; none where
+    /// none is, or the model has no such interaction. It doesn't ask whether that one is enabled.
+    pub fn blocked_by(&self, state: &State, inter: InterId) -> Option<InterId>
+        ensures some { IfSome result (λ b.
+            IsLowestAbove self.now (state_of state.now) inter.0 b.0) }
+        ensures none { IfNone result ((b : ℕ) → IsAbove self.now.priorities inter.0 b
+            → ¬ IsEnabled self.now (state_of state.now) b) }
+    {
+        if inter.0 as usize >= self.interactions().len() {
+            return None;
+        }
+        self.first_enabled(state, inter, self.above(inter))
+    }
+
+    fn first_enabled(&self, state: &State, inter: InterId, above: &[InterId]) -> Option<InterId>
+        requires { IsListAbove self.now.priorities inter.0 above.now }
+        ensures some { IfSome result (λ b.
+            IsLowestAbove self.now (state_of state.now) inter.0 b.0) }
+        ensures none { IfNone result ((b : ℕ) → IsAbove self.now.priorities inter.0 b
+            → ¬ IsEnabled self.now (state_of state.now) b) }
+    {
+        for higher in above {
+            if self.enabled(state, *higher) {
+                return Some(*higher);
+            }
+        }
+        None
+    }
+
     /// Runs an interaction that may run: its transfer is done, each participant goes where its
     /// transition leads and does its update, and all others stay; a state of the model stays one.
     /// Else the first cause is told, in the order not enabled, below, and the state stays as it was
@@ -91,6 +128,9 @@ impl Model {
     {
         if !self.enabled(state, inter) {
             return Err(NotNow::NotEnabled);
+        }
+        if let Some(higher) = self.blocked_by(state, inter) {
+            return Err(NotNow::Below(higher));
         }
         self.run(state, inter);
         Ok(())

@@ -1,7 +1,7 @@
 use Rattle.std.proofs.Common.{arith}
 use Rattle.std.proofs.lemmas.Grind.{common_steps}
 use Rattle.bip_model.specs.Components.{loc_line, port_line, trans_line, var_line}
-use Rattle.bip_model.proofs.GrowthLemmas.{inside_grows, loc_grows, port_grows, trans_grows, var_grows}
+use Rattle.bip_model.proofs.GrowthLemmas.{inside_grows, loc_grows, port_grows, priority_grows, trans_grows, var_grows}
 use Rattle.bip_model.proofs.ParticipantLemmas.{names_in_any_order, names_participants}
 use Rattle.bip_model.proofs.laws.builder_laws.Goals as goal
 
@@ -14,6 +14,7 @@ returns c = record {
   trans = λ d e port source target guard update. inside_grows (trans_line port source target guard update) (trans_grows port source target guard update) d e;
   end = grind (arith, common_steps);
   interaction = grind (arith, common_steps);
+  priority = priority_grows;
   participants = names_participants;
   any_order = names_in_any_order;
 }
