@@ -18,6 +18,9 @@ use Rattle.bip_model.specs.Steps.{AreListsLookedAt, IsListLookedAt, comps_looked
 use Rattle.bip_model.specs.declared.numbering.CompId.{CompId}
 use Rattle.bip_model.specs.declared.parts.System.{System}
 use Rattle.bip_model.proofs.LookLemmas.{looked_at, looked_known, looks_where}
+use Rattle.std.proofs.Common.{false}
+use Rattle.std.proofs.lemmas.Bool.{false≢true}
+use Rattle.bip_model.proofs.ClimbLemmas.{Decided, IsAbove-decided}
 use Rattle.bip_model.proofs.AboveLemmas.{IsAbove-high}
 use Rattle.bip_model.proofs.ListLemmas.{Contains-filter}
 
@@ -60,14 +63,17 @@ module _ {X : Type 0} (number : X → ℕ) (make : ℕ → X) (same : (n : ℕ) 
       rw (same b) at (All-contains (λ (x : X). test (number x) ≡ true) (kept count) (make b) (filter_passes (λ (x : X). test (number x)) (map make (range_with_len 0 count))) at)
 
 -- the inters_in of the set of all above an interaction
-pub list-above : (pairs : List Pair) (count a set : ℕ) → All (IsPairOf count) pairs → ((b : ℕ) → (has set b ≡ true) ↔ IsAbove pairs a b) → IsListAbove pairs a (inters_in count set)
-list-above pairs count a set known above = record {
-  rising = kept-rises (λ (b : InterId). b.0) inter (λ n. refl) (has set) count;
+list_by : (pairs : List Pair) (count a : ℕ) (test : ℕ → Bool) → All (IsPairOf count) pairs → ((b : ℕ) → (test b ≡ true) ↔ IsAbove pairs a b) → IsListAbove pairs a (kept (λ (b : InterId). b.0) inter (λ n. refl) test count)
+list_by pairs count a test known above = record {
+  rising = kept-rises (λ (b : InterId). b.0) inter (λ n. refl) test count;
   exact = λ b. (
-    λ at. (above b).0 (kept_passes (λ (x : InterId). x.0) inter (λ n. refl) (has set) count b at),
-    λ up. is_kept (λ (x : InterId). x.0) inter (λ n. refl) (has set) count b (IsAbove-high count pairs a b known up) ((above b).1 up),
+    λ at. (above b).0 (kept_passes (λ (x : InterId). x.0) inter (λ n. refl) test count b at),
+    λ up. is_kept (λ (x : InterId). x.0) inter (λ n. refl) test count b (IsAbove-high count pairs a b known up) ((above b).1 up),
   );
 }
+
+pub list-above : (pairs : List Pair) (count a set : ℕ) → All (IsPairOf count) pairs → ((b : ℕ) → (has set b ≡ true) ↔ IsAbove pairs a b) → IsListAbove pairs a (inters_in count set)
+list-above pairs count a set known above = list_by pairs count a (has set) known above
 
 -- the components that are kept are those that an interaction looks at
 pub list_looked_at : (m : System) (a : ℕ) (above : List InterId) → IsSystemSoFar m → IsListAbove m.priorities a above → IsListLookedAt m a (comps_looked_at m a above (length m.components))
@@ -78,6 +84,21 @@ list_looked_at m a above valid list = record {
     λ is. is_kept (λ (x : CompId). x.0) (λ n. record { 0 = n }) (λ n. refl) (looks_at m a above) (length m.components) c (looked_known m a c valid is) (looks_where m a c above list is),
   );
 }
+
+-- as a test, what holds or doesn't
+abbrev tested : {P : Type 0} → Decided P → Bool
+tested (inl holds) = true
+tested (inr fails) = false
+
+tested_is : {P : Type 0} (d : Decided P) → (tested d ≡ true) ↔ P
+tested_is (inl holds) = (λ _. holds, λ _. refl)
+tested_is (inr fails) = (λ e. absurd (false≢true e), λ holds. absurd (fails holds))
+
+-- what an interaction looks at can be listed
+pub looks_listed : (m : System) (a : ℕ) → IsSystemSoFar m → (looks : List CompId) × IsListLookedAt m a looks
+looks_listed m a valid =
+    let above = list_by m.priorities (length m.interactions) a (λ b. tested (IsAbove-decided m.priorities a b)) valid.priorities (λ b. tested_is (IsAbove-decided m.priorities a b)) in
+    (_, list_looked_at m a _ valid above)
 
 -- one more list
 pub AreListsLookedAt-more : (m : System) (n : ℕ) (lists : List (List CompId)) (list : List CompId) → AreListsLookedAt m n lists → IsListLookedAt m n list → AreListsLookedAt m (n + 1) (lists ++ list ∷ [])

@@ -108,3 +108,27 @@ pub highest : (pairs : List Pair) → ¬ IsCyclic pairs → (P : ℕ → Type 0)
 highest pairs acyclic P test a here =
     let (m, here', quiet) = climb pairs acyclic P test a here pairs in
     (m, here', λ b up. All-contains (IsQuiet pairs P m) pairs _ quiet (IsAbove-last up).1 up)
+
+-- what stands below something is the first of a pair
+IsAbove-first : {pairs : List Pair} {a b : ℕ} → IsAbove pairs a b → (x : ℕ) × Contains pairs (pair a x)
+IsAbove-first {b = b} (declared at) = (b, at)
+IsAbove-first (through {b = x} at rest) = (x, at)
+
+-- the first interaction of a pair doesn't stand above itself
+abbrev IsStraight : List Pair → Pair → Type 0
+IsStraight pairs p = ¬ IsAbove pairs p.low.0 p.low.0
+
+straight : (pairs some : List Pair) → IsCyclic pairs ⊎ All (IsStraight pairs) some
+straight pairs [] = inr (All-nil (IsStraight pairs))
+straight pairs (p ∷ some) =
+    elim (IsAbove-decided pairs p.low.0 p.low.0) [
+      | inl round ↦ inl (p.low.0, round)
+      | inr ends ↦ elim (straight pairs some) [ inl cyclic ↦ inl cyclic | inr rest ↦ inr (All-cons (IsStraight pairs) p some ends rest) ]
+    ]
+
+-- pairs are cyclic, or they aren't
+pub cyclic_or_not : (pairs : List Pair) → Decided (IsCyclic pairs)
+cyclic_or_not pairs = elim (straight pairs pairs) [
+  | inl cyclic ↦ inl cyclic
+  | inr all ↦ inr (λ cyclic. All-contains (IsStraight pairs) pairs _ all (IsAbove-first cyclic.1).1 cyclic.1)
+]

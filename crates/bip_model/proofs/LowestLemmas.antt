@@ -1,5 +1,5 @@
 -- The first enabled interaction of a row is the lowest.
-use Rattle.std.proofs.Common.{◌≡◌, ℕ, ◌<◌, List, length, map, get_or, ap, ◌∙◌, inl, inr, arith}
+use Rattle.std.proofs.Common.{◌≡◌, ℕ, ◌<◌, List, length, map, get_or, ap, ◌∙◌, inl, inr, arith, ◌⊎◌, subst, zero, suc}
 use Rattle.std.specs.Prelude.{Contains}
 use Rattle.std.specs.List.Sorted.{IsStrictlyIncreasing}
 use Rattle.std.proofs.lemmas.Bool.{cases_lt}
@@ -8,7 +8,9 @@ use Rattle.std.proofs.lemmas.List.Kept.{AllPairs-from_increasing}
 use Rattle.bip_model.specs.declared.numbering.InterId.{InterId}
 use Rattle.bip_model.specs.declared.parts.System.{System}
 use Rattle.bip_model.specs.Priorities.{IsAbove, IsListAbove}
-use Rattle.bip_model.specs.Steps.{IsEnabled, IsLowestAbove}
+use Rattle.bip_model.proofs.ClimbLemmas.{IsAbove-decided}
+use Rattle.bip_model.proofs.StepLemmas.{enabled_or_not}
+use Rattle.bip_model.specs.Steps.{IsEnabled, IsLowestAbove, MayRun}
 use Rattle.bip_model.specs.States.{State}
 
 -- the numbers of a row rise
@@ -44,3 +46,28 @@ lowest_above m s a row i d is within enabled earlier = record {
                 | inr same ↦ let e : k ≡ i = omega arith in absurd (omega (arith, at, ap (λ j. (get_or row j d).0) e))
               ]
         ]
+
+-- the lowest of those above one that are enabled, below a bound, or none
+lowest_below : (m : System) (s : State) (a n : ℕ) → ((c : ℕ) → c < n → IsAbove m.priorities a c → ¬ IsEnabled m s c) ⊎ ((b : ℕ) × IsLowestAbove m s a b)
+lowest_below m s a zero = inl (λ c below. absurd (omega (arith, below)))
+lowest_below m s a (suc n) =
+    elim (lowest_below m s a n) [
+      | inr found ↦ inr found
+      | inl none ↦
+          elim (IsAbove-decided m.priorities a n) [
+            | inr apart ↦ inl (λ c below above. elim (cases_lt c n) [ inl less ↦ none c less above | inr past ↦ absurd (apart (subst (IsAbove m.priorities a) (omega arith) above)) ])
+            | inl up ↦
+                elim (enabled_or_not m s n) [
+                  | inl on ↦ inr (n, record { above = up; enabled = on; lower = none })
+                  | inr off ↦ inl (λ c below above. elim (cases_lt c n) [ inl less ↦ none c less above | inr past ↦ λ enabled. off (subst (IsEnabled m s) (omega arith) enabled) ])
+                ]
+          ]
+    ]
+
+-- what is enabled may run, or one above it is enabled
+pub may_or_below : (m : System) (s : State) (a : ℕ) → IsEnabled m s a → MayRun m s a ⊎ ((b : ℕ) × IsLowestAbove m s a b)
+may_or_below m s a enabled =
+    elim (lowest_below m s a (length m.interactions)) [
+      | inr found ↦ inr found
+      | inl none ↦ inl (record { enabled = enabled; clear = λ b above on. none b on.declared above on })
+    ]

@@ -5,7 +5,9 @@ use Rattle.std.specs.Prelude.{◌⊎◌, All, is_some}
 use Rattle.std.specs.List.{list_all}
 use Rattle.std.specs.Option.{IsSomeAnd}
 use Rattle.std.proofs.lemmas.Bool.Decides.{Decides-and, Decides-by_and, Decides-ltb, not_from_Decides}
+use Rattle.bip_model.proofs.ClimbLemmas.{cyclic_or_not}
 use Rattle.bip_model.proofs.PartitionLemmas.{parts_or_misplaces}
+use Rattle.bip_model.specs.Priorities.{IsCyclic}
 use Rattle.bip_model.specs.Drafts.{IsWhole}
 use Rattle.bip_model.specs.Laws.{IsMisplaced, times_parted}
 use Rattle.bip_model.specs.Naming.{AreApart, is_known}
@@ -18,7 +20,7 @@ use Rattle.bip_reader.specs.Laws.{HasMeaning, MeaningOrFault}
 use Rattle.bip_reader.specs.Reading.{ClassList}
 use Rattle.bip_reader.specs.Texts.{HasFault, IsParted, IsWholeReading, classes_of, reading_of, system_of}
 use Rattle.bip_reader.specs.declared.faults.ReadFault.{ReadFault}
-use Rattle.bip_reader.specs.declared.faults.Why.TheVariants.{Missing, NotAPartition}
+use Rattle.bip_reader.specs.declared.faults.Why.TheVariants.{Missing, NotAPartition, PriorityCycle}
 use Rattle.bip_reader.specs.declared.reading.Reading.{Reading}
 
 -- it holds, or it doesn't
@@ -72,21 +74,23 @@ is_whole (Some d) =
     ]
 
 -- what lines without a fault declare, or lack
-ends : (text : List ℕ) (r : Reading) → reading_of text ≡ Ok r → Decided (IsWholeReading r) → Decided (IsParted (system_of r) r.classes)
+ends : (text : List ℕ) (r : Reading) → reading_of text ≡ Ok r → Decided (IsWholeReading r) → Decided (IsCyclic (system_of r).priorities) → Decided (IsParted (system_of r) r.classes)
     → HasMeaning text ⊎ ((fault : ReadFault) × HasFault text fault)
-ends text r said (inr fails) parted =
+ends text r said (inr fails) cyclic parted =
     inr (record { line = last_line text; why = Missing }, inr (record { read = r; said = said; at_end = fails; last = refl }))
-ends text r said (inl whole) (inr fails) =
-    inr (record { line = last_line text; why = NotAPartition }, inr (record { read = r; said = said; at_end = (whole, λ cyclic. cyclic.1, fails); last = refl }))
-ends text r said (inl whole) (inl parted) =
+ends text r said (inl whole) (inl cyclic) parted =
+    inr (record { line = last_line text; why = PriorityCycle }, inr (record { read = r; said = said; at_end = (whole, cyclic); last = refl }))
+ends text r said (inl whole) (inr acyclic) (inr fails) =
+    inr (record { line = last_line text; why = NotAPartition }, inr (record { read = r; said = said; at_end = (whole, acyclic, fails); last = refl }))
+ends text r said (inl whole) (inr acyclic) (inl parted) =
     inl (
       system_of r,
       classes_of (system_of r) r.classes,
-      record { read = r; said = said; declares = record { whole = whole; model = refl; acyclic = λ cyclic. cyclic.1; parted = parted; ordered = refl } },
+      record { read = r; said = said; declares = record { whole = whole; model = refl; acyclic = acyclic; parted = parted; ordered = refl } },
     )
 
 by_lines : (text : List ℕ) (said : Result Reading ReadFault) → reading_of text ≡ said → HasMeaning text ⊎ ((fault : ReadFault) × HasFault text fault)
-by_lines text (Ok r) e = ends text r e (is_whole r.builder) (is_parted (system_of r) r.classes)
+by_lines text (Ok r) e = ends text r e (is_whole r.builder) (cyclic_or_not (system_of r).priorities) (is_parted (system_of r) r.classes)
 by_lines text (Err fault) e = inr (fault, inl e)
 
 pub meaning_or_fault : MeaningOrFault

@@ -7,7 +7,7 @@ use Rattle.std.proofs.lemmas.List.Sums.{sum-map}
 use Rattle.std.proofs.lemmas.Simd.{map-map}
 use Rattle.bip_model.specs.Naming.{AreApart}
 use Rattle.bip_model.specs.Partitions.{IsPartition, in_order, times_in}
-use Rattle.bip_model.specs.Steps.{IsCyclic}
+use Rattle.bip_model.specs.Priorities.{IsCyclic}
 use Rattle.bip_model.specs.declared.faults.ClassFault.{ClassFault}
 use Rattle.bip_model.specs.declared.faults.ClassFault.TheVariants as class_fault
 use Rattle.bip_model.specs.declared.numbering.InterId.{InterId}
@@ -55,7 +55,7 @@ module _ {C : Type 0} (v : C → List ℕ × List InterId) (m : System) (cs : Li
   made classes count names members = simp map-map (rw (← members, ← names, ← count) refl)
 
 -- the lists that a whole reading has are no partition
-pub unparted : (r : Reading) (m : System) (listed : ClassList) (why : Why) → m ≡ system_of r → listed ≡ r.classes → IsWholeReading r → ¬ IsCyclic (system_of r)
+pub unparted : (r : Reading) (m : System) (listed : ClassList) (why : Why) → m ≡ system_of r → listed ≡ r.classes → IsWholeReading r → ¬ IsCyclic (system_of r).priorities
     → (why ≡ NotAPartition) × ¬ IsParted m listed → IsFaultAtEnd r why
 unparted r m listed why is_model is_listed whole acyclic h = rw h.0 (whole, acyclic, rw (← is_model, ← is_listed) h.1)
 

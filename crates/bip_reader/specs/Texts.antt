@@ -5,7 +5,7 @@ use Rattle.std.specs.Prelude.{Err, IsOk}
 use Rattle.std.specs.Option.{IsSomeAnd}
 use Rattle.bip_model.specs.Drafts.{IsWhole}
 use Rattle.bip_model.specs.Partitions.{IsPartition, in_order}
-use Rattle.bip_model.specs.Steps.{IsCyclic}
+use Rattle.bip_model.specs.Priorities.{IsCyclic}
 use Rattle.bip_model.specs.Texts.{last_line, lines}
 use Rattle.bip_model.specs.declared.numbering.InterId.{InterId}
 use Rattle.bip_model.specs.declared.partitions.Partition.{Partition}
@@ -47,7 +47,7 @@ classes_of m list = record {
 pub record Declares (r : Reading) (m : System) (classes : Partition) : Type 0 where
   pub whole : IsWholeReading r
   pub model : m ≡ system_of r
-  pub acyclic : ¬ IsCyclic (system_of r)
+  pub acyclic : ¬ IsCyclic (system_of r).priorities
   pub parted : IsParted (system_of r) r.classes
   pub ordered : classes ≡ classes_of (system_of r) r.classes
 
@@ -61,9 +61,9 @@ pub record Means (text : List ℕ) (m : System) (classes : Partition) : Type 0 w
 -- interaction stands above itself, or the lists don't part the interactions
 abbrev pub IsFaultAtEnd : Reading → Why → Type 0
 IsFaultAtEnd r Missing = ¬ IsWholeReading r
-IsFaultAtEnd r PriorityCycle = IsWholeReading r × IsCyclic (system_of r)
+IsFaultAtEnd r PriorityCycle = IsWholeReading r × IsCyclic (system_of r).priorities
 IsFaultAtEnd r NotAPartition =
-    IsWholeReading r × (¬ IsCyclic (system_of r)) × (¬ IsParted (system_of r) r.classes)
+    IsWholeReading r × (¬ IsCyclic (system_of r).priorities) × (¬ IsParted (system_of r) r.classes)
 IsFaultAtEnd r why = ⊥
 
 -- the lines of a text have no fault, and what they declare has one, which is told of the last line

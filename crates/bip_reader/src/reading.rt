@@ -5,7 +5,7 @@ ghost use Rattle.std.specs.List.{list_any};
 ghost use Rattle.std.specs.Option.{ok_or};
 ghost use Rattle.bip_model.specs.Naming.{same_text};
 ghost use Rattle.bip_model.specs.Faults.{Answers, new_or_fault};
-ghost use Rattle.bip_model.specs.Steps.{IsCyclic};
+ghost use Rattle.bip_model.specs.Priorities.{IsCyclic};
 ghost use Rattle.bip_model.specs.Texts.{words};
 ghost use Rattle.bip_model.specs.declared.faults.BuildFault.TheVariants as build_fault;
 ghost use Rattle.bip_reader.specs.declared.faults.Why.{Why};
@@ -223,8 +223,8 @@ impl Reading {
         ensures model { IfOk result (λ read. read.0 ≡ system_of self) }
         ensures classes { IfOk result (λ read. read.1 ≡ self.classes) }
         ensures whole { OnOk result (IsWholeReading self) }
-        ensures acyclic { OnOk result (¬ IsCyclic (system_of self)) }
-        ensures fault { IfErr result (IsFaultAtEnd self) }
+        ensures acyclic { OnOk result (¬ IsCyclic (system_of self).priorities) }
+        ensures fault { IfErr result (λ why. why ≢ Memory → IsFaultAtEnd self why) }
     {
         let Reading { builder, classes } = self;
         let Some(builder) = builder else {

@@ -1,48 +1,43 @@
 -- Faults and parties: what the tests of a grant say.
-use Rattle.std.proofs.Common.{◌≡◌, ℕ, ◌<◌, ◌≤◌, Bool, true, false, eqb, List, [], ◌∷◌, length, map, get_or, refl, sym, ap, ◌∙◌, arith, zip, ◌⊎◌, inl, inr, ◌&&◌, None, Some, find}
+use Rattle.std.proofs.Common.{◌≡◌, ℕ, ◌<◌, Bool, true, false, eqb, List, length, get_or, refl, sym, ◌∙◌, arith, ◌⊎◌, inl, inr, ◌&&◌, None, Some, find}
 use Rattle.std.specs.Prelude.{◌↔◌, All, Contains, slice_get}
-use Rattle.std.specs.List.{AllByRecursion, list_all, list_any, zip, position_or_len}
+use Rattle.std.specs.List.{list_all, list_any, position_or_len}
 use Rattle.std.specs.List.Sorted.{IsStrictlyIncreasing}
 use Rattle.std.proofs.lemmas.Bool.{cases_order, lt-ltb}
-use Rattle.std.proofs.lemmas.List.Elements.{All-cons, All-head, All-nil, All-tail, Contains-get_or}
+use Rattle.std.proofs.lemmas.List.Elements.{Contains-get_or}
 use Rattle.std.proofs.lemmas.List.Folds.{Any-from_list_any, list_any-from_Any, find_at}
 use Rattle.std.proofs.lemmas.List.Quantifiers.{position-Some}
 use Rattle.std.proofs.lemmas.List.Sums.{fails_before_first}
-use Rattle.std.proofs.lemmas.Option.{get_or_from_slice_get, slice_get-get_or, slice_get_cases, slice_get_within}
-use Rattle.bip_model.proofs.NumberingLemmas.{Rises, rises_from_increasing}
+use Rattle.std.proofs.lemmas.Option.{get_or_from_slice_get, slice_get-get_or, slice_get_within}
 use Rattle.bip_model.specs.declared.wants.Role.{Role}
 use Rattle.bip_model.specs.declared.wants.Role.TheVariants.{Moved, Seen}
 use Rattle.bip_model.specs.declared.wants.Want.{Want}
-use Rattle.bip_model.specs.Parts.{Participant, components_in, IsInteraction, IsSystem}
+use Rattle.bip_model.specs.Parts.{Participant, IsSystem}
 use Rattle.bip_model.specs.Wants.{components_of, is_moved}
-use Rattle.bip_model.proofs.ListLemmas.{All-slice_get, below_later}
+use Rattle.bip_model.proofs.ListLemmas.{below_later}
 use Rattle.bip_model.specs.declared.grants.Grant.{Grant}
 use Rattle.bip_model.specs.declared.parts.System.{System}
 use Rattle.bip_model.specs.States.{State}
-use Rattle.bip_model.specs.Steps.{IsEnabled, MayRun, participants_of}
-use Rattle.bip_replay.specs.Runs.{is_party, IsWanted, is_wrong, HasItsParties, HasNextNumber, IsNext}
+use Rattle.bip_model.specs.Steps.{MayRun, participants_of}
+use Rattle.std.proofs.Common.{eq-eqb, eqb-true, not, subst}
+use Rattle.std.proofs.lemmas.Bool.{and_parts, false≢true}
+use Rattle.std.proofs.lemmas.List.Elements.{All-contains}
+use Rattle.std.proofs.lemmas.List.Folds.{list_any_at}
+use Rattle.std.proofs.lemmas.List.Sums.{AllPass-from_list_all, list_all-from_AllPass}
+use Rattle.bip_model.specs.declared.numbering.CompId.{CompId}
+use Rattle.bip_model.specs.Steps.{IsListLookedAt, IsLookedAt}
+use Rattle.bip_model.proofs.LookLemmas.{looked_known, moves_known}
+use Rattle.bip_replay.specs.Runs.{are_parties, is_moving, is_party, is_seeing, IsWanted, is_wrong, HasItsParties, HasNextNumber, IsNext}
 use Rattle.bip_replay.specs.Faults.{IsLowestWrong, KnownAreRight}
 
--- what the test says of wants beside participants
-abbrev pub Passes : List Want → List Participant → Type 0
-Passes ws qs = (length ws ≡ length qs) × (list_all is_party (zip ws qs) ≡ true)
-
--- whether a component is a participant's
-abbrev is_of : ℕ → Participant → Bool
-is_of c q = eqb q.0.0 c
-
--- wants move just the components of participants, and see none
-pub record AreParties (ws : List Want) (qs : List Participant) : Type 0 where
-  pub moved : (c : ℕ) → IsWanted Moved ws c ↔ (list_any (is_of c) qs ≡ true)
-  pub seen : (c : ℕ) → IsWanted Seen ws c → ⊥
-
--- a want that moves
-abbrev Moves : Want → Type 0
-Moves w = w.role ≡ Moved
-
--- the role that is moved
+-- the role that is moved, and the one that isn't
 pub moved_role : (r : Role) → is_moved r ≡ true → r ≡ Moved
-moved_role r is = grind arith
+moved_role Moved is = refl
+moved_role Seen is = absurd (false≢true is)
+
+seen_role : (r : Role) → not (is_moved r) ≡ true → r ≡ Seen
+seen_role Moved is = absurd (false≢true is)
+seen_role Seen is = refl
 
 -- a want among others moves, or its component is seen
 moved_or_seen : (ws : List Want) (w : Want) → Contains ws w → (w.role ≡ Moved) ⊎ IsWanted Seen ws w.comp.0
@@ -52,80 +47,79 @@ moved_or_seen ws w at = by_role w.role refl
     by_role Moved is = inl is
     by_role Seen is = inr (at.0, w, at.1, at.2, (refl, is))
 
--- numbers are above what is no more than one that all are above
-none_below : (c low : ℕ) (ns : List ℕ) → c ≤ low → AllByRecursion (λ n. low < n) ns → list_any (λ n. eqb n c) ns ≡ false
-none_below c low [] below all = refl
-none_below c low (n ∷ ns) below all = grind (arith, none_below c low ns)
+-- wants that pass the test move what the interaction moves, and see what it looks at
+module _ (m : System) (g : Grant) (qs : List Participant) (looks : List CompId) (is : qs ≡ participants_of m g.inter.0) (listed : IsListLookedAt m g.inter.0 looks) where
+  a : ℕ
+  a = g.inter.0
 
--- which numbers there are
-abbrev SameNumbers : List ℕ → List ℕ → Type 0
-SameNumbers xs ys = (c : ℕ) → list_any (λ n. eqb n c) xs ≡ list_any (λ n. eqb n c) ys
+  -- a component is wanted exactly where a want passes
+  moving : (c : ℕ) → IsWanted Moved g.wants c ↔ (list_any (is_moving c) g.wants ≡ true)
+  moving c = (
+    λ at. list_any-from_Any (is_moving c) g.wants (at.0, at.1, at.2, at.3, rw (eq-eqb at.1.comp.0 c at.4.0, at.4.1) refl),
+    λ test. let at = Any-from_list_any (is_moving c) g.wants test in
+    let both = and_parts (eqb at.1.comp.0 c) (is_moved at.1.role) at.4 in
+    (at.0, at.1, at.2, at.3, (eqb-true at.1.comp.0 c both.0, moved_role at.1.role both.1)),
+  )
 
-same_first : (x y : ℕ) (xs ys : List ℕ) → AllByRecursion (λ n. x < n) xs → AllByRecursion (λ n. y < n) ys → SameNumbers (x ∷ xs) (y ∷ ys) → x ≡ y
-same_first x y xs ys up climbs same = grind (arith, same x, same y, none_below x y ys, none_below y x xs)
+  seeing : (c : ℕ) → IsWanted Seen g.wants c ↔ (list_any (is_seeing c) g.wants ≡ true)
+  seeing c = (
+    λ at. list_any-from_Any (is_seeing c) g.wants (at.0, at.1, at.2, at.3, rw (eq-eqb at.1.comp.0 c at.4.0, at.4.1) refl),
+    λ test. let at = Any-from_list_any (is_seeing c) g.wants test in
+    let both = and_parts (eqb at.1.comp.0 c) (not (is_moved at.1.role)) at.4 in
+    (at.0, at.1, at.2, at.3, (eqb-true at.1.comp.0 c both.0, seen_role at.1.role both.1)),
+  )
 
--- numbers that rise are told by which there are
-same_numbers : (xs ys : List ℕ) → Rises xs → Rises ys → SameNumbers xs ys → xs ≡ ys
-same_numbers [] [] up climbs same = refl
-same_numbers [] (y ∷ ys) up climbs same = grind (arith, same y)
-same_numbers (x ∷ xs) [] up climbs same = grind (arith, same x)
-same_numbers (x ∷ xs) (y ∷ ys) up climbs same =
-    let first = same_first x y xs ys up.0 climbs.0 same in
-    let rest = same_numbers xs ys up.1 climbs.1 (λ c. behind first c) in
-    cc
-  where
-    behind : x ≡ y → (c : ℕ) → list_any (λ n. eqb n c) xs ≡ list_any (λ n. eqb n c) ys
-    behind first c = grind (arith, same c, none_below c x xs, none_below c y ys)
+  -- what is looked at is listed
+  in_looks : (c : ℕ) → IsLookedAt m g.inter.0 c ↔ (list_any (λ (d : CompId). eqb d.0 c) looks ≡ true)
+  in_looks c = (
+    λ looked. let at = (listed.exact c).1 looked in
+    list_any-from_Any (λ (d : CompId). eqb d.0 c) looks (at.0, record { 0 = c }, at.1, at.2, eq-eqb c c refl),
+    λ test. let at = Any-from_list_any (λ (d : CompId). eqb d.0 c) looks test in
+    subst (IsLookedAt m g.inter.0) (eqb-true at.1.0 c at.4) ((listed.exact at.1.0).0 (at.0, at.2, at.3)),
+  )
 
-has-map : {X : Type 0} (f : X → ℕ) (xs : List X) (c : ℕ) → list_any (λ n. eqb n c) (map f xs) ≡ list_any (λ x. eqb (f x) c) xs
-has-map f [] c = refl
-has-map f (x ∷ xs) c = grind (arith, has-map f xs)
+  pub parties_from_test : are_parties g.wants qs looks ≡ true → HasItsParties m g
+  parties_from_test test =
+      let outer = and_parts (list_all (is_party qs looks) g.wants && list_all (λ (q : Participant). list_any (is_moving q.0.0) g.wants) qs) (list_all (λ (c : CompId). list_any (is_seeing c.0) g.wants) looks) test in
+      let inner = and_parts (list_all (is_party qs looks) g.wants) (list_all (λ (q : Participant). list_any (is_moving q.0.0) g.wants) qs) outer.0 in
+      let parties = AllPass-from_list_all (is_party qs looks) g.wants inner.0 in
+      let moved = AllPass-from_list_all (λ (q : Participant). list_any (is_moving q.0.0) g.wants) qs inner.1 in
+      let seen = AllPass-from_list_all (λ (c : CompId). list_any (is_seeing c.0) g.wants) looks outer.1 in
+      record {
+        moved = λ c. (
+          λ at. rw is at (moves_one c at (All-contains (λ w. is_party qs looks w ≡ true) g.wants at.1 parties (at.0, at.2, at.3))),
+          λ takes.
+          let at = Any-from_list_any (λ (q : Participant). eqb q.0.0 c) qs (rw is takes) in
+          (moving c).1 (subst (λ d. list_any (is_moving d) g.wants ≡ true) (eqb-true at.1.0.0 c at.4) (All-contains (λ (q : Participant). list_any (is_moving q.0.0) g.wants ≡ true) qs at.1 moved (at.0, at.2, at.3))),
+        );
+        seen = λ c. (
+          λ at. (in_looks c).1 (sees_one c at (All-contains (λ w. is_party qs looks w ≡ true) g.wants at.1 parties (at.0, at.2, at.3))),
+          λ looked.
+          let at = (listed.exact c).1 looked in
+          (seeing c).1 (All-contains (λ (d : CompId). list_any (is_seeing d.0) g.wants ≡ true) looks (record { 0 = c }) seen at),
+        );
+      }
+    where
+      moves_one : (c : ℕ) (at : IsWanted Moved g.wants c) → is_party qs looks at.1 ≡ true → list_any (λ (q : Participant). eqb q.0.0 c) qs ≡ true
+      moves_one c at party = subst (λ d. list_any (λ (q : Participant). eqb q.0.0 d) qs ≡ true) at.4.0 (rw at.4.1 at party)
 
--- where all wants move, a component is wanted as moved exactly where one is of it
-wanted : (ws : List Want) (c : ℕ) → All Moves ws → IsWanted Moved ws c ↔ (list_any (λ (w : Want). eqb w.comp.0 c) ws ≡ true)
-wanted ws c moves = (
-  λ at. list_any-from_Any (λ (w : Want). eqb w.comp.0 c) ws (at.0, at.1, at.2, at.3, grind arith),
-  λ is. let at = Any-from_list_any (λ (w : Want). eqb w.comp.0 c) ws is in let all = moves at.0 at.1 at.2 in (at.0, at.1, at.2, at.3, grind arith),
-)
+      sees_one : (c : ℕ) (at : IsWanted Seen g.wants c) → is_party qs looks at.1 ≡ true → list_any (λ (d : CompId). eqb d.0 c) looks ≡ true
+      sees_one c at party = subst (λ x. list_any (λ (d : CompId). eqb d.0 x) looks ≡ true) at.4.0 (rw at.4.1 at party)
 
--- wants that pass the test move the components of the participants, one each and in order
-in_order : (ws : List Want) (qs : List Participant) → Passes ws qs → (components_of ws ≡ components_in qs) × All Moves ws
-in_order [] [] passes = (refl, All-nil Moves)
-in_order (w ∷ ws) (q ∷ qs) passes =
-    let rest : (components_of ws ≡ components_in qs) × All Moves ws = in_order ws qs (grind arith) in
-    (grind arith, All-cons Moves w ws (grind arith) rest.1)
-in_order ws qs passes = grind arith
-
--- wants that pass the test are those of the parties
-pub parties-from_test : (ws : List Want) (qs : List Participant) → Passes ws qs → AreParties ws qs
-parties-from_test ws qs passes =
-    let is = in_order ws qs passes in
-    let same = λ (c : ℕ). sym (has-map (λ (w : Want). w.comp.0) ws c) ∙ (ap (list_any (λ n. eqb n c)) is.0 ∙ has-map (λ (q : Participant). q.0.0) qs c) in
-    record { moved = λ c. (λ at. sym (same c) ∙ (wanted ws c is.1).0 at, λ has. (wanted ws c is.1).1 (same c ∙ has)); seen = λ c at. let role = is.1 at.0 at.1 at.2 in grind arith }
-
--- wants that move the components of participants, one each and in order, pass the test
-in_order_pass : (ws : List Want) (qs : List Participant) → components_of ws ≡ components_in qs → All Moves ws → Passes ws qs
-in_order_pass [] [] same moves = (refl, refl)
-in_order_pass (w ∷ ws) (q ∷ qs) same moves =
-    let role = All-head Moves w ws moves in
-    let rest : components_of ws ≡ components_in qs = cc in
-    let later : Passes ws qs = in_order_pass ws qs rest (All-tail Moves w ws moves) in
-    grind arith
-in_order_pass ws qs same moves = cc
-
--- wants by component that are those of the parties pass the test
-pub test-from_parties : (ws : List Want) (qs : List Participant) → IsStrictlyIncreasing (components_of ws) → IsStrictlyIncreasing (components_in qs) → AreParties ws qs → Passes ws qs
-test-from_parties ws qs rising climbing are =
-    in_order_pass ws qs (same_numbers (components_of ws) (components_in qs) (rises_from_increasing (components_of ws) rising) (rises_from_increasing (components_in qs) climbing) same) moves
-  where
-    moves : All Moves ws
-    moves = λ k d within. elim (moved_or_seen ws (get_or ws k d) (Contains-get_or ws k d within)) [ inl moved ↦ moved | inr seen ↦ absurd (are.seen _ seen) ]
-
-    same : SameNumbers (components_of ws) (components_in qs)
-    same c =
-        let there = are.moved c in
-        let here = wanted ws c moves in
-        grind (arith, has-map (λ (w : Want). w.comp.0) ws c, has-map (λ (q : Participant). q.0.0) qs c)
+  pub test_from_parties : HasItsParties m g → are_parties g.wants qs looks ≡ true
+  test_from_parties has =
+      rw (
+        list_all-from_AllPass (is_party qs looks) g.wants (λ k d within. party (get_or g.wants k d) (Contains-get_or g.wants k d within)),
+        list_all-from_AllPass (λ (q : Participant). list_any (is_moving q.0.0) g.wants) qs (λ k d within. (moving (get_or qs k d).0.0).0 ((has.moved (get_or qs k d).0.0).1 (rw (← is) (list_any_at (λ (r : Participant). eqb r.0.0 (get_or qs k d).0.0) qs k d within (eq-eqb (get_or qs k d).0.0 (get_or qs k d).0.0 refl))))),
+        list_all-from_AllPass (λ (c : CompId). list_any (is_seeing c.0) g.wants) looks (λ k d within. (seeing (get_or looks k d).0).0 ((has.seen (get_or looks k d).0).1 ((listed.exact (get_or looks k d).0).0 (Contains-get_or looks k d within)))),
+      ) refl
+    where
+      party : (w : Want) → Contains g.wants w → is_party qs looks w ≡ true
+      party w at = by_role w.role refl
+        where
+          by_role : (r : Role) → w.role ≡ r → is_party qs looks w ≡ true
+          by_role Moved role = rw (role, is) ((has.moved w.comp.0).0 (at.0, w, at.1, at.2, (refl, role)))
+          by_role Seen role = rw role ((in_looks w.comp.0).0 ((has.seen w.comp.0).0 (at.0, w, at.1, at.2, (refl, role))))
 
 -- a want that isn't wrong, of a component of the model
 pub right : (m : System) (used : ℕ → ℕ) (w : Want) → is_wrong (length m.components) used w ≡ false → w.comp.0 < length m.components → HasNextNumber used w
@@ -164,47 +158,29 @@ none_wrong m used ws found = λ k d within known.
     let past : k < first_wrong m used ws = grind (arith, find_at (wrong_in m used) ws, slice_get-get_or ws (first_wrong m used ws) d) in
     right m used (get_or ws k d) (fails_before_first (wrong_in m used) ws k d past) known
 
--- the component of a participant is one of the model
-abbrev KnownIn : System → Participant → Type 0
-KnownIn m q = q.0.0 < length m.components
-
--- the participants of an interaction are components of the model
-participants_known : (m : System) (a : ℕ) → IsSystem m → All (KnownIn m) (participants_of m a)
-participants_known m a valid = elim (slice_get_cases m.interactions a).1 [
-  | inl here ↦ rw here.2 (λ k d within. ((All-slice_get (IsInteraction m.components) m.interactions a here.0 valid.so_far.interactions here.2).ports k d within).component)
-  | inr past ↦ rw past.1 (All-nil (KnownIn m))
+-- what a grant's interaction moves or looks at is a component of the model
+party_known : (m : System) (g : Grant) (w : Want) → IsSystem m → HasItsParties m g → Contains g.wants w → w.comp.0 < length m.components
+party_known m g w valid has at = elim (moved_or_seen g.wants w at) [
+  | inl moved ↦ moves_known m g.inter.0 w.comp.0 valid.so_far ((has.moved w.comp.0).0 (at.0, w, at.1, at.2, (refl, moved)))
+  | inr seen ↦ looked_known m g.inter.0 w.comp.0 valid.so_far ((has.seen w.comp.0).0 seen)
 ]
 
--- what a grant's interaction moves is a component of the model
-pub moved_known : (m : System) (s : State) (g : Grant) (w : Want) → IsSystem m → HasItsParties m s g → Contains g.wants w → w.role ≡ Moved → w.comp.0 < length m.components
-moved_known m s g w valid has at moves =
-    let found = Any-from_list_any (λ (q : Participant). eqb q.0.0 w.comp.0) (participants_of m g.inter.0) ((has.moved w.comp.0).0 (at.0, w, at.1, at.2, (refl, moves))) in
-    let there = participants_known m g.inter.0 valid found.0 found.1 found.2 in
-    grind arith
+pub moved_known : (m : System) (g : Grant) (w : Want) → IsSystem m → HasItsParties m g → Contains g.wants w → w.role ≡ Moved → w.comp.0 < length m.components
+moved_known m g w valid has at moves = party_known m g w valid has at
 
 -- where no want is wrong and the wants are of the parties, each is right
-pub all_right : (m : System) (s : State) (used : ℕ → ℕ) (g : Grant) → IsSystem m → KnownAreRight m used g.wants → HasItsParties m s g → All (HasNextNumber used) g.wants
-all_right m s used g valid known has = λ k d within.
-    let at = Contains-get_or g.wants k d within in
-    known k d within (elim (moved_or_seen g.wants (get_or g.wants k d) at) [ inl moved ↦ moved_known m s g _ valid has at moved | inr seen ↦ absurd ((has.seen _).0 seen) ])
+pub all_right : (m : System) (used : ℕ → ℕ) (g : Grant) → IsSystem m → KnownAreRight m used g.wants → HasItsParties m g → All (HasNextNumber used) g.wants
+all_right m used g valid known has = λ k d within.
+    known k d within (party_known m g (get_or g.wants k d) valid has (Contains-get_or g.wants k d within))
 
--- the parties of a plain model: what is moved, and nothing that is seen
-parties : (m : System) (s : State) (g : Grant) (qs : List Participant) → qs ≡ participants_of m g.inter.0 → AreParties g.wants qs ↔ HasItsParties m s g
-parties m s g qs e = rw e (λ are. record { moved = are.moved; seen = λ c. (are.seen c, λ none. absurd none) }, λ has. record { moved = has.moved; seen = λ c. (has.seen c).0 })
+-- a grant of an interaction that may run, no want of which is wrong and whose wants pass the test,
+-- is next
+pub next_from_tests : (m : System) (s : State) (used : ℕ → ℕ) (g : Grant) (qs : List Participant) (looks : List CompId) → IsSystem m → qs ≡ participants_of m g.inter.0 → IsListLookedAt m g.inter.0 looks
+    → MayRun m s g.inter.0 → find (is_wrong (length m.components) used) g.wants ≡ None → are_parties g.wants qs looks ≡ true → IsNext m s used g
+next_from_tests m s used g qs looks valid is listed may found test =
+    let has = parties_from_test m g qs looks is listed test in
+    record { may = may; numbers = all_right m used g valid (none_wrong m used g.wants found) has; parties = has }
 
 -- wants that fail the test aren't of the parties
-pub not_parties : (m : System) (s : State) (g : Grant) (qs : List Participant) → qs ≡ participants_of m g.inter.0 → IsStrictlyIncreasing (components_of g.wants) → IsStrictlyIncreasing (components_in qs) → (eqb (length g.wants) (length qs) && list_all is_party (zip g.wants qs)) ≡ false → ¬ HasItsParties m s g
-not_parties m s g qs e rising climbing test has =
-    let passes = test-from_parties g.wants qs rising climbing ((parties m s g qs e).1 has) in
-    grind arith
-
--- what is enabled may run in a plain model, in which nothing stands above another
-pub may_run : (m : System) (s : State) (a : ℕ) → IsEnabled m s a → MayRun m s a
-may_run m s a enabled = record { enabled = enabled; clear = λ b above. absurd above }
-
--- a grant of an enabled interaction, no want of which is wrong and whose wants pass the test, is
--- next
-pub next_from_tests : (m : System) (s : State) (used : ℕ → ℕ) (g : Grant) (qs : List Participant) → IsSystem m → qs ≡ participants_of m g.inter.0 → MayRun m s g.inter.0 → find (is_wrong (length m.components) used) g.wants ≡ None → (eqb (length g.wants) (length qs) && list_all is_party (zip g.wants qs)) ≡ true → IsNext m s used g
-next_from_tests m s used g qs valid e may found test =
-    let has = (parties m s g qs e).0 (parties-from_test g.wants qs (grind arith)) in
-    record { may = may; numbers = all_right m s used g valid (none_wrong m used g.wants found) has; parties = has }
+pub not_parties : (m : System) (g : Grant) (qs : List Participant) (looks : List CompId) → qs ≡ participants_of m g.inter.0 → IsListLookedAt m g.inter.0 looks → are_parties g.wants qs looks ≡ false → ¬ HasItsParties m g
+not_parties m g qs looks is listed fails has = false≢true (sym fails ∙ test_from_parties m g qs looks is listed has)

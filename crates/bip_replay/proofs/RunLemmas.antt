@@ -13,7 +13,6 @@ use Rattle.bip_model.specs.Grants.{IsHistory, used_by}
 use Rattle.bip_model.specs.States.{State}
 use Rattle.bip_model.specs.Steps.{IsRun, after, end_of, start_of, MayRun, participants_of}
 use Rattle.bip_model.specs.Wants.{raised, components_of, moved_in, is_moved}
-use Rattle.bip_model.proofs.LawLemmas.{rising_of}
 use Rattle.bip_model.proofs.StepLemmas.{enabled_or_not}
 use Rattle.bip_model.specs.Parts.{IsSystem}
 use Rattle.bip_replay.specs.Runs.{HasNextNumber, IsModelRun, IsNext, IsRunFrom, interactions_of, state_after, used_after, are_parties, is_wrong, IsNextAt, StandsAfter, Standing, standing_after, standing_on}
@@ -21,7 +20,9 @@ use Rattle.bip_replay.specs.declared.faults.StepFault.{StepFault}
 use Rattle.bip_replay.specs.declared.faults.StepFault.TheVariants.{NotEnabled, Below, Number, Parties}
 use Rattle.bip_replay.specs.Faults.{IsFaultOf, expected_after, IsFaultAt}
 use Rattle.bip_replay.specs.Laws.{times_moved}
-use Rattle.bip_replay.proofs.FaultLemmas.{lowest_wrong, may_run, next_from_tests, none_wrong, not_parties}
+use Rattle.bip_model.proofs.AboveLists.{looks_listed}
+use Rattle.bip_model.proofs.LowestLemmas.{may_or_below}
+use Rattle.bip_replay.proofs.FaultLemmas.{lowest_wrong, next_from_tests, none_wrong, not_parties}
 use Rattle.bip_model.proofs.HistoryLemmas.{used_by-push}
 use Rattle.bip_model.proofs.ListLemmas.{below_later}
 
@@ -105,21 +106,26 @@ NextOrFault m s used g = IsNext m s used g ⊎ ((fault : StepFault) × IsFaultOf
 
 pub next_or_fault : (m : System) (s : State) (used : ℕ → ℕ) (g : Grant) → IsSystem m → IsStrictlyIncreasing (components_of g.wants) → NextOrFault m s used g
 next_or_fault m s used g valid rising = elim (enabled_or_not m s g.inter.0) [
-  | inl is ↦ by_wrong (may_run m s g.inter.0 is) (find (is_wrong (length m.components) used) g.wants) refl
   | inr not_now ↦ inr (NotEnabled, not_now)
+  | inl is ↦ elim (may_or_below m s g.inter.0 is) [
+    | inr below ↦ inr (Below (record { 0 = below.0 }), (is, below.1))
+    | inl may ↦ by_wrong may (find (is_wrong (length m.components) used) g.wants) refl
+  ]
 ]
   where
     by_wrong : MayRun m s g.inter.0 → (o : Option Want) → find (is_wrong (length m.components) used) g.wants ≡ o → NextOrFault m s used g
     by_wrong may (Some w) e = inr (Number w.comp (expected_after (used w.comp.0)), (may, lowest_wrong m used g.wants w rising e, refl))
-    by_wrong may None e = elim (cases_Bool (are_parties g.wants (participants_of m g.inter.0))) [
-      | inl all ↦ inl (next_from_tests m s used g (participants_of m g.inter.0) valid refl may e all)
-      | inr some ↦ inr (Parties, (may, none_wrong m used g.wants e, not_parties m s g (participants_of m g.inter.0) refl rising (rising_of m g.inter.0 valid) some))
-    ]
+    by_wrong may None e =
+        let looks = looks_listed m g.inter.0 valid.so_far in
+        elim (cases_Bool (are_parties g.wants (participants_of m g.inter.0) looks.0)) [
+          | inl all ↦ inl (next_from_tests m s used g (participants_of m g.inter.0) looks.0 valid refl looks.1 may e all)
+          | inr some ↦ inr (Parties, (may, none_wrong m used g.wants e, not_parties m g (participants_of m g.inter.0) looks.0 refl looks.1 some))
+        ]
 
 -- a grant with a fault isn't next
 pub not_next : (m : System) (s : State) (used : ℕ → ℕ) (g : Grant) (fault : StepFault) → IsFaultOf m s used g fault → IsNext m s used g → ⊥
 not_next m s used g NotEnabled why next = why next.may.enabled
-not_next m s used g (Below b) why next = why.1.above
+not_next m s used g (Below b) why next = next.may.clear b.0 why.1.above why.1.enabled
 not_next m s used g (Number c expected) why next = let at = why.1.wrong in let has = next.numbers at.0 at.1 at.2 in grind arith
 not_next m s used g Parties why next = why.2 next.parties
 
@@ -190,3 +196,7 @@ raised_more u n ws i d c rising within before =
         let others = rw same at (others_before ws i d rising within) in
         grind (arith, moved_in-absent (take i ws) c others, moved_in-push_first (take i ws) (get_or ws i d) c others)
     by_test false e = grind (arith, moved_in-push_other (take i ws) (get_or ws i d) c)
+
+-- where a run stands after a grant
+pub stands_on : (p : Standing) (t : State) (u : ℕ → ℕ) (g : Grant) → t ≡ after p.model p.state g.inter.0 → u ≡ raised p.used g.wants → standing_on p g ≡ record { model = p.model; base = p.base; state = t; used = u }
+stands_on p t u g e f = rw (e, f) refl

@@ -36,15 +36,14 @@ KnownAreRight m used wants =
     All (λ (w : Want). w.comp.0 < length m.components → HasNextNumber used w) wants
 
 -- the fault of a grant in a state, after the used numbers: the first of these that applies; its
--- interaction isn't enabled, or it is and may not run, or it may; a plain model has none below
--- another
+-- interaction isn't enabled, or it is and may not run, or it may
 abbrev pub IsFaultOf : System → State → (ℕ → ℕ) → Grant → StepFault → Type 0
 IsFaultOf m s used g NotEnabled = ¬ IsEnabled m s g.inter.0
 IsFaultOf m s used g (Below b) = IsEnabled m s g.inter.0 × IsLowestAbove m s g.inter.0 b.0
 IsFaultOf m s used g (Number c expected) =
     MayRun m s g.inter.0 × IsLowestWrong m used g.wants c.0 × (expected ≡ expected_after (used c.0))
 IsFaultOf m s used g Parties =
-    MayRun m s g.inter.0 × KnownAreRight m used g.wants × ¬ HasItsParties m s g
+    MayRun m s g.inter.0 × KnownAreRight m used g.wants × ¬ HasItsParties m g
 
 -- why a grant can't come next
 abbrev pub IsFaultAt : Standing → Grant → StepFault → Type 0
