@@ -47,7 +47,7 @@ split {p} {pairs} {a} {b} (declared at) =
     ]
 split {p} {pairs} {a} {b} (through {b = x} at rest) = step_by_pair (Contains-cases p pairs (pair a x) at) (split rest)
 
-none_above : (a b : ℕ) → ¬ IsAbove [] a b
+pub none_above : (a b : ℕ) → ¬ IsAbove [] a b
 none_above a b (declared at) = Contains-none (pair a b) at
 none_above a b (through {b = x} at rest) = Contains-none (pair a x) at
 

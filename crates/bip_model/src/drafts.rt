@@ -174,7 +174,9 @@ impl System {
 fn has_pair(pairs: &[Pair], pair: Pair) -> bool
     ensures { result ≡ list_any (is_same_pair pair) pairs.now }
 {
-    pairs.iter().any(|p| pair.low == p.low && pair.high == p.high)
+    pairs
+        .iter()
+        .any(|p| pair.low == p.low && pair.high == p.high)
 }
 
 /// The place of the first pair that stands behind one; behind all where there is none.

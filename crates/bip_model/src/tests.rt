@@ -5,6 +5,7 @@ mod counting;
 mod granting;
 mod naming;
 mod parting;
+mod ranking;
 mod sequences;
 mod stepping;
 

@@ -14,6 +14,18 @@ use Rattle.bip_model.specs.declared.faults.BuildFault.{BuildFault}
 use Rattle.bip_model.specs.declared.numbering.InterId.{InterId}
 use Rattle.bip_model.specs.declared.partitions.Partition.{Partition}
 use Rattle.bip_model.specs.declared.parts.System.{System}
+use Rattle.std.proofs.Common.{ap, sym, ◌∙◌, [], List, Result, Ok}
+use Rattle.std.proofs.lemmas.Grind.{common_steps}
+use Rattle.std.proofs.lemmas.Result.{IfOk-at_ok}
+use Rattle.bip_model.specs.Drafts.{begun_in, inside, interaction_line, interaction_over, participants_named}
+use Rattle.bip_model.specs.Naming.{is_known}
+use Rattle.bip_model.specs.Parts.{Participant}
+use Rattle.bip_model.specs.Priorities.{IsCyclic}
+use Rattle.bip_model.specs.declared.parts.Component.{Component}
+use Rattle.bip_model.specs.declared.faults.BuildFault.TheVariants as build_fault
+use Rattle.bip_model.specs.declared.faults.BuildFault.{BuildFault}
+use Rattle.bip_model.proofs.ClimbLemmas.{none_above}
+use Rattle.bip_model.proofs.ParticipantLemmas.{bound, guarded}
 use Rattle.bip_model.proofs.DraftLemmas.{component_keeps, end_keeps, inside_keeps, interaction_keeps, loc_keeps, port_keeps, trans_keeps}
 use Rattle.bip_model.proofs.PartitionLemmas.{classes_of_partition}
 use Rattle.bip_reader.proofs.StatementLemmas.{as_many}
@@ -77,7 +89,34 @@ draft_keeps statement.End d e place some valid is = end_keeps d e valid place is
 draft_keeps (statement.Interaction name participants) d e place some valid is = interaction_keeps d e name participants [] [] valid (grind (arith, nat_tests)) is
 draft_keeps (statement.Class name interactions) d e place some valid is = let same : d ≡ e = cc in subst IsDraft same valid
 
-empty_is : IsDraft empty_draft
+-- no line declares a priority
+inside_stays : (f : Component → Result Component BuildFault) (d e : Draft) → inside f d ≡ Ok e → e.system.priorities ≡ d.system.priorities
+inside_stays f d e is = IfOk-at_ok (λ new. new.system.priorities ≡ d.system.priorities) is (bound (λ new. new.system.priorities ≡ d.system.priorities) (f (begun_in d)) _ (λ c said. refl))
+
+joined_stays : (name : List ℕ) (qs : List Participant) (m n : System) → interaction_over name qs [] [] m ≡ Ok n → n.priorities ≡ m.priorities
+joined_stays name qs m n is = grind (arith, common_steps)
+
+interaction_stays : (d e : Draft) (name : List ℕ) (words : List (List ℕ × List ℕ)) → interaction_line d name words [] [] ≡ Ok e → e.system.priorities ≡ d.system.priorities
+interaction_stays d e name words is = IfOk-at_ok (λ new. new.system.priorities ≡ d.system.priorities) is
+    (guarded (λ new. new.system.priorities ≡ d.system.priorities) (is_known name d.system.interaction_names) build_fault.Twice _ (λ new.
+    bound (λ new. new.system.priorities ≡ d.system.priorities) (participants_named d.system [] words) _ (λ qs is_qs.
+    bound (λ new. new.system.priorities ≡ d.system.priorities) (interaction_over name qs [] [] d.system) _ (λ m is_m. joined_stays name qs d.system m is_m))))
+
+stays : (s : Statement) (d e : Draft) → can_follow (keyword_in s) d ≡ true → draft_with s d ≡ Ok e → e.system.priorities ≡ d.system.priorities
+stays statement.Header d e place is = absurd (cc)
+stays (statement.Component name) d e place is = grind (arith, common_steps)
+stays (statement.Loc name) d e place is = inside_stays (loc_line name) d e is
+stays (statement.Port name) d e place is = inside_stays (port_line name) d e is
+stays (statement.Trans port source target) d e place is = inside_stays (trans_line port source target [] []) d e is
+stays statement.End d e place is = grind (arith, common_steps)
+stays (statement.Interaction name participants) d e place is = interaction_stays d e name participants is
+stays (statement.Class name interactions) d e place is = let same : d ≡ e = cc in ap (λ (x : Draft). x.system.priorities) (sym same)
+
+-- a draft of the builder's without priorities
+abbrev IsPlainDraft : Draft → Type 0
+IsPlainDraft d = IsDraft d × (d.system.priorities ≡ [])
+
+empty_is : IsPlainDraft empty_draft
 empty_is = search rules
 
 -- behind `bip 1`, what is said to the reading is said to its draft
@@ -92,16 +131,19 @@ unfolding class_line
 class_keeps name interactions r new e = grind arith
 
 -- what a statement leads to in its place
-keeps : (s : Statement) (r new : Reading) → IsInPlace r s → IsDraft (draft_of r) → reading_with s r ≡ Ok new → IsDraft (draft_of new)
+keeps : (s : Statement) (r new : Reading) → IsInPlace r s → IsPlainDraft (draft_of r) → reading_with s r ≡ Ok new → IsPlainDraft (draft_of new)
 keeps statement.Header r new place valid e = let same : draft_of new ≡ empty_draft = grind arith in rw same empty_is
 keeps (statement.Class name interactions) r new place valid e = rw (class_keeps name interactions r new e) valid
-keeps s r new place valid e = draft_keeps s (draft_of r) (draft_of new) (follows s r place.0 refl) place.1 valid (said_draft r new (draft_with s (draft_of r)) e)
+keeps s r new place valid e =
+    let said = said_draft r new (draft_with s (draft_of r)) e in
+    let follows' = follows s r place.0 refl in
+    (draft_keeps s (draft_of r) (draft_of new) follows' place.1 valid.0 said, stays s (draft_of r) (draft_of new) follows' said ∙ valid.1)
 
 -- what is read is a draft of the builder's, or a fault that a text can have
 abbrev Leads : Result Reading Why → Type 0
-Leads said = MatchResult said (λ r. IsDraft (draft_of r)) (λ why. is_of_text why ≡ true)
+Leads said = MatchResult said (λ r. IsPlainDraft (draft_of r)) (λ why. is_of_text why ≡ true)
 
-words_lead : (ws : Option (List (List ℕ))) (r : Reading) → IsDraft (draft_of r) → Leads (reading_after_words ws r)
+words_lead : (ws : Option (List (List ℕ))) (r : Reading) → IsPlainDraft (draft_of r) → Leads (reading_after_words ws r)
 words_lead None r valid = refl
 words_lead (Some []) r valid = valid
 words_lead (Some (word ∷ rest)) r valid = stated (statement_in word rest r) (in_place (keyword_of word) rest r)
@@ -114,45 +156,45 @@ words_lead (Some (word ∷ rest)) r valid = stated (statement_in word rest r) (i
     stated None places = refl
     stated (Some s) places = said_leads s (reading_with s r) refl (places s refl)
 
-lines_lead : (n : ℕ) (ls : List (List ℕ)) (r : Reading) → IsDraft (draft_of r) → MatchResult (reading_after_lines n ls r) (λ new. IsDraft (draft_of new)) (λ fault. is_of_text fault.why ≡ true)
+lines_lead : (n : ℕ) (ls : List (List ℕ)) (r : Reading) → IsPlainDraft (draft_of r) → MatchResult (reading_after_lines n ls r) (λ new. IsPlainDraft (draft_of new)) (λ fault. is_of_text fault.why ≡ true)
 unfolding reading_after
 lines_lead n [] r valid = valid
 lines_lead n (line ∷ ls) r valid = first (reading_after_words (words_said line) r) (words_lead (words_said line) r valid) (lines_lead (n + 1) ls)
   where
-    first : (said : Result Reading Why) → Leads said → ((s : Reading) → IsDraft (draft_of s) → MatchResult (reading_after_lines (n + 1) ls s) (λ new. IsDraft (draft_of new)) (λ fault. is_of_text fault.why ≡ true))
-        → MatchResult (at_line n said >>= reading_after_lines (n + 1) ls) (λ new. IsDraft (draft_of new)) (λ fault. is_of_text fault.why ≡ true)
+    first : (said : Result Reading Why) → Leads said → ((s : Reading) → IsPlainDraft (draft_of s) → MatchResult (reading_after_lines (n + 1) ls s) (λ new. IsPlainDraft (draft_of new)) (λ fault. is_of_text fault.why ≡ true))
+        → MatchResult (at_line n said >>= reading_after_lines (n + 1) ls) (λ new. IsPlainDraft (draft_of new)) (λ fault. is_of_text fault.why ≡ true)
     first (Ok s) h later = later s h
     first (Err why) h later = h
 
-read_keeps : (text : List ℕ) (r : Reading) → reading_of text ≡ Ok r → IsDraft (draft_of r)
+read_keeps : (text : List ℕ) (r : Reading) → reading_of text ≡ Ok r → IsPlainDraft (draft_of r)
 unfolding reading_of
 read_keeps text r e = rw e at (lines_lead 1 (lines text) empty_reading empty_is)
 
-fair_end : (r : Reading) (why : Why) → IsFaultAtEnd r why → is_of_text why ≡ true
-fair_end r Missing h = refl
-fair_end r PriorityCycle h = absurd (h.1).1
-fair_end r NotAPartition h = refl
-fair_end r why h = absurd h
+fair_end : (r : Reading) (why : Why) → (draft_of r).system.priorities ≡ [] → IsFaultAtEnd r why → is_of_text why ≡ true
+fair_end r Missing plain h = refl
+fair_end r PriorityCycle plain h = absurd (none_above h.1.0 h.1.0 (rw plain at h.1.1))
+fair_end r NotAPartition plain h = refl
+fair_end r why plain h = absurd h
 
 pub text_faults : TextFaults
 unfolding reading_of
 text_faults text fault (inl e) = rw e at (lines_lead 1 (lines text) empty_reading empty_is)
-text_faults text fault (inr h) = fair_end h.read fault.why h.at_end
+text_faults text fault (inr h) = fair_end h.read fault.why (read_keeps text h.read h.said).1 h.at_end
 
 whole_draft : (o : Option Draft) → IsSomeAnd o IsWhole → IsWhole (unwrap_or o empty_draft)
 whole_draft None h = absurd h
 whole_draft (Some d) h = h
 
-whole_system : (d : Draft) → IsDraft d → IsWhole d → IsSystem d.system
-whole_system d valid whole =
+whole_system : (d : Draft) → IsDraft d → IsWhole d → ¬ IsCyclic d.system.priorities → IsSystem d.system
+whole_system d valid whole acyclic =
     let none : ◌≡◌ {A = ℕ} (cond (is_some d.begun) 1 0) 0 = rw whole.ended refl in
     let named : length d.system.component_names ≡ length d.system.components + cond (is_some d.begun) 1 0 = valid.named in
-    record { so_far = valid.so_far; some = whole.some; components_named = omega arith }
+    record { so_far = valid.so_far; some = whole.some; components_named = omega arith; acyclic = acyclic }
 
 pub means_valid : MeansValid
 means_valid text m classes h =
     let r = h.read in
-    let system : IsSystem (system_of r) = whole_system (draft_of r) (read_keeps text r h.said) (whole_draft r.builder h.declares.whole) in
+    let system : IsSystem (system_of r) = whole_system (draft_of r) (read_keeps text r h.said).0 (whole_draft r.builder h.declares.whole) h.declares.acyclic in
     let made : Partition = classes_of (system_of r) r.classes in
     let parted : IsClasses made = classes_of_partition (λ (c : List ℕ × List InterId). c.0) (λ c. c.1) (length (system_of r).interactions) r.classes made h.declares.parted refl refl refl in (
       subst IsSystem (sym h.declares.model) system,

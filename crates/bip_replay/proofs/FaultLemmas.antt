@@ -57,25 +57,25 @@ module _ (m : System) (g : Grant) (qs : List Participant) (looks : List CompId) 
   moving c = (
     λ at. list_any-from_Any (is_moving c) g.wants (at.0, at.1, at.2, at.3, rw (eq-eqb at.1.comp.0 c at.4.0, at.4.1) refl),
     λ test. let at = Any-from_list_any (is_moving c) g.wants test in
-    let both = and_parts (eqb at.1.comp.0 c) (is_moved at.1.role) at.4 in
-    (at.0, at.1, at.2, at.3, (eqb-true at.1.comp.0 c both.0, moved_role at.1.role both.1)),
+        let both = and_parts (eqb at.1.comp.0 c) (is_moved at.1.role) at.4 in
+        (at.0, at.1, at.2, at.3, (eqb-true at.1.comp.0 c both.0, moved_role at.1.role both.1)),
   )
 
   seeing : (c : ℕ) → IsWanted Seen g.wants c ↔ (list_any (is_seeing c) g.wants ≡ true)
   seeing c = (
     λ at. list_any-from_Any (is_seeing c) g.wants (at.0, at.1, at.2, at.3, rw (eq-eqb at.1.comp.0 c at.4.0, at.4.1) refl),
     λ test. let at = Any-from_list_any (is_seeing c) g.wants test in
-    let both = and_parts (eqb at.1.comp.0 c) (not (is_moved at.1.role)) at.4 in
-    (at.0, at.1, at.2, at.3, (eqb-true at.1.comp.0 c both.0, seen_role at.1.role both.1)),
+        let both = and_parts (eqb at.1.comp.0 c) (not (is_moved at.1.role)) at.4 in
+        (at.0, at.1, at.2, at.3, (eqb-true at.1.comp.0 c both.0, seen_role at.1.role both.1)),
   )
 
   -- what is looked at is listed
   in_looks : (c : ℕ) → IsLookedAt m g.inter.0 c ↔ (list_any (λ (d : CompId). eqb d.0 c) looks ≡ true)
   in_looks c = (
     λ looked. let at = (listed.exact c).1 looked in
-    list_any-from_Any (λ (d : CompId). eqb d.0 c) looks (at.0, record { 0 = c }, at.1, at.2, eq-eqb c c refl),
+        list_any-from_Any (λ (d : CompId). eqb d.0 c) looks (at.0, record { 0 = c }, at.1, at.2, eq-eqb c c refl),
     λ test. let at = Any-from_list_any (λ (d : CompId). eqb d.0 c) looks test in
-    subst (IsLookedAt m g.inter.0) (eqb-true at.1.0 c at.4) ((listed.exact at.1.0).0 (at.0, at.2, at.3)),
+        subst (IsLookedAt m g.inter.0) (eqb-true at.1.0 c at.4) ((listed.exact at.1.0).0 (at.0, at.2, at.3)),
   )
 
   pub parties_from_test : are_parties g.wants qs looks ≡ true → HasItsParties m g
@@ -89,14 +89,14 @@ module _ (m : System) (g : Grant) (qs : List Participant) (looks : List CompId) 
         moved = λ c. (
           λ at. rw is at (moves_one c at (All-contains (λ w. is_party qs looks w ≡ true) g.wants at.1 parties (at.0, at.2, at.3))),
           λ takes.
-          let at = Any-from_list_any (λ (q : Participant). eqb q.0.0 c) qs (rw is takes) in
-          (moving c).1 (subst (λ d. list_any (is_moving d) g.wants ≡ true) (eqb-true at.1.0.0 c at.4) (All-contains (λ (q : Participant). list_any (is_moving q.0.0) g.wants ≡ true) qs at.1 moved (at.0, at.2, at.3))),
+              let at = Any-from_list_any (λ (q : Participant). eqb q.0.0 c) qs (rw is takes) in
+              (moving c).1 (subst (λ d. list_any (is_moving d) g.wants ≡ true) (eqb-true at.1.0.0 c at.4) (All-contains (λ (q : Participant). list_any (is_moving q.0.0) g.wants ≡ true) qs at.1 moved (at.0, at.2, at.3))),
         );
         seen = λ c. (
           λ at. (in_looks c).1 (sees_one c at (All-contains (λ w. is_party qs looks w ≡ true) g.wants at.1 parties (at.0, at.2, at.3))),
           λ looked.
-          let at = (listed.exact c).1 looked in
-          (seeing c).1 (All-contains (λ (d : CompId). list_any (is_seeing d.0) g.wants ≡ true) looks (record { 0 = c }) seen at),
+              let at = (listed.exact c).1 looked in
+              (seeing c).1 (All-contains (λ (d : CompId). list_any (is_seeing d.0) g.wants ≡ true) looks (record { 0 = c }) seen at),
         );
       }
     where

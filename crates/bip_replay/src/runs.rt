@@ -188,7 +188,9 @@ fn use_one(used: &mut Seq<Number>, want: Want)
 fn are_parties(wants: &[Want], participants: &[(CompId, PortId)], looks: &[CompId]) -> bool
     ensures { result ≡ are_parties wants.now participants.now looks.now }
 {
-    name_parties(wants, participants, looks) && move_all(wants, participants) && see_all(wants, looks)
+    name_parties(wants, participants, looks)
+        && move_all(wants, participants)
+        && see_all(wants, looks)
 }
 
 fn name_parties(wants: &[Want], participants: &[(CompId, PortId)], looks: &[CompId]) -> bool
@@ -202,10 +204,9 @@ fn name_parties(wants: &[Want], participants: &[(CompId, PortId)], looks: &[Comp
 fn is_party(want: Want, participants: &[(CompId, PortId)], looks: &[CompId]) -> bool
     ensures { result ≡ is_party participants.now looks.now want }
 {
-    if want.role == Role::Moved {
-        takes_part(participants, want.comp)
-    } else {
-        is_among(looks, want.comp)
+    match want.role {
+        Role::Moved => takes_part(participants, want.comp),
+        Role::Seen => is_among(looks, want.comp),
     }
 }
 
@@ -237,11 +238,15 @@ fn see_all(wants: &[Want], looks: &[CompId]) -> bool
 fn is_moving(wants: &[Want], comp: CompId) -> bool
     ensures { result ≡ list_any (is_moving comp.0) wants.now }
 {
-    wants.iter().any(|want| want.comp == comp && want.role == Role::Moved)
+    wants
+        .iter()
+        .any(|want| want.comp == comp && want.role == Role::Moved)
 }
 
 fn is_seeing(wants: &[Want], comp: CompId) -> bool
     ensures { result ≡ list_any (is_seeing comp.0) wants.now }
 {
-    wants.iter().any(|want| want.comp == comp && want.role != Role::Moved)
+    wants
+        .iter()
+        .any(|want| want.comp == comp && want.role != Role::Moved)
 }
