@@ -52,7 +52,7 @@ pub enum BuildFault {
     Missing,
     /// A second transition for a location and a port.
     TwoTransitions,
-    /// An interaction above itself. It never comes of a plain model, which has no priorities.
+    /// An interaction above itself.
     PriorityCycle,
     /// Want of memory.
     Memory,

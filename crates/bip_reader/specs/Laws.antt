@@ -43,7 +43,7 @@ MeansValid =
     (text : List ℕ) (m : System) (classes : Partition) → Means text m classes
     → IsSystem m × IsClasses classes × AreClassesOf m classes
 
--- the faults that a text can have: it wants no memory, and a plain model has no priorities
+-- the faults that a text can have: it wants no memory, and has no priorities yet
 abbrev pub is_of_text : Why → Bool
 is_of_text PriorityCycle = false
 is_of_text Memory = false

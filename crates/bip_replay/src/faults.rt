@@ -13,8 +13,7 @@ use thiserror::Error;
 pub enum StepFault {
     /// A participant's port is not offered, or the model has no such interaction.
     NotEnabled,
-    /// This interaction, the lowest-numbered one, is above it and enabled. It never comes of a
-    /// plain model, which has no priorities.
+    /// This interaction, the lowest-numbered one, is above it and enabled.
     Below(InterId),
     /// The lowest component of the model whose number isn't the one that its next move has, and
     /// that number; 0 where the component is spent.
@@ -58,8 +57,7 @@ impl StepFault {
 pub enum BookFault {
     /// A participant's port is not offered, or the model has no such interaction.
     NotEnabled,
-    /// This interaction, the lowest-numbered one, is above it and enabled. It never comes of a
-    /// plain model, which has no priorities.
+    /// This interaction, the lowest-numbered one, is above it and enabled.
     Below(InterId),
     /// The lowest component of the model whose number isn't the one that its next move has, and
     /// that number; 0 where the component is spent.

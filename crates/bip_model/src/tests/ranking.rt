@@ -2,15 +2,22 @@ use super::{name, say_own_ways};
 use crate::{BuildFault, Builder, CompId, InterId, Model, NotNow};
 use std::process::Abort;
 
+fn priority(
+    rt: &impl Abort,
+    builder: &mut Builder,
+    low: &str,
+    high: &str,
+) -> Result<(), BuildFault> {
+    assert!(rt; !builder.is_inside());
+    builder.priority(name(rt, low), name(rt, high))
+}
+
 /// Two components that go their own ways, the second first.
 fn say_ranked(rt: &impl Abort, builder: &mut Builder) -> Result<(), BuildFault> {
     say_own_ways(rt, builder)?;
-    assert!(rt; !builder.is_inside());
-    builder.priority(name(rt, "x"), name(rt, "y"))?;
-    let twice = builder.priority(name(rt, "x"), name(rt, "y"));
-    assert!(rt; matches!(twice, Err(BuildFault::Twice)));
-    let unknown = builder.priority(name(rt, "x"), name(rt, "z"));
-    assert!(rt; matches!(unknown, Err(BuildFault::Unknown)));
+    priority(rt, builder, "x", "y")?;
+    assert!(rt; matches!(priority(rt, builder, "x", "y"), Err(BuildFault::Twice)));
+    assert!(rt; matches!(priority(rt, builder, "x", "z"), Err(BuildFault::Unknown)));
     Ok(())
 }
 
@@ -41,9 +48,8 @@ fn what_is_above_goes_first(rt: HostRuntime) {
 /// Two that stand above each other.
 fn say_cycle(rt: &impl Abort, builder: &mut Builder) -> Result<(), BuildFault> {
     say_own_ways(rt, builder)?;
-    assert!(rt; !builder.is_inside());
-    builder.priority(name(rt, "x"), name(rt, "y"))?;
-    builder.priority(name(rt, "y"), name(rt, "x"))
+    priority(rt, builder, "x", "y")?;
+    priority(rt, builder, "y", "x")
 }
 
 #[test]
