@@ -57,6 +57,10 @@ empty_is (x ∷ xs) is = grind (arith, nat_tests)
 pub read_is : {X : Type 0} (xs : List X) (i : ℕ) (x d : X) → i < length xs → x ≡ get_or xs i x → x ≡ get_or xs i d
 read_is xs i x d within is = is ∙ get_or_default xs i x d within
 
+-- what is read of a list of rows
+pub read_row : {X : Type 0} (rows items : List (List X)) (i : ℕ) (x : List X) → items ≡ rows → i < length rows → x ≡ get_or items i x → x ≡ get_or rows i []
+read_row rows items i x same within is = rw (← same) (read_is items i x [] (rw same within) is)
+
 -- where neither of two tests passes
 pub neither : (a b : Bool) → (a || b) ≡ false → (a ≡ false) × (b ≡ false)
 neither = or_parts

@@ -1,10 +1,11 @@
 -- Pairs in order, and one more.
-use Rattle.std.proofs.Common.{subst, ◌≡◌, ◌+◌, ◌≤◌, suc, unwrap_or, position, Bool, true, false, cond, List, [], ◌∷◌, length, refl, ap, arith, inl, inr}
+use Rattle.std.proofs.Common.{subst, sym, ◌⊎◌, ◌≡◌, ◌+◌, ◌≤◌, suc, unwrap_or, position, Bool, true, false, cond, List, [], ◌∷◌, length, refl, ap, arith, inl, inr}
 use Rattle.std.specs.Prelude.{All, Contains}
 use Rattle.std.specs.List.{insert, list_all, list_any, position_or_len}
 use Rattle.std.proofs.lemmas.Bool.{and_parts, cases_Bool, or_parts}
 use Rattle.std.proofs.lemmas.Bool.Decides.{nat_tests}
 use Rattle.std.proofs.lemmas.List.Elements.{All-cons, All-head, All-tail}
+use Rattle.bip_model.specs.Laws.{PutsOnePair}
 use Rattle.bip_model.specs.declared.parts.Pair.{Pair}
 use Rattle.bip_model.specs.Priorities.{AreInOrder, is_before, is_same_pair, put_pair}
 use Rattle.bip_model.proofs.ListLemmas.{Contains-cases, Contains-head, Contains-tail}
@@ -59,6 +60,28 @@ put_keeps p r (q ∷ qs) at = by_first (is_before p q) (put_keeps p r qs)
       | inl same ↦ subst (λ x. Contains (q ∷ put_pair p qs) x) same (Contains-head q (put_pair p qs))
       | inr there ↦ Contains-tail q r (put_pair p qs) (later there)
     ]
+
+put_has : (p : Pair) (qs : List Pair) → Contains (put_pair p qs) p
+put_has p [] = Contains-head p []
+put_has p (q ∷ qs) = by_first (is_before p q) (put_has p qs)
+  where
+    by_first : (b : Bool) → Contains (put_pair p qs) p → Contains (cond b (p ∷ q ∷ qs) (q ∷ put_pair p qs)) p
+    by_first true later = Contains-head p (q ∷ qs)
+    by_first false later = Contains-tail q p (put_pair p qs) later
+
+put_only : (p r : Pair) (qs : List Pair) → Contains (put_pair p qs) r → (r ≡ p) ⊎ Contains qs r
+put_only p r [] at = elim (Contains-cases p [] r at) [ inl same ↦ inl (sym same) | inr there ↦ inr there ]
+put_only p r (q ∷ qs) at = by_first (is_before p q) (put_only p r qs) at
+  where
+    by_first : (b : Bool) → (Contains (put_pair p qs) r → (r ≡ p) ⊎ Contains qs r) → Contains (cond b (p ∷ q ∷ qs) (q ∷ put_pair p qs)) r → (r ≡ p) ⊎ Contains (q ∷ qs) r
+    by_first true later at = elim (Contains-cases p (q ∷ qs) r at) [ inl same ↦ inl (sym same) | inr there ↦ inr there ]
+    by_first false later at = elim (Contains-cases q (put_pair p qs) r at) [
+      | inl same ↦ inr (subst (λ x. Contains (q ∷ qs) x) same (Contains-head q qs))
+      | inr there ↦ elim (later there) [ inl own ↦ inl own | inr old ↦ inr (Contains-tail q r qs old) ]
+    ]
+
+pub puts_one : PutsOnePair
+puts_one p r pairs = (put_only p r pairs, λ either. elim either [ inl same ↦ subst (λ x. Contains (put_pair p pairs) x) (sym same) (put_has p pairs) | inr old ↦ put_keeps p r pairs old ])
 
 -- a pair is put at the place of the first one behind it
 pub put_is_insert : (p : Pair) (qs : List Pair) → put_pair p qs ≡ insert qs (position_or_len (is_before p) qs) p

@@ -6,6 +6,8 @@ use Rattle.std.proofs.lemmas.Bool.{and_parts, false≢true, leb-false, ltb-false
 use Rattle.std.proofs.lemmas.List.{get_or-map, length-map}
 use Rattle.std.proofs.lemmas.List.Elements.{All-map, All-weaker}
 use Rattle.std.proofs.lemmas.List.Quantifiers.{position-Some}
+use Rattle.std.proofs.lemmas.Option.{slice_get-get_or}
+use Rattle.std.specs.Cmp.Lexicographic as texts
 use Rattle.std.proofs.lemmas.List.Sums.{AllPass-from_list_all}
 use Rattle.std.proofs.Common.{cond, eqb-true}
 use Rattle.std.proofs.lemmas.Bool.{false_from_ne_true}
@@ -27,6 +29,7 @@ use Rattle.bip_model.specs.declared.expressions.Variable.{Variable}
 use Rattle.bip_model.specs.declared.parts.System.{System}
 use Rattle.bip_model.specs.declared.scopes.VariableName.{VariableName}
 use Rattle.bip_model.specs.Expressions.{AreAssignmentsIn, AreComparisonsIn, AreTargetsApart, IsAssignmentIn, IsComparisonIn, IsExprIn, IsTermIn, IsVariableIn, is_same}
+use Rattle.bip_model.specs.Laws.{FindsOfParticipants, IsOfParticipant}
 use Rattle.bip_model.specs.Naming.{same_text}
 use Rattle.bip_model.specs.Parts.{AreAssignmentsOver, IsGuardOver, IsShortSum, Participant, count_of, counts_of}
 use Rattle.bip_model.specs.Scopes.{are_long_assignments, assignment_said, transfer_said, variable_among, assignment_with, assignments_with, comparison_with, guard_with, is_long_guard, is_long_sum, knows_assignments, knows_guard, knows_sum, knows_term, own, shared, sum_with, term_with, variable_named, variable_of}
@@ -164,6 +167,54 @@ shared_in m qs v w is = by_owner v.owner is
     by_owner : (owner : Option (List ℕ)) → option_and_then (λ (o : List ℕ). variable_among m qs o v.name) owner ≡ Some w → IsVariableIn (counts_of m.components qs) w
     by_owner None found = cc
     by_owner (Some owner) found = by_name owner (position (same_text owner) m.component_names) found
+
+-- a name's place is where it stands
+named_at : (names : List (List ℕ)) (name : List ℕ) (n : ℕ) → position (same_text name) names ≡ Some n → slice_get names n ≡ Some name
+named_at names name n at =
+    let here = position-Some (same_text name) names n [] at in
+    rw (slice_get-get_or names n [] here.0, ← texts.same_text name (get_or names n []) (sym here.1)) refl
+
+pub finds_of_participants : FindsOfParticipants
+finds_of_participants m qs name v is = by_owner name.owner refl is
+  where
+    by_variable : (owner : List ℕ) (c i n : ℕ) (k : Component) → name.owner ≡ Some owner → position (same_text owner) m.component_names ≡ Some c → slice_get m.components c ≡ Some k → position (λ (q : Participant). eqb q.0.0 c) qs ≡ Some i
+        → position (same_text name.name) k.variables ≡ Some n → v ≡ record { owner = i; number = record { 0 = n } } → IsOfParticipant m qs name v
+    by_variable owner c i n k owns named at place own same =
+        let q : Participant = get_or qs i (record { 0 = 0 }, record { 0 = 0 }) in
+        let here = position-Some (λ (r : Participant). eqb r.0.0 c) qs i (record { 0 = 0 }, record { 0 = 0 }) place in
+        let its : q.0.0 ≡ c = eqb-true q.0.0 c here.1 in
+        rw same (record {
+          participant = q;
+          component = k;
+          place = slice_get-get_or qs i (record { 0 = 0 }, record { 0 = 0 }) here.0;
+          declared = rw its at;
+          owner = rw (its, owns, named_at m.component_names owner c named) refl;
+          own = named_at k.variables name.name n own;
+        })
+
+    by_component : (owner : List ℕ) (c i : ℕ) (k : Component) → name.owner ≡ Some owner → position (same_text owner) m.component_names ≡ Some c → slice_get m.components c ≡ Some k → position (λ (q : Participant). eqb q.0.0 c) qs ≡ Some i
+        → (n : Option ℕ) → position (same_text name.name) k.variables ≡ n → option_map (λ n. record { owner = i; number = record { 0 = n } }) n ≡ Some v → IsOfParticipant m qs name v
+    by_component owner c i k owns named at place None own found = cc
+    by_component owner c i k owns named at place (Some n) own found = by_variable owner c i n k owns named at place own cc
+
+    by_place : (owner : List ℕ) (c i : ℕ) (k : Option Component) → name.owner ≡ Some owner → position (same_text owner) m.component_names ≡ Some c → slice_get m.components c ≡ k → position (λ (q : Participant). eqb q.0.0 c) qs ≡ Some i
+        → option_and_then (λ (component : Component). variable_named component.variables i name.name) k ≡ Some v → IsOfParticipant m qs name v
+    by_place owner c i None owns named at place found = cc
+    by_place owner c i (Some k) owns named at place found = by_component owner c i k owns named at place (position (same_text name.name) k.variables) refl found
+
+    by_name : (owner : List ℕ) (c : ℕ) (i : Option ℕ) → name.owner ≡ Some owner → position (same_text owner) m.component_names ≡ Some c → position (λ (q : Participant). eqb q.0.0 c) qs ≡ i
+        → option_and_then (λ (i : ℕ). option_and_then (λ (component : Component). variable_named component.variables i name.name) (slice_get m.components c)) i ≡ Some v → IsOfParticipant m qs name v
+    by_name owner c None owns named place found = cc
+    by_name owner c (Some i) owns named place found = by_place owner c i (slice_get m.components c) owns named refl place found
+
+    by_number : (owner : List ℕ) (c : Option ℕ) → name.owner ≡ Some owner → position (same_text owner) m.component_names ≡ c
+        → option_and_then (λ (k : ℕ). option_and_then (λ (i : ℕ). option_and_then (λ (component : Component). variable_named component.variables i name.name) (slice_get m.components k)) (position (λ (q : Participant). eqb q.0.0 k) qs)) c ≡ Some v → IsOfParticipant m qs name v
+    by_number owner None owns named found = cc
+    by_number owner (Some c) owns named found = by_name owner c (position (λ (q : Participant). eqb q.0.0 c) qs) owns named refl found
+
+    by_owner : (owner : Option (List ℕ)) → name.owner ≡ owner → option_and_then (λ (o : List ℕ). variable_among m qs o name.name) owner ≡ Some v → IsOfParticipant m qs name v
+    by_owner None owns found = cc
+    by_owner (Some owner) owns found = by_number owner (position (same_text owner) m.component_names) owns refl found
 
 -- the targets of two assignments
 abbrev target_of : (VariableName → Option Variable) → Assignment VariableName → Variable

@@ -12,10 +12,11 @@ use Rattle.bip_model.specs.Wants.{IsWants, moved_in}
 use Rattle.bip_model.specs.Naming.{AreApart}
 use Rattle.bip_model.specs.Partitions.{IsPartition, numbers_in, times_in}
 use Rattle.bip_model.specs.Parts.{Participant, components_in}
-use Rattle.bip_model.specs.Priorities.{IsAbove}
+use Rattle.bip_model.specs.Priorities.{IsAbove, put_pair}
+use Rattle.bip_model.specs.Scopes.{shared}
 use Rattle.bip_model.specs.States.{IsStateOf, State}
-use Rattle.bip_model.specs.Steps.{IsEnabled, IsLookedAt, IsRun, MayRun, after, end_of, guard_of, moves}
-use Rattle.bip_model.specs.Steps.{participants_of, told, values_of}
+use Rattle.bip_model.specs.Steps.{IsEnabled, IsLookedAt, IsRun, MayRun, after, end_of, guard_of}
+use Rattle.bip_model.specs.Steps.{moves, participants_of, told, values_of}
 use Rattle.bip_model.specs.declared.drafts.Draft.{Draft}
 use Rattle.bip_model.specs.declared.expressions.Assignment.{Assignment}
 use Rattle.bip_model.specs.declared.expressions.Expr.{Expr}
@@ -32,6 +33,7 @@ use Rattle.bip_model.specs.declared.parts.Component.{Component}
 use Rattle.bip_model.specs.declared.parts.Pair.{Pair}
 use Rattle.bip_model.specs.declared.parts.System.{System}
 use Rattle.bip_model.specs.declared.parts.Transition.{Transition}
+use Rattle.bip_model.specs.declared.scopes.VariableName.{VariableName}
 use Rattle.bip_model.specs.declared.states.LocalState.{LocalState}
 
 -- what a term with a sign adds to a sum, and what it takes away
@@ -218,6 +220,28 @@ pub record KeepsDraft (old new : Draft) : Type 0 where
   pub priorities : (p : Pair) → Contains old.system.priorities p
       → Contains new.system.priorities p
   pub begun : IfSome old.begun (λ c. GoesOn old c new)
+
+-- a pair put among others joins them, and no other does
+abbrev pub PutsOnePair : Type 0
+PutsOnePair =
+    (p r : Pair) (pairs : List Pair) → Contains (put_pair p pairs) r ↔ (r ≡ p) ⊎ Contains pairs r
+
+-- a variable of an interaction by its owner's name and its own: the owner is the place of a
+-- participant, whose component has that name, and whose variable of that number has the own name
+pub record IsOfParticipant (m : System) (participants : List Participant) (name : VariableName)
+    (v : Variable) : Type 0 where
+  pub participant : Participant
+  pub component : Component
+  pub place : slice_get participants v.owner ≡ Some participant
+  pub declared : slice_get m.components participant.0.0 ≡ Some component
+  pub owner : name.owner ≡ slice_get m.component_names participant.0.0
+  pub own : slice_get component.variables v.number.0 ≡ Some name.name
+
+-- a name that is found in an interaction is a variable of a participant
+abbrev pub FindsOfParticipants : Type 0
+FindsOfParticipants =
+    (m : System) (participants : List Participant) (name : VariableName) (v : Variable)
+    → shared m participants name ≡ Some v → IsOfParticipant m participants name v
 
 -- a want of a component with a number moves it
 abbrev pub MovesBy : List Want → ℕ → ℕ → Type 0

@@ -112,14 +112,8 @@ pub record IsSystemSoFar (m : System) : Type 0 where
   pub priorities : All (IsPairOf (length m.interactions)) m.priorities
   pub in_order : AreInOrder m.priorities
 
--- what a model may declare but for cyclic priorities: it has a component, and each of its names for
--- components has one
-pub record IsWholeSystem (m : System) : Type 0 where
-  pub so_far : IsSystemSoFar m
-  pub some : 0 < length m.components
-  pub components_named : length m.component_names ≡ length m.components
-
--- what a model may declare: no interaction stands above itself, too
+-- what a model may declare: it has a component, each of its names for components has one, and no
+-- interaction stands above itself
 pub record IsSystem (m : System) : Type 0 where
   pub so_far : IsSystemSoFar m
   pub some : 0 < length m.components

@@ -109,6 +109,12 @@ number_of word =
     if is_numeral 20 word && nat_lt 0 (digits_value 10 word)
     && nat_lt (digits_value 10 word) (2 ^ 64) then Some (digits_value 10 word) else None
 
+-- the value that a word spells: at most 10 digits, below 2^32
+abbrev pub value_said : List ℕ → Option ℕ
+value_said word =
+    if is_numeral 10 word && nat_lt (digits_value 10 word) (2 ^ 32)
+    then Some (digits_value 10 word) else None
+
 -- what stands before and after the first such byte of a word
 abbrev pub pair_of : ℕ → List ℕ → Option (List ℕ × List ℕ)
 pair_of mark word = option_map (λ i. (take i word, drop (i + 1) word))

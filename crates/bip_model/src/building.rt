@@ -177,8 +177,8 @@ impl Builder {
             .interaction(self.alloc, name, participants, guard, transfer)
     }
 
-    /// `priority LOW < HIGH` puts the second interaction above the first. By the first word from the
-    /// left that is at fault, Unknown: there is no such interaction; then Twice: the pair is
+    /// `priority LOW < HIGH` puts the second interaction above the first. By the first word from
+    /// the left that is at fault, Unknown: there is no such interaction; then Twice: the pair is
     /// declared already.
     pub fn priority(&mut self, low: Name, high: Name) -> Result<(), BuildFault>
         requires { IsNone self.old.begun }

@@ -11,7 +11,7 @@ ghost use Rattle.bip_model.specs.Parts.{IsComponent, IsComponentSoFar};
 ghost use Rattle.bip_model.specs.States.{IsLocalStateOf};
 ghost use Rattle.bip_model.specs.declared.faults.BuildFault.TheVariants.{Memory};
 
-use crate::expressions::{holds, update};
+use crate::expressions::holds;
 use crate::parts::{MOST_LOCATIONS, MOST_PORTS, MOST_TRANSITIONS};
 use crate::scopes::{Scope, are_long_assignments, is_long_guard};
 use crate::states::MOST_VALUES;
@@ -231,12 +231,9 @@ impl Component {
         ensures { result ≡ moved self.now local.now port }
     {
         let transition = self.transition_for(local.location, port)?;
-        let mut values = local.values;
-        update(transition.update.as_slice(), &mut values);
-        Some(LocalState {
-            location: transition.target,
-            values,
-        })
+        let mut target = *local;
+        target.follow(transition);
+        Some(target)
     }
 }
 

@@ -1,18 +1,18 @@
 //! What the lines of a model's text have said so far, and what one more line says.
-ghost use Rattle.std.specs.Prelude.{◌≡◌, ◌≤◌, ◌==◌, [], false, length, position, IsSome, IsNone, IfOk, OnErr};
+ghost use Rattle.std.specs.Prelude.{◌≡◌, ◌≤◌, ◌==◌, [], false, length, position, IsSome, IsNone};
+ghost use Rattle.std.specs.Prelude.{IfOk, OnErr};
+ghost use Rattle.std.specs.List.{list_any, position_or_len};
+ghost use Rattle.std.specs.Result.{result_map_both};
 ghost use Rattle.bip_model.specs.Drafts.{component_line, empty_draft, end_line, interaction_line};
 ghost use Rattle.bip_model.specs.Drafts.{interaction_of, interaction_over, participant_named};
-ghost use Rattle.bip_model.specs.Drafts.{participants_named};
-ghost use Rattle.bip_model.specs.Drafts.{with_interaction};
-ghost use Rattle.bip_model.specs.Naming.{is_known};
+ghost use Rattle.bip_model.specs.Drafts.{participants_named, priority_line, with_interaction};
+ghost use Rattle.bip_model.specs.Drafts.{with_priority};
 ghost use Rattle.bip_model.specs.Faults.{Answers, new_or_fault};
+ghost use Rattle.bip_model.specs.Naming.{is_known};
+ghost use Rattle.bip_model.specs.Parts.{IsSystemSoFar, Participant};
+ghost use Rattle.bip_model.specs.Priorities.{is_before, is_same_pair};
 ghost use Rattle.bip_model.specs.declared.faults.BuildFault.TheVariants.{Memory};
 ghost use Rattle.bip_model.specs.declared.parts.TheConstants.{MOST_COMPONENTS};
-ghost use Rattle.bip_model.specs.Parts.{IsSystemSoFar, Participant};
-ghost use Rattle.std.specs.List.{list_any, position_or_len};
-ghost use Rattle.bip_model.specs.Drafts.{priority_line, with_priority};
-ghost use Rattle.bip_model.specs.Priorities.{is_before, is_same_pair};
-ghost use Rattle.std.specs.Result.{result_map_both};
 
 use crate::looks::takes_part;
 use crate::parts::{MOST_COMPONENTS, MOST_INTERACTIONS, MOST_PARTICIPANTS, System};

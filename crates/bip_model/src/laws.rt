@@ -10,7 +10,8 @@ ghost use Rattle.bip_model.specs.Laws.{ParticipantsGo, StatesLeadToStates, Histo
 ghost use Rattle.bip_model.specs.Laws.{IsInOrder, MovedIsWanted, NamesInAnyOrder};
 ghost use Rattle.bip_model.specs.Laws.{SumsAreIntegers, TransfersAtOnce, TransfersInAnyOrder};
 ghost use Rattle.bip_model.specs.Laws.{AboveGoesOn, MayRunIsLocal, SomethingMayRun, UpdatesInOrder};
-ghost use Rattle.bip_model.specs.Laws.{NamesParticipants, PartsOrMisplaces, UsedGoesOn};
+ghost use Rattle.bip_model.specs.Laws.{FindsOfParticipants, NamesParticipants};
+ghost use Rattle.bip_model.specs.Laws.{PartsOrMisplaces, PutsOnePair, UsedGoesOn};
 ghost use Rattle.bip_model.specs.Grants.{IsGreatestUsed, IsHistory, MovesOnceEach, used_by};
 ghost use Rattle.bip_model.specs.Parts.{IsSystem};
 ghost use Rattle.bip_model.specs.Wants.{IsFresh, raised};
@@ -47,8 +48,8 @@ pub fn step_laws()
 {}
 
 /// What priorities mean: what stands above goes on from pair to pair; where something is enabled
-/// something may run; and whether an interaction may run depends on what it moves and looks at alone
-/// (docs/DEFINITIONS.md, "Priorities").
+/// something may run; and whether an interaction may run depends on what it moves and looks at
+/// alone (docs/DEFINITIONS.md, "Priorities").
 pub fn priority_laws()
     ensures above { AboveGoesOn }
     ensures something { (m : System) → IsSystem m → SomethingMayRun m }
@@ -57,7 +58,8 @@ pub fn priority_laws()
 
 /// A line that is taken keeps all that earlier lines said: names, components, interactions, and
 /// what the component that is begun has declared. The participants of an interaction are just what
-/// its words name, one each, by component, so the order of the words doesn't count
+/// its words name, one each, by component, so the order of the words doesn't count; a name that is
+/// found there is a variable of a participant. A priority adds one pair, and nothing else
 /// (docs/DEFINITIONS.md, "Model lines").
 pub fn builder_laws()
     ensures component { (d e : Draft) (name : List ℕ) → IsNone d.begun
@@ -79,6 +81,8 @@ pub fn builder_laws()
         → priority_line d low high ≡ Ok e → KeepsDraft d e }
     ensures participants { NamesParticipants }
     ensures any_order { NamesInAnyOrder }
+    ensures variables { FindsOfParticipants }
+    ensures pairs { PutsOnePair }
 {}
 
 /// What wants move; what grants use up, all that they do and one more; that a used number is the

@@ -43,7 +43,8 @@ pub use scopes::VariableName;
 pub use sequence::Seq;
 pub use states::{LocalState, State, Values};
 pub use texts::{
-    Line, NumberedLines, is_plain, parse_number, read_words, split_line, split_pair, split_word,
+    Line, NumberedLines, is_plain, parse_number, parse_value, read_words, split_line, split_pair,
+    split_word,
 };
 pub use wants::{MOST_WANTS, Role, Want, Wants};
 

@@ -32,14 +32,16 @@ impl marker::Model for Model {
 
 impl Model {
     ghost use Rattle.bip_model.specs.Drafts.{IsCycleFault};
-    ghost use Rattle.bip_model.specs.Parts.{IsSystem, IsWholeSystem, components_in};
+    ghost use Rattle.bip_model.specs.Parts.{IsSystem, IsSystemSoFar, components_in};
     ghost use Rattle.bip_model.specs.Priorities.{IsCyclic, IsListAbove};
     ghost use Rattle.bip_model.specs.Steps.{IsListLookedAt, participants_of};
 
     /// The model that declares all this. PriorityCycle: an interaction stands above itself; else
     /// the model, or Memory.
     pub(crate) fn of(alloc: Global, system: System) -> Result<Model, BuildFault>
-        requires { IsWholeSystem system }
+        requires so_far { IsSystemSoFar system }
+        requires some { 0 < length system.components }
+        requires named { length system.component_names ≡ length system.components }
         ensures model { IfOk result (λ model. model ≡ system) }
         ensures acyclic { OnOk result (¬ IsCyclic system.priorities) }
         ensures fault { IfErr result (IsCycleFault system) }

@@ -110,6 +110,20 @@ pub struct LocalState {
     pub values: Values,
 }
 
+impl LocalState {
+    ghost use Rattle.bip_model.specs.Components.{followed};
+    ghost use Rattle.bip_model.specs.Expressions.{AreAssignmentsIn};
+
+    /// Goes along a transition, to its target and with its update done.
+    pub(crate) fn follow(&mut self, transition: &Transition)
+        requires { AreAssignmentsIn (length self.old.values ∷ []) transition.now.update }
+        ensures { self.new ≡ followed transition.now self.old }
+    {
+        self.location = transition.target;
+        update(transition.update.as_slice(), &mut self.values);
+    }
+}
+
 /// A state: the local state of each component, by component. Contracts see it as the list.
 #[derive(Drop)]
 pub struct State {
@@ -174,9 +188,7 @@ impl State {
             else state_of self.old c) }
     {
         if (comp.0 as usize) < self.locals.len() {
-            let local = &mut self.locals[comp.0 as usize];
-            local.location = transition.target;
-            update(transition.update.as_slice(), &mut local.values);
+            self.locals[comp.0 as usize].follow(transition);
         }
     }
 }

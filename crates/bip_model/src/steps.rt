@@ -1,6 +1,7 @@
 //! The steps of a model: what is enabled in a state, and where an interaction leads.
 ghost use Rattle.std.specs.Prelude.{◌≡◌, ◌<◌, ◌≤◌, ◌↔◌, ℕ, IsTrue, length, map, take, slice_get};
-ghost use Rattle.std.specs.Prelude.{◌==◌, if◌then◌else◌, true, IfNone, IfOk, IfSome, OnOk, OnErr, IfErr};
+ghost use Rattle.std.specs.Prelude.{◌==◌, if◌then◌else◌, true, IfErr, IfNone, IfOk, IfSome};
+ghost use Rattle.std.specs.Prelude.{OnErr, OnOk};
 ghost use Rattle.std.specs.List.Sorted.{IsStrictlyIncreasing};
 ghost use Rattle.std.specs.List.{list_all};
 ghost use Rattle.std.specs.Option.{option_map};
@@ -10,9 +11,9 @@ ghost use Rattle.bip_model.specs.Parts.{IsInteraction, IsSystem, components_in, 
 ghost use Rattle.bip_model.specs.Parts.{counts_of};
 ghost use Rattle.bip_model.specs.Priorities.{IsAbove, IsListAbove};
 ghost use Rattle.bip_model.specs.States.{IsLocalStateOf, IsStateOf, local_of, state_of};
-ghost use Rattle.bip_model.specs.Steps.{IsEnabled, IsHeldBack, IsLowestAbove, MayRun, after, guard_of, led};
-ghost use Rattle.bip_model.specs.Steps.{led_all, offered, participants_of, start_of, transfer_of};
-ghost use Rattle.bip_model.specs.Steps.{told_all, transition_of, values_at};
+ghost use Rattle.bip_model.specs.Steps.{IsEnabled, IsHeldBack, IsLowestAbove, MayRun, after};
+ghost use Rattle.bip_model.specs.Steps.{guard_of, led, led_all, offered, participants_of};
+ghost use Rattle.bip_model.specs.Steps.{start_of, told_all, transfer_of, transition_of, values_at};
 
 use crate::expressions::{holds, transfer};
 use crate::parts::MOST_PARTICIPANTS;

@@ -1,11 +1,9 @@
 //! What no clause and no text of `cases/` says: each call with ample memory, and calls that no text
 //! makes.
 mod building;
-mod counting;
 mod granting;
 mod naming;
 mod parting;
-mod ranking;
 mod sequences;
 mod stepping;
 

@@ -7,13 +7,16 @@ ghost use Rattle.std.specs.Option.{option_map};
 ghost use Rattle.std.specs.Str.Parse.{digits_value};
 ghost use Rattle.bip_model.specs.Texts.{words_read, words_said, IsLineAndRest, IsWordAndRest};
 ghost use Rattle.bip_model.specs.Texts.{is_blank, is_line_feed, is_numeral, is_plain, lines};
-ghost use Rattle.bip_model.specs.Texts.{number_of, pair_of, words};
+ghost use Rattle.bip_model.specs.Texts.{number_of, pair_of, value_said, words};
 
 use memchr::memchr;
 use std::marker;
 
 /// The most digits that a participation number is written with.
 pub(crate) const NUMBER_DIGITS: usize = 20;
+
+/// The most digits that a value is written with.
+pub(crate) const VALUE_DIGITS: usize = 10;
 
 /// The lines of a text, one after another, each with its number. Contracts see the list of those
 /// that are left.
@@ -148,13 +151,23 @@ fn split_first_word(line: &[u8]) -> (&[u8], &[u8])
 pub fn parse_number(word: &[u8]) -> Option<u64>
     ensures { result ≡ number_of word.now }
 {
-    if !is_numeral(word) {
+    if !is_numeral(NUMBER_DIGITS, word) {
         return None;
     }
     match u64::try_from(value_of(word)) {
         Ok(value) if value > 0 => Some(value),
         _ => None,
     }
+}
+
+/// The value that a word spells: 1 to 10 digits, from 0 to 4294967295.
+pub fn parse_value(word: &[u8]) -> Option<u32>
+    ensures { result ≡ value_said word.now }
+{
+    if !is_numeral(VALUE_DIGITS, word) {
+        return None;
+    }
+    u32::try_from(value_of(word)).ok()
 }
 
 /// What stands before and after the first such byte of a word; none where it has no such byte.
@@ -195,10 +208,10 @@ fn is_blank(byte: u8) -> bool
     byte == b' ' || byte == b'\t'
 }
 
-fn is_numeral(word: &[u8]) -> bool
-    ensures { result ≡ is_numeral NUMBER_DIGITS word.now }
+fn is_numeral(most: usize, word: &[u8]) -> bool
+    ensures { result ≡ is_numeral most word.now }
 {
-    !word.is_empty() && word.len() <= NUMBER_DIGITS && are_digits(word)
+    !word.is_empty() && word.len() <= most && are_digits(word)
 }
 
 fn are_digits(word: &[u8]) -> bool

@@ -3,6 +3,8 @@ use Rattle.std.proofs.lemmas.Grind.{common_steps}
 use Rattle.bip_model.specs.Components.{loc_line, port_line, trans_line, var_line}
 use Rattle.bip_model.proofs.GrowthLemmas.{inside_grows, loc_grows, port_grows, priority_grows, trans_grows, var_grows}
 use Rattle.bip_model.proofs.ParticipantLemmas.{names_in_any_order, names_participants}
+use Rattle.bip_model.proofs.PriorityLemmas.{puts_one}
+use Rattle.bip_model.proofs.ScopeLemmas.{finds_of_participants}
 use Rattle.bip_model.proofs.laws.builder_laws.Goals as goal
 
 pub returns : goal.returns
@@ -17,4 +19,6 @@ returns c = record {
   priority = priority_grows;
   participants = names_participants;
   any_order = names_in_any_order;
+  variables = finds_of_participants;
+  pairs = puts_one;
 }

@@ -1,14 +1,13 @@
-use Rattle.std.proofs.Common.{◌≡◌, ◌<◌, [], length, get_or, arith}
+use Rattle.std.proofs.Common.{◌<◌, length, refl, arith}
 use Rattle.bip_model.proofs.AboveLists.{AreListsLookedAt-more}
-use Rattle.bip_model.proofs.ListLemmas.{read_is}
+use Rattle.bip_model.proofs.ListLemmas.{read_row}
 use Rattle.bip_model.proofs.parts.System.lists_looked_at.Goals as goal
 
 pub list_looked_at-requires-clause-above : goal.list_looked_at-requires-clause-above
 list_looked_at-requires-clause-above c =
     let i = c.loop-number.number in
     let within : i < length c.args.self.now.interactions = omega arith in
-    let inside' : i < length c.args.above.now = rw c.requires.above.each within in
-    let at : c.index-above-number.result ≡ get_or c.args.above.now i [] = read_is c.args.above.now i c.index-above-number.result [] inside' c.index-above-number.is in
+    let at = read_row c.args.above.now c.args.above.now i c.index-above-number.result refl (rw c.requires.above.each within) c.index-above-number.is in
     rw (c.as_slice.ensures, at) (c.requires.above.list i within)
 
 pub loop-number-preserved : goal.loop-number-preserved
