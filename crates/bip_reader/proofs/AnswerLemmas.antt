@@ -17,7 +17,7 @@ use Rattle.bip_reader.specs.declared.statements.Statement.{Statement}
 use Rattle.bip_reader.specs.declared.statements.Statement.TheVariants as statement
 use Rattle.bip_reader.specs.Faults.{why_of_build}
 use Rattle.bip_reader.specs.Reading.{class_line, draft_of, draft_with, interaction_named, reading_with, with_draft}
-use Rattle.bip_reader.proofs.StatementLemmas.{all_are_each}
+use Rattle.bip_reader.proofs.WordLemmas.{all_are_each}
 
 -- whether an element's image passes a test
 pub list_any-map : {A B : Type 0} (p : B → Bool) (f : A → B) (xs : List A) → list_any p (map f xs) ≡ list_any (λ x. p (f x)) xs

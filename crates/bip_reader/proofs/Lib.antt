@@ -1,9 +1,10 @@
 pub mod AnswerLemmas
+pub mod ClauseLemmas
 pub mod DecisionLemmas
 pub mod FaultLemmas
 pub mod FirstLemmas
 pub mod PartedLemmas
 pub mod SameMeaningLemmas
-pub mod StatementLemmas
 pub mod TextLemmas
 pub mod ValidLemmas
+pub mod WordLemmas

@@ -1,6 +1,5 @@
 -- What the definitions mean, in the subject's own words: laws that a reviewer reads.
-use Rattle.std.specs.Prelude.{◌≡◌, ◌⊎◌, ◌↔◌, ◌++◌, ℕ, Bool, false, true, List, [], ◌∷◌, take, Err}
-use Rattle.std.specs.Prelude.{IsTrue, IsSome}
+use Rattle.std.specs.Prelude.{◌≡◌, ◌≢◌, ◌⊎◌, ◌↔◌, ◌++◌, ℕ, List, [], ◌∷◌, take, Err, IsSome}
 use Rattle.bip_model.specs.Naming.{IsName}
 use Rattle.bip_model.specs.Parts.{IsSystem}
 use Rattle.bip_model.specs.Partitions.{AreClassesOf, IsClasses}
@@ -8,10 +7,9 @@ use Rattle.bip_model.specs.Texts.{line_feed, lines, said_in}
 use Rattle.bip_model.specs.declared.partitions.Partition.{Partition}
 use Rattle.bip_model.specs.declared.parts.System.{System}
 use Rattle.bip_reader.specs.declared.faults.ReadFault.{ReadFault}
-use Rattle.bip_reader.specs.declared.faults.Why.{Why}
-use Rattle.bip_reader.specs.declared.faults.Why.TheVariants.{PriorityCycle, Memory}
-use Rattle.bip_reader.specs.Statements.{name_of}
+use Rattle.bip_reader.specs.declared.faults.Why.TheVariants.{Memory}
 use Rattle.bip_reader.specs.Texts.{HasFault, IsReached, Means, reading_of}
+use Rattle.bip_reader.specs.Words.{name_of}
 
 -- a text has at most one meaning
 abbrev pub OneMeaning : Type 0
@@ -43,16 +41,9 @@ MeansValid =
     (text : List ℕ) (m : System) (classes : Partition) → Means text m classes
     → IsSystem m × IsClasses classes × AreClassesOf m classes
 
--- the faults that a text can have: it wants no memory, and has no priorities yet
-abbrev pub is_of_text : Why → Bool
-is_of_text PriorityCycle = false
-is_of_text Memory = false
-is_of_text why = true
-
--- a text has only faults that a text can have
-abbrev pub TextFaults : Type 0
-TextFaults =
-    (text : List ℕ) (fault : ReadFault) → HasFault text fault → IsTrue (is_of_text fault.why)
+-- want of memory is no fault of a text
+abbrev pub NoWantOfMemory : Type 0
+NoWantOfMemory = (text : List ℕ) (fault : ReadFault) → HasFault text fault → fault.why ≢ Memory
 
 -- the fault of a text is the first: no line before its line is at fault
 abbrev pub FirstFault : Type 0

@@ -5,7 +5,8 @@ use Rattle.std.specs.Prelude.{option_and_then, position, unwrap_or, if◌then◌
 use Rattle.std.specs.List.{list_all, list_any}
 use Rattle.std.specs.Option.{ok_or, option_map, option_map_or}
 use Rattle.bip_model.specs.Drafts.{component_line, empty_draft, end_line, inside, interaction_line}
-use Rattle.bip_model.specs.Components.{loc_line, port_line, trans_line}
+use Rattle.bip_model.specs.Drafts.{priority_line}
+use Rattle.bip_model.specs.Components.{loc_line, port_line, trans_line, var_line}
 use Rattle.bip_model.specs.Naming.{same_text}
 use Rattle.bip_model.specs.Faults.{◌>>=◌}
 use Rattle.bip_model.specs.Texts.{words_said}
@@ -20,11 +21,12 @@ use Rattle.bip_reader.specs.declared.reading.Reading.{Reading}
 use Rattle.bip_reader.specs.declared.statements.Keyword.{Keyword}
 use Rattle.bip_reader.specs.declared.statements.Keyword.TheVariants as keyword
 use Rattle.bip_reader.specs.declared.statements.Statement.{Statement}
-use Rattle.bip_reader.specs.declared.statements.Statement.TheVariants.{Header, Component, Loc, Port}
-use Rattle.bip_reader.specs.declared.statements.Statement.TheVariants.{Trans, End, Interaction}
-use Rattle.bip_reader.specs.declared.statements.Statement.TheVariants.{Class}
+use Rattle.bip_reader.specs.declared.statements.Statement.TheVariants.{Header, Component, Var, Loc}
+use Rattle.bip_reader.specs.declared.statements.Statement.TheVariants.{Port, Trans, End}
+use Rattle.bip_reader.specs.declared.statements.Statement.TheVariants.{Interaction, Priority, Class}
 use Rattle.bip_reader.specs.Faults.{why_of_build}
-use Rattle.bip_reader.specs.Statements.{each_of, keyword_of, lists_words, statement_of}
+use Rattle.bip_reader.specs.Statements.{keyword_of, lists_words, statement_of}
+use Rattle.bip_reader.specs.Words.{each_of}
 
 -- classes as a text names them: a name, and the numbers of interactions
 abbrev pub ClassList : Type 0
@@ -66,11 +68,15 @@ class_line name interactions r =
 -- what a statement says to the draft; `bip 1` and a class say nothing to it
 abbrev pub draft_with : Statement → Draft → Result Draft BuildFault
 draft_with (Component name) d = component_line d name
+draft_with (Var name value) d = inside (var_line name value) d
 draft_with (Loc name) d = inside (loc_line name) d
 draft_with (Port name) d = inside (port_line name) d
-draft_with (Trans port source target) d = inside (trans_line port source target [] []) d
+draft_with (Trans port source target guard update) d =
+    inside (trans_line port source target guard update) d
 draft_with End d = end_line d
-draft_with (Interaction name participants) d = interaction_line d name participants [] []
+draft_with (Interaction name participants guard transfer) d =
+    interaction_line d name participants guard transfer
+draft_with (Priority low high) d = priority_line d low high
 draft_with s d = Ok d
 
 -- what was said to the draft, said to the reading
@@ -93,11 +99,13 @@ is_of_header k = false
 abbrev pub can_follow : Keyword → Draft → Bool
 can_follow keyword.Bip d = false
 can_follow keyword.Component d = not (is_some d.begun)
+can_follow keyword.Var d = is_some d.begun
 can_follow keyword.Loc d = is_some d.begun
 can_follow keyword.Port d = is_some d.begun
 can_follow keyword.Trans d = is_some d.begun
 can_follow keyword.End d = is_some d.begun
 can_follow keyword.Interaction d = not (is_some d.begun)
+can_follow keyword.Priority d = not (is_some d.begun)
 can_follow keyword.Class d = not (is_some d.begun)
 
 -- whether a line has its place: `bip 1` stands first, and all others behind it

@@ -1,48 +1,31 @@
 -- The forms of the lines of a model's text: from the words of a line to what it states.
-use Rattle.std.specs.Prelude.{ℕ, Bool, false, true, ◌==◌, List, [], ◌∷◌, length, Option, None}
-use Rattle.std.specs.Prelude.{Some, option_and_then, codes, if◌then◌else◌}
+use Rattle.std.specs.Prelude.{ℕ, Bool, false, true, List, [], ◌∷◌, Option, None, Some, codes}
+use Rattle.std.specs.Prelude.{if◌then◌else◌}
 use Rattle.std.specs.Option.{option_map, option_map_or, option_zip}
-use Rattle.bip_model.specs.Naming.{is_name, same_text}
-use Rattle.bip_model.specs.Texts.{pair_of}
+use Rattle.bip_model.specs.Naming.{same_text}
+use Rattle.bip_model.specs.Texts.{value_said}
+use Rattle.bip_reader.specs.Clauses.{clauses_form, has_clauses, head_of}
+use Rattle.bip_reader.specs.Words.{name_of, one_or_more_of, participant_of, two_names}
+use Rattle.bip_reader.specs.declared.clauses.Spelling.TheVariants.{Own, Shared}
 use Rattle.bip_reader.specs.declared.statements.Keyword.{Keyword}
 use Rattle.bip_reader.specs.declared.statements.Keyword.TheVariants as keyword
 use Rattle.bip_reader.specs.declared.statements.Statement.{Statement}
-use Rattle.bip_reader.specs.declared.statements.Statement.TheVariants.{Header, Component, Loc, Port}
-use Rattle.bip_reader.specs.declared.statements.Statement.TheVariants.{Trans, End, Interaction}
-use Rattle.bip_reader.specs.declared.statements.Statement.TheVariants.{Class}
-use Rattle.bip_reader.specs.declared.statements.TheConstants.{PORT_MARK}
-
--- the name that a word is: spelled as one, of at most 32 bytes, and not reserved
-unfoldable pub name_of : List ℕ → Option (List ℕ)
-name_of word = if is_name word then Some word else None
-
--- the names that two words are
-abbrev pub two_names : List ℕ × List ℕ → Option (List ℕ × List ℕ)
-two_names pair = option_zip (name_of pair.0) (name_of pair.1)
-
--- `C.p`, a component and one of its ports
-abbrev pub participant_of : List ℕ → Option (List ℕ × List ℕ)
-participant_of word = option_and_then two_names (pair_of PORT_MARK word)
-
--- what things are, each by itself; none where one is nothing
-abbrev pub each_of : {A B : Type 0} → (A → Option B) → List A → Option (List B)
-each_of f [] = Some []
-each_of f (x ∷ rest) = option_map (λ y. y.0 ∷ y.1) (option_zip (f x) (each_of f rest))
-
--- what words are, each by itself, at least one
-abbrev pub one_or_more_of : {A : Type 0} → (List ℕ → Option A) → List (List ℕ) → Option (List A)
-one_or_more_of f words = if length words == 0 then None else each_of f words
+use Rattle.bip_reader.specs.declared.statements.Statement.TheVariants.{Header, Component, Var, Loc}
+use Rattle.bip_reader.specs.declared.statements.Statement.TheVariants.{Port, Trans, End}
+use Rattle.bip_reader.specs.declared.statements.Statement.TheVariants.{Interaction, Priority, Class}
 
 -- the keyword that a word is
 unfoldable pub keyword_of : List ℕ → Option Keyword
 keyword_of word =
     if same_text word (codes "bip") then Some keyword.Bip
     else if same_text word (codes "component") then Some keyword.Component
+    else if same_text word (codes "var") then Some keyword.Var
     else if same_text word (codes "loc") then Some keyword.Loc
     else if same_text word (codes "port") then Some keyword.Port
     else if same_text word (codes "trans") then Some keyword.Trans
     else if same_text word (codes "end") then Some keyword.End
     else if same_text word (codes "interaction") then Some keyword.Interaction
+    else if same_text word (codes "priority") then Some keyword.Priority
     else if same_text word (codes "class") then Some keyword.Class
     else None
 
@@ -50,23 +33,26 @@ keyword_of word =
 abbrev pub keyword_in : Statement → Keyword
 keyword_in Header = keyword.Bip
 keyword_in (Component name) = keyword.Component
+keyword_in (Var name value) = keyword.Var
 keyword_in (Loc name) = keyword.Loc
 keyword_in (Port name) = keyword.Port
-keyword_in (Trans port source target) = keyword.Trans
+keyword_in (Trans port source target guard update) = keyword.Trans
 keyword_in End = keyword.End
-keyword_in (Interaction name participants) = keyword.Interaction
+keyword_in (Interaction name participants guard transfer) = keyword.Interaction
+keyword_in (Priority low high) = keyword.Priority
 keyword_in (Class name interactions) = keyword.Class
 
--- whether a line with this keyword lists words
-abbrev pub is_of_list : Keyword → Bool
-is_of_list keyword.Interaction = true
-is_of_list keyword.Class = true
-is_of_list k = false
+-- whether a line lists words, by its keyword and the words that follow: an interaction's and a
+-- class's do, and a transition's with a guard or assignments
+abbrev pub is_of_list : Keyword → List (List ℕ) → Bool
+is_of_list keyword.Trans rest = has_clauses rest
+is_of_list keyword.Interaction rest = true
+is_of_list keyword.Class rest = true
+is_of_list k rest = false
 
--- whether a line lists words, as an interaction's and a class's do
 abbrev pub lists_words : List (List ℕ) → Bool
 lists_words [] = false
-lists_words (word ∷ rest) = option_map_or is_of_list (keyword_of word) false
+lists_words (word ∷ rest) = option_map_or (λ k. is_of_list k rest) (keyword_of word) false
 
 -- `1`
 unfoldable pub header_form : List (List ℕ) → Option Statement
@@ -78,12 +64,23 @@ unfoldable pub one_name : List (List ℕ) → Option (List ℕ)
 one_name (word ∷ []) = name_of word
 one_name _ = None
 
--- `PORT FROM TO`
+-- `NAME VALUE`
+unfoldable pub var_form : List (List ℕ) → Option Statement
+var_form (name ∷ value ∷ []) =
+    option_map (λ v. Var v.0 v.1) (option_zip (name_of name) (value_said value))
+var_form _ = None
+
+-- `NAME NAME NAME`
+unfoldable pub three_names : List (List ℕ) → Option (List ℕ × (List ℕ × List ℕ))
+three_names (first ∷ second ∷ third ∷ []) =
+    option_zip (name_of first) (two_names (second, third))
+three_names _ = None
+
+-- `PORT FROM TO [when GUARD] [do ASSIGNS]`
 unfoldable pub trans_form : List (List ℕ) → Option Statement
-trans_form (port ∷ source ∷ target ∷ []) =
-    option_map (λ t. Trans t.0 t.1.0 t.1.1)
-    (option_zip (name_of port) (two_names (source, target)))
-trans_form _ = None
+trans_form rest =
+    option_map (λ t. Trans t.0.0 t.0.1.0 t.0.1.1 t.1.0 t.1.1)
+    (option_zip (three_names (head_of rest)) (clauses_form Own rest))
 
 -- no word
 unfoldable pub end_form : List (List ℕ) → Option Statement
@@ -96,10 +93,18 @@ unfoldable pub name_and_words :
 name_and_words f [] = None
 name_and_words f (name ∷ rest) = option_zip (name_of name) (one_or_more_of f rest)
 
--- `NAME C.p C.p ..`
+-- `NAME C.p C.p .. [when GUARD] [do ASSIGNS]`
 unfoldable pub interaction_form : List (List ℕ) → Option Statement
 interaction_form rest =
-    option_map (λ i. Interaction i.0 i.1) (name_and_words participant_of rest)
+    option_map (λ i. Interaction i.0.0 i.0.1 i.1.0 i.1.1)
+    (option_zip (name_and_words participant_of (head_of rest)) (clauses_form Shared rest))
+
+-- `LOW < HIGH`
+unfoldable pub priority_form : List (List ℕ) → Option Statement
+priority_form (low ∷ below ∷ high ∷ []) =
+    if same_text below (codes "<") then option_map (λ p. Priority p.0 p.1) (two_names (low, high))
+    else None
+priority_form _ = None
 
 -- `NAME INTER INTER ..`
 unfoldable pub class_form : List (List ℕ) → Option Statement
@@ -110,9 +115,11 @@ class_form rest = option_map (λ c. Class c.0 c.1) (name_and_words name_of rest)
 abbrev pub statement_of : Keyword → List (List ℕ) → Option Statement
 statement_of keyword.Bip rest = header_form rest
 statement_of keyword.Component rest = option_map Component (one_name rest)
+statement_of keyword.Var rest = var_form rest
 statement_of keyword.Loc rest = option_map Loc (one_name rest)
 statement_of keyword.Port rest = option_map Port (one_name rest)
 statement_of keyword.Trans rest = trans_form rest
 statement_of keyword.End rest = end_form rest
 statement_of keyword.Interaction rest = interaction_form rest
+statement_of keyword.Priority rest = priority_form rest
 statement_of keyword.Class rest = class_form rest

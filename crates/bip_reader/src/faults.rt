@@ -25,7 +25,7 @@ pub enum Why {
     Missing,
     /// A second transition for a location and a port.
     TwoTransitions,
-    /// An interaction above itself. It never comes of a text yet, which has no priorities.
+    /// An interaction above itself.
     PriorityCycle,
     /// An interaction that stands in no class, in two, or twice in one.
     NotAPartition,

@@ -1,24 +1,22 @@
 //! The laws above the definitions: what a reviewer reads to know what they mean. The call does
 //! nothing, and has the laws for its contract.
 ghost use Rattle.bip_reader.specs.Laws.{FirstFault, MeaningOrFault, MeansValid, NamesAreTaken};
-ghost use Rattle.bip_reader.specs.Laws.{NoFault};
-ghost use Rattle.bip_reader.specs.Laws.{NoLastLineFeed, NothingPast, OneFault, OneMeaning};
-ghost use Rattle.bip_reader.specs.Laws.{SameMeaning};
-ghost use Rattle.bip_reader.specs.Laws.{TextFaults};
+ghost use Rattle.bip_reader.specs.Laws.{NoFault, NoLastLineFeed, NothingPast, NoWantOfMemory};
+ghost use Rattle.bip_reader.specs.Laws.{OneFault, OneMeaning, SameMeaning};
 
 /// A text has one meaning or one fault, and never both. What it means is a valid model with a
-/// partition of its interactions. Its fault is never want of memory or a priority cycle, it is the
-/// first, and what stands behind a line at fault counts for nothing. Texts that differ only in
-/// skipped lines, in blanks between words or in a last line feed mean the same model and classes. A
-/// word is taken as a name exactly where it is one (docs/DEFINITIONS.md, "Model texts").
-#[tactic(auto, unfolding(crate::specs::Statements::name_of))]
+/// partition of its interactions. Its fault is never want of memory, it is the first, and what
+/// stands behind a line at fault counts for nothing. Texts that differ only in skipped lines, in
+/// blanks between words or in a last line feed mean the same model and classes. A word is taken as
+/// a name exactly where it is one (docs/DEFINITIONS.md, "Model texts").
+#[tactic(auto, unfolding(crate::specs::Words::name_of))]
 pub fn meaning_laws()
     ensures meaning { OneMeaning }
     ensures fault { OneFault }
     ensures either { NoFault }
     ensures some { MeaningOrFault }
     ensures valid { MeansValid }
-    ensures whys { TextFaults }
+    ensures whys { NoWantOfMemory }
     ensures first { FirstFault }
     ensures past { NothingPast }
     ensures names { NamesAreTaken }

@@ -1,6 +1,7 @@
 //! The texts of models, read exactly: a text is a model with its classes, or it has a first fault.
 #![tactic(auto)]
 
+mod clauses;
 mod faults;
 mod laws;
 mod reading;
@@ -8,6 +9,7 @@ mod statements;
 #[cfg(test)]
 mod tests;
 mod texts;
+mod words;
 
 pub use faults::{ReadFault, Why};
 pub use laws::meaning_laws;

@@ -20,6 +20,7 @@ ghost use Rattle.bip_reader.specs.Texts.{IsFaultAtEnd, IsWholeReading, system_of
 
 use crate::Why;
 use crate::statements::{Keyword, Statement, keyword_of, read_statement};
+use crate::words::Words;
 use bip_model::{BuildFault, Builder, InterId, Line, MOST_CLASSES, Model, Name, Seq, read_words};
 use std::alloc::{AllocError, Global};
 use std::marker;
@@ -94,7 +95,7 @@ impl Reading {
         }
     }
 
-    /// Reads one more line. Want of memory hides no fault of its syntax, which is told before
+    /// ReadAs one more line. Want of memory hides no fault of its syntax, which is told before
     /// anything is stored, and another one only where it lists words.
     #[tactic(auto, unfolding(crate::specs::Reading::reading_after))]
     pub(crate) fn read_line(&mut self, alloc: Global, line: &[u8]) -> Result<(), Why>
@@ -137,7 +138,7 @@ impl Reading {
         if !self.has_place(keyword) {
             return Err(Why::Syntax);
         }
-        read_statement(alloc, keyword, rest)
+        read_statement(alloc, keyword, &Words::of(rest))
     }
 
     /// Whether a line with this keyword can stand now.
@@ -243,8 +244,12 @@ fn can_follow(builder: &Builder, keyword: Keyword) -> bool
 {
     match keyword {
         Keyword::Bip => false,
-        Keyword::Loc | Keyword::Port | Keyword::Trans | Keyword::End => builder.is_inside(),
-        Keyword::Component | Keyword::Interaction | Keyword::Class => !builder.is_inside(),
+        Keyword::Var | Keyword::Loc | Keyword::Port | Keyword::Trans | Keyword::End => {
+            builder.is_inside()
+        }
+        Keyword::Component | Keyword::Interaction | Keyword::Priority | Keyword::Class => {
+            !builder.is_inside()
+        }
     }
 }
 
@@ -256,17 +261,29 @@ fn build(builder: &mut Builder, statement: Statement) -> Result<(), BuildFault>
 {
     match statement {
         Statement::Component(name) => builder.component(name),
+        Statement::Var { name, value } => builder.var(name, value),
         Statement::Loc(name) => builder.loc(name),
         Statement::Port(name) => builder.port(name),
         Statement::Trans {
             port,
             source,
             target,
-        } => builder.trans(port, source, target, &[], &[]),
+            guard,
+            update,
+        } => builder.trans(port, source, target, guard.as_slice(), update.as_slice()),
         Statement::End => builder.end(),
-        Statement::Interaction { name, participants } => {
-            builder.interaction(name, participants.as_slice(), &[], &[])
-        }
+        Statement::Interaction {
+            name,
+            participants,
+            guard,
+            transfer,
+        } => builder.interaction(
+            name,
+            participants.as_slice(),
+            guard.as_slice(),
+            transfer.as_slice(),
+        ),
+        Statement::Priority { low, high } => builder.priority(low, high),
         Statement::Header | Statement::Class { .. } => Ok(()),
     }
 }

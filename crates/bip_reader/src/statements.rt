@@ -1,123 +1,34 @@
 //! The forms of lines: from the words of a line to what it states.
-ghost use Rattle.std.specs.Prelude.{◌≡◌, ◌<◌, is_some, length, Err, IfOk, IfSome, IsTrue, List, ℕ};
-ghost use Rattle.std.specs.Prelude.{Option};
-ghost use Rattle.std.specs.Option.{ok_or};
+ghost use Rattle.std.specs.Prelude.{◌≡◌, Err, IfOk, IfSome, IsTrue};
 ghost use Rattle.bip_model.specs.Naming.{same_text};
-ghost use Rattle.bip_model.specs.Faults.{Answers};
-ghost use Rattle.bip_model.specs.Texts.{words};
-ghost use Rattle.bip_reader.specs.declared.faults.Why.TheVariants.{Memory, Syntax};
+ghost use Rattle.bip_reader.specs.Clauses.{has_clauses};
+ghost use Rattle.bip_reader.specs.declared.faults.Why.TheVariants.{Memory};
 ghost use Rattle.bip_reader.specs.declared.statements.Keyword.TheVariants as keyword_is;
 ghost use Rattle.bip_reader.specs.Statements.{class_form, end_form, header_form, interaction_form};
 ghost use Rattle.bip_reader.specs.Statements.{is_of_list, keyword_in, keyword_of, name_and_words};
-ghost use Rattle.bip_reader.specs.Statements.{name_of, one_name, one_or_more_of, participant_of};
-ghost use Rattle.bip_reader.specs.Statements.{statement_of, trans_form};
+ghost use Rattle.bip_reader.specs.Statements.{one_name, priority_form, statement_of, three_names};
+ghost use Rattle.bip_reader.specs.Statements.{trans_form, var_form};
+ghost use Rattle.bip_reader.specs.Words.{ReadAs};
 
 use crate::Why;
-use bip_model::{Name, split_pair, split_word};
+use crate::clauses::{Spelling, both, head_of, read_clauses};
+use crate::words::{OneOrMore, Word, Words, is_text};
+use bip_model::{Assignment, Comparison, Name, Seq, VariableName, parse_value};
 use std::alloc::Global;
-use std::marker::Model;
-
-/// The byte between a component and its port.
-pub(crate) const PORT_MARK: u8 = b'.';
 
 /// The word that a line begins with.
 #[derive(Clone, Copy)]
 pub(crate) enum Keyword {
     Bip,
     Component,
+    Var,
     Loc,
     Port,
     Trans,
     End,
     Interaction,
+    Priority,
     Class,
-}
-
-/// What a word of a line can be, by itself.
-pub(crate) trait Word: Drop {
-    ghost read_as: { List ℕ → Option Self };
-
-    /// What the word is; none where it is no such thing.
-    fn read(word: &[u8]) -> Option<Self>
-        ensures { result ≡ read_as word.now };
-}
-
-impl Word for Name {
-    ghost read_as = { name_of };
-
-    #[tactic(auto, unfolding(crate::specs::Statements::name_of))]
-    fn read(word: &[u8]) -> Option<Name> {
-        Name::of(word)
-    }
-}
-
-/// A participant: a component and one of its ports.
-impl Word for (Name, Name) {
-    ghost read_as = { participant_of };
-
-    fn read(word: &[u8]) -> Option<(Name, Name)> {
-        let (component, port) = split_pair(word, PORT_MARK)?;
-        Some((Name::read(component)?, Name::read(port)?))
-    }
-}
-
-/// What the words of a line are, at least one. Contracts see the list.
-#[derive(Drop)]
-pub(crate) struct OneOrMore<W> {
-    items: Vec<W>,
-}
-
-impl<W> Model for OneOrMore<W> {
-    ghost use Rattle.std.specs.Prelude.{List, length, ◌<◌};
-
-    ghost Value = { List W };
-
-    ghost view = { λ l. l.items.items };
-
-    ghost invariant = { λ l. 0 < length l.items.items };
-}
-
-impl<W> OneOrMore<W> {
-    pub(crate) fn as_slice(&self) -> &[W]
-        ensures items { result.now ≡ self.now }
-        ensures some { 0 < length result.now }
-    {
-        self.items.as_slice()
-    }
-}
-
-impl<W: Word> OneOrMore<W> {
-    /// What the words of a line are, each by itself. All are looked at before one is stored.
-    #[tactic(auto, using(crate::proofs::StatementLemmas::some_read))]
-    fn read(alloc: Global, line: &[u8]) -> Result<OneOrMore<W>, Why>
-        ensures { Answers Memory (ok_or (one_or_more_of W.read_as (words line.now)) Syntax) result }
-    {
-        if !are_all::<W>(line) {
-            return Err(Why::Syntax);
-        }
-        let mut items = Vec::new(alloc);
-        let mut rest = line;
-        while let Some((word, after)) = split_word(rest) {
-            items.push(W::read(word).ok_or(Why::Syntax)?)?;
-            rest = after;
-        }
-        Ok(OneOrMore { items })
-    }
-}
-
-/// Whether a line has words, and each of them can be read.
-#[tactic(auto, using(crate::proofs::StatementLemmas::all_are_each))]
-fn are_all<W: Word>(line: &[u8]) -> bool
-    ensures { result ≡ is_some (one_or_more_of W.read_as (words line.now)) }
-{
-    let mut rest = line;
-    while let Some((word, after)) = split_word(rest) {
-        if W::read(word).is_none() {
-            return false;
-        }
-        rest = after;
-    }
-    split_word(line).is_some()
 }
 
 /// What a line states: a case for each form of a line.
@@ -125,17 +36,29 @@ fn are_all<W: Word>(line: &[u8]) -> bool
 pub(crate) enum Statement {
     Header,
     Component(Name),
+    Var {
+        name: Name,
+        value: u32,
+    },
     Loc(Name),
     Port(Name),
     Trans {
         port: Name,
         source: Name,
         target: Name,
+        guard: Seq<Comparison<VariableName>>,
+        update: Seq<Assignment<VariableName>>,
     },
     End,
     Interaction {
         name: Name,
         participants: OneOrMore<(Name, Name)>,
+        guard: Seq<Comparison<VariableName>>,
+        transfer: Seq<Assignment<VariableName>>,
+    },
+    Priority {
+        low: Name,
+        high: Name,
     },
     Class {
         name: Name,
@@ -145,102 +68,171 @@ pub(crate) enum Statement {
 
 /// What a line with this keyword states, by the words that follow. Syntax: they lack its form;
 /// memory comes only where they have it, and the line lists words.
-pub(crate) fn read_statement(alloc: Global, keyword: Keyword, line: &[u8]) -> Result<Statement, Why>
-    ensures said { Answers Memory (ok_or (statement_of keyword (words line.now)) Syntax) result }
+pub(crate) fn read_statement(
+    alloc: Global,
+    keyword: Keyword,
+    words: &Words<'_>,
+) -> Result<Statement, Why>
+    ensures said { ReadAs (statement_of keyword words.now) result }
     ensures keyword { IfOk result (λ statement. keyword_in statement ≡ keyword) }
-    ensures memory { result ≡ Err Memory → IsTrue (is_of_list keyword) }
+    ensures memory { result ≡ Err Memory → IsTrue (is_of_list keyword words.now) }
 {
     match keyword {
-        Keyword::Bip => header(line).ok_or(Why::Syntax),
-        Keyword::Component => only_name(line).map(Statement::Component).ok_or(Why::Syntax),
-        Keyword::Loc => only_name(line).map(Statement::Loc).ok_or(Why::Syntax),
-        Keyword::Port => only_name(line).map(Statement::Port).ok_or(Why::Syntax),
-        Keyword::Trans => trans(line).ok_or(Why::Syntax),
-        Keyword::End => end(line).ok_or(Why::Syntax),
-        Keyword::Interaction => interaction(alloc, line),
-        Keyword::Class => class(alloc, line),
+        Keyword::Bip => header(words).ok_or(Why::Syntax),
+        Keyword::Component => only_name(words)
+            .map(Statement::Component)
+            .ok_or(Why::Syntax),
+        Keyword::Var => variable(words).ok_or(Why::Syntax),
+        Keyword::Loc => only_name(words).map(Statement::Loc).ok_or(Why::Syntax),
+        Keyword::Port => only_name(words).map(Statement::Port).ok_or(Why::Syntax),
+        Keyword::Trans => transition(alloc, words),
+        Keyword::End => end(words).ok_or(Why::Syntax),
+        Keyword::Interaction => interaction(alloc, words),
+        Keyword::Priority => priority(words).ok_or(Why::Syntax),
+        Keyword::Class => class(alloc, words),
     }
 }
 
-#[tactic(auto, unfolding(crate::specs::Statements::interaction_form))]
-fn interaction(alloc: Global, line: &[u8]) -> Result<Statement, Why>
-    ensures said { Answers Memory (ok_or (interaction_form (words line.now)) Syntax) result }
+fn interaction(alloc: Global, words: &Words<'_>) -> Result<Statement, Why>
+    ensures said { ReadAs (interaction_form words.now) result }
     ensures keyword { IfOk result (λ statement. keyword_in statement ≡ keyword_is.Interaction) }
 {
-    let (name, participants) = name_and_words(alloc, line)?;
-    Ok(Statement::Interaction { name, participants })
+    let named = name_and_words(alloc, &head_of(words));
+    let clauses = read_clauses(alloc, Spelling::Shared, words);
+    match both(named, clauses) {
+        Ok((named, clauses)) => Ok(Statement::Interaction {
+            name: named.0,
+            participants: named.1,
+            guard: clauses.0,
+            transfer: clauses.1,
+        }),
+        Err(why) => Err(why),
+    }
 }
 
 #[tactic(auto, unfolding(crate::specs::Statements::class_form))]
-fn class(alloc: Global, line: &[u8]) -> Result<Statement, Why>
-    ensures said { Answers Memory (ok_or (class_form (words line.now)) Syntax) result }
+fn class(alloc: Global, words: &Words<'_>) -> Result<Statement, Why>
+    ensures said { ReadAs (class_form words.now) result }
     ensures keyword { IfOk result (λ statement. keyword_in statement ≡ keyword_is.Class) }
 {
-    let (name, interactions) = name_and_words(alloc, line)?;
+    let (name, interactions) = name_and_words(alloc, words)?;
     Ok(Statement::Class { name, interactions })
 }
 
-// A name, and what the words behind it are.
+/// A name, and what the words behind it are.
 #[tactic(auto, unfolding(crate::specs::Statements::name_and_words))]
-fn name_and_words<W: Word>(alloc: Global, line: &[u8]) -> Result<(Name, OneOrMore<W>), Why>
-    ensures { Answers Memory (ok_or (name_and_words W.read_as (words line.now)) Syntax) result }
+fn name_and_words<W: Word>(alloc: Global, words: &Words<'_>) -> Result<(Name, OneOrMore<W>), Why>
+    ensures { ReadAs (name_and_words W.read_as words.now) result }
 {
-    let Some((word, rest)) = split_word(line) else {
+    let Some((word, rest)) = words.split_first() else {
         return Err(Why::Syntax);
     };
     let Some(name) = Name::read(word) else {
         return Err(Why::Syntax);
     };
-    Ok((name, OneOrMore::read(alloc, rest)?))
+    Ok((name, OneOrMore::read(alloc, &rest)?))
 }
 
 #[tactic(auto, unfolding(crate::specs::Statements::header_form))]
-fn header(line: &[u8]) -> Option<Statement>
-    ensures form { result ≡ header_form (words line.now) }
+fn header(words: &Words<'_>) -> Option<Statement>
+    ensures form { result ≡ header_form words.now }
     ensures keyword { IfSome result (λ statement. keyword_in statement ≡ keyword_is.Bip) }
 {
-    let (version, rest) = split_word(line)?;
-    match split_word(rest) {
+    let (version, rest) = words.split_first()?;
+    match rest.split_first() {
         None if is_text(version, b"1") => Some(Statement::Header),
         _ => None,
     }
 }
 
 #[tactic(auto, unfolding(crate::specs::Statements::one_name))]
-fn only_name(line: &[u8]) -> Option<Name>
-    ensures { result ≡ one_name (words line.now) }
+fn only_name(words: &Words<'_>) -> Option<Name>
+    ensures { result ≡ one_name words.now }
 {
-    let (word, rest) = split_word(line)?;
-    match split_word(rest) {
+    let (word, rest) = words.split_first()?;
+    match rest.split_first() {
         None => Name::read(word),
         Some(_) => None,
     }
 }
 
-#[tactic(auto, unfolding(crate::specs::Statements::trans_form))]
-fn trans(line: &[u8]) -> Option<Statement>
-    ensures form { result ≡ trans_form (words line.now) }
-    ensures keyword { IfSome result (λ statement. keyword_in statement ≡ keyword_is.Trans) }
+#[tactic(auto, unfolding(crate::specs::Statements::var_form))]
+fn variable(words: &Words<'_>) -> Option<Statement>
+    ensures form { result ≡ var_form words.now }
+    ensures keyword { IfSome result (λ statement. keyword_in statement ≡ keyword_is.Var) }
 {
-    let (port, rest) = split_word(line)?;
-    let (source, rest) = split_word(rest)?;
-    let (target, rest) = split_word(rest)?;
-    if let Some(_) = split_word(rest) {
+    let (name, rest) = words.split_first()?;
+    let (value, rest) = rest.split_first()?;
+    if let Some(_) = rest.split_first() {
         return None;
     }
-    Some(Statement::Trans {
-        port: Name::read(port)?,
-        source: Name::read(source)?,
-        target: Name::read(target)?,
+    Some(Statement::Var {
+        name: Name::read(name)?,
+        value: parse_value(value)?,
+    })
+}
+
+#[tactic(auto, unfolding(crate::specs::Statements::three_names))]
+fn three_names(words: &Words<'_>) -> Option<(Name, (Name, Name))>
+    ensures { result ≡ three_names words.now }
+{
+    let (first, rest) = words.split_first()?;
+    let (second, rest) = rest.split_first()?;
+    let (third, rest) = rest.split_first()?;
+    if let Some(_) = rest.split_first() {
+        return None;
+    }
+    Some((
+        Name::read(first)?,
+        (Name::read(second)?, Name::read(third)?),
+    ))
+}
+
+#[tactic(auto, unfolding(crate::specs::Statements::trans_form))]
+fn transition(alloc: Global, words: &Words<'_>) -> Result<Statement, Why>
+    ensures said { ReadAs (trans_form words.now) result }
+    ensures keyword { IfOk result (λ statement. keyword_in statement ≡ keyword_is.Trans) }
+    ensures memory { result ≡ Err Memory → IsTrue (has_clauses words.now) }
+{
+    let Some((port, (source, target))) = three_names(&head_of(words)) else {
+        return Err(Why::Syntax);
+    };
+    let (guard, update) = read_clauses(alloc, Spelling::Own, words)?;
+    Ok(Statement::Trans {
+        port,
+        source,
+        target,
+        guard,
+        update,
+    })
+}
+
+#[tactic(auto, unfolding(crate::specs::Statements::priority_form))]
+fn priority(words: &Words<'_>) -> Option<Statement>
+    ensures form { result ≡ priority_form words.now }
+    ensures keyword { IfSome result (λ statement. keyword_in statement ≡ keyword_is.Priority) }
+{
+    let (low, rest) = words.split_first()?;
+    let (below, rest) = rest.split_first()?;
+    let (high, rest) = rest.split_first()?;
+    if let Some(_) = rest.split_first() {
+        return None;
+    }
+    if !is_text(below, b"<") {
+        return None;
+    }
+    Some(Statement::Priority {
+        low: Name::read(low)?,
+        high: Name::read(high)?,
     })
 }
 
 #[tactic(auto, unfolding(crate::specs::Statements::end_form))]
-fn end(line: &[u8]) -> Option<Statement>
-    ensures form { result ≡ end_form (words line.now) }
+fn end(words: &Words<'_>) -> Option<Statement>
+    ensures form { result ≡ end_form words.now }
     ensures keyword { IfSome result (λ statement. keyword_in statement ≡ keyword_is.End) }
 {
-    match split_word(line) {
+    match words.split_first() {
         None => Some(Statement::End),
         Some(_) => None,
     }
@@ -254,6 +246,8 @@ pub(crate) fn keyword_of(word: &[u8]) -> Option<Keyword>
         Some(Keyword::Bip)
     } else if is_text(word, b"component") {
         Some(Keyword::Component)
+    } else if is_text(word, b"var") {
+        Some(Keyword::Var)
     } else if is_text(word, b"loc") {
         Some(Keyword::Loc)
     } else if is_text(word, b"port") {
@@ -264,15 +258,11 @@ pub(crate) fn keyword_of(word: &[u8]) -> Option<Keyword>
         Some(Keyword::End)
     } else if is_text(word, b"interaction") {
         Some(Keyword::Interaction)
+    } else if is_text(word, b"priority") {
+        Some(Keyword::Priority)
     } else if is_text(word, b"class") {
         Some(Keyword::Class)
     } else {
         None
     }
-}
-
-fn is_text(word: &[u8], text: &[u8]) -> bool
-    ensures { result ≡ same_text word.now text.now }
-{
-    word == text
 }

@@ -1,11 +1,9 @@
 -- Every two texts and base have an answer.
-use Rattle.std.proofs.Common.{◌≡◌, ℕ, List, true, subst, inl, inr}
-use Rattle.std.proofs.lemmas.Bool.{false≢true}
+use Rattle.std.proofs.Common.{ℕ, List, inl, inr}
 use Rattle.bip_model.specs.declared.partitions.Partition.{Partition}
 use Rattle.bip_model.specs.declared.parts.System.{System}
-use Rattle.bip_reader.specs.Laws.{MeaningOrFault, MeansValid, TextFaults, is_of_text}
+use Rattle.bip_reader.specs.Laws.{MeaningOrFault, MeansValid, NoWantOfMemory}
 use Rattle.bip_reader.specs.Texts.{Means}
-use Rattle.bip_reader.specs.declared.faults.Why.{Why}
 use Rattle.bip_replay.specs.Laws.{IsRunOrFaulty}
 use Rattle.bip_replay.specs.Replays.{IsFirstFault}
 use Rattle.bip_replay.specs.declared.faults.ReplayFault.{ReplayFault}
@@ -24,7 +22,7 @@ of_fault base model trace m c number Unknown means first = (complaining Refused 
 of_fault base model trace m c number (NotARun why) means first = (saying EndsAsNoRun (verdict_text m trace number why), not_a_run m c number why means first)
 of_fault base model trace m c number Memory means first = absurd first.why
 
-pub some_answer : MeaningOrFault → MeansValid → TextFaults → IsRunOrFaulty → SomeAnswer
+pub some_answer : MeaningOrFault → MeansValid → NoWantOfMemory → IsRunOrFaulty → SomeAnswer
 some_answer meaning valid whys traces base model trace = elim (meaning model) [
   | inl (m, c, means) ↦ elim (traces m base trace (valid model m c means).0) [
     | inl (count, is_run) ↦ (saying Done (run_text count), run m c count means is_run)
@@ -32,6 +30,6 @@ some_answer meaning valid whys traces base model trace = elim (meaning model) [
   ]
   | inr (fault, has) ↦ (
     complaining Refused (model_refusal fault),
-    no_model fault (λ is. false≢true (subst (λ (w : Why). is_of_text w ≡ true) is (whys model fault has))) has,
+    no_model fault (whys model fault has) has,
   )
 ]

@@ -1,5 +1,5 @@
 use Rattle.bip_reader.proofs.DecisionLemmas.{meaning_or_fault}
-use Rattle.bip_reader.proofs.ValidLemmas.{means_valid, text_faults}
+use Rattle.bip_reader.proofs.ValidLemmas.{means_valid, no_want_of_memory}
 use Rattle.bip_reader.proofs.FirstLemmas.{first_fault, nothing_past}
 use Rattle.bip_reader.proofs.SameMeaningLemmas.{no_last_line_feed, same_meaning}
 use Rattle.bip_reader.proofs.laws.meaning_laws.Goals as goal
@@ -11,7 +11,7 @@ pub returns-clause-last : goal.returns-clause-last
 returns-clause-last c = no_last_line_feed
 
 pub returns-clause-whys : goal.returns-clause-whys
-returns-clause-whys c = text_faults
+returns-clause-whys c = no_want_of_memory
 
 pub returns-clause-first : goal.returns-clause-first
 returns-clause-first c = first_fault

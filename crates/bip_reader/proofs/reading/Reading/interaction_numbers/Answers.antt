@@ -1,10 +1,10 @@
 use Rattle.std.proofs.lemmas.Result.{err_from_is_err_and}
 use Rattle.bip_reader.specs.Reading.{draft_of, interaction_named}
-use Rattle.bip_reader.specs.Statements.{each_of}
+use Rattle.bip_reader.specs.Words.{each_of}
 use Rattle.bip_reader.specs.declared.faults.Why.TheVariants.{Unknown}
 use Rattle.bip_reader.proofs.AnswerLemmas.{want_told}
 use Rattle.std.proofs.Common.{◌∙◌, refl}
-use Rattle.bip_reader.proofs.StatementLemmas.{all_are_each}
+use Rattle.bip_reader.proofs.WordLemmas.{all_are_each}
 use Rattle.bip_reader.proofs.reading.Reading.interaction_numbers.Goals as goal
 
 pub returns-in_err-push : goal.returns-in_err-push

@@ -1,0 +1,253 @@
+//! The words of a line, and what each can be by itself.
+ghost use Rattle.std.specs.Prelude.{◌≡◌, ◌<◌, ◌≤◌, ◌∷◌, [], is_some, length, take, IfNone, IfSome};
+ghost use Rattle.std.specs.Prelude.{List, ℕ, Option};
+ghost use Rattle.bip_model.specs.Naming.{same_text};
+ghost use Rattle.bip_model.specs.Texts.{words};
+ghost use Rattle.bip_reader.specs.Words.{ReadAs, and_of, cut_at, do_of, name_of, one_or_more_of};
+ghost use Rattle.bip_reader.specs.Words.{participant_of, semicolon_of, when_of};
+
+use crate::Why;
+use bip_model::{Name, split_pair, split_word};
+use std::alloc::Global;
+use std::marker;
+
+/// The byte between a component and its port or its variable.
+pub(crate) const PORT_MARK: u8 = b'.';
+
+/// Words of a line that stand together. Contracts see the list of them.
+#[derive(Drop)]
+pub(crate) struct Words<'a> {
+    line: &'a [u8],
+    count: usize,
+}
+
+impl<'a> marker::Model for Words<'a> {
+    ghost use Rattle.std.specs.Prelude.{◌≤◌, List, length, take, ℕ};
+    ghost use Rattle.bip_model.specs.Texts.{words};
+
+    ghost Value = { List (List ℕ) };
+
+    // The first ones of the line, so many.
+    ghost view = { λ w. take w.count (words w.line.now) };
+
+    ghost invariant = { λ w. w.count ≤ length (words w.line.now) };
+}
+
+impl<'a> Words<'a> {
+    /// All words of a line.
+    pub(crate) fn of(line: &'a [u8]) -> Words<'a>
+        ensures { result ≡ words line.now }
+    {
+        Words {
+            line,
+            count: count_words(line),
+        }
+    }
+
+    /// The first word, and those behind it; none where there is no word.
+    pub(crate) fn split_first(&self) -> Option<(&'a [u8], Words<'a>)>
+        ensures none { IfNone result (self.now ≡ []) }
+        ensures some { IfSome result (λ parts. self.now ≡ parts.0.now ∷ parts.1) }
+    {
+        if self.count == 0 {
+            return None;
+        }
+        let (word, line) = split_word(self.line)?;
+        Some((
+            word,
+            Words {
+                line,
+                count: self.count - 1,
+            },
+        ))
+    }
+
+    /// The words before the first one that is such a mark, the mark, and the words behind it; none
+    /// where no word is one.
+    pub(crate) fn cut<M: Word>(&self) -> Option<(Words<'a>, M, Words<'a>)>
+        ensures cut { result ≡ cut_at M.read_as self.now }
+        ensures shorter { IfSome result (λ parts. length parts.2 < length self.now) }
+    {
+        let mut rest = self.first(self.count);
+        let mut count = 0;
+        while let Some((word, behind)) = rest.split_first() {
+            if let Some(mark) = M::read(word) {
+                return Some((self.first(count), mark, behind));
+            }
+            count += 1;
+            rest = behind;
+        }
+        None
+    }
+
+    /// The same words.
+    pub(crate) fn all(&self) -> Words<'a>
+        ensures { result ≡ self.now }
+    {
+        self.first(self.count)
+    }
+
+    /// The first ones, so many.
+    fn first(&self, count: usize) -> Words<'a>
+        requires { count ≤ length self.now }
+        ensures { result ≡ take count self.now }
+    {
+        Words {
+            line: self.line,
+            count,
+        }
+    }
+}
+
+fn count_words(line: &[u8]) -> usize
+    ensures { result ≡ length (words line.now) }
+{
+    let mut count = 0;
+    let mut rest = line;
+    while let Some((_, behind)) = split_word(rest) {
+        count += 1;
+        rest = behind;
+    }
+    count
+}
+
+/// What a word of a line can be, by itself.
+pub(crate) trait Word: Drop {
+    ghost read_as: { List ℕ → Option Self };
+
+    /// What the word is; none where it is no such thing.
+    fn read(word: &[u8]) -> Option<Self>
+        ensures { result ≡ read_as word.now };
+}
+
+impl Word for Name {
+    ghost read_as = { name_of };
+
+    #[tactic(auto, unfolding(crate::specs::Words::name_of))]
+    fn read(word: &[u8]) -> Option<Name> {
+        Name::of(word)
+    }
+}
+
+/// A component with one of its ports, or of its variables.
+impl Word for (Name, Name) {
+    ghost read_as = { participant_of };
+
+    fn read(word: &[u8]) -> Option<(Name, Name)> {
+        let (component, port) = split_pair(word, PORT_MARK)?;
+        Some((Name::read(component)?, Name::read(port)?))
+    }
+}
+
+/// `when`, before a guard.
+#[derive(Drop)]
+pub(crate) struct When;
+
+impl Word for When {
+    ghost read_as = { when_of };
+
+    fn read(word: &[u8]) -> Option<When> {
+        is_text(word, b"when").then_some(When)
+    }
+}
+
+/// `do`, before assignments.
+#[derive(Drop)]
+pub(crate) struct Do;
+
+impl Word for Do {
+    ghost read_as = { do_of };
+
+    fn read(word: &[u8]) -> Option<Do> {
+        is_text(word, b"do").then_some(Do)
+    }
+}
+
+/// `and`, between comparisons.
+#[derive(Drop)]
+pub(crate) struct And;
+
+impl Word for And {
+    ghost read_as = { and_of };
+
+    fn read(word: &[u8]) -> Option<And> {
+        is_text(word, b"and").then_some(And)
+    }
+}
+
+/// `;`, between assignments.
+#[derive(Drop)]
+pub(crate) struct Semicolon;
+
+impl Word for Semicolon {
+    ghost read_as = { semicolon_of };
+
+    fn read(word: &[u8]) -> Option<Semicolon> {
+        is_text(word, b";").then_some(Semicolon)
+    }
+}
+
+/// What some words of a line are, each by itself, at least one. Contracts see the list.
+#[derive(Drop)]
+pub(crate) struct OneOrMore<W> {
+    items: Vec<W>,
+}
+
+impl<W> marker::Model for OneOrMore<W> {
+    ghost use Rattle.std.specs.Prelude.{List, length, ◌<◌};
+
+    ghost Value = { List W };
+
+    ghost view = { λ l. l.items.items };
+
+    ghost invariant = { λ l. 0 < length l.items.items };
+}
+
+impl<W> OneOrMore<W> {
+    pub(crate) fn as_slice(&self) -> &[W]
+        ensures items { result.now ≡ self.now }
+        ensures some { 0 < length result.now }
+    {
+        self.items.as_slice()
+    }
+}
+
+impl<W: Word> OneOrMore<W> {
+    /// What words are, each by itself. All are looked at before one is stored.
+    #[tactic(auto, using(crate::proofs::WordLemmas::some_read))]
+    pub(crate) fn read(alloc: Global, words: &Words<'_>) -> Result<OneOrMore<W>, Why>
+        ensures { ReadAs (one_or_more_of W.read_as words.now) result }
+    {
+        if !are_all::<W>(words) {
+            return Err(Why::Syntax);
+        }
+        let mut items = Vec::new(alloc);
+        let mut rest = words.all();
+        while let Some((word, behind)) = rest.split_first() {
+            items.push(W::read(word).ok_or(Why::Syntax)?)?;
+            rest = behind;
+        }
+        Ok(OneOrMore { items })
+    }
+}
+
+/// Whether there are words, and each of them can be read.
+#[tactic(auto, using(crate::proofs::WordLemmas::all_are_each))]
+fn are_all<W: Word>(words: &Words<'_>) -> bool
+    ensures { result ≡ is_some (one_or_more_of W.read_as words.now) }
+{
+    let mut rest = words.all();
+    while let Some((word, behind)) = rest.split_first() {
+        if W::read(word).is_none() {
+            return false;
+        }
+        rest = behind;
+    }
+    words.split_first().is_some()
+}
+
+pub(crate) fn is_text(word: &[u8], text: &[u8]) -> bool
+    ensures { result ≡ same_text word.now text.now }
+{
+    word == text
+}
