@@ -1,6 +1,7 @@
 -- What a name is, and what lists of names are apart.
 use Rattle.std.specs.Prelude.{◌≡◌, ℕ, ◌≤◌, Bool, false, not, ◌&&◌, ◌||◌, ◌==◌, nat_lt, nat_le}
-use Rattle.std.specs.Prelude.{nat_eq, List, [], ◌∷◌, length, slice_index, ⊤, IsTrue, codes}
+use Rattle.std.specs.Prelude.{nat_eq, List, [], ◌∷◌, length, slice_index, slice_index_or, ⊤}
+use Rattle.std.specs.Prelude.{IsTrue, codes}
 use Rattle.std.specs.Char.{is_ascii_alphabetic, is_ascii_alphanumeric}
 use Rattle.std.specs.Cmp.Lexicographic.{pointwise}
 use Rattle.std.specs.List.{list_all, list_any}
@@ -42,6 +43,10 @@ IsName text = IsTrue (is_spelled_as_name text) × (length text ≤ 32)
 -- whether a text is a name
 abbrev pub is_name : List ℕ → Bool
 is_name text = is_spelled_as_name text && nat_le (length text) 32 && not (is_reserved text)
+
+-- the name with a number
+abbrev pub name_in : List (List ℕ) → ℕ → List ℕ
+name_in names n = slice_index_or names n []
 
 -- whether a name is in a list
 abbrev pub is_known : List ℕ → List (List ℕ) → Bool

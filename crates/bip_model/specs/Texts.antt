@@ -109,6 +109,14 @@ number_of word =
     if is_numeral 20 word && nat_lt 0 (digits_value 10 word)
     && nat_lt (digits_value 10 word) (2 ^ 64) then Some (digits_value 10 word) else None
 
+-- what parts the words of a line that is written
+abbrev pub space : ℕ
+space = 32
+
+-- a word behind a space
+abbrev pub spaced : List ℕ → List ℕ
+spaced word = space ∷ word
+
 -- the value that a word spells: at most 10 digits, below 2^32
 abbrev pub value_said : List ℕ → Option ℕ
 value_said word =

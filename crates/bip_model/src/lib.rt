@@ -44,7 +44,7 @@ pub use sequence::Seq;
 pub use states::{LocalState, State, Values};
 pub use texts::{
     Line, NumberedLines, is_plain, parse_number, parse_value, read_words, split_line, split_pair,
-    split_word,
+    split_word, write_word,
 };
 pub use wants::{MOST_WANTS, Role, Want, Wants};
 

@@ -89,6 +89,7 @@ impl Classes {
     pub fn len(&self) -> usize
         ensures members { result ≡ length self.now.members }
         ensures names { result ≡ length self.now.names }
+        ensures few { result ≤ MOST_CLASSES }
     {
         self.partition.members.len()
     }

@@ -1,15 +1,16 @@
 //! What all texts have in common: lines, words and numbers (docs/DEFINITIONS.md, "Texts").
 ghost use Rattle.std.specs.Prelude.{◌≡◌, ◌⊎◌, ◌<◌, ◌≤◌, ◌∷◌, ◌++◌, [], ◌==◌, not, position, true};
-ghost use Rattle.std.specs.Prelude.{false, length, slice_index, IfNone, IfSome, IsTrue};
+ghost use Rattle.std.specs.Prelude.{false, length, slice_index, IfNone, IfSome, IsTrue, OnOk};
 ghost use Rattle.std.specs.Char.{is_ascii_digit};
 ghost use Rattle.std.specs.List.{list_all};
 ghost use Rattle.std.specs.Option.{option_map};
 ghost use Rattle.std.specs.Str.Parse.{digits_value};
 ghost use Rattle.bip_model.specs.Texts.{words_read, words_said, IsLineAndRest, IsWordAndRest};
 ghost use Rattle.bip_model.specs.Texts.{is_blank, is_line_feed, is_numeral, is_plain, lines};
-ghost use Rattle.bip_model.specs.Texts.{number_of, pair_of, value_said, words};
+ghost use Rattle.bip_model.specs.Texts.{number_of, pair_of, spaced, value_said, words};
 
 use memchr::memchr;
+use std::alloc::AllocError;
 use std::marker;
 
 /// The most digits that a participation number is written with.
@@ -176,6 +177,14 @@ pub fn split_pair(word: &[u8], mark: u8) -> Option<(&[u8], &[u8])>
 {
     let at = mark_at(word, mark)?;
     Some((&word[..at], &word[at + 1..]))
+}
+
+/// Puts a word last in a text, behind a space. Without memory what was put there is no word.
+pub fn write_word(text: &mut Vec<u8>, word: &[u8]) -> Result<(), AllocError>
+    ensures { OnOk result (text.new.items ≡ text.old.items ++ spaced word.now) }
+{
+    text.push(b' ')?;
+    text.extend_from_slice(word)
 }
 
 fn line_end(text: &[u8]) -> Option<usize>

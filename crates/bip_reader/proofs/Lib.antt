@@ -8,3 +8,4 @@ pub mod SameMeaningLemmas
 pub mod TextLemmas
 pub mod ValidLemmas
 pub mod WordLemmas
+pub mod WritingLemmas

@@ -5,3 +5,4 @@ pub mod Reading
 pub mod Statements
 pub mod Texts
 pub mod Words
+pub mod Writing

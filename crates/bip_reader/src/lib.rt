@@ -10,7 +10,9 @@ mod statements;
 mod tests;
 mod texts;
 mod words;
+mod writing;
 
 pub use faults::{ReadFault, Why};
 pub use laws::meaning_laws;
 pub use texts::read_model;
+pub use writing::write_model;

@@ -1,5 +1,6 @@
 //! Model texts: a text is a model with its classes, or it has a first fault.
 ghost use Rattle.std.specs.Prelude.{◌≡◌, ◌≢◌, Err, IfErr, IfOk, MatchResult, OnOk, Ok};
+ghost use Rattle.bip_model.specs.Partitions.{AreClassesOf};
 ghost use Rattle.bip_model.specs.Texts.{last_line};
 ghost use Rattle.bip_model.specs.declared.partitions.Partition.{Partition};
 ghost use Rattle.bip_model.specs.declared.parts.System.{System};
@@ -21,6 +22,7 @@ use std::alloc::Global;
 pub fn read_model(alloc: Global, text: &[u8]) -> Result<(Model, Classes), ReadFault>
     // What is read is meant.
     ensures model { IfOk result (λ read. Means text.now read.0 read.1) }
+    ensures of_model { IfOk result (λ read. AreClassesOf read.0 read.1) }
     // What is meant is read, unless memory runs out.
     ensures only { (m : System) (c : Partition) → Means text.now m c
         → MatchResult result (λ read. (read.0 ≡ m) × (read.1 ≡ c)) (λ fault. fault.why ≡ Memory) }
@@ -33,6 +35,7 @@ pub fn read_model(alloc: Global, text: &[u8]) -> Result<(Model, Classes), ReadFa
 /// What `read_model` answers, without what follows of it.
 fn read_text(alloc: Global, text: &[u8]) -> Result<(Model, Classes), ReadFault>
     ensures model { IfOk result (λ read. Means text.now read.0 read.1) }
+    ensures of_model { IfOk result (λ read. AreClassesOf read.0 read.1) }
     ensures fault { IfErr result (λ fault. fault.why ≢ Memory → HasFault text.now fault) }
     ensures memory { IfErr result (λ f. f.why ≡ Memory → MayLackMemory text.now f.line) }
 {
@@ -46,6 +49,7 @@ fn read_text(alloc: Global, text: &[u8]) -> Result<(Model, Classes), ReadFault>
 /// What the lines declare all in all.
 fn declared_by(alloc: Global, reading: Reading) -> Result<(Model, Classes), Why>
     ensures declared { IfOk result (λ declared. Declares reading declared.0 declared.1) }
+    ensures of_model { IfOk result (λ declared. AreClassesOf declared.0 declared.1) }
     ensures fault { IfErr result (λ why. why ≢ Memory → IsFaultAtEnd reading why) }
 {
     let (model, listed) = reading.finish()?;
@@ -57,6 +61,7 @@ fn declared_by(alloc: Global, reading: Reading) -> Result<(Model, Classes), Why>
 fn classes_of(alloc: Global, model: &Model, listed: ClassLines) -> Result<Classes, Why>
     ensures parted { OnOk result (IsParted model.now listed) }
     ensures ordered { IfOk result (λ made. made ≡ classes_of model.now listed) }
+    ensures of_model { IfOk result (AreClassesOf model.now) }
     ensures fault { IfErr result (λ why. why ≢ Memory
         → (why ≡ NotAPartition) × ¬ IsParted model.now listed) }
     ensures memory { result ≡ Err Memory → IsParted model.now listed }

@@ -12,7 +12,7 @@ use Rattle.bip_replay.specs.Laws.{AreOfModel, NamesItsInteraction, SameGrants, S
 use Rattle.bip_replay.specs.Lines.{grant_on, looked_up, said}
 use Rattle.bip_replay.specs.Traces.{grants_from, grants_of, one_more}
 use Rattle.bip_replay.proofs.ReadingLemmas.{first_read}
-use Rattle.bip_replay.specs.Writing.{IsGrantOf, IsSpelled, ReadsBack, bare_line, behind_see, has_role, name_in, text_of, want_word, want_words, words_behind}
+use Rattle.bip_replay.specs.Writing.{IsGrantOf, IsSpelled, ReadsBack, bare_line, behind_see, has_role, text_of, want_word, want_words, words_behind}
 use Rattle.bip_replay.specs.declared.faults.LineFault.{LineFault}
 use Rattle.bip_replay.specs.declared.faults.LineFault.TheVariants.{Syntax}
 use Rattle.bip_replay.proofs.GrantLemmas.{grant_line, grant_of_model, line_reads}
@@ -20,7 +20,7 @@ use Rattle.std.specs.Fmt.{decimal}
 use Rattle.std.specs.List.{AllZip, list_any}
 use Rattle.std.proofs.lemmas.List.{append_assoc}
 use Rattle.std.proofs.lemmas.List.Sorted.{IsPermutation-filter_both, IsPermutation-sym}
-use Rattle.bip_model.specs.Naming.{IsName}
+use Rattle.bip_model.specs.Naming.{IsName, name_in}
 use Rattle.bip_model.specs.Parts.{IsSystem}
 use Rattle.bip_model.specs.Wants.{IsWants}
 use Rattle.bip_model.specs.declared.wants.Role.{Role}

@@ -14,9 +14,8 @@ use Rattle.std.proofs.lemmas.List.Folds.{list_all-append}
 use Rattle.std.proofs.lemmas.List.Splits.{slice_split_at, slice_split_none}
 use Rattle.std.proofs.lemmas.List.Sums.{AllPass-from_list_all}
 use Rattle.std.proofs.lemmas.Str.Parse.{digit_from_value}
-use Rattle.bip_model.specs.Naming.{AreApart, IsName, is_known, is_name, is_name_byte, same_text}
-use Rattle.bip_model.specs.Texts.{is_blank, is_longer, is_plain, lines, number_of, pair_of, words}
-use Rattle.bip_replay.specs.Writing.{name_in, spaced}
+use Rattle.bip_model.specs.Naming.{AreApart, IsName, is_known, is_name, is_name_byte, name_in, same_text}
+use Rattle.bip_model.specs.Texts.{is_blank, is_longer, is_plain, lines, number_of, pair_of, spaced, words}
 
 -- each byte of a text can be seen
 abbrev pub is_inked : List ℕ → Bool

@@ -7,7 +7,7 @@ use Rattle.bip_model.specs.Grants.{IsHistory, MovesOnceEach}
 use Rattle.bip_model.specs.States.{State}
 use Rattle.bip_model.specs.Steps.{IsRun, after, start_of}
 use Rattle.bip_model.specs.Parts.{IsSystem}
-use Rattle.bip_model.specs.Naming.{IsName}
+use Rattle.bip_model.specs.Naming.{IsName, name_in}
 use Rattle.bip_model.specs.Texts.{is_plain, number_of, said_in, words}
 use Rattle.bip_model.specs.Wants.{components_of, moved_in}
 use Rattle.bip_model.specs.declared.grants.Grant.{Grant}
@@ -21,7 +21,7 @@ use Rattle.bip_replay.specs.Lines.{colon, grant_on}
 use Rattle.bip_replay.specs.Replays.{IsFirstFault, IsRunOf}
 use Rattle.bip_replay.specs.Runs.{IsModelRun, IsNext, interactions_of, state_after, used_after}
 use Rattle.bip_replay.specs.Traces.{grants_of}
-use Rattle.bip_replay.specs.Writing.{IsGrantOf, behind_see, name_in}
+use Rattle.bip_replay.specs.Writing.{IsGrantOf, behind_see}
 use Rattle.bip_replay.specs.declared.faults.ReplayFault.{ReplayFault}
 use Rattle.bip_replay.specs.declared.faults.StepFault.{StepFault}
 

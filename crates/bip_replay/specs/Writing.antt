@@ -3,9 +3,9 @@
 use Rattle.std.specs.Fmt.{decimal}
 use Rattle.std.specs.List.{flat_map}
 use Rattle.std.specs.Prelude.{All, Bool, IsTrue, List, Ok, Some, [], codes, filter, length, map}
-use Rattle.std.specs.Prelude.{not, slice_index_or, ℕ, ◌++◌, ◌<◌, ◌^◌, ◌∷◌, ◌≡◌}
-use Rattle.bip_model.specs.Naming.{IsName}
-use Rattle.bip_model.specs.Texts.{line_feed, is_plain}
+use Rattle.std.specs.Prelude.{not, ℕ, ◌++◌, ◌<◌, ◌^◌, ◌∷◌, ◌≡◌}
+use Rattle.bip_model.specs.Naming.{IsName, name_in}
+use Rattle.bip_model.specs.Texts.{is_plain, line_feed, spaced}
 use Rattle.bip_model.specs.Wants.{is_moved}
 use Rattle.bip_model.specs.declared.grants.Grant.{Grant}
 use Rattle.bip_model.specs.declared.wants.Role.TheVariants.{Moved, Seen}
@@ -18,10 +18,6 @@ use Rattle.bip_replay.specs.Lines.{colon, grant_on}
 pub record IsGrantOf (m : System) (g : Grant) : Type 0 where
   pub inter : g.inter.0 < length m.interaction_names
   pub components : All (λ (w : Want). w.comp.0 < length m.component_names) g.wants
-
--- the name with a number
-abbrev pub name_in : List (List ℕ) → ℕ → List ℕ
-name_in names n = slice_index_or names n []
 
 -- `C:N`
 abbrev pub want_word : System → Want → List ℕ
@@ -46,14 +42,6 @@ abbrev pub words_behind : System → Grant → List (List ℕ)
 words_behind m g =
     name_in m.interaction_names g.inter.0
     ∷ (want_words m Moved g.wants ++ behind_see (want_words m Seen g.wants))
-
--- what parts the words of a line that is written
-abbrev pub space : ℕ
-space = 32
-
--- a word behind a space
-abbrev pub spaced : List ℕ → List ℕ
-spaced word = space ∷ word
 
 -- the line of a grant, without its line feed
 abbrev pub bare_line : System → Grant → List ℕ

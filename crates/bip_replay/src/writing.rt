@@ -2,13 +2,14 @@
 ghost use Rattle.std.specs.Prelude.{◌≡◌, ◌<◌, ◌∷◌, ◌++◌, [], length, All, Ok, OnOk, IfOk, IsTrue};
 ghost use Rattle.std.specs.Prelude.{codes};
 ghost use Rattle.std.specs.List.{flat_map, list_any};
+ghost use Rattle.bip_model.specs.Texts.{spaced};
 ghost use Rattle.bip_model.specs.declared.wants.Role.TheVariants.{Seen};
 ghost use Rattle.bip_model.specs.declared.wants.Want.{Want};
 ghost use Rattle.bip_replay.specs.Traces.{grants_of};
 ghost use Rattle.bip_replay.specs.Writing.{IsGrantOf, IsSpelled, ReadsBack, behind_see, has_role};
-ghost use Rattle.bip_replay.specs.Writing.{line_of, spaced, text_of, want_word, want_words};
+ghost use Rattle.bip_replay.specs.Writing.{line_of, text_of, want_word, want_words};
 
-use bip_model::{Grant, Model, Role, Want};
+use bip_model::{Grant, Model, Role, Want, write_word};
 use itoa::Buffer;
 use std::alloc::{AllocError, Global};
 
@@ -92,11 +93,4 @@ fn write_want(text: &mut Vec<u8>, model: &Model, want: &Want, role: Role) -> Res
         text.extend_from_slice(Buffer::new().format(number).as_bytes())?;
     }
     Ok(())
-}
-
-fn write_word(text: &mut Vec<u8>, word: &[u8]) -> Result<(), AllocError>
-    ensures { OnOk result (text.new.items ≡ text.old.items ++ spaced word.now) }
-{
-    text.push(b' ')?;
-    text.extend_from_slice(word)
 }

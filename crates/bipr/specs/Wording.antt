@@ -9,7 +9,7 @@ use Rattle.bip_replay.specs.Faults.{text_of_replay}
 use Rattle.bip_replay.specs.declared.faults.BookFault.{BookFault}
 use Rattle.bip_replay.specs.declared.faults.BookFault.TheVariants.{NotEnabled, Below, Number}
 use Rattle.bip_replay.specs.declared.faults.BookFault.TheVariants.{Parties, Memory}
-use Rattle.bip_replay.specs.Writing.{name_in}
+use Rattle.bip_model.specs.Naming.{name_in}
 use Rattle.bip_replay.specs.declared.faults.ReplayFault.{ReplayFault}
 
 -- `run N`

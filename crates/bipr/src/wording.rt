@@ -1,7 +1,7 @@
 //! The texts of answers.
 ghost use Rattle.std.specs.Prelude.{◌≡◌, ◌≤◌, ◌++◌, ◌-◌, [], IfOk, OnOk, slice_index_or};
 ghost use Rattle.bip_model.specs.Texts.{lines, words};
-ghost use Rattle.bip_replay.specs.Writing.{name_in};
+ghost use Rattle.bip_model.specs.Naming.{name_in};
 ghost use Rattle.bipr.specs.Wording.{interaction_on, model_refusal, run_text, step_text};
 ghost use Rattle.bipr.specs.Wording.{trace_refusal, verdict_text};
 

@@ -1,6 +1,7 @@
 use Rattle.std.proofs.Common.{◌≡◌, ◌++◌, take, All}
 use Rattle.std.specs.List.{flat_map}
-use Rattle.bip_replay.specs.Writing.{IsSpelled, spaced, want_words}
+use Rattle.bip_replay.specs.Writing.{IsSpelled, want_words}
+use Rattle.bip_model.specs.Texts.{spaced}
 use Rattle.bip_replay.proofs.writing.write_wants.Given as goal
 
 abbrev pub invariant-loop-want : goal.invariant-loop-want
