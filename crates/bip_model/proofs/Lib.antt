@@ -24,3 +24,4 @@ pub mod StateLemmas
 pub mod StepLemmas
 pub mod TextLemmas
 pub mod TransitionLemmas
+pub mod WrittenLemmas

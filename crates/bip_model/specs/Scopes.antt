@@ -98,25 +98,23 @@ transfer_said find before [] = Ok tt
 transfer_said find before (a ∷ rest) =
     assignment_said find before a >>= λ _. transfer_said find (before ++ a ∷ []) rest
 
--- what a text says, with variables in place of their names
-abbrev pub term_with : (VariableName → Variable) → Term VariableName → Term Variable
+-- what a text says, with variables in place of their names; or the other way round
+abbrev pub term_with : {V W : Type 0} → (V → W) → Term V → Term W
 term_with f (Value n) = Value n
 term_with f (Of v) = Of (f v)
 
-abbrev pub sum_with : (VariableName → Variable) → Expr VariableName → Expr Variable
+abbrev pub sum_with : {V W : Type 0} → (V → W) → Expr V → Expr W
 sum_with f e =
     record {
       first = term_with f e.first;
-      rest = map (λ (t : Sign × Term VariableName). (t.0, term_with f t.1)) e.rest;
+      rest = map (λ t. (t.0, term_with f t.1)) e.rest;
     }
 
-abbrev pub comparison_with : (VariableName → Variable) → Comparison VariableName
-    → Comparison Variable
+abbrev pub comparison_with : {V W : Type 0} → (V → W) → Comparison V → Comparison W
 comparison_with f c =
     record { left = sum_with f c.left; relation = c.relation; right = sum_with f c.right }
 
-abbrev pub assignment_with : (VariableName → Variable) → Assignment VariableName
-    → Assignment Variable
+abbrev pub assignment_with : {V W : Type 0} → (V → W) → Assignment V → Assignment W
 assignment_with f a = record { target = f a.target; sum = sum_with f a.sum }
 
 abbrev pub guard_with : (VariableName → Option Variable) → List (Comparison VariableName)

@@ -3,8 +3,12 @@ pub mod ClauseLemmas
 pub mod DecisionLemmas
 pub mod FaultLemmas
 pub mod FirstLemmas
+pub mod LeadLemmas
+pub mod LookUpLemmas
 pub mod PartedLemmas
+pub mod ReadBackLemmas
 pub mod SameMeaningLemmas
+pub mod SpelledLemmas
 pub mod TextLemmas
 pub mod ValidLemmas
 pub mod WordLemmas

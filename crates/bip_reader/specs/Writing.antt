@@ -1,11 +1,11 @@
 -- The canonical text of a model and its classes: each line's words with a space between, and a line
 -- feed after each line. Lists that are empty are left out with their word.
-use Rattle.std.specs.Prelude.{ℕ, List, [], ◌∷◌, ◌++◌, length, map, codes, slice_index}
-use Rattle.std.specs.Prelude.{slice_index_or}
+use Rattle.std.specs.Prelude.{ℕ, ◌<◌, ◌^◌, List, [], ◌∷◌, ◌++◌, length, map, codes, slice_index, All}
+use Rattle.std.specs.Prelude.{slice_index_or, ⊤}
 use Rattle.std.specs.Fmt.{decimal}
 use Rattle.std.specs.List.{flat_map, join_by, range_with_len}
 use Rattle.bip_model.specs.Components.{no_component}
-use Rattle.bip_model.specs.Naming.{name_in}
+use Rattle.bip_model.specs.Naming.{IsName, name_in}
 use Rattle.bip_model.specs.Parts.{Participant, components_in, counts_of}
 use Rattle.bip_model.specs.Texts.{line_feed, spaced}
 use Rattle.bip_model.specs.declared.expressions.Assignment.{Assignment}
@@ -183,3 +183,43 @@ text_of_model m classes =
     line_with (codes "bip") (codes "1" ∷ []) ++ lines_of_components m ++ lines_of_interactions m
     ++ flat_map (line_of_priority m) m.priorities
     ++ flat_map (line_of_class m classes) (range_with_len 0 (length classes.names))
+
+-- what can be spelled and read again: names that are names, and values below 2^32
+abbrev pub IsSpelledTerm : Term Variable → Type 0
+IsSpelledTerm (Value n) = n < 2 ^ 32
+IsSpelledTerm (Of v) = ⊤
+
+pub record IsSpelledSum (e : Expr Variable) : Type 0 where
+  pub first : IsSpelledTerm e.first
+  pub rest : All (λ (t : Sign × Term Variable). IsSpelledTerm t.1) e.rest
+
+pub record IsSpelledComparison (c : Comparison Variable) : Type 0 where
+  pub left : IsSpelledSum c.left
+  pub right : IsSpelledSum c.right
+
+abbrev pub IsSpelledGuard : List (Comparison Variable) → Type 0
+IsSpelledGuard guard = All IsSpelledComparison guard
+
+abbrev pub AreSpelledAssignments : List (Assignment Variable) → Type 0
+AreSpelledAssignments assignments =
+    All (λ (a : Assignment Variable). IsSpelledSum a.sum) assignments
+
+abbrev pub IsSpelledTransition : Transition → Type 0
+IsSpelledTransition t = IsSpelledGuard t.guard × AreSpelledAssignments t.update
+
+pub record IsSpelledComponent (k : Component) : Type 0 where
+  pub variables : All IsName k.variables
+  pub start : All (λ n. n < 2 ^ 32) k.start
+  pub locations : All IsName k.locations
+  pub ports : All IsName k.ports
+  pub transitions : All IsSpelledTransition k.transitions
+
+abbrev pub IsSpelledInteraction : Interaction → Type 0
+IsSpelledInteraction i = IsSpelledGuard i.guard × AreSpelledAssignments i.transfer
+
+pub record IsSpelled (m : System) (classes : Partition) : Type 0 where
+  pub component_names : All IsName m.component_names
+  pub components : All IsSpelledComponent m.components
+  pub interaction_names : All IsName m.interaction_names
+  pub interactions : All IsSpelledInteraction m.interactions
+  pub class_names : All IsName classes.names

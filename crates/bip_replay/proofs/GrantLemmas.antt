@@ -25,7 +25,7 @@ use Rattle.bip_replay.specs.Lines.{NamedGrant, colon, grant_on, known, named_on,
 use Rattle.bip_replay.specs.Writing.{IsGrantOf}
 use Rattle.bip_replay.specs.declared.lines.NamedWant.{NamedWant}
 use Rattle.bip_replay.proofs.NamedLemmas.{AreFit, Numbers, apart_as_numbered, Say, comp_of, found_for, known_from, name_at, said_wants, wants_said-from}
-use Rattle.bip_replay.proofs.WordLemmas.{is_name-from, pair_of-name, position-name}
+use Rattle.bip_model.proofs.WrittenLemmas.{is_name-from, pair_of-name, position-name}
 
 -- the parts of a word with a colon
 parts_of : (word : List ℕ) (parts : List ℕ × List ℕ) → pair_of colon word ≡ Some parts → word ≡ parts.0 ++ colon ∷ parts.1
@@ -61,7 +61,7 @@ spells_from m role word v w says is =
 says_from : (m : System) (role : Role) (word : List ℕ) (w : Want) → AreApart m.component_names → Spells m role word w → (v : NamedWant) × (want_said role word ≡ Some v) × Numbers m.component_names v w
 says_from m role word w apart s = (
   record { name = s.component; number = w.number; role = role },
-  rw (s.parts, pair_of-name s.component s.numeral s.names.name, is_name-from s.component s.names.name, s.number) refl,
+  rw (s.parts, pair_of-name 58 s.component s.numeral refl s.names.name, is_name-from s.component s.names.name, s.number) refl,
   record { place = place-name_of m.component_names s.component w.comp.0 apart s.names; number = refl; role = sym s.by_place },
 )
 

@@ -5,4 +5,3 @@ pub mod NamedLemmas
 pub mod ReadingLemmas
 pub mod RunLemmas
 pub mod TextLemmas
-pub mod WordLemmas

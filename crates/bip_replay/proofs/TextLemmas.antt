@@ -26,7 +26,7 @@ use Rattle.bip_model.specs.Wants.{IsWants}
 use Rattle.bip_model.specs.declared.wants.Role.{Role}
 use Rattle.bip_model.specs.declared.wants.Role.TheVariants.{Moved, Seen}
 use Rattle.bip_model.specs.declared.wants.Want.{Want}
-use Rattle.bip_replay.proofs.WordLemmas.{IsWord, lines_front, name-word, number_of-decimal, pair-word, plain_spaced, words_spaced}
+use Rattle.bip_model.proofs.WrittenLemmas.{IsWord, lines_front, name-word, number_of-decimal, pair-word, plain_spaced, words_spaced}
 
 -- a line's grant before those of the lines behind it
 abbrev with_grant : Result (Option Grant) LineFault → Option (List Grant) → Option (List Grant)

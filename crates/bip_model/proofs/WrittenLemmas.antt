@@ -1,5 +1,5 @@
 -- What is written, read again: lines, words, numbers and names.
-use Rattle.std.proofs.Common.{◌≡◌, ℕ, zero, suc, position, ◌^◌, ◌<◌, ◌≤◌, Bool, true, false, not, ◌||◌, eqb, List, [], ◌∷◌, ◌++◌, length, Some, refl, ap, arith}
+use Rattle.std.proofs.Common.{◌≡◌, ℕ, zero, suc, position, ◌^◌, ◌<◌, ◌≤◌, Bool, true, false, not, ◌||◌, eqb, eqb-true, List, [], ◌∷◌, ◌++◌, length, Some, refl, ap, arith}
 use Rattle.std.specs.Prelude.{All}
 use Rattle.std.specs.Char.{is_ascii_digit, is_ascii_graphic}
 use Rattle.std.specs.Fmt.{decimal}
@@ -15,7 +15,7 @@ use Rattle.std.proofs.lemmas.List.Splits.{slice_split_at, slice_split_none}
 use Rattle.std.proofs.lemmas.List.Sums.{AllPass-from_list_all}
 use Rattle.std.proofs.lemmas.Str.Parse.{digit_from_value}
 use Rattle.bip_model.specs.Naming.{AreApart, IsName, is_known, is_name, is_name_byte, name_in, same_text}
-use Rattle.bip_model.specs.Texts.{is_blank, is_longer, is_plain, lines, number_of, pair_of, spaced, words}
+use Rattle.bip_model.specs.Texts.{is_blank, is_longer, is_plain, lines, number_of, pair_of, spaced, value_said, words}
 
 -- each byte of a text can be seen
 abbrev pub is_inked : List ℕ → Bool
@@ -65,13 +65,17 @@ place_behind : (p : ℕ → Bool) (front : List ℕ) (y : ℕ) (rest : List ℕ)
 place_behind p [] y rest none here = grind arith
 place_behind p (b ∷ bs) y rest none here = grind (arith, place_behind p bs y rest)
 
--- a name with something behind a colon parts there
-pub pair_of-name : (name rest : List ℕ) → IsName name → pair_of 58 (name ++ 58 ∷ rest) ≡ Some (name, rest)
-pair_of-name name rest named =
-    let none = all_weaker is_name_byte (λ b. not (eqb b 58)) (λ b n. grind arith) name (grind arith) in
-    let at = place_behind (λ b. eqb b 58) name 58 rest none refl in
-    let long = length-append name (58 ∷ rest) in
-    grind (arith, take-append_seam name (58 ∷ rest), drop-append-add name (58 ∷ rest) 1)
+-- a byte that can't stand in a name is none that can
+no_mark : (mark b : ℕ) → is_name_byte mark ≡ false → is_name_byte b ≡ true → not (eqb b mark) ≡ true
+no_mark mark b other named = grind (arith, eqb-true b mark)
+
+-- a name with something behind a mark that stands in no name parts there
+pub pair_of-name : (mark : ℕ) (name rest : List ℕ) → is_name_byte mark ≡ false → IsName name → pair_of mark (name ++ mark ∷ rest) ≡ Some (name, rest)
+pair_of-name mark name rest other named =
+    let none = all_weaker is_name_byte (λ b. not (eqb b mark)) (λ b n. no_mark mark b other n) name (grind arith) in
+    let at = place_behind (λ b. eqb b mark) name mark rest none (grind arith) in
+    let long = length-append name (mark ∷ rest) in
+    grind (arith, take-append_seam name (mark ∷ rest), drop-append-add name (mark ∷ rest) 1)
 
 -- a name passes the test of names
 pub is_name-from : (name : List ℕ) → IsName name → is_name name ≡ true
@@ -97,6 +101,29 @@ number_of-decimal n low high =
     let digits = digits-all (decimal n) is.0.1 in
     let short = length-decimal-le 20 n (omega arith) (omega arith) high in
     grind arith
+
+-- a value that is written is read
+pub value_said-decimal : (n : ℕ) → n < 2 ^ 32 → value_said (decimal n) ≡ Some n
+value_said-decimal n high =
+    let is = decimal_is_IsNumeral n (omega arith) in
+    let digits = digits-all (decimal n) is.0.1 in
+    let short = length-decimal-le 10 n (omega arith) (omega arith) (omega arith) in
+    grind arith
+
+-- a number is spelled with digits, at least one
+pub digits-decimal : (n : ℕ) → n < 2 ^ 64 → (0 < length (decimal n)) × (list_all is_ascii_digit (decimal n) ≡ true)
+digits-decimal n high = let is = decimal_is_IsNumeral n high in (grind arith, digits-all (decimal n) is.0.1)
+
+-- a number can stand as a word
+pub decimal-word : (n : ℕ) → n < 2 ^ 64 → IsWord (decimal n)
+decimal-word n high =
+    let is = decimal_is_IsNumeral n high in
+    (longer (decimal n) (grind arith), all_weaker is_ascii_digit is_ascii_graphic (λ b d. grind arith) (decimal n) (digits-all (decimal n) is.0.1))
+
+-- a name with a name behind a mark that can be seen can stand as a word
+pub names-word : (mark : ℕ) (name own : List ℕ) → is_ascii_graphic mark ≡ true → IsName name → IsName own → IsWord (name ++ mark ∷ own)
+names-word mark name own seen is named =
+    (longer (name ++ mark ∷ own) (simp length-append (omega arith)), rw (list_all-append is_ascii_graphic name (mark ∷ own), (name-word name is).1) (rw seen (name-word own named).1))
 
 -- a name with a number behind a colon can stand as a word
 pub pair-word : (name : List ℕ) (n : ℕ) → IsName name → n < 2 ^ 64 → IsWord (name ++ 58 ∷ decimal n)
