@@ -1,5 +1,5 @@
 -- What is written, read again: lines, words, numbers and names.
-use Rattle.std.proofs.Common.{◌≡◌, ℕ, zero, suc, position, ◌^◌, ◌<◌, ◌≤◌, Bool, true, false, not, ◌||◌, eqb, eqb-true, List, [], ◌∷◌, ◌++◌, length, Some, refl, ap, arith}
+use Rattle.std.proofs.Common.{◌≡◌, ℕ, zero, suc, position, ◌^◌, ◌<◌, ◌≤◌, Bool, true, false, not, ◌||◌, eqb, eqb-true, List, [], ◌∷◌, ◌++◌, length, take, Some, refl, ap, arith}
 use Rattle.std.specs.Prelude.{All}
 use Rattle.std.specs.Char.{is_ascii_digit, is_ascii_graphic}
 use Rattle.std.specs.Fmt.{decimal}
@@ -145,3 +145,9 @@ place_of names c apart within = absurd (omega arith)
 -- a name is found at its number
 pub position-name : (names : List (List ℕ)) (c : ℕ) → AreApart names → c < length names → position (same_text (name_in names c)) names ≡ Some c
 position-name names c apart within = let at = place_of names c apart within in grind arith
+
+-- a name stands nowhere before its place among names that are apart
+pub unknown_before_it : (names : List (List ℕ)) (c : ℕ) → AreApart names → c < length names → is_known (name_in names c) (take c names) ≡ false
+unknown_before_it [] c apart within = absurd (omega arith)
+unknown_before_it (n ∷ ns) zero apart within = refl
+unknown_before_it (n ∷ ns) (suc c) apart within = grind (arith, nat_list_eq_equiv.symm (name_in ns c) n, unknown_at n ns c, unknown_before_it ns c)

@@ -4,6 +4,7 @@ pub mod DecisionLemmas
 pub mod FaultLemmas
 pub mod FirstLemmas
 pub mod LeadLemmas
+pub mod LineLeadLemmas
 pub mod LookUpLemmas
 pub mod PartedLemmas
 pub mod ReadBackLemmas
