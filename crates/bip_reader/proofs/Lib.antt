@@ -4,6 +4,7 @@ pub mod ComponentLeadLemmas
 pub mod DecisionLemmas
 pub mod FaultLemmas
 pub mod FirstLemmas
+pub mod InteractionLeadLemmas
 pub mod LeadLemmas
 pub mod LineLeadLemmas
 pub mod LookUpLemmas

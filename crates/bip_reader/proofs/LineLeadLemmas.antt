@@ -83,7 +83,7 @@ module _ (s : System) (c : Component) where
   end_leads some =
       leads_stated keyword.End (codes "end") [] statement.End _ _ (refl, refl) refl refl (All-nil IsWord) refl refl (grind (arith, nat_tests))
 
-inner_name : (name : List ℕ) → IsName name → IsInner name
+pub inner_name : (name : List ℕ) → IsName name → IsInner name
 inner_name name is = inner name (name_no_mark name is) (name-word name is)
 
 own_number : (k : Component) (v : Variable) → IsVariableIn (length k.variables ∷ []) v → v.number.0 < length k.variables

@@ -152,6 +152,10 @@ owner_in qs v = slice_index (components_in qs) v.owner
 abbrev pub shared_name : System → List Participant → Variable → VariableName
 shared_name m qs v = record { owner = Some (name_in m.component_names (owner_in qs v)); name = own_word (component_in m (owner_in qs v)) v }
 
+-- a variable of an interaction is there, and is found by its name
+abbrev pub IsFound : System → List Participant → Variable → Type 0
+IsFound m qs v = (owner_in qs v < length m.components) × (v.number.0 < length (component_in m (owner_in qs v)).variables) × (shared m qs (shared_name m qs v) ≡ Some v)
+
 module _ (m : System) (qs : List Participant) (rising : IsStrictlyIncreasing (components_in qs)) (ports : All (IsPortIn m.components) qs)
     (apart : AreApart m.component_names) (named : length m.components ≤ length m.component_names) (each : All (λ (k : Component). AreApart k.variables) m.components) where
 
@@ -162,8 +166,7 @@ module _ (m : System) (qs : List Participant) (rising : IsStrictlyIncreasing (co
           (λ k below. ne_eqb _ _ (λ e. omega (arith, e, below_later (λ (q : Participant). q.0.0) qs rising k i d below within))) (λ here. nat_eq_equiv.refl (get_or qs i d).0.0) in
       grind (arith, nat_tests)
 
-  pub shared_there : (v : Variable) → IsVariableIn (counts_of m.components qs) v
-      → (owner_in qs v < length m.components) × (v.number.0 < length (component_in m (owner_in qs v)).variables) × (shared m qs (shared_name m qs v) ≡ Some v)
+  pub shared_there : (v : Variable) → IsVariableIn (counts_of m.components qs) v → IsFound m qs v
   shared_there v there =
       let zero_of : Participant = (record { 0 = 0 }, record { 0 = 0 }) in
       let q : Participant = get_or qs v.owner zero_of in
