@@ -55,7 +55,7 @@ not_taken name c new =
     rw (within.0, within.1, outer.1) refl
 
 -- none of the first of a list passes a test
-none_before : {X : Type 0} (p : X → Bool) (xs : List X) (k : ℕ) (d : X) → k ≤ length xs → ((i : ℕ) → i < k → p (get_or xs i d) ≡ false) → list_any p (take k xs) ≡ false
+pub none_before : {X : Type 0} (p : X → Bool) (xs : List X) (k : ℕ) (d : X) → k ≤ length xs → ((i : ℕ) → i < k → p (get_or xs i d) ≡ false) → list_any p (take k xs) ≡ false
 none_before p xs zero d within fails = refl
 none_before p [] (suc k) d within fails = refl
 none_before p (x ∷ xs) (suc k) d within fails = rw (fails 0 (omega arith)) (none_before p xs k d (omega arith) (λ i below. fails (suc i) (omega arith)))

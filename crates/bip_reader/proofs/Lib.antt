@@ -1,5 +1,6 @@
 pub mod AnswerLemmas
 pub mod ClauseLemmas
+pub mod CanonicalLemmas
 pub mod ComponentLeadLemmas
 pub mod DecisionLemmas
 pub mod FaultLemmas
