@@ -90,6 +90,7 @@ impl Classes {
         ensures members { result ≡ length self.now.members }
         ensures names { result ≡ length self.now.names }
         ensures few { result ≤ MOST_CLASSES }
+        ensures valid { IsClasses self.now }
     {
         self.partition.members.len()
     }

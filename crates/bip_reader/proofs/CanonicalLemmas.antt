@@ -57,7 +57,7 @@ first_of P (x ∷ xs) (suc k) d within each = All-cons P x (take k xs) (each 0 (
 
 module _ (m : System) (classes : Partition) (is : IsSystem m) (spelled : IsSpelled m classes) where
   pub interaction_named_at : (a : ℕ) → a < length m.interactions → IsName (name_in m.interaction_names a)
-  interaction_named_at a within = spelled.interaction_names a [] (omega (arith, is.so_far.interactions_named))
+  interaction_named_at a within = spelled.interactions.0 a [] (omega (arith, is.so_far.interactions_named))
 
   abbrev with_priorities : ℕ → System
   with_priorities j = record m { priorities = take j m.priorities }
@@ -82,7 +82,7 @@ module _ (m : System) (classes : Partition) (is : IsSystem m) (spelled : IsSpell
       in
       rw (take-next m.priorities j d within)
       (leads_stated keyword.Priority (codes "priority") words (statement.Priority (name_in m.interaction_names p.low.0) (name_in m.interaction_names p.high.0)) (reading_at (with_priorities j) None []) _ (refl, refl) refl refl all refl
-          (rw (name_read _ low, name_read _ high) refl) (rw low_at (rw high_at (rw new (rw put refl)))))
+      (rw (name_read _ low, name_read _ high) refl) (rw low_at (rw high_at (rw new (rw put refl)))))
 
   abbrev no_pair : Pair
   no_pair = record { low = record { 0 = 0 }; high = record { 0 = 0 } }
@@ -186,8 +186,8 @@ module _ (m : System) (classes : Partition) (is : IsSystem m) (are : IsClasses c
       let new : list_any (λ (c : List ℕ × List InterId). same_text name c.0) (take j listed) ≡ false = zipped_known name classes.names classes.members j are.paired ∙ unknown_before_it classes.names j are.apart within in
       let back : each_of (interaction_named (record { system = m; begun = None })) (map spell members) ≡ Some members =
       each_made (interaction_named (record { system = m; begun = None })) spell (λ a. a) members
-          (All-weaker (λ (a : InterId). a.0 < length m.interactions) (λ a. interaction_named (record { system = m; begun = None }) (spell a) ≡ Some a)
-              (λ a low. rw (position-name m.interaction_names a.0 is.so_far.interactions_apart (omega (arith, low, is.so_far.interactions_named))) refl) members below)
+      (All-weaker (λ (a : InterId). a.0 < length m.interactions) (λ a. interaction_named (record { system = m; begun = None }) (spell a) ≡ Some a)
+      (λ a low. rw (position-name m.interaction_names a.0 is.so_far.interactions_apart (omega (arith, low, is.so_far.interactions_named))) refl) members below)
       ∙ ap (λ (list : List InterId). Some list) (map_same members)
       in
       let room : nat_le 32 (length (take j listed)) ≡ false = grind (arith, nat_tests, length-take-le j listed (omega arith), are.few) in
@@ -195,7 +195,7 @@ module _ (m : System) (classes : Partition) (is : IsSystem m) (are : IsClasses c
       let all : All IsWord words = All-cons IsWord name (map spell members) (name-word name is_named) (All-map IsWord spell members (All-weaker (λ a. IsName (spell a)) (λ a. IsWord (spell a)) (λ a n. name-word (spell a) n) members named)) in
       rw (take-next listed j ([], []) in_list, zipped_at classes.names classes.members j ([], []) are.paired within)
       (leads_stated keyword.Class (codes "class") words (statement.Class name (map spell members)) (reading_at m None (take j listed)) _ (refl, refl) refl refl all refl
-          (rw form refl) (rw new (rw back (rw room refl))))
+      (rw form refl) (rw new (rw back (rw room refl))))
 
   classes_lead : Leads (flat_map (line_of_class m classes) (range_with_len 0 (length classes.names))) (reading_at m None []) (reading_at m None listed)
   classes_lead =

@@ -102,7 +102,7 @@ module _ (k : Component) (is : IsComponent k) where
         let free : is_taken (name_in k.variables j) (with_variables j) ≡ false = rw new refl in
         let room : length (take j k.variables) < 8 = omega (arith, length-take-le j k.variables (omega arith), is.so_far.few_variables) in
         rw (take-next k.variables j [] within, take-next k.start j 0 started)
-        (var_leads s (with_variables j) (name_in k.variables j) (get_or k.start j 0) (spelled.variables j [] within) (spelled.start j 0 started) free room)
+        (var_leads s (with_variables j) (name_in k.variables j) (get_or k.start j 0) (spelled.starts.0 j [] within) (spelled.starts.1 j 0 started) free room)
 
     location_step : (j : ℕ) → j < length k.locations → Leads (line_of_name (codes "loc") (name_in k.locations j)) (reading_at s (Some (with_locations j)) []) (reading_at s (Some (with_locations (suc j))) [])
     location_step j within =
@@ -131,7 +131,7 @@ module _ (k : Component) (is : IsComponent k) where
           let new : list_any (leaves t.source t.port) (take j k.transitions) ≡ false = none_before (leaves t.source t.port) k.transitions j d (omega arith) (λ i below. is.so_far.one_each i j d below within) in
           let room : length (take j k.transitions) < 256 = omega (arith, length-take-le j k.transitions (omega arith), is.so_far.few_transitions) in
           rw (take-next k.transitions j d within)
-          (trans_leads s k t (take j k.transitions) (is.so_far.transitions j d within) (spelled.transitions j d within) spelled.variables spelled.locations spelled.ports variables_apart locations_apart ports_apart room new)
+          (trans_leads s k t (take j k.transitions) (is.so_far.transitions j d within) (spelled.transitions j d within) spelled.starts.0 spelled.locations spelled.ports variables_apart locations_apart ports_apart room new)
 
     abbrev no_transition : Transition
     no_transition = record { port = record { 0 = 0 }; source = record { 0 = 0 }; target = record { 0 = 0 }; guard = []; update = [] }
@@ -172,8 +172,8 @@ module _ (m : System) (classes : Partition) (is : IsSystem m) (spelled : IsSpell
       let named : j < length m.component_names = omega (arith, is.components_named) in
       let room : length (take j m.component_names) < 64 = omega (arith, length-take-le j m.component_names (omega arith), is.so_far.few_components) in
       rw (take-next m.component_names j [] named, take-next m.components j no_component within)
-      (component_leads (component_in m j) (is.so_far.components j no_component within) (with_components j) (name_in m.component_names j) (spelled.components j no_component within)
-          (spelled.component_names j [] named) (unknown_before_it m.component_names j is.so_far.components_apart named) room)
+      (component_leads (component_in m j) (is.so_far.components j no_component within) (with_components j) (name_in m.component_names j) (spelled.components.1 j no_component within)
+      (spelled.components.0 j [] named) (unknown_before_it m.component_names j is.so_far.components_apart named) room)
 
   -- the lines of all components
   pub components_lead : Leads (lines_of_components m) (reading_at no_system None []) (reading_at (record no_system { component_names = m.component_names; components = m.components }) None [])

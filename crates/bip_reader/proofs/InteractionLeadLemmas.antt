@@ -56,7 +56,7 @@ named_words f name words read is some each =
 
 module _ (m : System) (classes : Partition) (is : IsSystem m) (spelled : IsSpelled m classes) where
   component_named : (c : ℕ) → c < length m.components → IsName (name_in m.component_names c)
-  component_named c within = spelled.component_names c [] (omega (arith, is.components_named))
+  component_named c within = spelled.components.0 c [] (omega (arith, is.components_named))
 
   -- the names of a participant
   abbrev names_of : Participant → List ℕ × List ℕ
@@ -66,7 +66,7 @@ module _ (m : System) (classes : Partition) (is : IsSystem m) (spelled : IsSpell
   port_within q port = rw (slice_get-get_or m.components q.0.0 no_component port.component) at port.port
 
   port_named : (q : Participant) → IsPortIn m.components q → IsName (name_in (component_in m q.0.0).ports q.1.0)
-  port_named q port = (spelled.components q.0.0 no_component port.component).ports q.1.0 [] (port_within q port)
+  port_named q port = (spelled.components.1 q.0.0 no_component port.component).ports q.1.0 [] (port_within q port)
 
   participant_read : (q : Participant) → IsPortIn m.components q → participant_of (participant_word m q) ≡ Some (names_of q)
   participant_read q port = pair_read (name_in m.component_names q.0.0) (name_in (component_in m q.0.0).ports q.1.0) (component_named q.0.0 port.component) (port_named q port)
@@ -108,10 +108,10 @@ module _ (m : System) (classes : Partition) (is : IsSystem m) (spelled : IsSpell
     valid = is.so_far.interactions j (record { participants = []; guard = []; transfer = [] }) within
 
     its : IsSpelledInteraction this
-    its = spelled.interactions j (record { participants = []; guard = []; transfer = [] }) within
+    its = spelled.interactions.1 j (record { participants = []; guard = []; transfer = [] }) within
 
     is_named : IsName its_name
-    is_named = spelled.interaction_names j [] (omega (arith, is.so_far.interactions_named))
+    is_named = spelled.interactions.0 j [] (omega (arith, is.so_far.interactions_named))
 
     there : (v : Variable) → IsVariableIn (counts_of m.components this.participants) v → IsFound m this.participants v
     there v known =
@@ -121,7 +121,7 @@ module _ (m : System) (classes : Partition) (is : IsSystem m) (spelled : IsSpell
     its_spelled v known =
         let at = there v known in
         shared_spelled (name_in m.component_names (owner_in this.participants v)) (own_word (component_in m (owner_in this.participants v)) v) (component_named (owner_in this.participants v) at.0)
-        ((spelled.components (owner_in this.participants v) no_component at.0).variables v.number.0 [] at.1)
+        ((spelled.components.1 (owner_in this.participants v) no_component at.0).starts.0 v.number.0 [] at.1)
 
     front_inner : All IsInner (its_name ∷ map (participant_word m) this.participants)
     front_inner =
@@ -147,7 +147,7 @@ module _ (m : System) (classes : Partition) (is : IsSystem m) (spelled : IsSpell
     unfolding interaction_form
     form =
         let read = clauses_read Shared (counts_of m.components this.participants) (shared_word m this.participants) (shared_name m this.participants) its_spelled (its_name ∷ map (participant_word m) this.participants)
-            this.guard this.transfer front_inner valid.guard.there its.0 valid.transfer.there its.1 in
+        this.guard this.transfer front_inner valid.guard.there its.0 valid.transfer.there its.1 in
         let each = each_made participant_of (participant_word m) names_of this.participants (All-weaker (IsPortIn m.components) (λ q. participant_of (participant_word m q) ≡ Some (names_of q)) participant_read this.participants valid.ports) in
         let filled : 0 < length (map (participant_word m) this.participants) = rw length-map valid.some in
         let named = named_words participant_of its_name (map (participant_word m) this.participants) (map names_of this.participants) is_named filled each in
@@ -173,7 +173,7 @@ module _ (m : System) (classes : Partition) (is : IsSystem m) (spelled : IsSpell
         let few : nat_lt 8 (length this.participants) ≡ false = grind (arith, nat_tests, valid.few) in
         rw (take-next m.interaction_names j [] named, take-next m.interactions j (record { participants = []; guard = []; transfer = [] }) within)
         (leads_stated keyword.Interaction (codes "interaction") its_words (statement.Interaction its_name (map names_of this.participants) its_guard its_transfer) (reading_at (with_interactions j) None []) _ (refl, refl) refl refl all_words refl form
-            (rw new (rw back (rw known (rw said (rw (room, few, short, shorts) (rw (guard_is, transfer_is) refl)))))))
+        (rw new (rw back (rw known (rw said (rw (room, few, short, shorts) (rw (guard_is, transfer_is) refl)))))))
 
   pub interactions_lead : Leads (lines_of_interactions m) (reading_at (record no_system { component_names = m.component_names; components = m.components }) None []) (reading_at (record m { priorities = [] }) None [])
   interactions_lead =

@@ -26,9 +26,9 @@ pub leads_both : {a b : List ℕ} {r s t : Reading} → Leads a r s → Leads b 
 leads_both {a} {b} {r} {s} {t} f g = record {
   count = f.count + g.count;
   said = λ n rest.
-    let e : n + f.count + g.count ≡ n + (f.count + g.count) = omega arith in
-    ap (λ (text : List ℕ). reading_after_lines n (lines text) r) (append_assoc a b rest) ∙ f.said n (b ++ rest) ∙ g.said (n + f.count) rest
-    ∙ ap (λ k. reading_after_lines k (lines rest) t) e;
+      let e : n + f.count + g.count ≡ n + (f.count + g.count) = omega arith in
+      ap (λ (text : List ℕ). reading_after_lines n (lines text) r) (append_assoc a b rest) ∙ f.said n (b ++ rest) ∙ g.said (n + f.count) rest
+      ∙ ap (λ k. reading_after_lines k (lines rest) t) e;
 }
 
 -- texts one after another
@@ -62,9 +62,9 @@ leads_stated k word ws st r s is says keyword all place form next =
     record {
       count = 1;
       said = λ n rest.
-        ap (λ (text : List ℕ). reading_after_lines n (lines text) r) (line-behind word rest ws)
-        ∙ ap (λ (ls : List (List ℕ)). reading_after_lines n ls r) (lines_front line rest (plain_spaced word ws is.1 all))
-        ∙ rw first refl;
+          ap (λ (text : List ℕ). reading_after_lines n (lines text) r) (line-behind word rest ws)
+          ∙ ap (λ (ls : List (List ℕ)). reading_after_lines n ls r) (lines_front line rest (plain_spaced word ws is.1 all))
+          ∙ rw first refl;
     }
 
 -- a whole text

@@ -94,7 +94,6 @@ module _ (s : System) (k : Component) (t : Transition) (before : List Transition
     (variables : All IsName k.variables) (locations : All IsName k.locations) (ports : All IsName k.ports)
     (variables_apart : AreApart k.variables) (locations_apart : AreApart k.locations) (ports_apart : AreApart k.ports)
     (few : length before < 256) (new : list_any (leaves t.source t.port) before ≡ false) where
-
   port_name : IsName (name_in k.ports t.port.0)
   port_name = ports t.port.0 [] is.port
 

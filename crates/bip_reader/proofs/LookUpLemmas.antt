@@ -36,7 +36,6 @@ map-long : {X Y : Type 0} (f : X → Y) (xs : List X) → length (map f xs) ≡ 
 map-long f xs = length-map xs f
 
 module _ (counts : List ℕ) (find : VariableName → Option Variable) (name : Variable → VariableName) (found : (v : Variable) → IsVariableIn counts v → find (name v) ≡ Some v) where
-
   term_known : (t : Term Variable) → IsTermIn counts t → knows_term find (term_with name t) ≡ true
   term_known (Value n) there = refl
   term_known (Of v) there = rw (found v there) refl
@@ -129,9 +128,9 @@ module _ (counts : List ℕ) (find : VariableName → Option Variable) (name : V
       let said : assignment_said find (map (assignment_with name) before) (assignment_with name a) ≡ Ok tt = rw fresh (rw (sum_known a.sum here.sum) (rw (found a.target here.target) refl)) in
       let one : AreAssignmentsIn counts (a ∷ []) = All-cons (IsAssignmentIn counts) a [] here (All-nil (IsAssignmentIn counts)) in
       let later = transfer_read (before ++ a ∷ []) rest (All-append (IsAssignmentIn counts) before (a ∷ []) there_before one) (All-tail (IsAssignmentIn counts) a rest there)
-          (λ k d within. All-append (λ (b : Assignment Variable). is_same b.target (get_or rest k d).target ≡ false) before (a ∷ []) (new (suc k) d (omega arith))
-              (All-cons (λ (b : Assignment Variable). is_same b.target (get_or rest k d).target ≡ false) a [] (apart 0 (suc k) d (omega arith) (omega arith)) (All-nil (λ (b : Assignment Variable). is_same b.target (get_or rest k d).target ≡ false))))
-          (λ i j d early within. apart (suc i) (suc j) d (omega arith) (omega arith)) in
+      (λ k d within. All-append (λ (b : Assignment Variable). is_same b.target (get_or rest k d).target ≡ false) before (a ∷ []) (new (suc k) d (omega arith))
+      (All-cons (λ (b : Assignment Variable). is_same b.target (get_or rest k d).target ≡ false) a [] (apart 0 (suc k) d (omega arith) (omega arith)) (All-nil (λ (b : Assignment Variable). is_same b.target (get_or rest k d).target ≡ false))))
+      (λ i j d early within. apart (suc i) (suc j) d (omega arith) (omega arith)) in
       rw said (rw map_push at later)
 
 -- a component's variable has its own name
@@ -158,12 +157,11 @@ IsFound m qs v = (owner_in qs v < length m.components) × (v.number.0 < length (
 
 module _ (m : System) (qs : List Participant) (rising : IsStrictlyIncreasing (components_in qs)) (ports : All (IsPortIn m.components) qs)
     (apart : AreApart m.component_names) (named : length m.components ≤ length m.component_names) (each : All (λ (k : Component). AreApart k.variables) m.components) where
-
   -- the first participant of a component is the one that stands there
   place_there : (i : ℕ) (d : Participant) → i < length qs → position (λ (q : Participant). eqb q.0.0 (get_or qs i d).0.0) qs ≡ Some i
   place_there i d within =
       let at : position_or_len (λ (q : Participant). eqb q.0.0 (get_or qs i d).0.0) qs ≡ i = position_or_len_is (λ (q : Participant). eqb q.0.0 (get_or qs i d).0.0) qs i d (omega arith)
-          (λ k below. ne_eqb _ _ (λ e. omega (arith, e, below_later (λ (q : Participant). q.0.0) qs rising k i d below within))) (λ here. nat_eq_equiv.refl (get_or qs i d).0.0) in
+      (λ k below. ne_eqb _ _ (λ e. omega (arith, e, below_later (λ (q : Participant). q.0.0) qs rising k i d below within))) (λ here. nat_eq_equiv.refl (get_or qs i d).0.0) in
       grind (arith, nat_tests)
 
   pub shared_there : (v : Variable) → IsVariableIn (counts_of m.components qs) v → IsFound m qs v

@@ -118,7 +118,6 @@ list_read part begins marks f g first mark n front (p ∷ ps) is marked none all
 -- expressions over variables that are spelled and read
 module _ (spelling : Spelling) (counts : List ℕ) (spell : Variable → List ℕ) (name : Variable → VariableName)
     (is : (v : Variable) → IsVariableIn counts v → IsVariableWord spelling (spell v) (name v)) where
-
   term_read : (t : Term Variable) → IsTermIn counts t → IsSpelledTerm t → term_form spelling (term_word spell t) ≡ Some (term_with name t)
   term_read (Value n) there small = rw (value_said-decimal n small) refl
   term_read (Of v) there small = rw ((is v there).no_value, (is v there).read) refl
@@ -178,7 +177,6 @@ module _ (spelling : Spelling) (counts : List ℕ) (spell : Variable → List �
 
   module _ (front : List (List ℕ)) (guard : List (Comparison Variable)) (update : List (Assignment Variable)) (all : All IsInner front)
       (guard_in : AreComparisonsIn counts guard) (guard_small : IsSpelledGuard guard) (update_in : AreAssignmentsIn counts update) (update_small : AreSpelledAssignments update) where
-
     guard_inner : All (λ c. All IsInner (words_of_comparison spell c)) guard
     guard_inner = λ k d within. comparison_inner _ (guard_in k d within) (guard_small k d within)
 
@@ -191,8 +189,8 @@ module _ (spelling : Spelling) (counts : List ℕ) (spell : Variable → List �
         let plain : (ws : List (List ℕ)) → All IsInner ws → All IsWord ws = λ ws each. All-weaker IsInner IsWord (λ w i. i.is_word) ws each in
         All-append IsWord front (words_of_guard spell guard ++ words_of_assignments spell update) (plain front all)
         (All-append IsWord (words_of_guard spell guard) (words_of_assignments spell update)
-            (list_words IsWord (codes "when") (codes "and") (words_of_comparison spell) guard (refl, refl) (refl, refl) (All-weaker (λ c. All IsInner (words_of_comparison spell c)) (λ c. All IsWord (words_of_comparison spell c)) (λ c each. plain (words_of_comparison spell c) each) guard guard_inner))
-            (list_words IsWord (codes "do") (codes ";") (words_of_assignment spell) update (refl, refl) (refl, refl) (All-weaker (λ a. All IsInner (words_of_assignment spell a)) (λ a. All IsWord (words_of_assignment spell a)) (λ a each. plain (words_of_assignment spell a) each) update update_inner)))
+        (list_words IsWord (codes "when") (codes "and") (words_of_comparison spell) guard (refl, refl) (refl, refl) (All-weaker (λ c. All IsInner (words_of_comparison spell c)) (λ c. All IsWord (words_of_comparison spell c)) (λ c each. plain (words_of_comparison spell c) each) guard guard_inner))
+        (list_words IsWord (codes "do") (codes ";") (words_of_assignment spell) update (refl, refl) (refl, refl) (All-weaker (λ a. All IsInner (words_of_assignment spell a)) (λ a. All IsWord (words_of_assignment spell a)) (λ a each. plain (words_of_assignment spell a) each) update update_inner)))
 
     no_do : All (λ w. do_of w ≡ None) (front ++ words_of_guard spell guard)
     no_do =
@@ -208,8 +206,8 @@ module _ (spelling : Spelling) (counts : List ℕ) (spell : Variable → List �
         sym (append_assoc front (words_of_guard spell guard) (words_of_assignments spell update))
         in
         let outer = list_read (assignment_form spelling) do_of semicolon_of (words_of_assignment spell) (assignment_with name) (codes "do") (codes ";") (record {}) (front ++ words_of_guard spell guard) update refl refl no_do
-            (λ k d within. (assignment_read _ (update_in k d within) (update_small k d within), All-weaker IsInner (λ w. is_some (semicolon_of w) ≡ false) (λ w i. rw i.no_semicolon refl) (words_of_assignment spell (get_or update k d)) (update_inner k d within))) in
+        (λ k d within. (assignment_read _ (update_in k d within) (update_small k d within), All-weaker IsInner (λ w. is_some (semicolon_of w) ≡ false) (λ w i. rw i.no_semicolon refl) (words_of_assignment spell (get_or update k d)) (update_inner k d within))) in
         let within = list_read (comparison_form spelling) when_of and_of (words_of_comparison spell) (comparison_with name) (codes "when") (codes "and") (record {}) front guard refl refl
-            (All-weaker IsInner (λ w. when_of w ≡ None) (λ w i. i.no_when) front all)
-            (λ k d below. (comparison_read _ (guard_in k d below) (guard_small k d below), All-weaker IsInner (λ w. is_some (and_of w) ≡ false) (λ w i. rw i.no_and refl) (words_of_comparison spell (get_or guard k d)) (guard_inner k d below))) in
+        (All-weaker IsInner (λ w. when_of w ≡ None) (λ w i. i.no_when) front all)
+        (λ k d below. (comparison_read _ (guard_in k d below) (guard_small k d below), All-weaker IsInner (λ w. is_some (and_of w) ≡ false) (λ w i. rw i.no_and refl) (words_of_comparison spell (get_or guard k d)) (guard_inner k d below))) in
         (rw (parts, outer.0) within.0, rw (parts, outer.0, outer.1, within.1) refl)

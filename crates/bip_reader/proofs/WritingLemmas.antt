@@ -1,9 +1,11 @@
 -- Lemmas on words that are written one after another.
-use Rattle.std.proofs.Common.{◌≡◌, ◌<◌, ℕ, ◌+◌, false, cond, eqb, List, [], ◌∷◌, ◌++◌, length, get_or, take, refl, ap, ◌∙◌, sym, arith, append_assoc, append-nil, length-take-le, zero, suc}
+use Rattle.std.proofs.Common.{◌≡◌, ◌<◌, ◌≤◌, ℕ, ◌+◌, false, cond, eqb, List, [], ◌∷◌, ◌++◌, length, get_or, take, refl, ap, ◌∙◌, sym, arith, append_assoc, append-nil, length-take-le, zero, suc}
 use Rattle.std.specs.List.{flat_map, range_with_len}
 use Rattle.std.proofs.lemmas.Bool.Decides.{nat_tests}
 use Rattle.std.proofs.lemmas.Grind.{common_steps, flat_map-append}
-use Rattle.std.proofs.lemmas.List.{take_more}
+use Rattle.std.proofs.lemmas.List.{take_all, take_more}
+use Rattle.std.proofs.lemmas.List.Elements.{All-append, All-cons, All-nil}
+use Rattle.std.specs.Prelude.{All}
 use Rattle.bip_model.specs.Texts.{spaced}
 use Rattle.bip_reader.specs.Writing.{line_with, words_of_list}
 
@@ -52,3 +54,28 @@ written_line front word name ws vs = rw (flat_map-append spaced ws vs) (grind (a
 -- a line of a first word, a name, and words
 pub named_line : (front word name : List ℕ) (ws : List (List ℕ)) → (((front ++ word) ++ spaced name) ++ flat_map spaced ws) ++ 10 ∷ [] ≡ front ++ line_with word (name ∷ ws)
 named_line front word name ws = grind (arith, common_steps)
+
+-- one more of a list that can be spelled
+pub one_more : {X : Type 0} (P : X → Type 0) (xs : List X) (n : ℕ) (d : X) → n < length xs → All P (take n xs) → P (get_or xs n d) → All P (take (n + 1) xs)
+one_more P xs n d within all is = rw (take_more xs n d within) (All-append P (take n xs) (get_or xs n d ∷ []) all (All-cons P (get_or xs n d) [] is (All-nil P)))
+
+-- one more thing of a list, written behind those before
+pub list_step : {X : Type 0} (P : X → Type 0) (f : X → List ℕ) (xs : List X) (i : ℕ) (x : X) (front text new : List ℕ) → i < length xs → x ≡ get_or xs i x
+    → (text ≡ front ++ flat_map f (take i xs)) × All P (take i xs) → new ≡ text ++ f x → P x → (new ≡ front ++ flat_map f (take (i + 1) xs)) × All P (take (i + 1) xs)
+list_step P f xs i x front text new within at before more is =
+    let item : P (get_or xs i x) = rw (← at) is in
+    let longer : flat_map f (take (i + 1) xs) ≡ flat_map f (take i xs) ++ f x = rw (take_more xs i x within) (flat_map-push f (take i xs) (get_or xs i x) ∙ ap (λ (y : _). flat_map f (take i xs) ++ f y) (sym at)) in
+    (rw (more, before.0, longer) (append_assoc front (flat_map f (take i xs)) (f x)), one_more P xs i x within before.1 item)
+
+-- the same of things that are each some words
+pub words_step : {X : Type 0} (P : X → Type 0) (g : X → List (List ℕ)) (xs : List X) (i : ℕ) (d : X) (front text new : List ℕ) → i < length xs
+    → (text ≡ front ++ flat_map spaced (flat_map g (take i xs))) × All P (take i xs) → new ≡ text ++ flat_map spaced (g (get_or xs i d)) → P (get_or xs i d)
+    → (new ≡ front ++ flat_map spaced (flat_map g (take (i + 1) xs))) × All P (take (i + 1) xs)
+words_step P g xs i d front text new within before more is =
+    let longer : flat_map g (take (i + 1) xs) ≡ flat_map g (take i xs) ++ g (get_or xs i d) = rw (take_more xs i d within) (flat_map-push g (take i xs) (get_or xs i d)) in
+    let all = flat_map-append spaced (flat_map g (take i xs)) (g (get_or xs i d)) in
+    (rw (more, before.0, longer, all) (append_assoc front (flat_map spaced (flat_map g (take i xs))) (flat_map spaced (g (get_or xs i d)))), one_more P xs i d within before.1 is)
+
+-- all of a list were taken
+pub all_taken : {X : Type 0} (P : X → Type 0) (xs : List X) (n : ℕ) → length xs ≤ n → All P (take n xs) → All P xs
+all_taken P xs n past all = rw (take_all n xs past) at all

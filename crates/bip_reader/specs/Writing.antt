@@ -207,19 +207,29 @@ AreSpelledAssignments assignments =
 abbrev pub IsSpelledTransition : Transition → Type 0
 IsSpelledTransition t = IsSpelledGuard t.guard × AreSpelledAssignments t.update
 
+-- `var` lines of a component, so many
+abbrev pub IsSpelledStart : Component → ℕ → Type 0
+IsSpelledStart k n = IsName (name_in k.variables n) × (slice_index k.start n < 2 ^ 32)
+
+abbrev pub AreSpelledStarts : Component → Type 0
+AreSpelledStarts k = All IsName k.variables × All (λ n. n < 2 ^ 32) k.start
+
 pub record IsSpelledComponent (k : Component) : Type 0 where
-  pub variables : All IsName k.variables
-  pub start : All (λ n. n < 2 ^ 32) k.start
+  pub starts : AreSpelledStarts k
   pub locations : All IsName k.locations
   pub ports : All IsName k.ports
   pub transitions : All IsSpelledTransition k.transitions
 
+abbrev pub AreSpelledComponents : System → Type 0
+AreSpelledComponents m = All IsName m.component_names × All IsSpelledComponent m.components
+
 abbrev pub IsSpelledInteraction : Interaction → Type 0
 IsSpelledInteraction i = IsSpelledGuard i.guard × AreSpelledAssignments i.transfer
 
+abbrev pub AreSpelledInteractions : System → Type 0
+AreSpelledInteractions m = All IsName m.interaction_names × All IsSpelledInteraction m.interactions
+
 pub record IsSpelled (m : System) (classes : Partition) : Type 0 where
-  pub component_names : All IsName m.component_names
-  pub components : All IsSpelledComponent m.components
-  pub interaction_names : All IsName m.interaction_names
-  pub interactions : All IsSpelledInteraction m.interactions
+  pub components : AreSpelledComponents m
+  pub interactions : AreSpelledInteractions m
   pub class_names : All IsName classes.names

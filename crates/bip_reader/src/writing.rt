@@ -1,16 +1,17 @@
 //! Writing models.
-ghost use Rattle.std.specs.Prelude.{◌≡◌, ◌==◌, ◌<◌, ◌++◌, ◌∷◌, [], All, IfOk, OnOk, length, map};
+ghost use Rattle.std.specs.Prelude.{◌≡◌, ◌==◌, ◌<◌, ◌++◌, ◌∷◌, ◌^◌, [], All, IfOk, OnOk, length, map};
 ghost use Rattle.std.specs.Prelude.{if◌then◌else◌};
 ghost use Rattle.std.specs.Fmt.{decimal};
 ghost use Rattle.std.specs.List.{flat_map, range_with_len};
 ghost use Rattle.bip_model.specs.Expressions.{AreAssignmentsIn, AreComparisonsIn, IsAssignmentIn};
 ghost use Rattle.bip_model.specs.Expressions.{IsComparisonIn, IsExprIn, IsTermIn, IsVariableIn};
-ghost use Rattle.bip_model.specs.Naming.{name_in};
-ghost use Rattle.bip_model.specs.Partitions.{AreClassesOf};
-ghost use Rattle.bip_model.specs.Parts.{IsComponent, IsInteraction, IsPortIn, IsTransitionOf};
+ghost use Rattle.bip_model.specs.Naming.{IsName, name_in};
+ghost use Rattle.bip_model.specs.Partitions.{AreClassesOf, IsClasses};
+ghost use Rattle.bip_model.specs.Parts.{IsComponent, IsInteraction, IsPortIn, IsSystem, IsTransitionOf};
 ghost use Rattle.bip_model.specs.Priorities.{IsPairOf};
 ghost use Rattle.bip_model.specs.Texts.{spaced};
 ghost use Rattle.bip_model.specs.declared.numbering.InterId.{InterId};
+ghost use Rattle.bip_reader.specs.Texts.{Means};
 ghost use Rattle.bip_reader.specs.Writing.{counts_for, line_of_class, line_of_interaction};
 ghost use Rattle.bip_reader.specs.Writing.{line_of_name, line_of_priority, line_of_transition};
 ghost use Rattle.bip_reader.specs.Writing.{line_of_variable, words_of_ends};
@@ -20,6 +21,11 @@ ghost use Rattle.bip_reader.specs.Writing.{participant_word, relation_word, sign
 ghost use Rattle.bip_reader.specs.Writing.{text_of_model, variable_word, words_of_assignment};
 ghost use Rattle.bip_reader.specs.Writing.{words_of_assignments, words_of_comparison};
 ghost use Rattle.bip_reader.specs.Writing.{words_of_guard, words_of_sum};
+ghost use Rattle.bip_reader.specs.Writing.{AreSpelledAssignments, AreSpelledComponents};
+ghost use Rattle.bip_reader.specs.Writing.{AreSpelledInteractions, AreSpelledStarts};
+ghost use Rattle.bip_reader.specs.Writing.{IsSpelledComparison, IsSpelledComponent};
+ghost use Rattle.bip_reader.specs.Writing.{IsSpelledGuard, IsSpelledInteraction, IsSpelledStart};
+ghost use Rattle.bip_reader.specs.Writing.{IsSpelledSum, IsSpelledTerm, IsSpelledTransition};
 
 use crate::words::PORT_MARK;
 use bip_model::{
@@ -47,7 +53,8 @@ fn write_pair(text: &mut Vec<u8>, component: &Name, own: &Name) -> Result<(), Al
 }
 
 fn write_value(text: &mut Vec<u8>, value: u32) -> Result<(), AllocError>
-    ensures { OnOk result (text.new.items ≡ text.old.items ++ spaced (decimal value)) }
+    ensures text { OnOk result (text.new.items ≡ text.old.items ++ spaced (decimal value)) }
+    ensures spelled { OnOk result (value < 2 ^ 32) }
 {
     write_word(text, Buffer::new().format(value).as_bytes())
 }
@@ -107,8 +114,9 @@ impl<'a> Speller<'a> {
 
     fn write_term(&self, text: &mut Vec<u8>, term: Term<Variable>) -> Result<(), AllocError>
         requires { IsTermIn (counts_for self.now) term }
-        ensures { OnOk result (text.new.items
+        ensures text { OnOk result (text.new.items
             ≡ text.old.items ++ spaced (term_word (variable_word self.now) term)) }
+        ensures spelled { OnOk result (IsSpelledTerm term) }
     {
         match term {
             Term::Value(value) => write_value(text, value),
@@ -118,8 +126,9 @@ impl<'a> Speller<'a> {
 
     fn write_sum(&self, text: &mut Vec<u8>, sum: &Expr<Variable>) -> Result<(), AllocError>
         requires { IsExprIn (counts_for self.now) sum.now }
-        ensures { OnOk result (text.new.items ≡ text.old.items
+        ensures text { OnOk result (text.new.items ≡ text.old.items
             ++ flat_map spaced (words_of_sum (variable_word self.now) sum.now)) }
+        ensures spelled { OnOk result (IsSpelledSum sum.now) }
     {
         self.write_term(text, sum.first)?;
         for term in sum.rest.as_slice() {
@@ -135,8 +144,9 @@ impl<'a> Speller<'a> {
         comparison: &Comparison<Variable>,
     ) -> Result<(), AllocError>
         requires { IsComparisonIn (counts_for self.now) comparison.now }
-        ensures { OnOk result (text.new.items ≡ text.old.items
+        ensures text { OnOk result (text.new.items ≡ text.old.items
             ++ flat_map spaced (words_of_comparison (variable_word self.now) comparison.now)) }
+        ensures spelled { OnOk result (IsSpelledComparison comparison.now) }
     {
         self.write_sum(text, &comparison.left)?;
         write_relation(text, comparison.relation)?;
@@ -149,8 +159,9 @@ impl<'a> Speller<'a> {
         assignment: &Assignment<Variable>,
     ) -> Result<(), AllocError>
         requires { IsAssignmentIn (counts_for self.now) assignment.now }
-        ensures { OnOk result (text.new.items ≡ text.old.items
+        ensures text { OnOk result (text.new.items ≡ text.old.items
             ++ flat_map spaced (words_of_assignment (variable_word self.now) assignment.now)) }
+        ensures spelled { OnOk result (IsSpelledSum assignment.now.sum) }
     {
         self.write_variable(text, assignment.target)?;
         write_word(text, b":=")?;
@@ -163,8 +174,9 @@ impl<'a> Speller<'a> {
         guard: &[Comparison<Variable>],
     ) -> Result<(), AllocError>
         requires { AreComparisonsIn (counts_for self.now) guard.now }
-        ensures { OnOk result (text.new.items ≡ text.old.items
+        ensures text { OnOk result (text.new.items ≡ text.old.items
             ++ flat_map spaced (words_of_guard (variable_word self.now) guard.now)) }
+        ensures spelled { OnOk result (IsSpelledGuard guard.now) }
     {
         for (index, comparison) in guard.iter().enumerate() {
             write_mark(text, index, b"when", b"and")?;
@@ -179,8 +191,9 @@ impl<'a> Speller<'a> {
         assignments: &[Assignment<Variable>],
     ) -> Result<(), AllocError>
         requires { AreAssignmentsIn (counts_for self.now) assignments.now }
-        ensures { OnOk result (text.new.items ≡ text.old.items
+        ensures text { OnOk result (text.new.items ≡ text.old.items
             ++ flat_map spaced (words_of_assignments (variable_word self.now) assignments.now)) }
+        ensures spelled { OnOk result (AreSpelledAssignments assignments.now) }
     {
         for (index, assignment) in assignments.iter().enumerate() {
             write_mark(text, index, b"do", b";")?;
@@ -198,9 +211,10 @@ impl<'a> Speller<'a> {
     ) -> Result<(), AllocError>
         requires guard { AreComparisonsIn (counts_for self.now) guard.now }
         requires assignments { AreAssignmentsIn (counts_for self.now) assignments.now }
-        ensures { OnOk result (text.new.items ≡ text.old.items
+        ensures text { OnOk result (text.new.items ≡ text.old.items
             ++ flat_map spaced (words_of_guard (variable_word self.now) guard.now
             ++ words_of_assignments (variable_word self.now) assignments.now)) }
+        ensures spelled { OnOk result (IsSpelledGuard guard.now × AreSpelledAssignments assignments.now) }
     {
         self.write_guard(text, guard)?;
         self.write_assignments(text, assignments)
@@ -209,8 +223,9 @@ impl<'a> Speller<'a> {
 
 /// A line of a first word and a name.
 fn write_name(text: &mut Vec<u8>, keyword: &[u8], name: &Name) -> Result<(), AllocError>
-    ensures { OnOk result
+    ensures text { OnOk result
         (text.new.items ≡ text.old.items ++ line_with keyword.now (name.now ∷ [])) }
+    ensures spelled { OnOk result (IsName name.now) }
 {
     text.extend_from_slice(keyword)?;
     write_word(text, name.as_bytes())?;
@@ -220,8 +235,9 @@ fn write_name(text: &mut Vec<u8>, keyword: &[u8], name: &Name) -> Result<(), All
 
 /// Such a line of each name.
 fn write_names(text: &mut Vec<u8>, keyword: &[u8], names: &[Name]) -> Result<(), AllocError>
-    ensures { OnOk result
+    ensures text { OnOk result
         (text.new.items ≡ text.old.items ++ flat_map (line_of_name keyword.now) names.now) }
+    ensures spelled { OnOk result (All IsName names.now) }
 {
     for name in names {
         write_name(text, keyword, name)?;
@@ -233,8 +249,9 @@ fn write_names(text: &mut Vec<u8>, keyword: &[u8], names: &[Name]) -> Result<(),
 fn write_start(text: &mut Vec<u8>, component: &Component, number: usize) -> Result<(), AllocError>
     requires name { number < length component.now.variables }
     requires value { number < length component.now.start }
-    ensures { OnOk result
+    ensures text { OnOk result
         (text.new.items ≡ text.old.items ++ line_of_variable component.now number) }
+    ensures spelled { OnOk result (IsSpelledStart component.now number) }
 {
     text.extend_from_slice(b"var")?;
     write_word(text, component.variables.as_slice()[number].as_bytes())?;
@@ -246,7 +263,8 @@ fn write_start(text: &mut Vec<u8>, component: &Component, number: usize) -> Resu
 /// Such a line of each variable.
 fn write_starts(text: &mut Vec<u8>, component: &Component) -> Result<(), AllocError>
     requires { length component.now.start ≡ length component.now.variables }
-    ensures { OnOk result (text.new.items ≡ text.old.items ++ lines_of_variables component.now) }
+    ensures text { OnOk result (text.new.items ≡ text.old.items ++ lines_of_variables component.now) }
+    ensures spelled { OnOk result (AreSpelledStarts component.now) }
 {
     for number in 0..component.variables.len() {
         write_start(text, component, number)?;
@@ -280,8 +298,9 @@ fn write_transition(
     transition: &Transition,
 ) -> Result<(), AllocError>
     requires { IsTransitionOf component.now transition.now }
-    ensures { OnOk result (text.new.items
+    ensures text { OnOk result (text.new.items
         ≡ text.old.items ++ line_of_transition component.now transition.now) }
+    ensures spelled { OnOk result (IsSpelledTransition transition.now) }
 {
     text.extend_from_slice(b"trans")?;
     write_ends(text, component, transition)?;
@@ -295,24 +314,38 @@ fn write_transition(
     Ok(())
 }
 
+/// Such a line of each transition.
+fn write_transitions(text: &mut Vec<u8>, component: &Component) -> Result<(), AllocError>
+    requires { All (IsTransitionOf component.now) component.now.transitions }
+    ensures text { OnOk result (text.new.items
+        ≡ text.old.items ++ flat_map (line_of_transition component.now) component.now.transitions) }
+    ensures spelled { OnOk result (All IsSpelledTransition component.now.transitions) }
+{
+    for transition in component.transitions.as_slice() {
+        write_transition(text, component, transition)?;
+    }
+    Ok(())
+}
+
 /// All lines of a component.
 fn write_component(text: &mut Vec<u8>, name: &Name, component: &Component) -> Result<(), AllocError>
     requires { IsComponent component.now }
-    ensures { OnOk result
+    ensures text { OnOk result
         (text.new.items ≡ text.old.items ++ lines_of_component name.now component.now) }
+    ensures spelled { OnOk result (IsName name.now × IsSpelledComponent component.now) }
 {
     write_name(text, b"component", name)?;
     write_starts(text, component)?;
     write_names(text, b"loc", component.locations.as_slice())?;
     write_names(text, b"port", component.ports.as_slice())?;
-    for transition in component.transitions.as_slice() {
-        write_transition(text, component, transition)?;
-    }
+    write_transitions(text, component)?;
     text.extend_from_slice(b"end\n")
 }
 
 fn write_components(text: &mut Vec<u8>, model: &Model) -> Result<(), AllocError>
-    ensures { OnOk result (text.new.items ≡ text.old.items ++ lines_of_components model.now) }
+    ensures text { OnOk result (text.new.items ≡ text.old.items ++ lines_of_components model.now) }
+    ensures spelled { OnOk result (AreSpelledComponents model.now) }
+    ensures valid { IsSystem model.now }
 {
     let names = model.component_names();
     for number in 0..model.components().len() {
@@ -358,8 +391,9 @@ fn write_interaction(
     interaction: &Interaction,
 ) -> Result<(), AllocError>
     requires { IsInteraction model.now.components interaction.now }
-    ensures { OnOk result (text.new.items
+    ensures text { OnOk result (text.new.items
         ≡ text.old.items ++ line_of_interaction model.now name.now interaction.now) }
+    ensures spelled { OnOk result (IsName name.now × IsSpelledInteraction interaction.now) }
 {
     let participants = interaction.participants.as_slice();
     let speller = Speller::Shared(model, participants);
@@ -376,7 +410,8 @@ fn write_interaction(
 }
 
 fn write_interactions(text: &mut Vec<u8>, model: &Model) -> Result<(), AllocError>
-    ensures { OnOk result (text.new.items ≡ text.old.items ++ lines_of_interactions model.now) }
+    ensures text { OnOk result (text.new.items ≡ text.old.items ++ lines_of_interactions model.now) }
+    ensures spelled { OnOk result (AreSpelledInteractions model.now) }
 {
     let names = model.interaction_names();
     for number in 0..model.interactions().len() {
@@ -432,8 +467,9 @@ fn write_class(
     requires of_model { AreClassesOf model.now classes.now }
     requires name { class.0 < length classes.now.names }
     requires members { class.0 < length classes.now.members }
-    ensures { OnOk result
+    ensures text { OnOk result
         (text.new.items ≡ text.old.items ++ line_of_class model.now classes.now class.0) }
+    ensures spelled { OnOk result (IsName (name_in classes.now.names class.0)) }
 {
     text.extend_from_slice(b"class")?;
     write_word(text, classes.names()[class.0 as usize].as_bytes())?;
@@ -444,9 +480,11 @@ fn write_class(
 
 fn write_classes(text: &mut Vec<u8>, model: &Model, classes: &Classes) -> Result<(), AllocError>
     requires { AreClassesOf model.now classes.now }
-    ensures { OnOk result (text.new.items ≡ text.old.items
+    ensures text { OnOk result (text.new.items ≡ text.old.items
         ++ flat_map (line_of_class model.now classes.now)
         (range_with_len 0 (length classes.now.names))) }
+    ensures spelled { OnOk result (All IsName classes.now.names) }
+    ensures valid { IsClasses classes.now }
 {
     for number in 0..classes.len() {
         write_class(text, model, classes, ClassId(number as u16))?;
@@ -455,11 +493,13 @@ fn write_classes(text: &mut Vec<u8>, model: &Model, classes: &Classes) -> Result
 }
 
 /// The canonical text of a model and its classes: its components in order, each with its variables,
-/// locations, ports and transitions; then interactions, priorities and classes, each in order
+/// locations, ports and transitions; then interactions, priorities and classes, each in order. It
+/// means just this model and these classes, so what is read of it is written as the same bytes
 /// (docs/DEFINITIONS.md, "Canonical texts").
 pub fn write_model(alloc: Global, model: &Model, classes: &Classes) -> Result<Vec<u8>, AllocError>
     requires { AreClassesOf model.now classes.now }
-    ensures { IfOk result (λ text. text.items ≡ text_of_model model.now classes.now) }
+    ensures text { IfOk result (λ text. text.items ≡ text_of_model model.now classes.now) }
+    ensures means { IfOk result (λ text. Means text.items model.now classes.now) }
 {
     let mut text = Vec::new(alloc);
     text.extend_from_slice(b"bip 1\n")?;
