@@ -1,7 +1,7 @@
 -- The canonical text of a model and its classes means just these.
-use Rattle.std.proofs.Common.{◌≡◌, ℕ, zero, suc, ◌+◌, ◌<◌, ◌≤◌, Bool, true, false, cond, ◌||◌, ◌&&◌, eqb, List, [], ◌∷◌, ◌++◌, length, get_or, map, take, Option, None, Some, Result, Ok, refl, ap, ◌∙◌, sym, arith, length-take-le}
-use Rattle.std.specs.Prelude.{All, IsTrue, codes, nat_le, sum, sum_by}
-use Rattle.std.specs.List.{flat_map, list_all, list_any, range_with_len}
+use Rattle.std.proofs.Common.{◌≡◌, ℕ, zero, suc, ◌<◌, ◌≤◌, true, false, List, [], ◌∷◌, ◌++◌, length, get_or, map, take, None, Some, refl, ap, ◌∙◌, sym, arith, length-take-le}
+use Rattle.std.specs.Prelude.{All, codes, nat_le, sum, sum_by}
+use Rattle.std.specs.List.{flat_map, list_any, range_with_len}
 use Rattle.std.specs.List.Sorted.{IsStrictlyIncreasing}
 use Rattle.std.proofs.Math.Seq.{take-length}
 use Rattle.std.proofs.lemmas.Bool.Decides.{nat_tests}
@@ -11,7 +11,6 @@ use Rattle.std.proofs.lemmas.List.Sorted.{IsPermutation-refl}
 use Rattle.std.proofs.lemmas.List.Sums.{AllPass-from_list_all, sum-map}
 use Rattle.std.proofs.lemmas.Simd.{map-map}
 use Rattle.bip_model.specs.Naming.{IsName, is_known, name_in, same_text}
-use Rattle.bip_model.specs.Numbering.{by_number}
 use Rattle.bip_model.specs.Partitions.{AreClassesOf, IsClasses, in_order, numbers_in, times_in}
 use Rattle.bip_model.specs.Parts.{IsSystem}
 use Rattle.bip_model.specs.Priorities.{AreInOrder, IsPairOf, is_before, is_same_pair, put_pair}
@@ -21,9 +20,9 @@ use Rattle.bip_model.specs.declared.parts.Pair.{Pair}
 use Rattle.bip_model.specs.declared.parts.System.{System}
 use Rattle.bip_model.proofs.NumberingLemmas.{by_number-is, rises_from_increasing}
 use Rattle.bip_model.proofs.WrittenLemmas.{IsWord, name-word, position-name, unknown_before_it}
-use Rattle.bip_reader.specs.Reading.{ClassList, class_line, draft_of, empty_reading, interaction_named}
+use Rattle.bip_reader.specs.Reading.{ClassList, class_line, empty_reading, interaction_named}
 use Rattle.bip_reader.specs.Statements.{class_form, keyword_of, priority_form}
-use Rattle.bip_reader.specs.Texts.{IsParted, Means, classes_of}
+use Rattle.bip_reader.specs.Texts.{IsParted, Means}
 use Rattle.bip_reader.specs.Words.{each_of, name_of}
 use Rattle.bip_reader.specs.Writing.{IsSpelled, line_of_class, line_of_priority, text_of_model}
 use Rattle.bip_reader.specs.declared.statements.Keyword.TheVariants as keyword

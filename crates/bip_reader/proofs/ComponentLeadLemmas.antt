@@ -1,21 +1,20 @@
 -- What the lines of a whole component lead to, and those of all components.
-use Rattle.std.proofs.Common.{◌≡◌, ℕ, zero, suc, ◌+◌, ◌<◌, ◌≤◌, Bool, true, false, ◌||◌, List, [], ◌∷◌, ◌++◌, length, get_or, take, Option, None, Some, refl, ap, ◌∙◌, sym, subst, arith, append_assoc, append-nil, length-append, length-take-le}
-use Rattle.std.specs.Prelude.{All, AllPairs, codes}
-use Rattle.std.specs.List.{flat_map, list_any, range_with_len}
+use Rattle.std.proofs.Common.{◌≡◌, ℕ, zero, suc, ◌+◌, ◌<◌, ◌≤◌, Bool, false, List, [], ◌∷◌, ◌++◌, length, get_or, take, None, Some, refl, ap, ◌∙◌, sym, arith, append-nil, length-append, length-take-le}
+use Rattle.std.specs.Prelude.{codes}
+use Rattle.std.specs.List.{flat_map, list_any}
 use Rattle.std.proofs.Math.Seq.{take-length}
 use Rattle.std.proofs.lemmas.List.{take_more}
 use Rattle.std.proofs.lemmas.List.Folds.{list_any-append}
 use Rattle.bip_model.specs.Components.{is_taken, leaves, no_component}
 use Rattle.bip_model.specs.Drafts.{no_system}
 use Rattle.bip_model.specs.Naming.{AreApart, IsName, is_known, name_in, same_text}
-use Rattle.bip_model.specs.Parts.{IsComponent, IsSystem, IsTransitionOf, same_start}
+use Rattle.bip_model.specs.Parts.{IsComponent, IsSystem}
 use Rattle.bip_model.specs.declared.partitions.Partition.{Partition}
 use Rattle.bip_model.specs.declared.parts.Component.{Component}
 use Rattle.bip_model.specs.declared.parts.System.{System}
 use Rattle.bip_model.specs.declared.parts.Transition.{Transition}
 use Rattle.bip_model.proofs.WrittenLemmas.{unknown_before_it}
 use Rattle.bip_reader.specs.Writing.{IsSpelled, IsSpelledComponent, component_in, line_of_name, line_of_transition, line_of_variable, lines_of_component, lines_of_components, lines_of_variables}
-use Rattle.bip_reader.specs.declared.reading.Reading.{Reading}
 use Rattle.bip_reader.proofs.LeadLemmas.{Leads, leads_all, leads_both, leads_numbers}
 use Rattle.bip_reader.proofs.LineLeadLemmas.{begin_leads, end_leads, loc_leads, port_leads, reading_at, trans_leads, var_leads}
 

@@ -1,7 +1,6 @@
 -- What the lines of all interactions lead to.
-use Rattle.std.proofs.Common.{◌≡◌, ℕ, zero, suc, ◌+◌, ◌<◌, ◌≤◌, Bool, true, false, cond, ◌||◌, eqb, List, [], ◌∷◌, ◌++◌, length, get_or, map, take, Option, None, Some, Result, Ok, refl, ap, ◌∙◌, sym, arith, length-take-le}
-use Rattle.std.specs.Prelude.{All, codes, nat_le, nat_lt, slice_get}
-use Rattle.std.specs.List.{flat_map, range_with_len}
+use Rattle.std.proofs.Common.{◌≡◌, ℕ, suc, ◌<◌, false, eqb, List, [], ◌∷◌, ◌++◌, length, get_or, map, take, Option, None, Some, Ok, refl, ap, ◌∙◌, sym, arith, length-take-le}
+use Rattle.std.specs.Prelude.{All, codes, nat_le, nat_lt}
 use Rattle.std.proofs.Math.Seq.{take-length}
 use Rattle.std.proofs.lemmas.Bool.Decides.{nat_tests}
 use Rattle.std.proofs.lemmas.List.{length-map}
@@ -11,25 +10,20 @@ use Rattle.std.proofs.lemmas.Option.{slice_get-get_or}
 use Rattle.bip_model.specs.Components.{no_component}
 use Rattle.bip_model.specs.Drafts.{no_system, participant_named, participants_named}
 use Rattle.bip_model.specs.Expressions.{IsAssignmentIn, IsVariableIn}
-use Rattle.bip_model.specs.Faults.{◌>>=◌}
-use Rattle.bip_model.specs.Naming.{AreApart, IsName, is_known, name_in}
-use Rattle.bip_model.specs.Partitions.{AreClassesOf}
-use Rattle.bip_model.specs.Parts.{IsInteraction, IsPortIn, IsSystem, Participant, components_in, counts_of}
+use Rattle.bip_model.specs.Naming.{IsName, is_known, name_in}
+use Rattle.bip_model.specs.Parts.{IsInteraction, IsPortIn, IsSystem, Participant, counts_of}
 use Rattle.bip_model.specs.Scopes.{assignment_with, comparison_with, shared}
 use Rattle.bip_model.specs.declared.expressions.Assignment.{Assignment}
 use Rattle.bip_model.specs.declared.expressions.Comparison.{Comparison}
 use Rattle.bip_model.specs.declared.expressions.Variable.{Variable}
-use Rattle.bip_model.specs.declared.faults.BuildFault.{BuildFault}
 use Rattle.bip_model.specs.declared.partitions.Partition.{Partition}
-use Rattle.bip_model.specs.declared.parts.Component.{Component}
 use Rattle.bip_model.specs.declared.parts.Interaction.{Interaction}
 use Rattle.bip_model.specs.declared.parts.System.{System}
 use Rattle.bip_model.specs.declared.scopes.VariableName.{VariableName}
 use Rattle.bip_model.proofs.ParticipantLemmas.{names_participants}
-use Rattle.bip_model.proofs.WrittenLemmas.{IsWord, name-word, names-word, position-name, unknown_before_it}
-use Rattle.bip_reader.specs.Clauses.{clauses_form, head_of}
+use Rattle.bip_model.proofs.WrittenLemmas.{IsWord, names-word, position-name, unknown_before_it}
 use Rattle.bip_reader.specs.Statements.{interaction_form, keyword_of, name_and_words}
-use Rattle.bip_reader.specs.Words.{each_of, name_of, participant_of}
+use Rattle.bip_reader.specs.Words.{each_of, participant_of}
 use Rattle.bip_reader.specs.Writing.{IsSpelled, IsSpelledInteraction, component_in, interaction_in, line_of_interaction, lines_of_interactions, own_word, participant_word, shared_word, words_of_assignments, words_of_guard}
 use Rattle.bip_reader.specs.declared.clauses.Spelling.TheVariants.{Shared}
 use Rattle.bip_reader.specs.declared.statements.Keyword.TheVariants as keyword

@@ -1,6 +1,6 @@
 -- What each line of a canonical text leads to.
-use Rattle.std.proofs.Common.{◌≡◌, ℕ, zero, suc, ◌+◌, ◌^◌, ◌<◌, ◌≤◌, Bool, true, false, cond, ◌&&◌, ◌||◌, List, [], ◌∷◌, ◌++◌, length, get_or, map, take, Option, None, Some, Ok, refl, ap, ◌∙◌, sym, arith}
-use Rattle.std.specs.Prelude.{All, AllPairs, codes, nat_le, position}
+use Rattle.std.proofs.Common.{◌≡◌, ℕ, ◌^◌, ◌<◌, false, List, [], ◌∷◌, ◌++◌, length, map, Option, None, Some, refl, arith}
+use Rattle.std.specs.Prelude.{All, codes, nat_le}
 use Rattle.std.specs.Fmt.{decimal}
 use Rattle.std.specs.List.{list_any}
 use Rattle.std.proofs.lemmas.Bool.Decides.{nat_tests}
@@ -9,7 +9,7 @@ use Rattle.bip_model.specs.Components.{is_taken, leaves, no_component}
 use Rattle.bip_model.specs.Drafts.{no_system}
 use Rattle.bip_model.specs.Expressions.{IsVariableIn}
 use Rattle.bip_model.specs.Naming.{AreApart, IsName, is_known, name_in}
-use Rattle.bip_model.specs.Parts.{IsTransitionOf, same_start}
+use Rattle.bip_model.specs.Parts.{IsTransitionOf}
 use Rattle.bip_model.specs.Scopes.{assignment_with, comparison_with, own}
 use Rattle.bip_model.specs.declared.expressions.Assignment.{Assignment}
 use Rattle.bip_model.specs.declared.expressions.Comparison.{Comparison}
@@ -19,7 +19,6 @@ use Rattle.bip_model.specs.declared.parts.System.{System}
 use Rattle.bip_model.specs.declared.parts.Transition.{Transition}
 use Rattle.bip_model.specs.declared.scopes.VariableName.{VariableName}
 use Rattle.bip_model.proofs.WrittenLemmas.{IsWord, decimal-word, name-word, position-name, value_said-decimal}
-use Rattle.bip_reader.specs.Clauses.{clauses_form, head_of}
 use Rattle.bip_reader.specs.Reading.{ClassList, empty_reading}
 use Rattle.bip_reader.specs.Statements.{end_form, header_form, keyword_of, one_name, three_names, trans_form, var_form}
 use Rattle.bip_reader.specs.Writing.{IsSpelledTransition, line_of_name, line_of_transition, line_with, own_word, words_of_assignments, words_of_ends, words_of_guard}

@@ -1,6 +1,6 @@
 -- Names of variables, looked up where they stand: they are the variables that they name.
-use Rattle.std.proofs.Common.{◌≡◌, ℕ, zero, suc, ◌+◌, ◌<◌, ◌≤◌, Bool, true, false, not, cond, ◌&&◌, ◌||◌, eqb, List, [], ◌∷◌, ◌++◌, length, get_or, map, Option, None, Some, Ok, refl, ap, ◌∙◌, sym, arith, option_and_then}
-use Rattle.std.specs.Prelude.{All, AllPairs, is_some, position, slice_get, slice_index, unwrap_or}
+use Rattle.std.proofs.Common.{◌≡◌, ℕ, suc, ◌<◌, ◌≤◌, true, false, ◌||◌, eqb, List, [], ◌∷◌, ◌++◌, length, get_or, map, Option, None, Some, Ok, refl, ap, ◌∙◌, arith}
+use Rattle.std.specs.Prelude.{All, position, slice_get, slice_index}
 use Rattle.std.specs.List.{list_all, list_any, position_or_len}
 use Rattle.std.specs.List.Sorted.{IsStrictlyIncreasing}
 use Rattle.std.proofs.lemmas.Bool.{ne_eqb}
@@ -9,13 +9,11 @@ use Rattle.std.proofs.lemmas.Bool.Decides.{nat_tests}
 use Rattle.std.proofs.lemmas.List.{get_or-map, length-map, map_push}
 use Rattle.std.proofs.lemmas.Option.{slice_get-get_or}
 use Rattle.std.proofs.lemmas.List.Elements.{All-append, All-cons, All-head, All-nil, All-tail}
-use Rattle.std.proofs.lemmas.List.Folds.{list_any-append}
 use Rattle.std.proofs.lemmas.List.Sums.{position_or_len_is}
 use Rattle.bip_model.specs.Components.{no_component}
 use Rattle.bip_model.specs.Expressions.{AreAssignmentsIn, AreComparisonsIn, AreTargetsApart, IsAssignmentIn, IsComparisonIn, IsExprIn, IsTermIn, IsVariableIn, is_same}
-use Rattle.bip_model.specs.Faults.{◌>>=◌}
-use Rattle.bip_model.specs.Naming.{AreApart, is_known, name_in, same_text}
-use Rattle.bip_model.specs.Parts.{AreAssignmentsOver, IsGuardOver, IsPortIn, IsShortSum, IsSystem, Participant, components_in, count_of, counts_of}
+use Rattle.bip_model.specs.Naming.{AreApart, name_in}
+use Rattle.bip_model.specs.Parts.{AreAssignmentsOver, IsGuardOver, IsPortIn, IsShortSum, Participant, components_in, count_of, counts_of}
 use Rattle.bip_model.specs.Scopes.{are_long_assignments, assignment_said, assignment_with, assignments_with, comparison_with, guard_with, is_long_guard, is_long_sum, knows_assignments, knows_guard, knows_sum, knows_term, own, shared, sum_with, term_with, transfer_said, variable_of}
 use Rattle.bip_model.specs.declared.expressions.Assignment.{Assignment}
 use Rattle.bip_model.specs.declared.expressions.Comparison.{Comparison}

@@ -1,8 +1,7 @@
 -- Sums, guards and lists of assignments that are written, read again.
-use Rattle.std.proofs.Common.{◌≡◌, ℕ, ◌^◌, ◌<◌, Bool, true, false, cond, List, [], ◌∷◌, ◌++◌, length, get_or, map, Option, None, Some, refl, ap, ◌∙◌, sym, arith, append_assoc, append-nil}
+use Rattle.std.proofs.Common.{◌≡◌, ℕ, true, false, List, [], ◌∷◌, ◌++◌, get_or, map, Option, None, Some, refl, sym, arith, append_assoc, append-nil}
 use Rattle.std.specs.Prelude.{All, codes, is_some}
 use Rattle.std.specs.List.{flat_map}
-use Rattle.std.specs.Option.{option_zip}
 use Rattle.std.proofs.lemmas.List.Elements.{All-append, All-cons, All-head, All-tail, All-weaker}
 use Rattle.std.proofs.lemmas.List.Splits.{slice_split_at, slice_split_none}
 use Rattle.bip_model.specs.Expressions.{AreAssignmentsIn, AreComparisonsIn, IsAssignmentIn, IsComparisonIn, IsExprIn, IsTermIn, IsVariableIn}
@@ -19,7 +18,7 @@ use Rattle.bip_model.specs.declared.expressions.Term.TheVariants.{Value, Of}
 use Rattle.bip_model.specs.declared.expressions.Variable.{Variable}
 use Rattle.bip_model.specs.declared.scopes.VariableName.{VariableName}
 use Rattle.bip_model.proofs.WrittenLemmas.{IsWord, decimal-word, value_said-decimal}
-use Rattle.bip_reader.specs.Clauses.{assignment_form, assignment_words, clauses_form, comparison_form, guard_words, head_of, list_form, pairs_form, parts_at, relation_of, sign_of, signed_term_form, sum_form, term_form, words_after, words_before}
+use Rattle.bip_reader.specs.Clauses.{assignment_form, clauses_form, comparison_form, head_of, list_form, pairs_form, parts_at, relation_of, sign_of, signed_term_form, sum_form, term_form, words_after, words_before}
 use Rattle.bip_reader.specs.Words.{and_of, cut_at, do_of, each_of, semicolon_of, when_of}
 use Rattle.bip_reader.specs.Writing.{AreSpelledAssignments, IsSpelledComparison, IsSpelledGuard, IsSpelledSum, IsSpelledTerm, relation_word, sign_word, term_word, words_of_assignment, words_of_assignments, words_of_comparison, words_of_guard, words_of_list, words_of_signed, words_of_sum}
 use Rattle.bip_reader.specs.declared.clauses.Spelling.{Spelling}

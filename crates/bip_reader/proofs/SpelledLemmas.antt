@@ -1,20 +1,15 @@
 -- What names, variables and values are when they are read again: themselves, and no mark.
-use Rattle.std.proofs.Common.{◌≡◌, ℕ, zero, ◌^◌, ◌<◌, ◌≤◌, Bool, true, false, ◌&&◌, List, [], ◌∷◌, ◌++◌, length, get_or, Option, None, Some, refl, ap, ◌∙◌, sym, arith, eqb-true}
-use Rattle.std.specs.Prelude.{All, codes}
+use Rattle.std.proofs.Common.{◌≡◌, ℕ, ◌^◌, ◌<◌, Bool, true, false, List, [], ◌∷◌, ◌++◌, length, None, Some, refl, ◌∙◌, arith, eqb-true}
+use Rattle.std.specs.Prelude.{codes}
 use Rattle.std.specs.Fmt.{decimal}
 use Rattle.std.specs.List.{list_all}
 use Rattle.std.specs.Char.{is_ascii_digit}
 use Rattle.std.proofs.lemmas.List.Folds.{list_all-append}
-use Rattle.bip_model.specs.Expressions.{IsVariableIn}
-use Rattle.bip_model.specs.Naming.{IsName, is_name_byte, is_name_start, name_in, same_text}
-use Rattle.bip_model.specs.Parts.{Participant, components_in, counts_of}
-use Rattle.bip_model.specs.Texts.{pair_of, value_said}
-use Rattle.bip_model.specs.declared.expressions.Variable.{Variable}
-use Rattle.bip_model.specs.declared.parts.Component.{Component}
-use Rattle.bip_model.specs.declared.parts.System.{System}
+use Rattle.bip_model.specs.Naming.{IsName, is_name_byte, is_name_start, same_text}
+use Rattle.bip_model.specs.Texts.{value_said}
 use Rattle.bip_model.specs.declared.scopes.VariableName.{VariableName}
 use Rattle.bip_model.proofs.WrittenLemmas.{IsWord, digits-decimal, is_name-from, name-word, names-word, pair_of-name}
-use Rattle.bip_reader.specs.Clauses.{relation_of, sign_of, variable_form}
+use Rattle.bip_reader.specs.Clauses.{relation_of, variable_form}
 use Rattle.bip_reader.specs.Words.{and_of, do_of, name_of, participant_of, semicolon_of, when_of}
 use Rattle.bip_reader.specs.Writing.{pair_word}
 use Rattle.bip_reader.specs.declared.clauses.Spelling.{Spelling}

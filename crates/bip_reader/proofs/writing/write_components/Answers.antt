@@ -1,4 +1,4 @@
-use Rattle.std.proofs.Common.{◌≡◌, ◌<◌, ◌≤◌, ◌^◌, ℕ, [], length, arith, ap, sym, ◌∙◌, refl}
+use Rattle.std.proofs.Common.{◌≡◌, ◌<◌, ◌≤◌, [], length, arith, sym, ◌∙◌}
 use Rattle.bip_model.specs.Naming.{IsName}
 use Rattle.std.proofs.lemmas.List.{get_or_read}
 use Rattle.bip_model.specs.Components.{no_component}

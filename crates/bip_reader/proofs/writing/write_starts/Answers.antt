@@ -1,4 +1,4 @@
-use Rattle.std.proofs.Common.{◌≡◌, ◌<◌, ◌≤◌, ◌^◌, ℕ, [], length, arith, ap, sym, ◌∙◌, refl}
+use Rattle.std.proofs.Common.{◌<◌, ◌≤◌, ◌^◌, [], length, arith, ◌∙◌, refl}
 use Rattle.bip_model.specs.Naming.{IsName}
 use Rattle.bip_reader.specs.Writing.{line_of_variable}
 use Rattle.bip_reader.proofs.WritingLemmas.{all_taken, more_written, one_more}

@@ -1,4 +1,4 @@
-use Rattle.std.proofs.Common.{sym, ◌∙◌}
+use Rattle.std.proofs.Common.{sym}
 use Rattle.std.specs.Prelude.{codes}
 use Rattle.bip_reader.specs.Writing.{IsSpelledComparison, variable_word, words_of_comparison}
 use Rattle.bip_reader.proofs.WritingLemmas.{list_more, one_more}

@@ -1,4 +1,4 @@
-use Rattle.std.proofs.Common.{◌≡◌, ◌++◌, append_assoc, append-nil, arith, refl, get_or, List, ℕ, []}
+use Rattle.std.proofs.Common.{◌≡◌, ◌++◌, arith, get_or, List, ℕ, []}
 use Rattle.std.proofs.lemmas.Grind.{common_steps}
 use Rattle.bip_model.specs.Texts.{spaced}
 use Rattle.bip_model.specs.declared.expressions.Sign.{Sign}
