@@ -15,6 +15,7 @@ pub mod NumberLemmas
 pub mod NumberingLemmas
 pub mod ParticipantLemmas
 pub mod PartitionLemmas
+pub mod PartyLemmas
 pub mod PortLemmas
 pub mod PriorityLemmas
 pub mod ScopeLemmas

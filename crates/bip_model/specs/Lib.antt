@@ -8,6 +8,7 @@ pub mod Messages
 pub mod Naming
 pub mod Numbering
 pub mod Partitions
+pub mod Parties
 pub mod Parts
 pub mod Priorities
 pub mod Scopes

@@ -1,6 +1,7 @@
 -- Partitions of the interactions of a model into classes.
-use Rattle.std.specs.Prelude.{◌≡◌, ℕ, ◌≤◌, ◌<◌, ◌==◌, List, length, map, count_by, sum_by}
-use Rattle.std.specs.Prelude.{All}
+use Rattle.std.specs.Prelude.{◌≡◌, ℕ, ◌≤◌, ◌<◌, ◌==◌, Bool, List, length, map, count_by, sum_by}
+use Rattle.std.specs.Prelude.{All, position, unwrap_or}
+use Rattle.std.specs.List.{list_any}
 use Rattle.std.specs.List.Sorted.{IsStrictlyIncreasing}
 use Rattle.bip_model.specs.Naming.{AreApart}
 use Rattle.bip_model.specs.Numbering.{by_number}
@@ -41,6 +42,14 @@ pub record IsClasses (kept : Partition) : Type 0 where
   pub rising : All (λ (class : List InterId). IsStrictlyIncreasing (numbers_in class)) kept.members
   pub known : All (All (λ (a : InterId). a.0 < kept.count)) kept.members
   pub once : (a : ℕ) → a < kept.count → sum_by (λ class. times_in class a) kept.members ≡ 1
+
+-- whether an interaction is in a list
+abbrev pub is_member : ℕ → List InterId → Bool
+is_member a list = list_any (λ (b : InterId). b.0 == a) list
+
+-- the number of the class in which an interaction stands, the first one of what no class has
+abbrev pub class_in : Partition → ℕ → ℕ
+class_in kept a = unwrap_or (position (is_member a) kept.members) 0
 
 -- classes of a model: they part its interactions
 abbrev pub AreClassesOf : System → Partition → Type 0

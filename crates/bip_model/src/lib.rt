@@ -14,6 +14,7 @@ mod messages;
 mod models;
 mod naming;
 mod numbering;
+mod parties;
 mod partitions;
 mod parts;
 mod priorities;

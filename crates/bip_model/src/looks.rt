@@ -77,7 +77,8 @@ impl System {
         inters.iter().any(|inter| self.moves(*inter, comp))
     }
 
-    fn moves(&self, inter: InterId, comp: CompId) -> bool
+    /// Whether an interaction moves a component; false for numbers that the system lacks.
+    pub(crate) fn moves(&self, inter: InterId, comp: CompId) -> bool
         ensures { result ≡ moves self.now inter.0 comp.0 }
     {
         match self.interactions.as_slice().get(inter.0 as usize) {

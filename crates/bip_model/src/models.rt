@@ -34,7 +34,7 @@ impl Model {
     ghost use Rattle.bip_model.specs.Drafts.{IsCycleFault};
     ghost use Rattle.bip_model.specs.Parts.{IsSystem, IsSystemSoFar, components_in};
     ghost use Rattle.bip_model.specs.Priorities.{IsCyclic, IsListAbove};
-    ghost use Rattle.bip_model.specs.Steps.{IsListLookedAt, participants_of};
+    ghost use Rattle.bip_model.specs.Steps.{IsListLookedAt, moves, participants_of};
 
     /// The model that declares all this. PriorityCycle: an interaction stands above itself; else
     /// the model, or Memory.
@@ -81,6 +81,13 @@ impl Model {
         ensures valid { IsSystem self.now }
     {
         self.looks.as_slice()[inter.0 as usize].as_slice()
+    }
+
+    /// Whether an interaction moves a component; false for numbers that the model lacks.
+    pub fn moves(&self, inter: InterId, comp: CompId) -> bool
+        ensures { result ≡ moves self.now inter.0 comp.0 }
+    {
+        self.system.moves(inter, comp)
     }
 
     /// The declared priorities, by low, then high number.

@@ -4,7 +4,8 @@ ghost use Rattle.std.specs.Prelude.{All, length, map, position, slice_get, min, 
 ghost use Rattle.std.specs.List.{list_any};
 ghost use Rattle.std.specs.Option.{option_map};
 ghost use Rattle.bip_model.specs.Naming.{AreApart, same_text};
-ghost use Rattle.bip_model.specs.Partitions.{AreDifferent, IsPartition, in_order, times_in};
+ghost use Rattle.bip_model.specs.Partitions.{AreDifferent, IsPartition, in_order, is_member};
+ghost use Rattle.bip_model.specs.Partitions.{times_in};
 ghost use Rattle.bip_model.specs.declared.numbering.InterId.{InterId};
 ghost use Rattle.bip_model.specs.declared.faults.ClassFault.TheVariants.{NotAPartition, Memory};
 
@@ -110,6 +111,16 @@ impl Classes {
         Some(ClassId(number as u16))
     }
 
+    /// The class in which an interaction stands; none where it is none of those that are parted.
+    pub fn class_of(&self, inter: InterId) -> Option<ClassId>
+        ensures class { option_map (λ k. k.0) result
+            ≡ position (is_member inter.0) self.now.members }
+        ensures valid { IsClasses self.now }
+    {
+        let number = class_with(self.partition.members.as_slice(), inter)?;
+        Some(ClassId(number as u16))
+    }
+
     /// The interactions of a class, in order of their numbers.
     pub fn members(&self, class: ClassId) -> &[InterId]
         requires { class.0 < length self.now.members }
@@ -118,6 +129,20 @@ impl Classes {
     {
         self.partition.members.as_slice()[class.0 as usize].as_slice()
     }
+}
+
+/// The number of the class in which an interaction stands.
+fn class_with(classes: &[Seq<InterId>], inter: InterId) -> Option<usize>
+    ensures { result ≡ position (is_member inter.0) classes.now }
+{
+    classes.iter().position(|class| is_member(class.as_slice(), inter))
+}
+
+/// Whether an interaction is in a list.
+fn is_member(list: &[InterId], inter: InterId) -> bool
+    ensures { result ≡ is_member inter.0 list.now }
+{
+    list.iter().any(|other| *other == inter)
 }
 
 fn are_partition(classes: &[(Name, Vec<InterId>)], count: u16) -> bool

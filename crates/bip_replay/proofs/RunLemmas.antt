@@ -4,25 +4,24 @@ use Rattle.std.proofs.Common.{◌≡◌, ℕ, ◌+◌, ◌<◌, List, [], ◌∷
 use Rattle.std.proofs.lemmas.List.Elements.{All-head, All-tail, filter-append, All-from_get_or}
 use Rattle.std.specs.Prelude.{◌↔◌, All, filter, nat_lt}
 use Rattle.std.specs.List.Sorted.{IsStrictlyIncreasing}
-use Rattle.std.proofs.lemmas.Bool.{cases_Bool}
 use Rattle.std.proofs.lemmas.List.{length-append, get_or-take, length-take-le, take_more}
 use Rattle.bip_model.specs.declared.grants.Grant.{Grant}
 use Rattle.bip_model.specs.declared.wants.Want.{Want}
 use Rattle.bip_model.specs.declared.parts.System.{System}
 use Rattle.bip_model.specs.Grants.{IsHistory, used_by}
 use Rattle.bip_model.specs.States.{State}
-use Rattle.bip_model.specs.Steps.{IsRun, after, end_of, start_of, MayRun, participants_of}
+use Rattle.bip_model.specs.Steps.{IsRun, after, end_of, start_of, MayRun}
 use Rattle.bip_model.specs.Wants.{raised, components_of, moved_in, is_moved}
 use Rattle.bip_model.proofs.StepLemmas.{enabled_or_not}
 use Rattle.bip_model.specs.Parts.{IsSystem}
-use Rattle.bip_replay.specs.Runs.{HasNextNumber, IsModelRun, IsNext, IsRunFrom, interactions_of, state_after, used_after, are_parties, is_wrong, IsNextAt, StandsAfter, Standing, standing_after, standing_on}
+use Rattle.bip_model.proofs.PartyLemmas.{parties_decided}
+use Rattle.bip_replay.specs.Runs.{HasNextNumber, IsModelRun, IsNext, IsRunFrom, interactions_of, state_after, used_after, is_wrong, IsNextAt, StandsAfter, Standing, standing_after, standing_on}
 use Rattle.bip_replay.specs.declared.faults.StepFault.{StepFault}
 use Rattle.bip_replay.specs.declared.faults.StepFault.TheVariants.{NotEnabled, Below, Number, Parties}
 use Rattle.bip_replay.specs.Faults.{IsFaultOf, expected_after, IsFaultAt}
 use Rattle.bip_replay.specs.Laws.{times_moved}
-use Rattle.bip_model.proofs.AboveLists.{looks_listed}
 use Rattle.bip_model.proofs.LowestLemmas.{may_or_below}
-use Rattle.bip_replay.proofs.FaultLemmas.{lowest_wrong, next_from_tests, none_wrong, not_parties}
+use Rattle.bip_replay.proofs.FaultLemmas.{lowest_wrong, next_from_tests, none_wrong}
 use Rattle.bip_model.proofs.HistoryLemmas.{used_by-push}
 use Rattle.bip_model.proofs.ListLemmas.{below_later}
 
@@ -116,10 +115,9 @@ next_or_fault m s used g valid rising = elim (enabled_or_not m s g.inter.0) [
     by_wrong : MayRun m s g.inter.0 → (o : Option Want) → find (is_wrong (length m.components) used) g.wants ≡ o → NextOrFault m s used g
     by_wrong may (Some w) e = inr (Number w.comp (expected_after (used w.comp.0)), (may, lowest_wrong m used g.wants w rising e, refl))
     by_wrong may None e =
-        let looks = looks_listed m g.inter.0 valid.so_far in
-        elim (cases_Bool (are_parties g.wants (participants_of m g.inter.0) looks.0)) [
-          | inl all ↦ inl (next_from_tests m s used g (participants_of m g.inter.0) looks.0 valid refl looks.1 may e all)
-          | inr some ↦ inr (Parties, (may, none_wrong m used g.wants e, not_parties m g (participants_of m g.inter.0) looks.0 refl looks.1 some))
+        elim (parties_decided m g.inter.0 g.wants valid.so_far) [
+          | inl all ↦ inl (next_from_tests m s used g valid may e all)
+          | inr some ↦ inr (Parties, (may, none_wrong m used g.wants e, some))
         ]
 
 -- a grant with a fault isn't next

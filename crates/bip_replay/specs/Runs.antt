@@ -1,18 +1,14 @@
 -- Runs of a model with exact numbers: which grant may come next, what a list of grants leads to,
 -- and where a run stands.
-use Rattle.std.specs.List.{list_all, list_any}
-use Rattle.std.specs.Prelude.{All, Any, Bool, IsTrue, List, [], if◌then◌else◌, map, max}
-use Rattle.std.specs.Prelude.{nat_lt, not, slice_index_or, ℕ, ⊤, ◌&&◌, ◌+◌, ◌↔◌, ◌<◌, ◌==◌, ◌∷◌}
+use Rattle.std.specs.Prelude.{All, Bool, IsTrue, List, [], if◌then◌else◌, map, max}
+use Rattle.std.specs.Prelude.{nat_lt, not, slice_index_or, ℕ, ⊤, ◌&&◌, ◌+◌, ◌<◌, ◌==◌, ◌∷◌}
 use Rattle.std.specs.Prelude.{◌≡◌, ◌≤◌}
 use Rattle.bip_model.specs.Grants.{used_by}
 use Rattle.bip_model.specs.States.{State, state_of}
-use Rattle.bip_model.specs.Steps.{IsLookedAt, MayRun, after, end_of, moves, start_of}
-use Rattle.bip_model.specs.Parts.{Participant}
+use Rattle.bip_model.specs.Steps.{MayRun, after, end_of, start_of}
+use Rattle.bip_model.specs.Parties.{AreParties}
 use Rattle.bip_model.specs.Wants.{is_moved, raised}
 use Rattle.bip_model.specs.declared.grants.Grant.{Grant}
-use Rattle.bip_model.specs.declared.numbering.CompId.{CompId}
-use Rattle.bip_model.specs.declared.wants.Role.TheVariants.{Moved, Seen}
-use Rattle.bip_model.specs.declared.wants.Role.{Role}
 use Rattle.bip_model.specs.declared.wants.Want.{Want}
 use Rattle.bip_model.specs.declared.parts.System.{System}
 use Rattle.bip_model.specs.declared.states.LocalState.{LocalState}
@@ -26,21 +22,11 @@ pub record HasNextNumber (used : ℕ → ℕ) (w : Want) : Type 0 where
   pub next : w.number ≡ used w.comp.0 + 1
   pub fits : w.number ≤ last_number
 
--- a component is wanted with a role
-abbrev pub IsWanted : Role → List Want → ℕ → Type 0
-IsWanted role wants c = Any (λ (w : Want). (w.comp.0 ≡ c) × (w.role ≡ role)) wants
-
--- a grant moves just the components that its interaction moves, and sees just those that it looks
--- at
-pub record HasItsParties (m : System) (g : Grant) : Type 0 where
-  pub moved : (c : ℕ) → IsWanted Moved g.wants c ↔ IsTrue (moves m g.inter.0 c)
-  pub seen : (c : ℕ) → IsWanted Seen g.wants c ↔ IsLookedAt m g.inter.0 c
-
 -- a grant may come next in a state, after the used numbers
 pub record IsNext (m : System) (s : State) (used : ℕ → ℕ) (g : Grant) : Type 0 where
   pub may : MayRun m s g.inter.0
   pub numbers : All (HasNextNumber used) g.wants
-  pub parties : HasItsParties m g
+  pub parties : AreParties m g.inter.0 g.wants
 
 -- grants, each of which may come next where those before it lead
 abbrev pub IsRunFrom : System → State → (ℕ → ℕ) → List Grant → Type 0
@@ -115,26 +101,6 @@ has_next_number used w = nat_lt (used w.comp.0) last_number && (used w.comp.0 + 
 -- whether a want is of one of so many components, and hasn't the number of its next move
 abbrev pub is_wrong : ℕ → (ℕ → ℕ) → Want → Bool
 is_wrong known used w = nat_lt w.comp.0 known && not (has_next_number used w)
-
--- whether a want moves a participant's component, or sees one that is looked at
-abbrev pub is_party : List Participant → List CompId → Want → Bool
-is_party participants looks w =
-    if is_moved w.role then list_any (λ (q : Participant). q.0.0 == w.comp.0) participants
-    else list_any (λ (c : CompId). c.0 == w.comp.0) looks
-
--- whether a want moves a component, or sees it
-abbrev pub is_moving : ℕ → Want → Bool
-is_moving c w = (w.comp.0 == c) && is_moved w.role
-
-abbrev pub is_seeing : ℕ → Want → Bool
-is_seeing c w = (w.comp.0 == c) && not (is_moved w.role)
-
--- whether wants move just the participants, and see just what is looked at
-abbrev pub are_parties : List Want → List Participant → List CompId → Bool
-are_parties wants participants looks =
-    list_all (is_party participants looks) wants
-    && list_all (λ (q : Participant). list_any (is_moving q.0.0) wants) participants
-    && list_all (λ (c : CompId). list_any (is_seeing c.0) wants) looks
 
 -- the used numbers that a list keeps above a base
 abbrev pub used_in : List ℕ → ℕ → ℕ → ℕ

@@ -1,18 +1,14 @@
 //! A position in a run: the state and the used numbers to which grants lead, without the grants.
 ghost use Rattle.std.specs.Prelude.{◌≡◌, ◌==◌, ◌<◌, ℕ, [], length, find, IsTrue, IfOk, IfErr, OnOk};
 ghost use Rattle.std.specs.Prelude.{OnErr};
-ghost use Rattle.std.specs.List.{list_all, list_any};
 ghost use Rattle.std.specs.List.Sorted.{IsStrictlyIncreasing};
 ghost use Rattle.bip_model.specs.Wants.{components_of, is_moved, raised};
-ghost use Rattle.bip_model.specs.Parts.{Participant};
-ghost use Rattle.bip_model.specs.declared.numbering.CompId.{CompId};
 ghost use Rattle.bip_model.specs.declared.wants.Want.{Want};
-ghost use Rattle.bip_replay.specs.Runs.{AreMovedWithin, StandsAfter, are_parties, is_moving};
-ghost use Rattle.bip_replay.specs.Runs.{is_party, is_seeing};
+ghost use Rattle.bip_replay.specs.Runs.{AreMovedWithin, StandsAfter};
 ghost use Rattle.bip_replay.specs.Runs.{last_number, standing_of, used_in, used_up};
 
 use crate::{GrantRef, StepFault};
-use bip_model::{CompId, Model, Number, PortId, Role, Seq, State, Want};
+use bip_model::{CompId, Model, Number, Role, Seq, State, Want};
 use std::alloc::{AllocError, Global};
 use std::marker;
 
@@ -103,7 +99,7 @@ impl<'m> Position<'m> {
         if let Some(want) = self.first_wrong(model.components().len(), wants) {
             return Err(StepFault::Number(want.comp, self.expected(want.comp)));
         }
-        if !are_parties(wants, model.participants(inter), model.looks(inter)) {
+        if !model.are_parties(inter, wants) {
             return Err(StepFault::Parties);
         }
         Ok(())
@@ -182,71 +178,4 @@ fn use_one(used: &mut Seq<Number>, want: Want)
         let before = used.as_slice()[place];
         used.set(place, before.max(want.number));
     }
-}
-
-/// Whether wants move just the participants, and see just what is looked at.
-fn are_parties(wants: &[Want], participants: &[(CompId, PortId)], looks: &[CompId]) -> bool
-    ensures { result ≡ are_parties wants.now participants.now looks.now }
-{
-    name_parties(wants, participants, looks)
-        && move_all(wants, participants)
-        && see_all(wants, looks)
-}
-
-fn name_parties(wants: &[Want], participants: &[(CompId, PortId)], looks: &[CompId]) -> bool
-    ensures { result ≡ list_all (is_party participants.now looks.now) wants.now }
-{
-    wants
-        .iter()
-        .all(|want| is_party(*want, participants, looks))
-}
-
-fn is_party(want: Want, participants: &[(CompId, PortId)], looks: &[CompId]) -> bool
-    ensures { result ≡ is_party participants.now looks.now want }
-{
-    match want.role {
-        Role::Moved => takes_part(participants, want.comp),
-        Role::Seen => is_among(looks, want.comp),
-    }
-}
-
-fn takes_part(participants: &[(CompId, PortId)], comp: CompId) -> bool
-    ensures { result ≡ list_any (λ (q : Participant). q.0.0 == comp.0) participants.now }
-{
-    participants.iter().any(|q| q.0 == comp)
-}
-
-fn is_among(comps: &[CompId], comp: CompId) -> bool
-    ensures { result ≡ list_any (λ (c : CompId). c.0 == comp.0) comps.now }
-{
-    comps.iter().any(|c| *c == comp)
-}
-
-fn move_all(wants: &[Want], participants: &[(CompId, PortId)]) -> bool
-    ensures { result ≡ list_all (λ (q : Participant).
-        list_any (is_moving q.0.0) wants.now) participants.now }
-{
-    participants.iter().all(|q| is_moving(wants, q.0))
-}
-
-fn see_all(wants: &[Want], looks: &[CompId]) -> bool
-    ensures { result ≡ list_all (λ (c : CompId). list_any (is_seeing c.0) wants.now) looks.now }
-{
-    looks.iter().all(|comp| is_seeing(wants, *comp))
-}
-
-fn is_moving(wants: &[Want], comp: CompId) -> bool
-    ensures { result ≡ list_any (is_moving comp.0) wants.now }
-{
-    wants
-        .iter()
-        .any(|want| want.comp == comp && want.role == Role::Moved)
-}
-
-fn is_seeing(wants: &[Want], comp: CompId) -> bool
-    ensures { result ≡ list_any (is_seeing comp.0) wants.now }
-{
-    wants
-        .iter()
-        .any(|want| want.comp == comp && want.role != Role::Moved)
 }

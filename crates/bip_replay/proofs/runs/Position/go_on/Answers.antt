@@ -1,7 +1,8 @@
 use Rattle.std.proofs.Common.{arith, sym}
 use Rattle.std.proofs.lemmas.List.Elements.{Contains-get_or}
 use Rattle.bip_model.specs.States.{state_of}
-use Rattle.bip_replay.proofs.FaultLemmas.{moved_known, moved_role}
+use Rattle.bip_model.proofs.PartyLemmas.{moved_role}
+use Rattle.bip_replay.proofs.FaultLemmas.{moved_known}
 use Rattle.std.proofs.Math.Path.{fun_ext}
 use Rattle.std.specs.Prelude.{slice_index_or}
 use Rattle.bip_replay.specs.Runs.{Kept, standing_of}
