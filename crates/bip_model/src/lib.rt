@@ -48,6 +48,3 @@ pub use texts::{
     split_word, write_word,
 };
 pub use wants::{MOST_WANTS, Role, Want, Wants};
-
-#[cfg(test)]
-mod tests;

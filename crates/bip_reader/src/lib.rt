@@ -6,8 +6,6 @@ mod faults;
 mod laws;
 mod reading;
 mod statements;
-#[cfg(test)]
-mod tests;
 mod texts;
 mod words;
 mod writing;

@@ -9,8 +9,6 @@ mod lines;
 mod replays;
 mod rooms;
 mod runs;
-#[cfg(test)]
-mod tests;
 mod traces;
 mod writing;
 

@@ -1,0 +1,19 @@
+use bip_model::{
+    builder_laws, expression_laws, history_laws, partition_laws, priority_laws, step_laws,
+};
+use bip_reader::meaning_laws;
+use bip_replay::{fault_laws, run_laws, trace_laws};
+
+#[test]
+fn laws_can_be_called(_rt: HostRuntime) {
+    builder_laws();
+    expression_laws();
+    history_laws();
+    partition_laws();
+    priority_laws();
+    step_laws();
+    meaning_laws();
+    fault_laws();
+    run_laws();
+    trace_laws();
+}
