@@ -24,7 +24,7 @@ use Rattle.bip_reader.specs.Reading.{ClassList, class_line, empty_reading, inter
 use Rattle.bip_reader.specs.Statements.{class_form, keyword_of, priority_form}
 use Rattle.bip_reader.specs.Texts.{IsParted, Means}
 use Rattle.bip_reader.specs.Words.{each_of, name_of}
-use Rattle.bip_reader.specs.Writing.{IsSpelled, line_of_class, line_of_priority, text_of_model}
+use Rattle.bip_reader.specs.Writing.{CanBeSpelled, line_of_class, line_of_priority, text_of_model}
 use Rattle.bip_reader.specs.declared.statements.Keyword.TheVariants as keyword
 use Rattle.bip_reader.specs.declared.statements.Statement.TheVariants as statement
 use Rattle.bip_reader.proofs.ComponentLeadLemmas.{components_lead, none_before, take-next}
@@ -54,7 +54,7 @@ first_of P xs zero d within each = All-nil P
 first_of P [] (suc k) d within each = All-nil P
 first_of P (x ∷ xs) (suc k) d within each = All-cons P x (take k xs) (each 0 (omega arith)) (first_of P xs k d (omega arith) (λ i below. each (suc i) (omega arith)))
 
-module _ (m : System) (classes : Partition) (is : IsSystem m) (spelled : IsSpelled m classes) where
+module _ (m : System) (classes : Partition) (is : IsSystem m) (spelled : CanBeSpelled m classes) where
   pub interaction_named_at : (a : ℕ) → a < length m.interactions → IsName (name_in m.interaction_names a)
   interaction_named_at a within = spelled.interactions.0 a [] (omega (arith, is.so_far.interactions_named))
 
@@ -154,7 +154,7 @@ map_same : {X : Type 0} (xs : List X) → map (λ x. x) xs ≡ xs
 map_same [] = refl
 map_same (x ∷ xs) = ap (λ (rest : List _). x ∷ rest) (map_same xs)
 
-module _ (m : System) (classes : Partition) (is : IsSystem m) (are : IsClasses classes) (of_model : AreClassesOf m classes) (spelled : IsSpelled m classes) where
+module _ (m : System) (classes : Partition) (is : IsSystem m) (are : IsClasses classes) (of_model : AreClassesOf m classes) (spelled : CanBeSpelled m classes) where
   abbrev listed : ClassList
   listed = zipped classes.names classes.members
 

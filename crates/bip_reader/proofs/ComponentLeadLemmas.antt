@@ -14,7 +14,7 @@ use Rattle.bip_model.specs.declared.parts.Component.{Component}
 use Rattle.bip_model.specs.declared.parts.System.{System}
 use Rattle.bip_model.specs.declared.parts.Transition.{Transition}
 use Rattle.bip_model.proofs.WrittenLemmas.{unknown_before_it}
-use Rattle.bip_reader.specs.Writing.{IsSpelled, IsSpelledComponent, component_in, line_of_name, line_of_transition, line_of_variable, lines_of_component, lines_of_components, lines_of_variables}
+use Rattle.bip_reader.specs.Writing.{CanBeSpelled, IsSpelledComponent, component_in, line_of_name, line_of_transition, line_of_variable, lines_of_component, lines_of_components, lines_of_variables}
 use Rattle.bip_reader.proofs.LeadLemmas.{Leads, leads_all, leads_both, leads_numbers}
 use Rattle.bip_reader.proofs.LineLeadLemmas.{begin_leads, end_leads, loc_leads, port_leads, reading_at, trans_leads, var_leads}
 
@@ -160,7 +160,7 @@ module _ (k : Component) (is : IsComponent k) where
       leads_both (leads_both (leads_both (leads_both (leads_both (begin_leads s name named new few) (variables_lead begun spelled)) (locations_lead begun spelled)) (ports_lead begun spelled)) (transitions_lead begun spelled))
       (end_leads begun k is.located)
 
-module _ (m : System) (classes : Partition) (is : IsSystem m) (spelled : IsSpelled m classes) where
+module _ (m : System) (classes : Partition) (is : IsSystem m) (spelled : CanBeSpelled m classes) where
   -- a system of the first components
   abbrev with_components : ℕ → System
   with_components j = record no_system { component_names = take j m.component_names; components = take j m.components }

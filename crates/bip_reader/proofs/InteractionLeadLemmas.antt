@@ -24,7 +24,7 @@ use Rattle.bip_model.proofs.ParticipantLemmas.{names_participants}
 use Rattle.bip_model.proofs.WrittenLemmas.{IsWord, names-word, position-name, unknown_before_it}
 use Rattle.bip_reader.specs.Statements.{interaction_form, keyword_of, name_and_words}
 use Rattle.bip_reader.specs.Words.{each_of, participant_of}
-use Rattle.bip_reader.specs.Writing.{IsSpelled, IsSpelledInteraction, component_in, interaction_in, line_of_interaction, lines_of_interactions, own_word, participant_word, shared_word, words_of_assignments, words_of_guard}
+use Rattle.bip_reader.specs.Writing.{CanBeSpelled, IsSpelledInteraction, component_in, interaction_in, line_of_interaction, lines_of_interactions, own_word, participant_word, shared_word, words_of_assignments, words_of_guard}
 use Rattle.bip_reader.specs.declared.clauses.Spelling.TheVariants.{Shared}
 use Rattle.bip_reader.specs.declared.statements.Keyword.TheVariants as keyword
 use Rattle.bip_reader.specs.declared.statements.Statement.TheVariants as statement
@@ -48,7 +48,7 @@ named_words f name words read is some each =
     let filled : eqb (length words) 0 ≡ false = grind (arith, nat_tests) in
     rw (name_read name is, filled, each) refl
 
-module _ (m : System) (classes : Partition) (is : IsSystem m) (spelled : IsSpelled m classes) where
+module _ (m : System) (classes : Partition) (is : IsSystem m) (spelled : CanBeSpelled m classes) where
   component_named : (c : ℕ) → c < length m.components → IsName (name_in m.component_names c)
   component_named c within = spelled.components.0 c [] (omega (arith, is.components_named))
 

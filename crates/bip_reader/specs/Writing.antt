@@ -1,7 +1,7 @@
 -- The canonical text of a model and its classes: each line's words with a space between, and a line
 -- feed after each line. Lists that are empty are left out with their word.
-use Rattle.std.specs.Prelude.{ℕ, ◌<◌, ◌^◌, List, [], ◌∷◌, ◌++◌, length, map, codes, slice_index, All}
-use Rattle.std.specs.Prelude.{slice_index_or, ⊤}
+use Rattle.std.specs.Prelude.{ℕ, ◌<◌, ◌^◌, List, [], ◌∷◌, ◌++◌, length, map, codes, slice_index}
+use Rattle.std.specs.Prelude.{slice_index_or, All, ⊤}
 use Rattle.std.specs.Fmt.{decimal}
 use Rattle.std.specs.List.{flat_map, join_by, range_with_len}
 use Rattle.bip_model.specs.Components.{no_component}
@@ -229,7 +229,7 @@ IsSpelledInteraction i = IsSpelledGuard i.guard × AreSpelledAssignments i.trans
 abbrev pub AreSpelledInteractions : System → Type 0
 AreSpelledInteractions m = All IsName m.interaction_names × All IsSpelledInteraction m.interactions
 
-pub record IsSpelled (m : System) (classes : Partition) : Type 0 where
+pub record CanBeSpelled (m : System) (classes : Partition) : Type 0 where
   pub components : AreSpelledComponents m
   pub interactions : AreSpelledInteractions m
   pub class_names : All IsName classes.names

@@ -1,13 +1,14 @@
 //! Writing models.
-ghost use Rattle.std.specs.Prelude.{◌≡◌, ◌==◌, ◌<◌, ◌++◌, ◌∷◌, ◌^◌, [], All, IfOk, OnOk, length, map};
-ghost use Rattle.std.specs.Prelude.{if◌then◌else◌};
+ghost use Rattle.std.specs.Prelude.{◌≡◌, ◌==◌, ◌<◌, ◌++◌, ◌∷◌, ◌^◌, [], All, IfOk, OnOk, length};
+ghost use Rattle.std.specs.Prelude.{if◌then◌else◌, map};
 ghost use Rattle.std.specs.Fmt.{decimal};
 ghost use Rattle.std.specs.List.{flat_map, range_with_len};
 ghost use Rattle.bip_model.specs.Expressions.{AreAssignmentsIn, AreComparisonsIn, IsAssignmentIn};
 ghost use Rattle.bip_model.specs.Expressions.{IsComparisonIn, IsExprIn, IsTermIn, IsVariableIn};
 ghost use Rattle.bip_model.specs.Naming.{IsName, name_in};
 ghost use Rattle.bip_model.specs.Partitions.{AreClassesOf, IsClasses};
-ghost use Rattle.bip_model.specs.Parts.{IsComponent, IsInteraction, IsPortIn, IsSystem, IsTransitionOf};
+ghost use Rattle.bip_model.specs.Parts.{IsComponent, IsInteraction, IsPortIn, IsSystem};
+ghost use Rattle.bip_model.specs.Parts.{IsTransitionOf};
 ghost use Rattle.bip_model.specs.Priorities.{IsPairOf};
 ghost use Rattle.bip_model.specs.Texts.{spaced};
 ghost use Rattle.bip_model.specs.declared.numbering.InterId.{InterId};
@@ -214,7 +215,8 @@ impl<'a> Speller<'a> {
         ensures text { OnOk result (text.new.items ≡ text.old.items
             ++ flat_map spaced (words_of_guard (variable_word self.now) guard.now
             ++ words_of_assignments (variable_word self.now) assignments.now)) }
-        ensures spelled { OnOk result (IsSpelledGuard guard.now × AreSpelledAssignments assignments.now) }
+        ensures spelled { OnOk result
+            (IsSpelledGuard guard.now × AreSpelledAssignments assignments.now) }
     {
         self.write_guard(text, guard)?;
         self.write_assignments(text, assignments)
@@ -263,7 +265,8 @@ fn write_start(text: &mut Vec<u8>, component: &Component, number: usize) -> Resu
 /// Such a line of each variable.
 fn write_starts(text: &mut Vec<u8>, component: &Component) -> Result<(), AllocError>
     requires { length component.now.start ≡ length component.now.variables }
-    ensures text { OnOk result (text.new.items ≡ text.old.items ++ lines_of_variables component.now) }
+    ensures text { OnOk result
+        (text.new.items ≡ text.old.items ++ lines_of_variables component.now) }
     ensures spelled { OnOk result (AreSpelledStarts component.now) }
 {
     for number in 0..component.variables.len() {
@@ -410,7 +413,8 @@ fn write_interaction(
 }
 
 fn write_interactions(text: &mut Vec<u8>, model: &Model) -> Result<(), AllocError>
-    ensures text { OnOk result (text.new.items ≡ text.old.items ++ lines_of_interactions model.now) }
+    ensures text { OnOk result
+        (text.new.items ≡ text.old.items ++ lines_of_interactions model.now) }
     ensures spelled { OnOk result (AreSpelledInteractions model.now) }
 {
     let names = model.interaction_names();
