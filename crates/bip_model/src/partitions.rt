@@ -135,7 +135,9 @@ impl Classes {
 fn class_with(classes: &[Seq<InterId>], inter: InterId) -> Option<usize>
     ensures { result ≡ position (is_member inter.0) classes.now }
 {
-    classes.iter().position(|class| is_member(class.as_slice(), inter))
+    classes
+        .iter()
+        .position(|class| is_member(class.as_slice(), inter))
 }
 
 /// Whether an interaction is in a list.
