@@ -117,7 +117,7 @@ module _ {X : Type 0} (number : X → ℕ) where
   above_member n (x ∷ xs) z all member = elim (first_or_later x xs z member) [ inl same ↦ rw (← same) all.0 | inr in' ↦ above_member n xs z all.1 in' ]
 
   -- lists that rise and have the same members are one
-  same_list : (xs ys : List X) → Rises (map number xs) → Rises (map number ys) → ((z : X) → Contains xs z → Contains ys z) → ((z : X) → Contains ys z → Contains xs z) → xs ≡ ys
+  pub same_list : (xs ys : List X) → Rises (map number xs) → Rises (map number ys) → ((z : X) → Contains xs z → Contains ys z) → ((z : X) → Contains ys z → Contains xs z) → xs ≡ ys
   same_list [] [] rise rise' there back = refl
   same_list [] (y ∷ ys) rise rise' there back = absurd (omega (arith, (back y (0, omega arith, refl)).1))
   same_list (x ∷ xs) [] rise rise' there back = absurd (omega (arith, (there x (0, omega arith, refl)).1))

@@ -1,0 +1,4 @@
+pub mod LinkLemmas
+pub mod ListedLemmas
+pub mod TableLemmas
+pub mod TouchLemmas

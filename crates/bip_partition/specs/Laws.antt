@@ -1,0 +1,1 @@
+-- What the definitions mean, in the subject's own words: laws that a reviewer reads.

@@ -1,0 +1,222 @@
+//! Plans, and the questions that they answer without memory.
+ghost use Rattle.std.specs.Prelude.{◌≡◌, ◌<◌, ◌≤◌, ◌↔◌, ℕ, Any, IfErr, IfNone, IfOk, IfSome, IsTrue};
+ghost use Rattle.std.specs.Prelude.{OnOk, length};
+ghost use Rattle.bip_model.specs.Partitions.{AreClassesOf, IsClasses, class_in};
+ghost use Rattle.bip_model.specs.Parts.{IsSystem};
+ghost use Rattle.bip_model.specs.Steps.{IsListLookedAt, moves, participants_of};
+ghost use Rattle.bip_partition.specs.Faults.{IsLowestTooMany, IsPlanFault};
+ghost use Rattle.bip_partition.specs.Plans.{AreStations, InConflict, IsFit, IsListTouched};
+ghost use Rattle.bip_partition.specs.Plans.{IsListTouching, IsReserved, IsTabled, Planned};
+ghost use Rattle.bip_partition.specs.Plans.{MeetAt, TouchesTooMany};
+ghost use Rattle.bip_partition.specs.Tables.{IsCountTouched};
+ghost use Rattle.bip_model.specs.declared.numbering.CompId.{CompId};
+
+use crate::PlanFault;
+use crate::sets::has_comp;
+use crate::tables::{Tables, meets, touches};
+use bip_model::{ClassId, Classes, CompId, InterId, MOST_WANTS, Model, PortId, Request};
+use std::alloc::Global;
+use std::marker;
+
+/// The plan of a model whose interactions are parted into classes: what each interaction and each
+/// class touches, which components have a row in the table, which interactions are reserved, and
+/// which are in conflict (docs/DEFINITIONS.md, "Plans"). Contracts see it as the model with its
+/// classes.
+#[derive(Drop)]
+pub struct Plan {
+    model: Model,
+    classes: Classes,
+    tables: Tables,
+}
+
+impl marker::Model for Plan {
+    ghost use Rattle.bip_partition.specs.Plans.{Planned};
+    ghost use Rattle.bip_partition.specs.Tables.{IsPlan};
+
+    ghost Value = { Planned };
+
+    ghost view = { λ p. record { model = p.model; classes = p.classes } };
+
+    ghost invariant = { λ p. IsPlan (record { model = p.model; classes = p.classes }) p.tables };
+}
+
+impl Plan {
+    /// The plan of a model with its classes. TooManyTouched: this interaction, the lowest such,
+    /// touches more components than a grant can want; Memory only where none does.
+    pub fn of(alloc: Global, model: Model, classes: Classes) -> Result<Plan, PlanFault>
+        requires { AreClassesOf model classes }
+        ensures plan { IfOk result (λ plan. plan ≡ record { model = model; classes = classes }) }
+        ensures few { OnOk result ((a : ℕ) → ¬ TouchesTooMany model a) }
+        ensures fault { IfErr result (IsPlanFault model) }
+    {
+        if let Some(inter) = first_too_many(&model) {
+            return Err(PlanFault::TooManyTouched(inter));
+        }
+        let _parted = classes.len();
+        match Tables::of(alloc, &model, &classes) {
+            Ok(tables) => Ok(Plan {
+                model,
+                classes,
+                tables,
+            }),
+            Err(_) => Err(PlanFault::Memory),
+        }
+    }
+
+    /// The model.
+    pub fn model(&self) -> &Model
+        ensures { result.now ≡ self.now.model }
+    {
+        &self.model
+    }
+
+    /// The classes of its interactions.
+    pub fn classes(&self) -> &Classes
+        ensures classes { result.now ≡ self.now.classes }
+        ensures of_model { AreClassesOf self.now.model self.now.classes }
+    {
+        &self.classes
+    }
+
+    /// What an interaction moves: its participants, each a component with its port, by component.
+    pub fn moves(&self, inter: InterId) -> &[(CompId, PortId)]
+        requires { inter.0 < length self.now.model.interactions }
+        ensures { result.now ≡ participants_of self.now.model inter.0 }
+    {
+        self.model.participants(inter)
+    }
+
+    /// The components that an interaction looks at, in order of their numbers.
+    pub fn looks(&self, inter: InterId) -> &[CompId]
+        requires { inter.0 < length self.now.model.interactions }
+        ensures { IsListLookedAt self.now.model inter.0 result.now }
+    {
+        self.model.looks(inter)
+    }
+
+    /// The components that an interaction touches, in order of their numbers.
+    pub fn touches(&self, inter: InterId) -> &[CompId]
+        requires { inter.0 < length self.now.model.interactions }
+        ensures touches { IsListTouched self.now.model inter.0 result.now }
+        ensures few { length result.now ≤ 32 }
+    {
+        self.tables.touches.as_slice()[inter.0 as usize].as_slice()
+    }
+
+    /// The class in which an interaction stands.
+    pub fn class_of(&self, inter: InterId) -> ClassId
+        requires { inter.0 < length self.now.model.interactions }
+        ensures { result.0 ≡ class_in self.now.classes inter.0 }
+    {
+        self.classes.class_of(inter).unwrap_or(ClassId(0))
+    }
+
+    /// The classes that touch a component, in order of their numbers.
+    pub fn classes_of(&self, comp: CompId) -> &[ClassId]
+        requires { comp.0 < length self.now.model.components }
+        ensures { IsListTouching self.now comp.0 result.now }
+    {
+        self.tables.touching.as_slice()[comp.0 as usize].as_slice()
+    }
+
+    /// Whether a component has a row in the table; false for a number that the model lacks.
+    pub fn tabled(&self, comp: CompId) -> bool
+        ensures { IsTrue result ↔ IsTabled self.now comp.0 }
+    {
+        if self.model.components().len() <= comp.0 as usize {
+            return false;
+        }
+        has_comp(self.tables.tabled, comp)
+    }
+
+    /// Whether an interaction is reserved; false for a number that the model lacks.
+    pub fn reserved(&self, inter: InterId) -> bool
+        ensures reserved { IsTrue result ↔ IsReserved self.now inter.0 }
+        ensures valid { IsSystem self.now.model }
+    {
+        if self.model.interactions().len() <= inter.0 as usize {
+            return false;
+        }
+        meets(self.touches(inter), self.tables.tabled)
+    }
+
+    /// The reserved interactions, in order of their numbers: station s decides for the one at place
+    /// s.
+    pub fn stations(&self) -> &[InterId]
+        ensures { AreStations self.now result.now }
+    {
+        self.tables.stations.as_slice()
+    }
+
+    /// Whether two interactions are in conflict; false for numbers that the model lacks.
+    pub fn conflict(&self, inter: InterId, other: InterId) -> bool
+        ensures { IsTrue result ↔ InConflict self.now.model inter.0 other.0 }
+    {
+        if self.model.interactions().len() <= inter.0 as usize {
+            return false;
+        }
+        meet_at_any(&self.model, inter, other, self.touches(inter))
+    }
+
+    /// Whether a request fits: its interaction is reserved, and of its class, and it wants just what
+    /// that one moves and looks at.
+    pub fn fits(&self, request: &Request) -> bool
+        ensures { IsTrue result ↔ IsFit self.now request.now }
+    {
+        let inter = request.inter;
+        if !self.reserved(inter) || self.class_of(inter) != request.class {
+            return false;
+        }
+        self.model.are_parties(inter, request.wants.as_slice())
+    }
+}
+
+/// The lowest interaction that touches more components than a grant can want.
+fn first_too_many(model: &Model) -> Option<InterId>
+    ensures some { IfSome result (λ a. IsLowestTooMany model.now a.0) }
+    ensures none { IfNone result ((a : ℕ) → ¬ TouchesTooMany model.now a) }
+    ensures valid { IsSystem model.now }
+{
+    for number in 0..model.interactions().len() {
+        let inter = InterId(number as u16);
+        if touches_too_many(model, inter) {
+            return Some(inter);
+        }
+    }
+    None
+}
+
+fn touches_too_many(model: &Model, inter: InterId) -> bool
+    ensures { IsTrue result ↔ TouchesTooMany model.now inter.0 }
+{
+    MOST_WANTS < count_touched(model, inter)
+}
+
+/// How many components an interaction touches.
+fn count_touched(model: &Model, inter: InterId) -> usize
+    ensures { IsCountTouched model.now inter.0 result }
+{
+    let mut count = 0;
+    for number in 0..model.components().len() {
+        if touches(model, inter, CompId(number as u16)) {
+            count += 1;
+        }
+    }
+    count
+}
+
+/// Whether two interactions are in conflict over one of these components.
+fn meet_at_any(model: &Model, inter: InterId, other: InterId, comps: &[CompId]) -> bool
+    ensures { IsTrue result ↔ Any (λ (c : CompId). MeetAt model.now inter.0 other.0 c.0) comps.now }
+{
+    comps.iter().any(|comp| meet_at(model, inter, other, *comp))
+}
+
+/// Whether both touch a component that one of them moves.
+fn meet_at(model: &Model, inter: InterId, other: InterId, comp: CompId) -> bool
+    ensures { IsTrue result ↔ MeetAt model.now inter.0 other.0 comp.0 }
+{
+    touches(model, inter, comp)
+        && touches(model, other, comp)
+        && (model.moves(inter, comp) || model.moves(other, comp))
+}
