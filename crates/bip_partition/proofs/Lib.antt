@@ -1,3 +1,5 @@
+pub mod ClassLemmas
+pub mod LawLemmas
 pub mod LinkLemmas
 pub mod ListedLemmas
 pub mod TableLemmas
