@@ -67,6 +67,13 @@ pub record IsListTouching (p : Planned) (c : ℕ) (list : List ClassId) : Type 0
   pub rising : IsStrictlyIncreasing (map (λ (k : ClassId). k.0) list)
   pub exact : (k : ℕ) → Contains list (record { 0 = k }) ↔ ClassTouches p k c
 
+-- how many components have a row: as many as a list of them
+pub record IsCountTabled (p : Planned) (count : ℕ) : Type 0 where
+  pub list : List CompId
+  pub rising : IsStrictlyIncreasing (map (λ (c : CompId). c.0) list)
+  pub exact : (c : ℕ) → Contains list (record { 0 = c }) ↔ IsTabled p c
+  pub counted : count ≡ length list
+
 -- the list of the reserved interactions, in order of their numbers: station s decides for the one at
 -- place s
 pub record AreStations (p : Planned) (list : List InterId) : Type 0 where

@@ -10,4 +10,4 @@ mod tables;
 
 pub use faults::PlanFault;
 pub use laws::plan_laws;
-pub use plans::Plan;
+pub use plans::{Plan, first_touching_too_many};

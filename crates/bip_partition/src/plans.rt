@@ -5,7 +5,8 @@ ghost use Rattle.bip_model.specs.Partitions.{AreClassesOf, IsClasses, class_in};
 ghost use Rattle.bip_model.specs.Parts.{IsSystem};
 ghost use Rattle.bip_model.specs.Steps.{IsListLookedAt, moves, participants_of};
 ghost use Rattle.bip_partition.specs.Faults.{IsLowestTooMany, IsPlanFault};
-ghost use Rattle.bip_partition.specs.Plans.{AreStations, InConflict, IsFit, IsListTouched};
+ghost use Rattle.bip_partition.specs.Plans.{AreStations, InConflict, IsCountTabled, IsFit};
+ghost use Rattle.bip_partition.specs.Plans.{IsListTouched};
 ghost use Rattle.bip_partition.specs.Plans.{IsListTouching, IsReserved, IsTabled, Planned};
 ghost use Rattle.bip_partition.specs.Plans.{MeetAt, TouchesTooMany};
 ghost use Rattle.bip_partition.specs.Tables.{IsCountTouched};
@@ -49,7 +50,7 @@ impl Plan {
         ensures few { OnOk result ((a : ℕ) → ¬ TouchesTooMany model a) }
         ensures fault { IfErr result (IsPlanFault model) }
     {
-        if let Some(inter) = first_too_many(&model) {
+        if let Some(inter) = first_touching_too_many(&model) {
             return Err(PlanFault::TooManyTouched(inter));
         }
         let _parted = classes.len();
@@ -129,6 +130,19 @@ impl Plan {
         has_comp(self.tables.tabled, comp)
     }
 
+    /// How many components have a row in the table.
+    pub fn count_tabled(&self) -> usize
+        ensures { IsCountTabled self.now result }
+    {
+        let mut count = 0;
+        for number in 0..self.model.components().len() {
+            if self.tabled(CompId(number as u16)) {
+                count += 1;
+            }
+        }
+        count
+    }
+
     /// Whether an interaction is reserved; false for a number that the model lacks.
     pub fn reserved(&self, inter: InterId) -> bool
         ensures reserved { IsTrue result ↔ IsReserved self.now inter.0 }
@@ -171,8 +185,9 @@ impl Plan {
     }
 }
 
-/// The lowest interaction that touches more components than a grant can want.
-fn first_too_many(model: &Model) -> Option<InterId>
+/// The lowest interaction that touches more components than a grant can want: why a model has no
+/// plan, which can be asked before one is made.
+pub fn first_touching_too_many(model: &Model) -> Option<InterId>
     ensures some { IfSome result (λ a. IsLowestTooMany model.now a.0) }
     ensures none { IfNone result ((a : ℕ) → ¬ TouchesTooMany model.now a) }
     ensures valid { IsSystem model.now }

@@ -1,6 +1,6 @@
 use Rattle.std.proofs.Common.{length, ap, arith}
 use Rattle.bip_partition.proofs.TableLemmas.{many_known}
-use Rattle.bip_partition.proofs.plans.first_too_many.Goals as goal
+use Rattle.bip_partition.proofs.plans.first_touching_too_many.Goals as goal
 
 pub returns-clause-none : goal.returns-clause-none
 returns-clause-none c = λ a many.
