@@ -1,4 +1,5 @@
 pub mod AnswerLemmas
+pub mod CheckLemmas
 pub mod EndingLemmas
 pub mod KnownLemmas
 pub mod MarkLemmas

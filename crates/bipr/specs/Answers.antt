@@ -1,7 +1,11 @@
--- The answer to a replay: the one that the text of a model, the text of a trace and a base have.
-use Rattle.std.specs.Prelude.{◌≢◌, ℕ, List, [], ⊤}
+-- The answer to a replay: the one that the text of a model, the text of a trace and a base have; and
+-- the answer to a check, the one that the text of a model has.
+use Rattle.std.specs.Prelude.{◌≡◌, ◌≢◌, ℕ, List, [], length, ⊤}
 use Rattle.bip_model.specs.declared.parts.System.{System}
 use Rattle.bip_model.specs.declared.partitions.Partition.{Partition}
+use Rattle.bip_model.specs.declared.numbering.InterId.{InterId}
+use Rattle.bip_partition.specs.Faults.{IsLowestTooMany}
+use Rattle.bip_partition.specs.Plans.{AreStations, IsCountTabled, Planned, TouchesTooMany}
 use Rattle.bip_reader.specs.Texts.{HasFault, Means}
 use Rattle.bip_reader.specs.declared.faults.ReadFault.{ReadFault}
 use Rattle.bip_reader.specs.declared.faults.Why.TheVariants.{Memory}
@@ -9,7 +13,9 @@ use Rattle.bip_replay.specs.Replays.{IsFirstFault, IsRunOf}
 use Rattle.bip_replay.specs.declared.faults.BookFault.{BookFault}
 use Rattle.bip_replay.specs.declared.faults.ReplayFault.{ReplayFault}
 use Rattle.bip_replay.specs.declared.faults.ReplayFault.TheVariants as replay_fault
-use Rattle.bipr.specs.Wording.{model_refusal, run_text, trace_refusal, verdict_text}
+use Rattle.bipr.specs.Wording.{counts_text, model_refusal, plan_refusal, run_text, trace_refusal}
+use Rattle.bipr.specs.Wording.{verdict_text}
+use Rattle.bipr.specs.declared.wording.Counts.{Counts}
 use Rattle.bipr.specs.declared.answers.Answer.{Answer}
 use Rattle.bipr.specs.declared.answers.Status.{Status}
 use Rattle.bipr.specs.declared.answers.Status.TheVariants.{Done, Refused, BadCommandLine}
@@ -37,6 +43,30 @@ SaysNoGrant replay_fault.Syntax = ⊤
 SaysNoGrant replay_fault.Unknown = ⊤
 SaysNoGrant (replay_fault.NotARun why) = ⊥
 SaysNoGrant replay_fault.Memory = ⊥
+
+-- what there is to count of a plan
+pub record AreCountsOf (p : Planned) (counts : Counts) : Type 0 where
+  pub components : counts.components ≡ length p.model.components
+  pub interactions : counts.interactions ≡ length p.model.interactions
+  pub classes : counts.classes ≡ length p.classes.names
+  pub tabled : IsCountTabled p counts.tabled
+  pub stations : List InterId
+  pub reserved : AreStations p stations
+  pub counted : counts.reserved ≡ length stations
+
+-- the answer to the check of a model's text
+pub data IsCheckAnswer (model : List ℕ) : Answer → Type 0 where
+  -- the text means a model with classes that has a plan
+  planned : (m : System) (classes : Partition) (counts : Counts) → Means model m classes
+      → ((a : ℕ) → ¬ TouchesTooMany m a)
+      → AreCountsOf (record { model = m; classes = classes }) counts
+      → IsCheckAnswer model (saying Done (counts_text counts))
+  -- the text means a model that has none: this interaction, the lowest such, touches too many
+  no_plan : (m : System) (classes : Partition) (a : ℕ) → Means model m classes
+      → IsLowestTooMany m a → IsCheckAnswer model (complaining Refused (plan_refusal m a))
+  -- the text is no model
+  unchecked : (fault : ReadFault) → fault.why ≢ Memory → HasFault model fault
+      → IsCheckAnswer model (complaining Refused (model_refusal fault))
 
 -- the answer to the texts of a model and a trace, from a base
 pub data IsAnswer (base : ℕ) (model trace : List ℕ) : Answer → Type 0 where

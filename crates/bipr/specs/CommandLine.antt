@@ -6,6 +6,8 @@ use Rattle.clap.specs.Simple.{subcommand_rows}
 use Rattle.clap.specs.Walk.{rows_of}
 use Rattle.clap.specs.declared.parser.matches.ArgMatches.{ArgMatches}
 use Rattle.clap.specs.declared.parser.matches.ArgMatches.TheViews.{out-ArgMatches}
+use Rattle.bipr.specs.declared.command_line.Asked.{Asked}
+use Rattle.bipr.specs.declared.command_line.Asked.TheVariants as asks
 use Rattle.bipr.specs.declared.command_line.ReplayArguments.{ReplayArguments}
 
 -- the greatest base: one number at least is left above it
@@ -22,6 +24,15 @@ pub record IsAsked (words : ArgMatches) (arguments : ReplayArguments) : Type 0 w
   pub base : arguments.base ≡ digits_value 10 (without_leading_plus spelt)
   pub bound : arguments.base ≤ greatest_base
 
+-- a command line asks to check the model that a path names, by the subcommand `check` and the word
+-- behind it
+pub record AsksToCheck (words : ArgMatches) (path : List ℕ) : Type 0 where
+  pub command : subcommand_name_of words ≡ Some (codes "check")
+  pub behind : ArgMatches
+  pub rows : option_map (λ p. p.1) (subcommand_rows (out-ArgMatches words).subcommand)
+      ≡ Some (rows_of (found_of behind))
+  pub asked : first_value (found_of behind) (codes "model") ≡ Some path
+
 -- a command line asks by the subcommand `replay` and the words behind it
 pub record AsksToReplay (words : ArgMatches) (arguments : ReplayArguments) : Type 0 where
   pub command : subcommand_name_of words ≡ Some (codes "replay")
@@ -29,3 +40,8 @@ pub record AsksToReplay (words : ArgMatches) (arguments : ReplayArguments) : Typ
   pub rows : option_map (λ p. p.1) (subcommand_rows (out-ArgMatches words).subcommand)
       ≡ Some (rows_of (found_of behind))
   pub asked : IsAsked behind arguments
+
+-- what a command line asks
+abbrev pub Asks : ArgMatches → Asked → Type 0
+Asks words (asks.Check path) = AsksToCheck words path.now
+Asks words (asks.Replay arguments) = AsksToReplay words arguments

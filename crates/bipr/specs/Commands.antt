@@ -1,9 +1,11 @@
 -- What the program may answer to the words of a command line.
+pub mod Check
 pub mod Replay
 use Rattle.std.specs.Prelude.{List, ℕ, Result}
 use Rattle.clap.specs.declared.error.Error.{Error}
 use Rattle.clap.specs.declared.parser.matches.ArgMatches.{ArgMatches}
-use Rattle.bipr.specs.CommandLine.{AsksToReplay}
+use Rattle.bipr.specs.CommandLine.{AsksToCheck, AsksToReplay}
+use Rattle.bipr.specs.Commands.Check.{IsCheck}
 use Rattle.bipr.specs.Commands.Replay.{IsReplay}
 use Rattle.bipr.specs.Refusals.{IsErrorAnswer, bad_base}
 use Rattle.bipr.specs.Stops.{out_of_memory}
@@ -15,6 +17,8 @@ use Rattle.bipr.specs.declared.inputs.InputFault.{InputFault}
 -- for, or that the base is out of range
 pub data IsCarriedOutBy (words : ArgMatches)
     (gives : List ℕ → Result (List ℕ) InputFault → Type 0) : Answer → Type 0 where
+  check_asked : (path : List ℕ) (answer : Answer) → AsksToCheck words path
+      → IsCheck gives path answer → IsCarriedOutBy words gives answer
   asked : (arguments : ReplayArguments) (answer : Answer) → AsksToReplay words arguments
       → IsReplay gives arguments answer → IsCarriedOutBy words gives answer
   unasked : IsCarriedOutBy words gives bad_base

@@ -11,6 +11,7 @@ use Rattle.bip_replay.specs.declared.faults.BookFault.TheVariants.{NotEnabled, B
 use Rattle.bip_replay.specs.declared.faults.BookFault.TheVariants.{Parties, Memory}
 use Rattle.bip_model.specs.Naming.{name_in}
 use Rattle.bip_replay.specs.declared.faults.ReplayFault.{ReplayFault}
+use Rattle.bipr.specs.declared.wording.Counts.{Counts}
 
 -- `run N`
 abbrev pub run_text : ℕ → List ℕ
@@ -43,6 +44,19 @@ complaint_text why = codes "bipr: " ++ (why ++ line_feed ∷ [])
 -- a model's text is refused
 abbrev pub model_refusal : ReadFault → List ℕ
 model_refusal fault = complaint_text (codes "model " ++ text_of_fault fault)
+
+-- what a check counts
+abbrev pub counts_text : Counts → List ℕ
+counts_text counts =
+    codes "components " ++ (decimal counts.components
+    ++ (codes " interactions " ++ (decimal counts.interactions
+    ++ (codes " classes " ++ (decimal counts.classes
+    ++ (codes " tabled " ++ (decimal counts.tabled
+    ++ (codes " reserved " ++ (decimal counts.reserved ++ line_feed ∷ [])))))))))
+
+-- a model has no plan, since this interaction touches too many components
+abbrev pub plan_refusal : System → ℕ → List ℕ
+plan_refusal m a = complaint_text (name_in m.interaction_names a ++ codes " touches too many")
 
 -- a trace's text is refused
 abbrev pub trace_refusal : ℕ → ReplayFault → List ℕ

@@ -4,13 +4,18 @@ ghost use Rattle.std.specs.Prelude.{◌≡◌, ◌≢◌, ◌≤◌, ℕ, List, 
 ghost use Rattle.bip_model.specs.declared.partitions.Partition.{Partition};
 ghost use Rattle.bip_reader.specs.Texts.{Means};
 ghost use Rattle.bip_reader.specs.declared.faults.Why.TheVariants.{Memory};
-ghost use Rattle.bipr.specs.Answers.{IsAnswer, code_of, complaining, saying};
+ghost use Rattle.bip_model.specs.Partitions.{AreClassesOf};
+ghost use Rattle.bipr.specs.Answers.{AreCountsOf, IsAnswer, IsCheckAnswer, code_of, complaining};
+ghost use Rattle.bipr.specs.Answers.{saying};
 ghost use Rattle.bipr.specs.CommandLine.{greatest_base};
 ghost use Rattle.bipr.specs.declared.answers.Status.TheVariants.{Refused};
 ghost use Rattle.bipr.specs.Wording.{model_refusal};
 
-use crate::wording::{model_refusal, run_text, trace_refusal, verdict_text};
-use bip_model::{Model, Number, Seq};
+use crate::wording::{
+    Counts, counts_text, model_refusal, plan_refusal, run_text, trace_refusal, verdict_text,
+};
+use bip_model::{Classes, Model, Number, Seq};
+use bip_partition::{Plan, first_touching_too_many};
 use bip_reader::{ReadFault, Why, read_model};
 use bip_replay::{ReplayFault, replay};
 use std::alloc::{AllocError, Global};
@@ -72,6 +77,48 @@ pub fn answer_replay(
         Err(fault) => return answer_fault(alloc, &fault),
     };
     answer_trace(alloc, &system, trace, base)
+}
+
+/// The answer to the check of a model's text: the counts of its plan; else the lowest interaction
+/// that touches too many components, or the first fault of the text (docs/DEFINITIONS.md,
+/// "Answers"). The only error is want of memory.
+pub fn answer_check(alloc: Global, model: &[u8]) -> Result<Answer, AllocError>
+    ensures { IfOk result (IsCheckAnswer model.now) }
+{
+    match read_model(alloc, model) {
+        Ok((system, classes)) => answer_plan(alloc, system, classes),
+        Err(fault) => answer_fault(alloc, &fault),
+    }
+}
+
+/// The same, where the model's text is one.
+fn answer_plan(alloc: Global, model: Model, classes: Classes) -> Result<Answer, AllocError>
+    requires { AreClassesOf model classes }
+    ensures { IfOk result (λ answer. (text : List ℕ)
+        → Means text model classes → IsCheckAnswer text answer) }
+{
+    if let Some(inter) = first_touching_too_many(&model) {
+        let complaint = plan_refusal(alloc, &model, inter)?;
+        return Ok(complained(alloc, Status::Refused, complaint));
+    }
+    let Ok(plan) = Plan::of(alloc, model, classes) else {
+        return Err(AllocError);
+    };
+    let text = counts_text(alloc, &counts(&plan))?;
+    Ok(said(alloc, Status::Done, text))
+}
+
+/// What there is to count of a plan.
+fn counts(plan: &Plan) -> Counts
+    ensures { AreCountsOf plan.now result }
+{
+    Counts {
+        components: plan.model().components().len(),
+        interactions: plan.model().interactions().len(),
+        classes: plan.classes().len(),
+        tabled: plan.count_tabled(),
+        reserved: plan.stations().len(),
+    }
 }
 
 /// The answer to a model's text with a fault.

@@ -1,6 +1,6 @@
 //! The command line.
 ghost use Rattle.std.specs.Prelude.{IfSome};
-ghost use Rattle.bipr.specs.CommandLine.{AsksToReplay, IsAsked};
+ghost use Rattle.bipr.specs.CommandLine.{Asks, IsAsked};
 
 use bip_model::Number;
 use clap::{Arg, ArgMatches, Command, value_parser};
@@ -35,6 +35,20 @@ else `line N: ..`, the first line that can't be next, and why.
 Status: 0 done, 1 an input is refused or the answer can't be written, 2 bad command line,
 3 no memory, 4 the trace is no run.";
 
+const CHECK_ABOUT: &str = "Counts what a model's partition costs";
+
+const CHECK_HELP: &str = "\
+The answer is one line:
+
+    components C interactions I classes K tabled T reserved R
+
+C, I and K are what the model declares. T of its components need a row in the third layer's
+table: those that some interaction looks at (a component of an interaction above it that it
+doesn't move), those that two classes touch, and with each one all that an interaction
+touches beside it. R of its interactions are reserved: they touch such components, and each
+grant of them is asked of the third layer. The other I - R are granted by their class alone.
+Fewer classes make T and R smaller; more classes let more grants go on side by side.";
+
 const REPLAY_ABOUT: &str = "Says whether a trace is a run of a model";
 
 const REPLAY_HELP: &str = "\
@@ -50,6 +64,13 @@ pub struct ReplayArguments<'a> {
     pub base: Number,
 }
 
+/// What a command line asks: the check of the model that a path names, or a replay.
+#[derive(Drop)]
+pub enum Asked<'a> {
+    Check(&'a str),
+    Replay(ReplayArguments<'a>),
+}
+
 /// The command line as the library reads it.
 pub fn command<'a>(alloc: Global) -> Result<Command<'a>, AllocError> {
     Command::new(alloc, "bipr")
@@ -58,7 +79,19 @@ pub fn command<'a>(alloc: Global) -> Result<Command<'a>, AllocError> {
         .after_help(HELP)
         .disable_help_subcommand(true)
         .subcommand_required(true)
+        .subcommand(check(alloc)?)?
         .subcommand(replay(alloc)?)
+}
+
+fn check<'a>(alloc: Global) -> Result<Command<'a>, AllocError> {
+    let model = Arg::new(alloc, "model")
+        .value_name("MODEL")
+        .required(true)
+        .help("the path of the model's text, or -");
+    Command::new(alloc, "check")
+        .about(CHECK_ABOUT)
+        .after_help(CHECK_HELP)
+        .arg(model)
 }
 
 fn replay<'a>(alloc: Global) -> Result<Command<'a>, AllocError> {
@@ -84,12 +117,18 @@ fn replay<'a>(alloc: Global) -> Result<Command<'a>, AllocError> {
         .arg(base)
 }
 
-/// What a command line asks; none where it asks for no replay, or its base is out of range
+/// What a command line asks; none where it asks for nothing, or its base is out of range
 /// (docs/DEFINITIONS.md, "Arguments").
-pub fn read_arguments<'a>(matches: &ArgMatches<'a>) -> Option<ReplayArguments<'a>>
-    ensures { IfSome result (AsksToReplay matches.now) }
+pub fn read_arguments<'a>(matches: &ArgMatches<'a>) -> Option<Asked<'a>>
+    ensures { IfSome result (Asks matches.now) }
 {
-    read_replay(matches.subcommand_matches("replay")?)
+    match matches.subcommand_matches("check") {
+        Some(check) => Some(Asked::Check(check.get_str("model")?)),
+        None => {
+            let replay = read_replay(matches.subcommand_matches("replay")?)?;
+            Some(Asked::Replay(replay))
+        }
+    }
 }
 
 // What the words behind `replay` ask.

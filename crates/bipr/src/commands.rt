@@ -6,16 +6,18 @@ ghost use Rattle.bipr.specs.Stops.{answer_of_stop, unread};
 ghost use Rattle.bipr.specs.Streams.{Puts};
 ghost use Rattle.bipr.specs.declared.inputs.InputFault.{InputFault};
 
+pub mod check;
 pub mod replay;
 
 use crate::answers::Status;
-use crate::command_line::{command, read_arguments};
+use crate::command_line::{Asked, command, read_arguments};
 use crate::endings::complain;
 use crate::inputs::Inputs;
 use crate::refusals::{refuse_base, refuse_parse};
 use crate::stops::{NO_MEMORY, Stop};
 use crate::streams::Stream;
 use bip_model::Seq;
+use check::check;
 use clap::ArgMatches;
 use replay::replay;
 use std::alloc::Global;
@@ -53,7 +55,8 @@ fn carry_out_matches<I: Inputs, O: Stream, E: Stream>(
         (Puts O.writes output.old output.new) (Puts E.writes errors.old errors.new) result }
 {
     match read_arguments(matches) {
-        Some(asked) => replay(alloc, inputs, &asked, output, errors),
+        Some(Asked::Check(path)) => check(alloc, inputs, path, output, errors),
+        Some(Asked::Replay(asked)) => replay(alloc, inputs, &asked, output, errors),
         None => refuse_base(output, errors),
     }
 }

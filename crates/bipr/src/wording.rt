@@ -2,13 +2,52 @@
 ghost use Rattle.std.specs.Prelude.{◌≡◌, ◌≤◌, ◌++◌, ◌-◌, [], IfOk, OnOk, slice_index_or};
 ghost use Rattle.bip_model.specs.Texts.{lines, words};
 ghost use Rattle.bip_model.specs.Naming.{name_in};
-ghost use Rattle.bipr.specs.Wording.{interaction_on, model_refusal, run_text, step_text};
-ghost use Rattle.bipr.specs.Wording.{trace_refusal, verdict_text};
+ghost use Rattle.bipr.specs.Wording.{counts_text, interaction_on, model_refusal, plan_refusal};
+ghost use Rattle.bipr.specs.Wording.{run_text, step_text, trace_refusal, verdict_text};
 
 use bip_model::{CompId, InterId, Model, NumberedLines, split_word};
 use bip_reader::ReadFault;
 use bip_replay::{BookFault, ReplayFault};
 use std::alloc::{AllocError, Global};
+
+/// What a check counts: the components, interactions and classes of a model, the components that
+/// have a row in the table, and the interactions that are reserved.
+#[derive(Clone, Copy, Debug)]
+pub struct Counts {
+    pub components: usize,
+    pub interactions: usize,
+    pub classes: usize,
+    pub tabled: usize,
+    pub reserved: usize,
+}
+
+/// `components C interactions I classes K tabled T reserved R`.
+pub fn counts_text(alloc: Global, counts: &Counts) -> Result<Vec<u8>, AllocError>
+    ensures { IfOk result (λ text. text.items ≡ counts_text counts.now) }
+{
+    let Counts {
+        components,
+        interactions,
+        classes,
+        tabled,
+        reserved,
+    } = *counts;
+    let text = format!(in alloc;
+        "components {components} interactions {interactions} classes {classes} \
+        tabled {tabled} reserved {reserved}\n"
+    )?;
+    Ok(text.into_bytes())
+}
+
+/// The complaint of a model that has no plan.
+pub fn plan_refusal(alloc: Global, model: &Model, inter: InterId) -> Result<Vec<u8>, AllocError>
+    ensures { IfOk result (λ text. text.items ≡ plan_refusal model.now inter.0) }
+{
+    let mut text = Vec::from_slice(alloc, b"bipr: ")?;
+    text.extend_from_slice(interaction_name(model, inter))?;
+    text.extend_from_slice(b" touches too many\n")?;
+    Ok(text)
+}
 
 /// `run N`.
 pub fn run_text(alloc: Global, count: u64) -> Result<Vec<u8>, AllocError>

@@ -1,9 +1,13 @@
-use Rattle.bipr.specs.Commands.{asked, unasked}
+use Rattle.bipr.specs.Commands.{asked, check_asked, unasked}
 use Rattle.bipr.proofs.commands.carry_out_matches.Goals as goal
 
-pub returns-in-Some : goal.returns-in-Some
-returns-in-Some g c =
-    (c.replay.ensures.0, asked c.in-Some.asked c.replay.ensures.0 c.in-Some.ensures c.replay.ensures.1, c.replay.ensures.2)
+pub returns-in-Some-Check : goal.returns-in-Some-Check
+returns-in-Some-Check g c =
+    (c.check.ensures.0, check_asked c.in-Some-Check.path.now c.check.ensures.0 (rw c.in-Some-Check.field-0-is at c.in-Some-Check.ensures) c.check.ensures.1, c.check.ensures.2)
+
+pub returns-in-Some-Replay : goal.returns-in-Some-Replay
+returns-in-Some-Replay g c =
+    (c.replay.ensures.0, asked c.in-Some-Replay.asked c.replay.ensures.0 (rw c.in-Some-Replay.field-0-is at c.in-Some-Replay.ensures) c.replay.ensures.1, c.replay.ensures.2)
 
 pub returns-in-None : goal.returns-in-None
 returns-in-None g c = (_, unasked, c.refuse_base.ensures)

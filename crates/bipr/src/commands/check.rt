@@ -1,0 +1,35 @@
+//! The command `check`.
+ghost use Rattle.bipr.specs.Commands.Check.{IsCheck};
+ghost use Rattle.bipr.specs.Endings.{AllOutcomes, Ends};
+ghost use Rattle.bipr.specs.Streams.{Puts};
+
+use crate::answers::{Answer, Status, answer_check};
+use crate::commands::read_input;
+use crate::endings::end;
+use crate::inputs::Inputs;
+use crate::stops::Stop;
+use crate::streams::Stream;
+use std::alloc::Global;
+
+/// Counts what the plan of the model has that the path names, writes the answer, and says with which
+/// status the command ends (docs/DEFINITIONS.md, "The check that is asked for").
+pub fn check<I: Inputs, O: Stream, E: Stream>(
+    alloc: Global,
+    inputs: &I,
+    path: &str,
+    output: &mut O,
+    errors: &mut E,
+) -> Status
+    ensures { Ends (IsCheck (I.gives inputs.now) path.now) (Puts O.writes output.old output.new)
+        (Puts E.writes errors.old errors.new) result }
+{
+    end(alloc, output, errors, answer_path(alloc, inputs, path))
+}
+
+// The answer to the check of the model that the path names.
+fn answer_path<'a, I: Inputs>(alloc: Global, inputs: &I, path: &'a str) -> Result<Answer, Stop<'a>>
+    ensures { AllOutcomes result (IsCheck (I.gives inputs.now) path.now) }
+{
+    let text = read_input(alloc, inputs, path)?;
+    Ok(answer_check(alloc, text.as_slice())?)
+}
