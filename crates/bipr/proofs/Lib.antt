@@ -4,6 +4,7 @@ pub mod EndingLemmas
 pub mod KnownLemmas
 pub mod MarkLemmas
 pub mod OneAnswerLemmas
+pub mod OneCheckLemmas
 pub mod ReplayLemmas
 pub mod SomeAnswerLemmas
 pub mod StreamLemmas

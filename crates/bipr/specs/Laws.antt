@@ -1,6 +1,6 @@
 -- The laws of answers, and of the replay of texts that are known.
 use Rattle.std.specs.Prelude.{◌≡◌, ◌≤◌, ℕ, false, true, List, length}
-use Rattle.bipr.specs.Answers.{IsAnswer, complaining}
+use Rattle.bipr.specs.Answers.{IsAnswer, IsCheckAnswer, complaining}
 use Rattle.bipr.specs.Commands.Replay.{IsModelText, IsReplay, is_joined}
 use Rattle.bipr.specs.Dividing.{AreParts, after_mark, before_mark}
 use Rattle.bipr.specs.Inputs.{IsReading, Named, bytes, most_bytes}
@@ -17,6 +17,11 @@ PartedByLines = (text : List ℕ) → AreParts text (before_mark text) (after_ma
 abbrev pub OneAnswer : Type 0
 OneAnswer = (base : ℕ) (model trace : List ℕ) (a b : Answer)
     → IsAnswer base model trace a → IsAnswer base model trace b → a ≡ b
+
+-- a text has one answer to its check
+abbrev pub OneCheckAnswer : Type 0
+OneCheckAnswer =
+    (text : List ℕ) (a b : Answer) → IsCheckAnswer text a → IsCheckAnswer text b → a ≡ b
 
 -- every two texts and base have an answer
 abbrev pub SomeAnswer : Type 0

@@ -1,16 +1,19 @@
 //! The laws of answers, of two texts in one, and of the replay of texts that are known.
-ghost use Rattle.bipr.specs.Laws.{OneAnswer, OneTextDecides, PartedByLines, SomeAnswer};
+ghost use Rattle.bipr.specs.Laws.{OneAnswer, OneCheckAnswer, OneTextDecides, PartedByLines};
+ghost use Rattle.bipr.specs.Laws.{SomeAnswer};
 ghost use Rattle.bipr.specs.Laws.{TwoTextsDecide};
 
 use bip_reader::meaning_laws;
 use bip_replay::fault_laws;
 
-/// Two texts and a base have an answer, and no more than one; two texts in one are parted by lines
-/// (docs/DEFINITIONS.md, "Answers" and "Two texts in one").
+/// Two texts and a base have an answer, and no more than one; a text has no more than one answer to
+/// its check; two texts in one are parted by lines (docs/DEFINITIONS.md, "Answers" and "Two texts in
+/// one").
 pub fn answer_laws()
     ensures parts { PartedByLines }
     ensures some { SomeAnswer }
     ensures one { OneAnswer }
+    ensures one_check { OneCheckAnswer }
 {
     meaning_laws();
     fault_laws();

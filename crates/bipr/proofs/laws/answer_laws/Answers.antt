@@ -1,11 +1,15 @@
 use Rattle.bipr.proofs.MarkLemmas.{are_parts}
-use Rattle.bipr.proofs.OneAnswerLemmas.{has_one_answer}
+use Rattle.bipr.proofs.OneAnswerLemmas.{AreExact, has_one_answer}
+use Rattle.bipr.proofs.OneCheckLemmas.{has_one_check}
 use Rattle.bipr.proofs.SomeAnswerLemmas.{some_answer}
 use Rattle.bipr.proofs.laws.answer_laws.Goals as goal
 
 pub returns : goal.returns
-returns c = record {
-  parts = are_parts;
-  some = some_answer c.meaning_laws.ensures.some c.meaning_laws.ensures.valid c.meaning_laws.ensures.whys c.fault_laws.ensures.answered;
-  one = has_one_answer (record { meaning = c.meaning_laws.ensures.meaning; fault = c.meaning_laws.ensures.fault; either = c.meaning_laws.ensures.either; no_run = c.fault_laws.ensures.first; one = c.fault_laws.ensures.one });
-}
+returns c =
+    let exact : AreExact = record { meaning = c.meaning_laws.ensures.meaning; fault = c.meaning_laws.ensures.fault; either = c.meaning_laws.ensures.either; no_run = c.fault_laws.ensures.first; one = c.fault_laws.ensures.one } in
+    record {
+      parts = are_parts;
+      some = some_answer c.meaning_laws.ensures.some c.meaning_laws.ensures.valid c.meaning_laws.ensures.whys c.fault_laws.ensures.answered;
+      one = has_one_answer exact;
+      one_check = has_one_check exact;
+    }
