@@ -8,6 +8,7 @@ mod building;
 mod laws;
 mod listing;
 mod parting;
+mod planning;
 mod positions;
 mod reading;
 mod stepping;

@@ -1,6 +1,7 @@
 use bip_model::{
     builder_laws, expression_laws, history_laws, partition_laws, priority_laws, step_laws,
 };
+use bip_partition::plan_laws;
 use bip_reader::meaning_laws;
 use bip_replay::{fault_laws, run_laws, trace_laws};
 
@@ -12,6 +13,7 @@ fn laws_can_be_called(_rt: HostRuntime) {
     partition_laws();
     priority_laws();
     step_laws();
+    plan_laws();
     meaning_laws();
     fault_laws();
     run_laws();
