@@ -74,8 +74,8 @@ pub record IsCountTabled (p : Planned) (count : ℕ) : Type 0 where
   pub exact : (c : ℕ) → Contains list (record { 0 = c }) ↔ IsTabled p c
   pub counted : count ≡ length list
 
--- the list of the reserved interactions, in order of their numbers: station s decides for the one at
--- place s
+-- the list of the reserved interactions, in order of their numbers: station s decides for the one
+-- at place s
 pub record AreStations (p : Planned) (list : List InterId) : Type 0 where
   pub rising : IsStrictlyIncreasing (map (λ (a : InterId). a.0) list)
   pub exact : (a : ℕ) → Contains list (inter a) ↔ IsReserved p a

@@ -92,7 +92,7 @@ IsListReservedBy touches set bound list =
     (λ a. IsTrue (meets set (slice_index_or touches a []))) bound list
 
 -- all that a plan keeps
-pub record AreTables (p : Planned) (t : Tables) : Type 0 where
+pub record ArePlanTables (p : Planned) (t : Tables) : Type 0 where
   pub lists_touched : AreListsTouched p.model (length p.model.interactions) t.touches
   pub lists_touching : AreListsTouching p (length p.model.components) t.touching
   pub rows : AreTabled p t.tabled
@@ -105,4 +105,4 @@ pub record IsPlan (p : Planned) (t : Tables) : Type 0 where
   pub parted : IsClasses p.classes
   pub of_model : AreClassesOf p.model p.classes
   pub few : (a : ℕ) → ¬ TouchesTooMany p.model a
-  pub tables : AreTables p t
+  pub tables : ArePlanTables p t

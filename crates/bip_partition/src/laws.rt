@@ -5,11 +5,11 @@ ghost use Rattle.bip_partition.specs.Laws.{LocalMeansNone, OneClassWithoutRow, R
 ghost use Rattle.bip_partition.specs.Laws.{RowsAreClosed, RowsAreLeast, RunApart};
 ghost use Rattle.bip_partition.specs.Laws.{StandsInItsClass};
 
-/// Each interaction moves something, and stands in one class. The components with a row in the table
-/// are the least set that has what is looked at, what two classes touch, and what is touched beside
-/// one of them: a reserved interaction touches only these, a local one none, and what touches
-/// another component is of one class. Interactions that may run and aren't in conflict run in either
-/// order, and lead to one state (docs/DEFINITIONS.md, "Plans").
+/// Each interaction moves something, and stands in one class. The components with a row in the
+/// table are the least set that has what is looked at, what two classes touch, and what is touched
+/// beside one of them: a reserved interaction touches only these, a local one none, and what
+/// touches another component is of one class. Interactions that may run and aren't in conflict run
+/// in either order, and lead to one state (docs/DEFINITIONS.md, "Plans").
 pub fn plan_laws()
     ensures moves { EachMoves }
     ensures stands { StandsInItsClass }

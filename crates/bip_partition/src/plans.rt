@@ -1,6 +1,6 @@
 //! Plans, and the questions that they answer without memory.
-ghost use Rattle.std.specs.Prelude.{◌≡◌, ◌<◌, ◌≤◌, ◌↔◌, ℕ, Any, IfErr, IfNone, IfOk, IfSome, IsTrue};
-ghost use Rattle.std.specs.Prelude.{OnOk, length};
+ghost use Rattle.std.specs.Prelude.{◌≡◌, ◌<◌, ◌≤◌, ◌↔◌, ℕ, Any, IfErr, IfNone, IfOk, IfSome};
+ghost use Rattle.std.specs.Prelude.{IsTrue, OnOk, length};
 ghost use Rattle.bip_model.specs.Partitions.{AreClassesOf, IsClasses, class_in};
 ghost use Rattle.bip_model.specs.Parts.{IsSystem};
 ghost use Rattle.bip_model.specs.Steps.{IsListLookedAt, moves, participants_of};
@@ -172,8 +172,8 @@ impl Plan {
         meet_at_any(&self.model, inter, other, self.touches(inter))
     }
 
-    /// Whether a request fits: its interaction is reserved, and of its class, and it wants just what
-    /// that one moves and looks at.
+    /// Whether a request fits: its interaction is reserved, and of its class, and it wants just
+    /// what that one moves and looks at.
     pub fn fits(&self, request: &Request) -> bool
         ensures { IsTrue result ↔ IsFit self.now request.now }
     {

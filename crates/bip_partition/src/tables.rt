@@ -11,9 +11,8 @@ ghost use Rattle.bip_model.specs.declared.numbering.InterId.{InterId};
 ghost use Rattle.bip_partition.specs.Plans.{AreStations, IsListTouched, IsListTouching, IsReserved};
 ghost use Rattle.bip_partition.specs.Plans.{Planned, Touches};
 ghost use Rattle.bip_partition.specs.Tables.{AreListsTouched, AreListsTouching, AreSeedsBelow};
-ghost use Rattle.bip_partition.specs.Tables.{AreTables, AreTabled, HaveBits, IsLinked, IsListReservedBy, IsSeed};
-ghost use Rattle.bip_partition.specs.Tables.{meets};
-ghost use Rattle.bip_partition.specs.Tables.{outside_beside};
+ghost use Rattle.bip_partition.specs.Tables.{ArePlanTables, AreTabled, HaveBits, IsLinked};
+ghost use Rattle.bip_partition.specs.Tables.{IsListReservedBy, IsSeed, meets, outside_beside};
 
 use crate::sets::{has_comp, with_comp};
 use bip_model::{ClassId, Classes, CompId, InterId, Model, Seq};
@@ -219,7 +218,7 @@ impl Tables {
     /// All that the plan of a model with classes keeps.
     pub(crate) fn of(alloc: Global, model: &Model, classes: &Classes) -> Result<Tables, AllocError>
         requires { AreClassesOf model.now classes.now }
-        ensures { IfOk result (AreTables
+        ensures { IfOk result (ArePlanTables
             (record { model = model.now; classes = classes.now })) }
     {
         let touches = lists_touched(alloc, model)?;
