@@ -1,13 +1,9 @@
 -- The text of a model has one answer to its check.
-use Rattle.std.proofs.Common.{◌≡◌, ◌↔◌, ℕ, ◌<◌, List, length, map, refl, sym, ap, ◌∙◌, subst, arith, inl, inr}
-use Rattle.std.specs.Prelude.{Contains}
-use Rattle.std.specs.List.Sorted.{IsStrictlyIncreasing}
+use Rattle.std.proofs.Common.{◌≡◌, ℕ, List, length, map, refl, sym, ap, ◌∙◌, subst, inl, inr}
 use Rattle.std.proofs.lemmas.Bool.{cases_order}
-use Rattle.bip_model.specs.Priorities.{inter}
 use Rattle.bip_model.specs.declared.numbering.CompId.{CompId}
 use Rattle.bip_model.specs.declared.numbering.InterId.{InterId}
 use Rattle.bip_model.specs.declared.parts.System.{System}
-use Rattle.bip_model.specs.declared.partitions.Partition.{Partition}
 use Rattle.bip_model.proofs.NumberingLemmas.{rises_from_increasing, same_list}
 use Rattle.bip_partition.specs.Faults.{IsLowestTooMany}
 use Rattle.bip_partition.specs.Plans.{AreStations, IsCountTabled, Planned}

@@ -1,5 +1,5 @@
--- The answer to a replay: the one that the text of a model, the text of a trace and a base have; and
--- the answer to a check, the one that the text of a model has.
+-- The answer to a replay: the one that the text of a model, the text of a trace and a base have.
+-- The answer to a check: the one that the text of a model has.
 use Rattle.std.specs.Prelude.{◌≡◌, ◌≢◌, ℕ, List, [], length, ⊤}
 use Rattle.bip_model.specs.declared.parts.System.{System}
 use Rattle.bip_model.specs.declared.partitions.Partition.{Partition}

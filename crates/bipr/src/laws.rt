@@ -6,9 +6,8 @@ ghost use Rattle.bipr.specs.Laws.{TwoTextsDecide};
 use bip_reader::meaning_laws;
 use bip_replay::fault_laws;
 
-/// Two texts and a base have an answer, and no more than one; a text has no more than one answer to
-/// its check; two texts in one are parted by lines (docs/DEFINITIONS.md, "Answers" and "Two texts in
-/// one").
+/// Two texts and a base have an answer, and no more than one; no text has two answers to its check;
+/// two texts in one are parted by lines (docs/DEFINITIONS.md, "Answers" and "Two texts in one").
 pub fn answer_laws()
     ensures parts { PartedByLines }
     ensures some { SomeAnswer }

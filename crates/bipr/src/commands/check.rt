@@ -11,8 +11,8 @@ use crate::stops::Stop;
 use crate::streams::Stream;
 use std::alloc::Global;
 
-/// Counts what the plan of the model has that the path names, writes the answer, and says with which
-/// status the command ends (docs/DEFINITIONS.md, "The check that is asked for").
+/// Counts what the plan has of the model that the path names, writes the answer, and says with
+/// which status the command ends (docs/DEFINITIONS.md, "The check that is asked for").
 pub fn check<I: Inputs, O: Stream, E: Stream>(
     alloc: Global,
     inputs: &I,
