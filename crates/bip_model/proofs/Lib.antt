@@ -18,6 +18,7 @@ pub mod PartitionLemmas
 pub mod PartyLemmas
 pub mod PortLemmas
 pub mod PriorityLemmas
+pub mod PutLemmas
 pub mod ScopeLemmas
 pub mod SequenceLemmas
 pub mod SetLemmas

@@ -39,7 +39,7 @@ pub use models::Model;
 pub use naming::{Name, Names};
 pub use numbering::{ClassId, CompId, InterId, LocId, Number, PortId, VarId};
 pub use partitions::{Classes, MOST_CLASSES, Partition};
-pub use parts::{Component, Interaction, Pair, System, Transition};
+pub use parts::{Component, Interaction, MOST_PARTICIPANTS, Pair, System, Transition};
 pub use scopes::VariableName;
 pub use sequence::Seq;
 pub use states::{LocalState, State, Values};

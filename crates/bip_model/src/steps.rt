@@ -7,6 +7,7 @@ ghost use Rattle.std.specs.List.{list_all};
 ghost use Rattle.std.specs.Option.{option_map};
 ghost use Rattle.bip_model.specs.Components.{AreOffered, moved};
 ghost use Rattle.bip_model.specs.Expressions.{AreAssignmentsIn, counts, holds, transferred};
+ghost use Rattle.bip_model.specs.Messages.{IsOfferIn};
 ghost use Rattle.bip_model.specs.Parts.{IsInteraction, IsSystem, components_in, count_of};
 ghost use Rattle.bip_model.specs.Parts.{counts_of};
 ghost use Rattle.bip_model.specs.Priorities.{IsAbove, IsListAbove};
@@ -18,8 +19,8 @@ ghost use Rattle.bip_model.specs.Steps.{start_of, told_all, transfer_of, transit
 use crate::expressions::{holds, transfer};
 use crate::parts::MOST_PARTICIPANTS;
 use crate::{
-    CompId, InterId, Interaction, LocId, LocalState, Model, NotNow, PortId, State, Transition,
-    Values,
+    CompId, InterId, Interaction, LocId, LocalState, Model, NotNow, Number, Offer, PortId, State,
+    Transition, Values,
 };
 use std::alloc::{AllocError, Global};
 
@@ -187,6 +188,22 @@ impl Model {
             location,
             values: *values,
         })
+    }
+
+    /// What a component offers in a local state, as its move of this number
+    /// (docs/DEFINITIONS.md, "Offers").
+    pub fn offer(&self, comp: CompId, number: Number, location: LocId, values: &Values) -> Offer
+        requires component { comp.0 < length self.now.components }
+        requires local { IfSome (slice_get self.now.components comp.0)
+            (λ component. IsLocalStateOf component (local_of (location, values.now))) }
+        ensures { IsOfferIn self.now comp.0 number (local_of (location, values.now)) result }
+    {
+        Offer {
+            comp,
+            number,
+            ports: self.ports(comp, location, values),
+            values: *values,
+        }
     }
 
     /// Where a component's transition with a port leads from a local state, after its update; none

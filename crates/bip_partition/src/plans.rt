@@ -1,15 +1,18 @@
 //! Plans, and the questions that they answer without memory.
-ghost use Rattle.std.specs.Prelude.{◌≡◌, ◌<◌, ◌≤◌, ◌↔◌, ℕ, Any, IfErr, IfNone, IfOk, IfSome};
+ghost use Rattle.std.specs.Prelude.{◌≡◌, ◌<◌, ◌≤◌, ◌↔◌, ◌==◌, ℕ, Any, IfErr, IfNone, IfOk, IfSome};
 ghost use Rattle.std.specs.Prelude.{IsTrue, OnOk, length};
+ghost use Rattle.std.specs.List.{list_any};
 ghost use Rattle.bip_model.specs.Partitions.{AreClassesOf, IsClasses, class_in};
 ghost use Rattle.bip_model.specs.Parts.{IsSystem};
 ghost use Rattle.bip_model.specs.Steps.{IsListLookedAt, moves, participants_of};
 ghost use Rattle.bip_partition.specs.Faults.{IsLowestTooMany, IsPlanFault};
-ghost use Rattle.bip_partition.specs.Plans.{AreStations, InConflict, IsCountTabled, IsFit};
+ghost use Rattle.bip_partition.specs.Plans.{AreStations, ClassTouches, InConflict, IsCountTabled};
+ghost use Rattle.bip_partition.specs.Plans.{IsFit};
 ghost use Rattle.bip_partition.specs.Plans.{IsListTouched};
 ghost use Rattle.bip_partition.specs.Plans.{IsListTouching, IsReserved, IsTabled, Planned};
 ghost use Rattle.bip_partition.specs.Plans.{MeetAt, TouchesTooMany};
 ghost use Rattle.bip_partition.specs.Tables.{IsCountTouched};
+ghost use Rattle.bip_model.specs.declared.numbering.ClassId.{ClassId};
 ghost use Rattle.bip_model.specs.declared.numbering.CompId.{CompId};
 
 use crate::PlanFault;
@@ -118,6 +121,17 @@ impl Plan {
         ensures { IsListTouching self.now comp.0 result.now }
     {
         self.tables.touching.as_slice()[comp.0 as usize].as_slice()
+    }
+
+    /// Whether a class touches a component; false for numbers that the plan lacks.
+    pub fn class_touches(&self, class: ClassId, comp: CompId) -> bool
+        ensures touches { IsTrue result ↔ ClassTouches self.now class.0 comp.0 }
+        ensures known { IsTrue result → comp.0 < length self.now.model.components }
+    {
+        if self.model.components().len() <= comp.0 as usize {
+            return false;
+        }
+        is_among(self.classes_of(comp), class)
     }
 
     /// Whether a component has a row in the table; false for a number that the model lacks.
@@ -234,4 +248,11 @@ fn meet_at(model: &Model, inter: InterId, other: InterId, comp: CompId) -> bool
     touches(model, inter, comp)
         && touches(model, other, comp)
         && (model.moves(inter, comp) || model.moves(other, comp))
+}
+
+/// Whether a class is one of these.
+fn is_among(classes: &[ClassId], class: ClassId) -> bool
+    ensures { result ≡ list_any (λ (k : ClassId). k.0 == class.0) classes.now }
+{
+    classes.iter().any(|one| *one == class)
 }

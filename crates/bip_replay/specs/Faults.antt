@@ -2,13 +2,14 @@
 use Rattle.std.specs.Fmt.{decimal}
 use Rattle.std.specs.Prelude.{All, Any, List, codes, if◌then◌else◌, length, nat_lt, ℕ, ◌++◌, ◌+◌}
 use Rattle.std.specs.Prelude.{◌<◌, ◌≡◌}
+use Rattle.bip_model.specs.Numbering.{last_number}
 use Rattle.bip_model.specs.States.{State}
 use Rattle.bip_model.specs.Steps.{IsEnabled, IsLowestAbove, MayRun}
 use Rattle.bip_model.specs.declared.grants.Grant.{Grant}
 use Rattle.bip_model.specs.declared.wants.Want.{Want}
 use Rattle.bip_model.specs.declared.parts.System.{System}
 use Rattle.bip_model.specs.Parties.{AreParties}
-use Rattle.bip_replay.specs.Runs.{HasNextNumber, Standing, last_number}
+use Rattle.bip_replay.specs.Runs.{HasNextNumber, Standing}
 use Rattle.bip_replay.specs.declared.faults.BookFault.TheVariants as book
 use Rattle.bip_replay.specs.declared.faults.BookFault.{BookFault}
 use Rattle.bip_replay.specs.declared.faults.LineFault.TheVariants as line

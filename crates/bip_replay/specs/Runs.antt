@@ -6,16 +6,13 @@ use Rattle.std.specs.Prelude.{◌≡◌, ◌≤◌}
 use Rattle.bip_model.specs.Grants.{used_by}
 use Rattle.bip_model.specs.States.{State, state_of}
 use Rattle.bip_model.specs.Steps.{MayRun, after, end_of, start_of}
+use Rattle.bip_model.specs.Numbering.{last_number}
 use Rattle.bip_model.specs.Parties.{AreParties}
 use Rattle.bip_model.specs.Wants.{is_moved, raised}
 use Rattle.bip_model.specs.declared.grants.Grant.{Grant}
 use Rattle.bip_model.specs.declared.wants.Want.{Want}
 use Rattle.bip_model.specs.declared.parts.System.{System}
 use Rattle.bip_model.specs.declared.states.LocalState.{LocalState}
-
--- no number is above this one
-abbrev pub last_number : ℕ
-last_number = 18446744073709551615
 
 -- a want has the number of its component's next move: one above the used number, where there is one
 pub record HasNextNumber (used : ℕ → ℕ) (w : Want) : Type 0 where

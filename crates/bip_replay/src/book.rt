@@ -2,7 +2,8 @@
 ghost use Rattle.std.specs.Prelude.{◌≡◌, ◌<◌, [], ◌∷◌, ◌++◌, length, IfOk, IfErr, OnOk, OnErr};
 ghost use Rattle.bip_replay.specs.Book.{IsRunWith, IsAppendFault};
 ghost use Rattle.bip_replay.specs.declared.faults.BookFault.TheVariants.{Memory};
-ghost use Rattle.bip_replay.specs.Runs.{IsModelRun, last_number};
+ghost use Rattle.bip_model.specs.Numbering.{last_number};
+ghost use Rattle.bip_replay.specs.Runs.{IsModelRun};
 
 use crate::{BookFault, GrantRef, Position};
 use bip_model::{Grant, Model, Number};

@@ -1,6 +1,7 @@
 //! Replaying a trace: whether the grants of a text are a run of a model.
 ghost use Rattle.std.specs.Prelude.{◌<◌, ℕ, IfOk, IfErr};
-ghost use Rattle.bip_replay.specs.Runs.{last_number, standing_of};
+ghost use Rattle.bip_model.specs.Numbering.{last_number};
+ghost use Rattle.bip_replay.specs.Runs.{standing_of};
 ghost use Rattle.bip_replay.specs.Replays.{IsReplayFault, IsRunOf, Takes};
 
 use crate::rooms::Room;

@@ -2,10 +2,11 @@
 ghost use Rattle.std.specs.Prelude.{◌≡◌, ◌==◌, ◌<◌, ℕ, [], length, find, IsTrue, IfOk, IfErr, OnOk};
 ghost use Rattle.std.specs.Prelude.{OnErr};
 ghost use Rattle.std.specs.List.Sorted.{IsStrictlyIncreasing};
+ghost use Rattle.bip_model.specs.Numbering.{last_number};
 ghost use Rattle.bip_model.specs.Wants.{components_of, is_moved, raised};
 ghost use Rattle.bip_model.specs.declared.wants.Want.{Want};
 ghost use Rattle.bip_replay.specs.Runs.{AreMovedWithin, StandsAfter};
-ghost use Rattle.bip_replay.specs.Runs.{last_number, standing_of, used_in, used_up};
+ghost use Rattle.bip_replay.specs.Runs.{standing_of, used_in, used_up};
 
 use crate::{GrantRef, StepFault};
 use bip_model::{CompId, Model, Number, Role, Seq, State, Want};
