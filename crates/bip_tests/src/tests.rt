@@ -7,6 +7,7 @@ mod appending;
 mod building;
 mod laws;
 mod listing;
+mod observing;
 mod parting;
 mod planning;
 mod positions;

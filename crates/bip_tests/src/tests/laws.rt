@@ -1,6 +1,7 @@
 use bip_model::{
     builder_laws, expression_laws, history_laws, partition_laws, priority_laws, step_laws,
 };
+use bip_observe::{offer_laws, verdict_laws};
 use bip_partition::plan_laws;
 use bip_reader::meaning_laws;
 use bip_replay::{fault_laws, run_laws, trace_laws};
@@ -14,6 +15,8 @@ fn laws_can_be_called(_rt: HostRuntime) {
     priority_laws();
     step_laws();
     plan_laws();
+    offer_laws();
+    verdict_laws();
     meaning_laws();
     fault_laws();
     run_laws();

@@ -1,0 +1,4 @@
+use Rattle.bip_observe.proofs.offers.Offers.plan.Goals as goal
+
+pub returns-clause-own : goal.returns-clause-own
+returns-clause-own c = rw (← c.self.view_is) c.self.invariant.own

@@ -1,0 +1,105 @@
+-- What the definitions mean, in the subject's own words: laws that a reviewer reads.
+use Rattle.std.specs.Prelude.{◌≡◌, ℕ, ◌<◌, ◌≤◌, false, true, Some, ⊤, length}
+use Rattle.bip_model.specs.Messages.{IsOfferIn, Shows, ShowsState}
+use Rattle.bip_model.specs.Parts.{IsSystem}
+use Rattle.bip_model.specs.States.{IsStateOf, State}
+use Rattle.bip_model.specs.Steps.{IsEnabled, IsLowestAbove, MayRun}
+use Rattle.bip_model.specs.declared.messages.Offer.{Offer}
+use Rattle.bip_model.specs.declared.parts.System.{System}
+use Rattle.bip_model.specs.declared.states.LocalState.{LocalState}
+use Rattle.bip_partition.specs.Plans.{ClassTouches, Planned, Touches}
+use Rattle.bip_observe.specs.Offers.{AreOwn, IsExpected, IsReceipt, Observed, with_held, with_known}
+use Rattle.bip_observe.specs.Verdicts.{IsReady, IsVerdict, is_counted, offers_of}
+use Rattle.bip_observe.specs.declared.offers.Receipt.{Receipt}
+use Rattle.bip_observe.specs.declared.offers.Receipt.TheVariants.{Held, Old}
+use Rattle.bip_observe.specs.declared.verdicts.Verdict.{Verdict}
+use Rattle.bip_observe.specs.declared.verdicts.Verdict.TheVariants.{Ready, NotReady, PortOff}
+use Rattle.bip_observe.specs.declared.verdicts.Verdict.TheVariants.{GuardFalse, Below}
+
+-- what a component offers in its local state shows the state
+abbrev pub OwnOffersShow : Type 0
+OwnOffersShow =
+    (m : System) (s : State) (c number : ℕ) (local : LocalState) (offer : Offer)
+    → s c ≡ Some local → IsOfferIn m c number local offer → ShowsState m s offer
+
+-- in a local state a component has one offer as its move of a number
+abbrev pub OneOfferEach : Type 0
+OneOfferEach =
+    (m : System) (c number : ℕ) (local : LocalState) (x y : Offer)
+    → IsOfferIn m c number local x → IsOfferIn m c number local y → x ≡ y
+
+-- in a state of the model it is no stranger's to a class that touches the component
+abbrev pub OwnOffersAreExpected : Type 0
+OwnOffersAreExpected =
+    (p : Planned) (class : ℕ) → IsSystem p.model → (s : State) → IsStateOf p.model s
+    → (c number : ℕ) (local : LocalState) (offer : Offer) → s c ≡ Some local
+    → IsOfferIn p.model c number local offer → ClassTouches p class c
+    → IsExpected p class offer
+
+-- an offer has one receipt
+abbrev pub OneReceipt : Type 0
+OneReceipt =
+    (v : Observed) (offer : Offer) (r t : Receipt) → IsReceipt v offer r → IsReceipt v offer t
+    → r ≡ t
+
+-- an offer that was held is old from then on, and counts until its number is used
+abbrev pub HeldOnce : Type 0
+HeldOnce =
+    (v : Observed) (offer : Offer) → IsReceipt v offer Held
+    → IsReceipt (with_held offer v) offer Old
+    × (is_counted (with_held offer v) offer.comp.0 ≡ true)
+
+-- an offer whose number is known to be used doesn't count
+abbrev pub UsedNumbersDontCount : Type 0
+UsedNumbersDontCount =
+    (v : Observed) (c number : ℕ) (offer : Offer) → v.held c ≡ Some offer
+    → offer.number ≤ number → is_counted (with_known c number v) c ≡ false
+
+-- the offers of all components that an interaction touches show a state
+abbrev pub AllShow : System → (ℕ → Offer) → State → ℕ → Type 0
+AllShow m o s a = (c : ℕ) → Touches m a c → ShowsState m s (o c)
+
+-- by offers that show a state an interaction is ready only where it may run there
+abbrev pub ReadyMeansMayRun : Type 0
+ReadyMeansMayRun =
+    (m : System) (o : ℕ → Offer) (s : State) (a : ℕ) → IsReady m o a → AllShow m o s a
+    → MayRun m s a
+
+-- and where it may run there it is ready, by the components' own offers
+abbrev pub MayRunMeansReady : Type 0
+MayRunMeansReady =
+    (m : System) → IsSystem m → (o : ℕ → Offer) (s : State) (a : ℕ)
+    → ((c : ℕ) → Touches m a c → (o c).comp.0 ≡ c) → AllShow m o s a → MayRun m s a
+    → IsReady m o a
+
+-- what a verdict says of the state that the offers show
+abbrev pub SaysOf : System → State → ℕ → Verdict → Type 0
+SaysOf m s a (NotReady c) = ⊤
+SaysOf m s a (PortOff c) = ¬ IsEnabled m s a
+SaysOf m s a GuardFalse = ¬ IsEnabled m s a
+SaysOf m s a (Below b) = IsEnabled m s a × IsLowestAbove m s a b.0
+SaysOf m s a Ready = MayRun m s a
+
+-- each offer that is held and counts shows a state
+abbrev pub CountedShow : Observed → State → Type 0
+CountedShow v s =
+    (c : ℕ) (offer : Offer) → v.held c ≡ Some offer → v.known c < offer.number
+    → ShowsState v.plan.model s offer
+
+-- where the offers that count show a state, a verdict is true of it
+abbrev pub VerdictsAreTrue : Type 0
+VerdictsAreTrue =
+    (v : Observed) → IsSystem v.plan.model → AreOwn v → (s : State) → CountedShow v s
+    → (a : ℕ) → a < length v.plan.model.interactions → (w : Verdict) → IsVerdict v a w
+    → SaysOf v.plan.model s a w
+
+-- each verdict excludes the others
+abbrev pub OneVerdict : Type 0
+OneVerdict =
+    (v : Observed) (a : ℕ) (w x : Verdict) → IsVerdict v a w → IsVerdict v a x → w ≡ x
+
+-- and one of them holds
+abbrev pub SomeVerdict : Type 0
+SomeVerdict =
+    (v : Observed) → IsSystem v.plan.model → AreOwn v → (a : ℕ)
+    → a < length v.plan.model.interactions → (w : Verdict) × IsVerdict v a w

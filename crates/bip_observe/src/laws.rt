@@ -1,0 +1,30 @@
+//! The laws above the definitions: what a reviewer reads to know what they mean. The calls do
+//! nothing, and have the laws for their contracts.
+ghost use Rattle.bip_observe.specs.Laws.{HeldOnce, MayRunMeansReady, OneOfferEach, OneReceipt};
+ghost use Rattle.bip_observe.specs.Laws.{OneVerdict, OwnOffersAreExpected, OwnOffersShow};
+ghost use Rattle.bip_observe.specs.Laws.{ReadyMeansMayRun, SomeVerdict, UsedNumbersDontCount};
+ghost use Rattle.bip_observe.specs.Laws.{VerdictsAreTrue};
+
+/// What a component offers in its local state shows the state, there is one such offer of each
+/// number, and no class that touches the component takes it for a stranger's. An offer has one
+/// receipt; one that was held is old from then on, and counts; one whose number is used doesn't
+/// (docs/DEFINITIONS.md, "Held offers").
+pub fn offer_laws()
+    ensures show { OwnOffersShow }
+    ensures one { OneOfferEach }
+    ensures expected { OwnOffersAreExpected }
+    ensures receipt { OneReceipt }
+    ensures once { HeldOnce }
+    ensures used { UsedNumbersDontCount }
+{}
+
+/// By offers that show a state an interaction is ready just where it may run there, and each
+/// verdict is true of the state; of the verdicts one holds, and no two (docs/DEFINITIONS.md,
+/// "Verdicts").
+pub fn verdict_laws()
+    ensures ready { ReadyMeansMayRun }
+    ensures may { MayRunMeansReady }
+    ensures true_of { VerdictsAreTrue }
+    ensures one { OneVerdict }
+    ensures some { SomeVerdict }
+{}

@@ -1,0 +1,146 @@
+//! The decision of a class on an interaction, by the offers that it holds.
+ghost use Rattle.std.specs.Prelude.{◌≡◌, ◌<◌, ◌≤◌, All, find, length, map, not, take};
+ghost use Rattle.std.specs.List.{list_all};
+ghost use Rattle.std.specs.Option.{option_map};
+ghost use Rattle.bip_model.specs.Parts.{Participant};
+ghost use Rattle.bip_model.specs.declared.numbering.CompId.{CompId};
+ghost use Rattle.bip_model.specs.declared.numbering.InterId.{InterId};
+ghost use Rattle.bip_model.specs.declared.parts.TheConstants.{MOST_PARTICIPANTS};
+ghost use Rattle.bip_observe.specs.Offers.{observed};
+ghost use Rattle.bip_observe.specs.Verdicts.{CanBeJudged, IsVerdict, enables, guard_holds};
+ghost use Rattle.bip_observe.specs.Verdicts.{is_counted, offers_of, port_on};
+
+use crate::Offers;
+use crate::offers::has_port;
+use bip_model::{CompId, InterId, MOST_PARTICIPANTS, PortId, Values};
+use bip_partition::Plan;
+
+/// The decision on an interaction, by the offers that a class holds. Of components and interactions
+/// it names the lowest.
+#[derive(Clone, Copy, Debug, PartialEq, Eq)]
+pub enum Verdict {
+    /// The interaction may run, as far as the offers show.
+    Ready,
+    /// The class holds no offer that counts of this component, which the interaction touches.
+    NotReady(CompId),
+    /// This component's port for the interaction is off.
+    PortOff(CompId),
+    /// The interaction's guard doesn't hold of the offered values.
+    GuardFalse,
+    /// This interaction is above, and the offers enable it.
+    Below(InterId),
+}
+
+/// The verdict of a class on an interaction of its plan, by the offers that it holds: the first
+/// that applies of NotReady, PortOff, GuardFalse, Below, Ready (docs/DEFINITIONS.md, "Verdicts").
+pub fn decide(plan: &Plan, offers: &Offers<'_>, inter: InterId) -> Verdict
+    requires of_plan { offers.now.plan ≡ plan.now }
+    requires declared { inter.0 < length plan.now.model.interactions }
+    ensures { IsVerdict (observed offers.now) inter.0 result }
+{
+    let _own = offers.plan();
+    if let Some(comp) = offers.first_missing(plan.touches(inter)) {
+        return Verdict::NotReady(comp);
+    }
+    let model = plan.model();
+    if let Some(comp) = offers.first_off(model.participants(inter)) {
+        return Verdict::PortOff(comp);
+    }
+    if !offers.guard_holds(inter) {
+        return Verdict::GuardFalse;
+    }
+    match offers.first_enabled(model.above(inter)) {
+        Some(higher) => Verdict::Below(higher),
+        None => Verdict::Ready,
+    }
+}
+
+impl<'p> Offers<'p> {
+    /// The first of these components of which no offer counts.
+    fn first_missing(&self, touched: &[CompId]) -> Option<CompId>
+        ensures { result
+            ≡ find (λ (c : CompId). not (is_counted (observed self.now) c.0)) touched.now }
+    {
+        touched.iter().copied().find(|comp| !self.is_counted(*comp))
+    }
+
+    /// The component of the first of these participants whose port is off.
+    fn first_off(&self, participants: &[(CompId, PortId)]) -> Option<CompId>
+        ensures { result ≡ option_map (λ (q : Participant). q.0)
+            (find (λ q. not (port_on (offers_of (observed self.now)) q)) participants.now) }
+    {
+        participants
+            .iter()
+            .find(|participant| !self.port_on(participant))
+            .map(|participant| participant.0)
+    }
+
+    fn port_on(&self, participant: &(CompId, PortId)) -> bool
+        ensures { result
+            ≡ port_on (offers_of (observed self.now)) (participant.now.0, participant.now.1) }
+    {
+        match self.held(participant.0) {
+            Some(offer) => has_port(offer.ports, participant.1),
+            None => false,
+        }
+    }
+
+    /// The first of these interactions that the offers enable.
+    fn first_enabled(&self, inters: &[InterId]) -> Option<InterId>
+        requires { All (λ (a : InterId). CanBeJudged (observed self.now) a.0) inters.now }
+        ensures { result ≡ find (λ (a : InterId).
+            enables self.now.plan.model (offers_of (observed self.now)) a.0) inters.now }
+    {
+        inters.iter().copied().find(|inter| self.enable(*inter))
+    }
+
+    fn enable(&self, inter: InterId) -> bool
+        requires { CanBeJudged (observed self.now) inter.0 }
+        ensures { result ≡ enables self.now.plan.model (offers_of (observed self.now)) inter.0 }
+    {
+        self.ports_on(self.plan().moves(inter)) && self.guard_holds(inter)
+    }
+
+    fn ports_on(&self, participants: &[(CompId, PortId)]) -> bool
+        ensures { result ≡ list_all (port_on (offers_of (observed self.now))) participants.now }
+    {
+        participants
+            .iter()
+            .all(|participant| self.port_on(participant))
+    }
+
+    /// Whether the guard of an interaction holds of the offered values.
+    fn guard_holds(&self, inter: InterId) -> bool
+        requires { CanBeJudged (observed self.now) inter.0 }
+        ensures { result
+            ≡ guard_holds self.now.plan.model (offers_of (observed self.now)) inter.0 }
+    {
+        let model = self.plan().model();
+        let participants = model.participants(inter);
+        let values = self.values_of(participants);
+        model.guard(inter, &values[..participants.len()])
+    }
+
+    /// The values that participants offer, in front of as many empty ones as make eight.
+    fn values_of(&self, participants: &[(CompId, PortId)]) -> [Values; MOST_PARTICIPANTS]
+        requires { length participants.now ≤ MOST_PARTICIPANTS }
+        ensures { take (length participants.now) result
+            ≡ map (λ (q : Participant). (offers_of (observed self.now) q.0.0).values)
+            participants.now }
+    {
+        let mut values = [Values::none(); MOST_PARTICIPANTS];
+        for (place, participant) in participants.iter().enumerate() {
+            values[place] = self.values(participant.0);
+        }
+        values
+    }
+
+    fn values(&self, comp: CompId) -> Values
+        ensures { result ≡ (offers_of (observed self.now) comp.0).values }
+    {
+        match self.held(comp) {
+            Some(offer) => offer.values,
+            None => Values::none(),
+        }
+    }
+}
