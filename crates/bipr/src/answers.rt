@@ -2,6 +2,8 @@
 //! ends.
 ghost use Rattle.std.specs.Prelude.{◌≡◌, ◌≢◌, ◌≤◌, ℕ, List, IfOk};
 ghost use Rattle.bip_model.specs.declared.partitions.Partition.{Partition};
+ghost use Rattle.bip_partition.specs.Faults.{IsLowestTooMany};
+ghost use Rattle.bip_partition.specs.Plans.{TouchesTooMany};
 ghost use Rattle.bip_reader.specs.Texts.{Means};
 ghost use Rattle.bip_reader.specs.declared.faults.Why.TheVariants.{Memory};
 ghost use Rattle.bip_model.specs.Partitions.{AreClassesOf};
@@ -14,7 +16,7 @@ ghost use Rattle.bipr.specs.Wording.{model_refusal};
 use crate::wording::{
     Counts, counts_text, model_refusal, plan_refusal, run_text, trace_refusal, verdict_text,
 };
-use bip_model::{Classes, Model, Number, Seq};
+use bip_model::{Classes, InterId, Model, Number, Seq};
 use bip_partition::{Plan, first_touching_too_many};
 use bip_reader::{ReadFault, Why, read_model};
 use bip_replay::{ReplayFault, replay};
@@ -98,18 +100,36 @@ fn answer_plan(alloc: Global, model: Model, classes: Classes) -> Result<Answer, 
         → Means text model classes → IsCheckAnswer text answer) }
 {
     if let Some(inter) = first_touching_too_many(&model) {
-        let complaint = plan_refusal(alloc, &model, inter)?;
-        return Ok(complained(alloc, Status::Refused, complaint));
+        return answer_no_plan(alloc, &model, inter);
     }
-    let Ok(plan) = Plan::of(alloc, model, classes) else {
-        return Err(AllocError);
-    };
-    let text = counts_text(alloc, &counts(&plan))?;
+    match Plan::of(alloc, model, classes) {
+        Ok(plan) => answer_counts(alloc, &plan),
+        Err(_) => Err(AllocError),
+    }
+}
+
+/// The same, where this interaction, the lowest such, touches too many components.
+fn answer_no_plan(alloc: Global, model: &Model, inter: InterId) -> Result<Answer, AllocError>
+    requires { IsLowestTooMany model.now inter.0 }
+    ensures { IfOk result (λ answer. (text : List ℕ) (classes : Partition)
+        → Means text model.now classes → IsCheckAnswer text answer) }
+{
+    let complaint = plan_refusal(alloc, model, inter)?;
+    Ok(complained(alloc, Status::Refused, complaint))
+}
+
+/// The same, where there is a plan.
+fn answer_counts(alloc: Global, plan: &Plan) -> Result<Answer, AllocError>
+    requires { (a : ℕ) → ¬ TouchesTooMany plan.now.model a }
+    ensures { IfOk result (λ answer. (text : List ℕ)
+        → Means text plan.now.model plan.now.classes → IsCheckAnswer text answer) }
+{
+    let text = counts_text(alloc, &count_plan(plan))?;
     Ok(said(alloc, Status::Done, text))
 }
 
 /// What there is to count of a plan.
-fn counts(plan: &Plan) -> Counts
+fn count_plan(plan: &Plan) -> Counts
     ensures { AreCountsOf plan.now result }
 {
     Counts {

@@ -1,10 +1,11 @@
-use Rattle.bipr.proofs.AnswerLemmas.{has_answered-no_plan, has_answered-planned}
+use Rattle.std.proofs.lemmas.Result.{IfOk-weaker}
 use Rattle.bipr.proofs.answers.answer_plan.Goals as goal
 
 pub returns-in-Some : goal.returns-in-Some
-returns-in-Some c = λ text means.
-    has_answered-no_plan text _ _ c.args.model c.args.classes c.in-Some.inter.0 c.complained.ensures c.in_ok-complaint.ensures means c.in-Some.ensures.some
+returns-in-Some c = IfOk-weaker c.answer_no_plan.result _ _ (λ answer is text means. is text c.args.classes means) c.answer_no_plan.ensures
 
-pub returns : goal.returns
-returns c = λ text means.
-    has_answered-planned text _ _ c.args.model c.args.classes c.counts.result c.said.ensures c.in_ok-text.ensures means c.in-Ok.ensures.few (rw c.in-Ok.ensures.plan at c.counts.ensures)
+pub answer_counts-requires : goal.answer_counts-requires
+answer_counts-requires c = rw c.in-Ok.ensures.plan c.in-Ok.ensures.few
+
+pub returns-in-Ok : goal.returns-in-Ok
+returns-in-Ok c = IfOk-weaker c.answer_counts.result _ _ (λ answer is text means. is text (rw c.in-Ok.ensures.plan means)) c.answer_counts.ensures
