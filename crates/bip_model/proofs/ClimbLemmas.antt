@@ -51,7 +51,7 @@ pub none_above : (a b : ℕ) → ¬ IsAbove [] a b
 none_above a b (declared at) = Contains-none (pair a b) at
 none_above a b (through {b = x} at rest) = Contains-none (pair a x) at
 
-up_to_decided : {pairs : List Pair} (a b : ℕ) → Decided (IsAbove pairs a b) → Decided (IsUpTo pairs a b)
+pub up_to_decided : {pairs : List Pair} (a b : ℕ) → Decided (IsAbove pairs a b) → Decided (IsUpTo pairs a b)
 up_to_decided a b decided =
     elim (cases_eq a b) [
       | inl same ↦ inl (inl same)

@@ -13,7 +13,7 @@ use Rattle.bip_model.specs.declared.expressions.Sign.TheVariants.{Plus, Minus}
 use Rattle.bip_model.specs.declared.expressions.Term.{Term}
 use Rattle.bip_model.specs.declared.expressions.Variable.{Variable}
 use Rattle.bip_model.specs.Expressions.{AreAssignmentsIn, AreTargetsApart, IsAssignmentIn, IsVariableIn, all_joined, assigned, counts, is_same, joined, put_in, term_value, transferred, updated, value_in, value_of}
-use Rattle.bip_model.specs.Laws.{SumsAreIntegers, TransfersAtOnce, TransfersInAnyOrder, UpdatesInOrder, added, taken_away}
+use Rattle.bip_model.specs.Laws.{SumsAreIntegers, TransfersAtOnce, TransfersInAnyOrder, UpdatesInOrder, UpdatesOneByOne, added, taken_away}
 
 pub counts-put_in : (values : List (List ℕ)) (v : Variable) (n : ℕ) → counts (put_in values v n) ≡ counts values
 counts-put_in values v n =
@@ -161,3 +161,8 @@ transfers_in_any_order xs ys values of_xs of_ys both v =
 
 pub updates_in_order : UpdatesInOrder
 updates_in_order xs ys values = fold-append assigned values xs ys
+
+pub updates_one_by_one : UpdatesOneByOne
+updates_one_by_one a values there =
+    let own : a.target.owner ≡ 0 = omega (arith, there.target.0) in
+    rw own refl

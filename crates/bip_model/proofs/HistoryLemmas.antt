@@ -6,7 +6,7 @@ use Rattle.bip_model.specs.declared.grants.Grant.{Grant}
 use Rattle.bip_model.specs.declared.wants.Want.{Want}
 use Rattle.bip_model.specs.declared.wants.Role.{Role}
 use Rattle.bip_model.specs.declared.wants.Role.TheVariants.{Moved, Seen}
-use Rattle.bip_model.specs.Laws.{HistoryGoesOn, MovedIsWanted, MovesBy, UsedGoesOn}
+use Rattle.bip_model.specs.Laws.{HistoryGoesOn, MovedIsWanted, MovesBy, PartiesMove, UsedGoesOn}
 use Rattle.bip_model.proofs.ListLemmas.{below_later}
 use Rattle.bip_model.proofs.NumberingLemmas.{increasing_tail}
 use Rattle.std.specs.List.Sorted.{IsStrictlyIncreasing}
@@ -98,3 +98,17 @@ moved_at (v ∷ ws) (suc k) w c n rising within is same moved number =
 
 pub moved_is_wanted : MovedIsWanted
 moved_is_wanted ws c n wants some = (moves_by ws c n some, λ by. moved_at ws by.0 by.1 c n wants.rising by.2 by.3 by.4.0 by.4.1 by.4.2)
+
+-- what is wanted to be moved is moved
+pub parties_move : PartiesMove
+parties_move m a wants sound parties c = (
+  λ takes.
+      let at = (parties.moved c).1 takes in
+      let by : MovesBy wants c at.1.number = (at.0, at.1, at.2, at.3, (at.4.0, at.4.1, refl)) in
+      let some : 0 < at.1.number = rw at.3 at (sound.numbered at.0 at.1 at.2) in
+      let is = (moved_is_wanted wants c at.1.number sound some).1 by in
+      omega (arith, is, some),
+  λ moves.
+      let by = (moved_is_wanted wants c (moved_in wants c) sound moves).0 refl in
+      (parties.moved c).0 (by.0, by.1, by.2, by.3, (by.4.0, by.4.1)),
+)

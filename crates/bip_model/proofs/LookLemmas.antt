@@ -12,7 +12,9 @@ use Rattle.bip_model.specs.Parts.{IsInteraction, IsPortIn, IsSystem, IsSystemSoF
 use Rattle.bip_model.specs.Priorities.{IsAbove, IsListAbove, inter}
 use Rattle.bip_model.specs.States.{State}
 use Rattle.bip_model.specs.Steps.{IsEnabled, IsLookedAt, MayRun, looks_at, moves}
-use Rattle.bip_model.proofs.ClimbLemmas.{highest}
+use Rattle.bip_model.proofs.AboveLemmas.{IsAbove-trans}
+use Rattle.bip_model.proofs.ClimbLemmas.{Decided, IsAbove-decided, IsUpTo, highest, up_to_decided}
+use Rattle.bip_model.specs.declared.parts.Pair.{Pair}
 use Rattle.bip_model.proofs.LawLemmas.{enabled-agree}
 use Rattle.bip_model.proofs.ListLemmas.{All-slice_get}
 use Rattle.bip_model.proofs.StepLemmas.{enabled_or_not}
@@ -44,10 +46,24 @@ moves_known m a c valid takes = elim (slice_get_cases m.interactions a).1 [
 pub looked_known : (m : System) (a c : ℕ) → IsSystemSoFar m → IsLookedAt m a c → c < length m.components
 looked_known m a c valid is = moves_known m is.higher c valid is.moved
 
+-- whether an interaction stands there or above, and is enabled
+test : (m : System) (s : State) (a b : ℕ) → Decided (IsUpTo m.priorities a b × IsEnabled m s b)
+test m s a b = elim (up_to_decided a b (IsAbove-decided m.priorities a b)) [
+  | inr apart ↦ inr (λ both. apart both.0)
+  | inl up ↦ elim (enabled_or_not m s b) [
+    | inl on ↦ inl (up, on)
+    | inr off ↦ inr (λ both. off both.1)
+  ]
+]
+
+beyond : {pairs : List Pair} {a b d : ℕ} → IsUpTo pairs a b → IsAbove pairs b d → IsUpTo pairs a d
+beyond (inl same) above = inr (rw same above)
+beyond (inr up) above = inr (IsAbove-trans up above)
+
 pub something_may_run : (m : System) → IsSystem m → SomethingMayRun m
 something_may_run m valid s a enabled =
-    let (b, can, free) = highest m.priorities valid.acyclic (IsEnabled m s) (enabled_or_not m s) a enabled in
-    (b, record { enabled = can; clear = free })
+    let (b, can, free) = highest m.priorities valid.acyclic (λ b. IsUpTo m.priorities a b × IsEnabled m s b) (test m s a) a (inl refl, enabled) in
+    (b, can.0, record { enabled = can.1; clear = λ d above on. free d above (beyond can.0 above, on) })
 
 -- what may run may run in each state that agrees on what it touches
 may_agree : (m : System) (s t : State) (a : ℕ) → AgreeOnTouched m a s t → MayRun m s a → MayRun m t a

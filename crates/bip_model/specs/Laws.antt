@@ -3,8 +3,10 @@ use Rattle.std.specs.Prelude.{◌≤◌, ◌+◌, ◌%◌, ◌^◌, Any, Ok, map
 use Rattle.std.specs.List.Sorted.{IsPermutation, IsStrictlyIncreasing}
 use Rattle.std.specs.Prelude.{◌≡◌, ◌↔◌, ℕ, ◌<◌, false, true, [], ◌∷◌, ◌++◌, List, length, Some}
 use Rattle.std.specs.Prelude.{slice_get, All, Contains, ◌⊎◌, IfSome, IsTrue}
+use Rattle.std.specs.Option.{option_map}
 use Rattle.bip_model.specs.Drafts.{participant_named, participants_named}
-use Rattle.bip_model.specs.Expressions.{AreAssignmentsIn, AreTargetsApart, counts, is_same}
+use Rattle.bip_model.specs.Expressions.{AreAssignmentsIn, AreTargetsApart, IsAssignmentIn, counts}
+use Rattle.bip_model.specs.Expressions.{is_same}
 use Rattle.bip_model.specs.Expressions.{holds, term_value, transferred, updated, value_in}
 use Rattle.bip_model.specs.Expressions.{value_of}
 use Rattle.bip_model.specs.Grants.{IsHistory, used_by}
@@ -14,9 +16,10 @@ use Rattle.bip_model.specs.Partitions.{IsPartition, numbers_in, times_in}
 use Rattle.bip_model.specs.Parts.{Participant, components_in}
 use Rattle.bip_model.specs.Priorities.{IsAbove, put_pair}
 use Rattle.bip_model.specs.Scopes.{shared}
-use Rattle.bip_model.specs.States.{IsStateOf, State}
+use Rattle.bip_model.specs.Parties.{AreParties}
+use Rattle.bip_model.specs.States.{IsStateOf, State, with_values}
 use Rattle.bip_model.specs.Steps.{IsEnabled, IsLookedAt, IsRun, MayRun, after, end_of, guard_of}
-use Rattle.bip_model.specs.Steps.{moves, participants_of, told, values_of}
+use Rattle.bip_model.specs.Steps.{led, moves, participants_of, told, values_of}
 use Rattle.bip_model.specs.declared.drafts.Draft.{Draft}
 use Rattle.bip_model.specs.declared.expressions.Assignment.{Assignment}
 use Rattle.bip_model.specs.declared.expressions.Expr.{Expr}
@@ -90,6 +93,12 @@ UpdatesInOrder =
     (xs ys : List (Assignment Variable)) (values : List ℕ)
     → updated (xs ++ ys) values ≡ updated ys (updated xs values)
 
+-- one assignment of an update sets its target to its sum of the values before, as a transfer does
+abbrev pub UpdatesOneByOne : Type 0
+UpdatesOneByOne =
+    (a : Assignment Variable) (values : List ℕ) → IsAssignmentIn (counts (values ∷ [])) a
+    → updated (a ∷ []) values ∷ [] ≡ transferred (a ∷ []) (values ∷ [])
+
 -- a component that takes no part stays where it is
 abbrev pub OthersStay : System → Type 0
 OthersStay m = (s : State) (a c : ℕ) → moves m a c ≡ false → after m s a c ≡ s c
@@ -131,6 +140,13 @@ ParticipantsGo m =
     → slice_get (participants_of m a) i ≡ Some q → IsItsTransition m s q local t
     → after m s a q.0.0
     ≡ Some (record { location = t.target; values = updated t.update (told m s a i) })
+
+-- each participant ends where its port leads it with the values that it is told
+abbrev pub ParticipantsAreLed : System → Type 0
+ParticipantsAreLed m =
+    (s : State) (a i : ℕ) (q : Participant) → slice_get (participants_of m a) i ≡ Some q
+    → after m s a q.0.0
+    ≡ option_map (λ local. led m q.0.0 q.1 (with_values (told m s a i) local)) (s q.0.0)
 
 -- a participant has at most one transition from where it is
 abbrev pub OneTransition : System → Type 0
@@ -180,9 +196,12 @@ abbrev pub AboveGoesOn : Type 0
 AboveGoesOn =
     (pairs : List Pair) (a b c : ℕ) → IsAbove pairs a b → IsAbove pairs b c → IsAbove pairs a c
 
--- where an interaction is enabled one may run: priorities alone never stop a model
+-- where an interaction is enabled it may run, or one above it may: priorities alone never stop a
+-- model
 abbrev pub SomethingMayRun : System → Type 0
-SomethingMayRun m = (s : State) (a : ℕ) → IsEnabled m s a → (b : ℕ) × MayRun m s b
+SomethingMayRun m =
+    (s : State) (a : ℕ) → IsEnabled m s a
+    → (b : ℕ) × ((a ≡ b) ⊎ IsAbove m.priorities a b) × MayRun m s b
 
 -- two states agree on all that an interaction moves or looks at
 abbrev pub AgreeOnTouched : System → ℕ → State → State → Type 0
@@ -253,6 +272,12 @@ abbrev pub MovedIsWanted : Type 0
 MovedIsWanted =
     (wants : List Want) (c n : ℕ) → IsWants wants → 0 < n
     → (moved_in wants c ≡ n) ↔ MovesBy wants c n
+
+-- wants of just the parties of an interaction move just what it moves
+abbrev pub PartiesMove : Type 0
+PartiesMove =
+    (m : System) (a : ℕ) (wants : List Want) → IsWants wants → AreParties m a wants
+    → (c : ℕ) → IsTrue (moves m a c) ↔ (0 < moved_in wants c)
 
 -- used numbers and histories of grants in two parts: the second goes on where the first ends
 abbrev pub UsedGoesOn : Type 0

@@ -9,7 +9,9 @@ ghost use Rattle.bip_model.specs.Laws.{GoesOnByWhatMayRun, IsLocal, OneTransitio
 ghost use Rattle.bip_model.specs.Laws.{ParticipantsGo, StatesLeadToStates, HistoryGoesOn};
 ghost use Rattle.bip_model.specs.Laws.{IsInOrder, MovedIsWanted, NamesInAnyOrder};
 ghost use Rattle.bip_model.specs.Laws.{SumsAreIntegers, TransfersAtOnce, TransfersInAnyOrder};
-ghost use Rattle.bip_model.specs.Laws.{AboveGoesOn, MayRunIsLocal, SomethingMayRun, UpdatesInOrder};
+ghost use Rattle.bip_model.specs.Laws.{AboveGoesOn, MayRunIsLocal, ParticipantsAreLed};
+ghost use Rattle.bip_model.specs.Laws.{PartiesMove, SomethingMayRun, UpdatesInOrder};
+ghost use Rattle.bip_model.specs.Laws.{UpdatesOneByOne};
 ghost use Rattle.bip_model.specs.Laws.{FindsOfParticipants, NamesParticipants};
 ghost use Rattle.bip_model.specs.Laws.{PartsOrMisplaces, PutsOnePair, UsedGoesOn};
 ghost use Rattle.bip_model.specs.Grants.{IsGreatestUsed, IsHistory, MovesOnceEach, used_by};
@@ -32,6 +34,7 @@ pub fn expression_laws()
     ensures transfers { TransfersAtOnce }
     ensures any_order { TransfersInAnyOrder }
     ensures updates { UpdatesInOrder }
+    ensures one_by_one { UpdatesOneByOne }
 {}
 
 /// What the joint step means (docs/DEFINITIONS.md, "The joint step").
@@ -39,6 +42,7 @@ pub fn step_laws()
     ensures enabled { (m : System) → IsSystem m → EnabledWhereAllCanGo m }
     ensures stay { (m : System) → OthersStay m }
     ensures go { (m : System) → IsSystem m → ParticipantsGo m }
+    ensures led { (m : System) → IsSystem m → ParticipantsAreLed m }
     ensures one { (m : System) → IsSystem m → OneTransition m }
     ensures states { (m : System) → IsSystem m → StatesLeadToStates m }
     ensures local { (m : System) → IsLocal m }
@@ -48,8 +52,8 @@ pub fn step_laws()
 {}
 
 /// What priorities mean: what stands above goes on from pair to pair; where something is enabled
-/// something may run; and whether an interaction may run depends on what it moves and looks at
-/// alone (docs/DEFINITIONS.md, "Priorities").
+/// it may run, or something above it; and whether an interaction may run depends on what it moves
+/// and looks at alone (docs/DEFINITIONS.md, "Priorities").
 pub fn priority_laws()
     ensures above { AboveGoesOn }
     ensures something { (m : System) → IsSystem m → SomethingMayRun m }
@@ -90,6 +94,7 @@ pub fn builder_laws()
 /// (docs/DEFINITIONS.md, "Used numbers and histories").
 pub fn history_laws()
     ensures moved { MovedIsWanted }
+    ensures parties { PartiesMove }
     ensures used { (floor : ℕ → ℕ) (gs : List Grant) (g : Grant)
         → used_by floor (gs ++ g ∷ []) ≡ raised (used_by floor gs) g.wants }
     ensures greatest { (floor : ℕ → ℕ) (gs : List Grant) (c : ℕ)

@@ -18,9 +18,12 @@ use Rattle.bip_model.specs.declared.parts.Transition.{Transition}
 use Rattle.bip_model.specs.declared.states.LocalState.{LocalState}
 use Rattle.bip_model.specs.declared.numbering.PortId.{PortId}
 use Rattle.bip_model.proofs.ListLemmas.{All-slice_get, found_at}
-use Rattle.bip_observe.specs.Laws.{HeldOnce, OneOfferEach, OneReceipt, OwnOffersAreExpected, OwnOffersShow, UsedNumbersDontCount}
+use Rattle.std.specs.Prelude.{◌↔◌, nat_lt, unwrap_or}
+use Rattle.std.proofs.lemmas.Bool.Decides.{eqb_tells}
+use Rattle.bip_model.specs.Numbering.{put}
+use Rattle.bip_observe.specs.Laws.{CountedIsHeld, HeldOnce, OldStaysOld, OneOfferEach, OneReceipt, OwnOffersAreExpected, OwnOffersShow, UsedNumbersDontCount}
 use Rattle.bip_observe.specs.Offers.{IsExpected, IsNew, IsReceipt, Observed, with_held, with_known}
-use Rattle.bip_observe.specs.Verdicts.{is_counted}
+use Rattle.bip_observe.specs.Verdicts.{is_counted, no_offer, offers_of}
 use Rattle.bip_observe.specs.declared.offers.Receipt.{Receipt}
 use Rattle.bip_observe.specs.declared.offers.Receipt.TheVariants.{Held, Old, Stranger}
 
@@ -105,3 +108,42 @@ held_once v offer got =
 pub used_dont_count : UsedNumbersDontCount
 used_dont_count v c number offer held within =
     rw (held, eq-eqb c c refl) (le-ltb (max (v.known c) number) offer.number (omega arith))
+
+-- what is held is below what came after it
+below_later_one : (o : Option Offer) (n k : ℕ) → IfSome o (λ held. held.number < n) → n < k → IfSome o (λ held. held.number < k)
+below_later_one None n k below more = tt
+below_later_one (Some held) n k below more = omega arith
+
+old_beside_held : (v : Observed) (offer other : Offer) → IsReceipt v offer Old → IsReceipt v other Held → IsReceipt (with_held other v) offer Old
+old_beside_held v offer other old got = (old.0, λ new. old.1 (record { unused = new.unused; later = before new.later }))
+  where
+    before : IfSome (put v.held other.comp.0 (Some other) offer.comp.0) (λ held. held.number < offer.number) → IfSome (v.held offer.comp.0) (λ held. held.number < offer.number)
+    before later = elim (eqb_tells offer.comp.0 other.comp.0) [
+      | inl same ↦
+          let above : other.number < offer.number = rw same.0 at later in
+          let its : IfSome (v.held offer.comp.0) (λ held. held.number < other.number) = rw same.1 got.1.later in
+          below_later_one (v.held offer.comp.0) other.number offer.number its above
+      | inr apart ↦ rw apart.0 at later
+    ]
+
+old_beside_known : (v : Observed) (offer : Offer) (c number : ℕ) → IsReceipt v offer Old → IsReceipt (with_known c number v) offer Old
+old_beside_known v offer c number old = (old.0, λ new. old.1 (record { unused = before new.unused; later = new.later }))
+  where
+    before : put v.known c (max (v.known c) number) offer.comp.0 < offer.number → v.known offer.comp.0 < offer.number
+    before unused = elim (eqb_tells offer.comp.0 c) [
+      | inl same ↦
+          let above : max (v.known c) number < offer.number = rw same.0 at unused in
+          rw same.1 (omega arith)
+      | inr apart ↦ rw apart.0 at unused
+    ]
+
+pub old_stays_old : OldStaysOld
+old_stays_old v offer old = (λ other got. old_beside_held v offer other old got, λ c number. old_beside_known v offer c number old)
+
+pub counted_is_held : CountedIsHeld
+counted_is_held v c = by_held (v.held c) refl
+  where
+    by_held : (o : Option Offer) → v.held c ≡ o
+        → (option_map_or (λ (offer : Offer). nat_lt (v.known c) offer.number) o false ≡ true) ↔ ((v.held c ≡ Some (unwrap_or o no_offer)) × (v.known c < (unwrap_or o no_offer).number))
+    by_held None is = (λ none. absurd (false≢true none), λ held. let some : None ≡ Some no_offer = sym is ∙ held.0 in absurd (cc))
+    by_held (Some offer) is = (λ less. (is, ltb-true (v.known c) offer.number less), λ held. lt-ltb (v.known c) offer.number held.1)

@@ -1,5 +1,5 @@
 -- Offers that show a state enable just what is enabled there.
-use Rattle.std.proofs.Common.{◌≡◌, ◌⊎◌, ℕ, ◌<◌, Bool, true, false, cond, eqb, eq-eqb, List, [], ◌∷◌, length, map, All, get_or, Option, None, Some, inl, inr, refl, subst, slice_get}
+use Rattle.std.proofs.Common.{◌≡◌, ◌⊎◌, ℕ, ◌<◌, Bool, true, false, cond, eqb, eq-eqb, List, [], ◌∷◌, length, map, All, get_or, Option, None, Some, inl, inr, refl, sym, ◌∙◌, subst, slice_get}
 use Rattle.std.specs.Prelude.{IsSomeAnd, IsTrue}
 use Rattle.std.specs.List.{list_any}
 use Rattle.std.proofs.lemmas.Bool.{cases_Bool}
@@ -11,14 +11,15 @@ use Rattle.bip_model.specs.Parts.{IsSystem, Participant}
 use Rattle.bip_model.specs.Priorities.{IsAbove}
 use Rattle.bip_model.specs.Sets.{has}
 use Rattle.bip_model.specs.States.{State}
-use Rattle.bip_model.specs.Steps.{IsEnabled, MayRun, moves, offered, participants_of, values_at}
+use Rattle.bip_model.specs.Steps.{IsEnabled, MayRun, guard_of, moves, offered, participants_of, values_at, values_of}
 use Rattle.bip_model.specs.declared.messages.Offer.{Offer}
 use Rattle.bip_model.specs.declared.parts.System.{System}
 use Rattle.bip_model.specs.declared.states.LocalState.{LocalState}
 use Rattle.bip_model.proofs.AboveLemmas.{IsAbove-high}
 use Rattle.bip_partition.specs.Plans.{Touches}
-use Rattle.bip_observe.specs.Laws.{AllShow, MayRunMeansReady, ReadyMeansMayRun}
-use Rattle.bip_observe.specs.Verdicts.{Enable, IsReady}
+use Rattle.bip_model.specs.Expressions.{holds}
+use Rattle.bip_observe.specs.Laws.{AllShow, IsNotOffered, MayRunMeansReady, OfferedValues, ReadyMeansMayRun}
+use Rattle.bip_observe.specs.Verdicts.{ArePortsOn, Enable, IsOff, IsReady, guard_holds}
 
 -- a bit is 1 where a test passes
 bit_tests : (b : Bool) → eqb (cond b 1 0) 1 ≡ b
@@ -115,3 +116,27 @@ may_run_ready m valid o s a own show may = record {
       let declared = IsAbove-high (length m.interactions) m.priorities a b valid.so_far.priorities above in
       may.clear b above (enabled_there m o s b declared (shown_above m o s a b own show above) enable);
 }
+
+pub offered_values : OfferedValues
+offered_values m o s a own show = same_values m o s (participants_of m a) (shown_own m o s a own show)
+
+-- a port is off where it isn't offered, and the other way round
+pub off_there : (m : System) (o : ℕ → Offer) (s : State) (a c : ℕ) → AreShown m o s a → IsOff m o a c → IsNotOffered m s a c
+off_there m o s a c shown (k, q, within, is, off) =
+    let its : IsShown m o s q.0.0 = rw is at (shown k q within) in
+    (k, q, within, is, (off.0, sym (shown_port m s q (o q.0.0) its.own its.shows) ∙ off.1))
+
+pub off_here : (m : System) (o : ℕ → Offer) (s : State) (a c : ℕ) → AreShown m o s a → IsNotOffered m s a c → IsOff m o a c
+off_here m o s a c shown (k, q, within, is, off) =
+    let its : IsShown m o s q.0.0 = rw is at (shown k q within) in
+    (k, q, within, is, (off.0, shown_port m s q (o q.0.0) its.own its.shows ∙ off.1))
+
+-- where all ports are on, and the guard is false, it is so in the state
+pub guard_there : (m : System) (o : ℕ → Offer) (s : State) (a : ℕ) → AreShown m o s a → ArePortsOn m o a → guard_holds m o a ≡ false
+    → All (λ (q : Participant). IsTrue (offered m s q)) (participants_of m a) × (holds (guard_of m a) (values_of m s a) ≡ false)
+guard_there m o s a shown on not_so = (
+  λ k d within.
+      let q = get_or (participants_of m a) k d in
+      rw (shown_port m s q (o q.0.0) (shown k d within).own (shown k d within).shows) at (on k d within),
+  rw (same_values m o s (participants_of m a) shown) at not_so,
+)

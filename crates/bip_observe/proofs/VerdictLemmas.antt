@@ -22,7 +22,7 @@ use Rattle.bip_model.proofs.LookLemmas.{moves_known}
 use Rattle.bip_partition.specs.Plans.{Touches}
 use Rattle.bip_partition.proofs.TouchLemmas.{touched_known}
 use Rattle.bip_observe.proofs.FirstLemmas.{lowest_or_none, lowest_same}
-use Rattle.bip_observe.proofs.ShowLemmas.{AreShown, enabled_here, enabled_there, moves_each, ready_may_run, shown_above, shown_own}
+use Rattle.bip_observe.proofs.ShowLemmas.{AreShown, enabled_here, enabled_there, guard_there, moves_each, off_here, off_there, ready_may_run, shown_above, shown_own}
 use Rattle.bip_observe.specs.Laws.{AllShow, CountedShow, OneVerdict, SomeVerdict, VerdictsAreTrue}
 use Rattle.bip_observe.specs.Offers.{AreOwn, Observed}
 use Rattle.bip_observe.specs.Verdicts.{AllCount, ArePortsOn, Enable, IsEnabledAbove, IsLowest, IsMissing, IsOff, IsReady, IsVerdict, guard_holds, is_counted, no_offer, offers_of, port_on}
@@ -212,8 +212,13 @@ higher_in v s own show a b all above = shown_above v.plan.model (offers_of v) s 
 
 pub verdicts_true : VerdictsAreTrue
 verdicts_true v valid own s show a declared (NotReady c) verdict = tt
-verdicts_true v valid own s show a declared (PortOff c) verdict = λ enabled. off_on v.plan.model (offers_of v) a c.0 verdict.1.here (enabled_here v.plan.model (offers_of v) s a (shown_in v s own show a verdict.0) enabled).ports
-verdicts_true v valid own s show a declared GuardFalse verdict = λ enabled. guard_both v.plan.model (offers_of v) a verdict.2 (enabled_here v.plan.model (offers_of v) s a (shown_in v s own show a verdict.0) enabled).guard
+verdicts_true v valid own s show a declared (PortOff c) verdict =
+    let shown = shown_in v s own show a verdict.0 in
+    record {
+      here = off_there v.plan.model (offers_of v) s a c.0 shown verdict.1.here;
+      lower = λ k below off. verdict.1.lower k below (off_here v.plan.model (offers_of v) s a k shown off);
+    }
+verdicts_true v valid own s show a declared GuardFalse verdict = guard_there v.plan.model (offers_of v) s a (shown_in v s own show a verdict.0) verdict.1 verdict.2
 verdicts_true v valid own s show a declared (Below b) verdict =
     let m = v.plan.model in
     let o = offers_of v in

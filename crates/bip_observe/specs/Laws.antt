@@ -1,15 +1,18 @@
 -- What the definitions mean, in the subject's own words: laws that a reviewer reads.
-use Rattle.std.specs.Prelude.{◌≡◌, ℕ, ◌<◌, ◌≤◌, false, true, Some, ⊤, length}
+use Rattle.std.specs.Prelude.{◌≡◌, ◌↔◌, ℕ, ◌<◌, ◌≤◌, false, true, Some, ⊤, length, map, All, Any}
+use Rattle.std.specs.Prelude.{IsTrue}
+use Rattle.bip_model.specs.Expressions.{holds}
 use Rattle.bip_model.specs.Messages.{IsOfferIn, Shows, ShowsState}
-use Rattle.bip_model.specs.Parts.{IsSystem}
+use Rattle.bip_model.specs.Parts.{IsSystem, Participant}
 use Rattle.bip_model.specs.States.{IsStateOf, State}
-use Rattle.bip_model.specs.Steps.{IsEnabled, IsLowestAbove, MayRun}
+use Rattle.bip_model.specs.Steps.{IsEnabled, IsLowestAbove, MayRun, guard_of, offered}
+use Rattle.bip_model.specs.Steps.{participants_of, values_of}
 use Rattle.bip_model.specs.declared.messages.Offer.{Offer}
 use Rattle.bip_model.specs.declared.parts.System.{System}
 use Rattle.bip_model.specs.declared.states.LocalState.{LocalState}
 use Rattle.bip_partition.specs.Plans.{ClassTouches, Planned, Touches}
 use Rattle.bip_observe.specs.Offers.{AreOwn, IsExpected, IsReceipt, Observed, with_held, with_known}
-use Rattle.bip_observe.specs.Verdicts.{IsReady, IsVerdict, is_counted, offers_of}
+use Rattle.bip_observe.specs.Verdicts.{IsLowest, IsReady, IsVerdict, is_counted, offers_of}
 use Rattle.bip_observe.specs.declared.offers.Receipt.{Receipt}
 use Rattle.bip_observe.specs.declared.offers.Receipt.TheVariants.{Held, Old}
 use Rattle.bip_observe.specs.declared.verdicts.Verdict.{Verdict}
@@ -42,12 +45,25 @@ OneReceipt =
     (v : Observed) (offer : Offer) (r t : Receipt) → IsReceipt v offer r → IsReceipt v offer t
     → r ≡ t
 
--- an offer that was held is old from then on, and counts until its number is used
+-- an offer that was held just now is old, and counts
 abbrev pub HeldOnce : Type 0
 HeldOnce =
     (v : Observed) (offer : Offer) → IsReceipt v offer Held
     → IsReceipt (with_held offer v) offer Old
     × (is_counted (with_held offer v) offer.comp.0 ≡ true)
+
+-- what is old stays old, whatever is held or learned then
+abbrev pub OldStaysOld : Type 0
+OldStaysOld =
+    (v : Observed) (offer : Offer) → IsReceipt v offer Old
+    → ((other : Offer) → IsReceipt v other Held → IsReceipt (with_held other v) offer Old)
+    × ((c number : ℕ) → IsReceipt (with_known c number v) offer Old)
+
+-- an offer counts where it is held, and its number is above the known used one
+abbrev pub CountedIsHeld : Type 0
+CountedIsHeld =
+    (v : Observed) (c : ℕ) → IsTrue (is_counted v c)
+    ↔ ((v.held c ≡ Some (offers_of v c)) × (v.known c < (offers_of v c).number))
 
 -- an offer whose number is known to be used doesn't count
 abbrev pub UsedNumbersDontCount : Type 0
@@ -72,11 +88,27 @@ MayRunMeansReady =
     → ((c : ℕ) → Touches m a c → (o c).comp.0 ≡ c) → AllShow m o s a → MayRun m s a
     → IsReady m o a
 
--- what a verdict says of the state that the offers show
+-- offers that show a state give the participants the values that they have there
+abbrev pub OfferedValues : Type 0
+OfferedValues =
+    (m : System) (o : ℕ → Offer) (s : State) (a : ℕ)
+    → ((c : ℕ) → Touches m a c → (o c).comp.0 ≡ c) → AllShow m o s a
+    → map (λ (q : Participant). (o q.0.0).values) (participants_of m a) ≡ values_of m s a
+
+-- a component whose port for an interaction isn't offered in a state
+abbrev pub IsNotOffered : System → State → ℕ → ℕ → Type 0
+IsNotOffered m s a c =
+    Any (λ (q : Participant). (q.0.0 ≡ c) × (offered m s q ≡ false)) (participants_of m a)
+
+-- what a verdict says of the state that the offers show: this is the lowest component whose port
+-- isn't offered; all are, but the guard doesn't hold; this is the lowest enabled one above; the
+-- interaction may run
 abbrev pub SaysOf : System → State → ℕ → Verdict → Type 0
 SaysOf m s a (NotReady c) = ⊤
-SaysOf m s a (PortOff c) = ¬ IsEnabled m s a
-SaysOf m s a GuardFalse = ¬ IsEnabled m s a
+SaysOf m s a (PortOff c) = IsLowest (IsNotOffered m s a) c.0
+SaysOf m s a GuardFalse =
+    All (λ q. IsTrue (offered m s q)) (participants_of m a)
+    × (holds (guard_of m a) (values_of m s a) ≡ false)
 SaysOf m s a (Below b) = IsEnabled m s a × IsLowestAbove m s a b.0
 SaysOf m s a Ready = MayRun m s a
 

@@ -1,20 +1,22 @@
 //! The laws above the definitions: what a reviewer reads to know what they mean. The calls do
 //! nothing, and have the laws for their contracts.
-ghost use Rattle.bip_observe.specs.Laws.{HeldOnce, MayRunMeansReady, OneOfferEach, OneReceipt};
-ghost use Rattle.bip_observe.specs.Laws.{OneVerdict, OwnOffersAreExpected, OwnOffersShow};
-ghost use Rattle.bip_observe.specs.Laws.{ReadyMeansMayRun, SomeVerdict, UsedNumbersDontCount};
-ghost use Rattle.bip_observe.specs.Laws.{VerdictsAreTrue};
+ghost use Rattle.bip_observe.specs.Laws.{CountedIsHeld, HeldOnce, MayRunMeansReady, OfferedValues};
+ghost use Rattle.bip_observe.specs.Laws.{OldStaysOld, OneOfferEach, OneReceipt, OneVerdict};
+ghost use Rattle.bip_observe.specs.Laws.{OwnOffersAreExpected, OwnOffersShow, ReadyMeansMayRun};
+ghost use Rattle.bip_observe.specs.Laws.{SomeVerdict, UsedNumbersDontCount, VerdictsAreTrue};
 
 /// What a component offers in its local state shows the state, there is one such offer of each
 /// number, and no class that touches the component takes it for a stranger's. An offer has one
-/// receipt; one that was held is old from then on, and counts; one whose number is used doesn't
-/// (docs/DEFINITIONS.md, "Held offers").
+/// receipt; one that was held just now is old, and counts; what is old stays so; one whose number is
+/// used doesn't count (docs/DEFINITIONS.md, "Held offers").
 pub fn offer_laws()
     ensures show { OwnOffersShow }
     ensures one { OneOfferEach }
     ensures expected { OwnOffersAreExpected }
     ensures receipt { OneReceipt }
     ensures once { HeldOnce }
+    ensures old { OldStaysOld }
+    ensures counted { CountedIsHeld }
     ensures used { UsedNumbersDontCount }
 {}
 
@@ -24,6 +26,7 @@ pub fn offer_laws()
 pub fn verdict_laws()
     ensures ready { ReadyMeansMayRun }
     ensures may { MayRunMeansReady }
+    ensures values { OfferedValues }
     ensures true_of { VerdictsAreTrue }
     ensures one { OneVerdict }
     ensures some { SomeVerdict }

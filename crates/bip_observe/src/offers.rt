@@ -102,8 +102,7 @@ impl<'p> Offers<'p> {
         self.class
     }
 
-    /// The greatest used number of a component that the class knows: the base, where it doesn't
-    /// touch the component.
+    /// The greatest used number of a component that the class knows.
     pub fn known(&self, comp: CompId) -> Number
         ensures { result ≡ (observed self.now).known comp.0 }
     {

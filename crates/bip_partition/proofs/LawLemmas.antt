@@ -17,10 +17,10 @@ use Rattle.bip_model.specs.declared.parts.Interaction.{Interaction}
 use Rattle.bip_model.proofs.LawLemmas.{commute, others_stay}
 use Rattle.bip_model.proofs.LookLemmas.{may_run_is_local}
 use Rattle.std.proofs.lemmas.Bool.{eqb-false}
-use Rattle.std.proofs.lemmas.List.Folds.{list_any_at}
+use Rattle.std.proofs.lemmas.List.Folds.{Any-from_list_any, list_any-from_Any, list_any_at}
 use Rattle.bip_partition.proofs.ClassLemmas.{stands_in_its_class}
 use Rattle.bip_partition.proofs.TouchLemmas.{touches_known}
-use Rattle.bip_partition.specs.Laws.{ConflictsBothWays, EachMoves, IsClosed, IsPlanned, LocalLooksAtNothing, LocalMeansNone, OneClassWithoutRow, ReservedMeansAll, RowsAreClosed, RowsAreLeast, RunApart, StandsInItsClass}
+use Rattle.bip_partition.specs.Laws.{ConflictsBothWays, EachMoves, IsClosed, IsPlanned, LocalLooksAtNothing, LocalMeansNone, LocalStaysInItsClass, OneClassWithoutRow, ReservedAreListed, ReservedMeansAll, RowsAreClosed, RowsAreLeast, RunApart, StandsInItsClass, TouchesWithItsClass}
 use Rattle.bip_partition.specs.Plans.{ClassTouches, InConflict, IsReserved, IsTabled, Planned, Touches, beside, looked_at, of_two_classes}
 
 pub rows_closed : RowsAreClosed
@@ -63,7 +63,7 @@ run_apart m s a b one other free =
     record { second = may_after m s a b other free; first = may_after m s b a one (λ back. free (both_ways m b a back)); end = (commute m s a b apart).1 }
 
 -- what touches a component makes its class touch it
-class_touches : (p : Planned) → IsPlanned p → (a c : ℕ) → Touches p.model a c → ClassTouches p (class_in p.classes a) c
+pub class_touches : TouchesWithItsClass
 class_touches p planned a c touched =
     let at = (stands_in_its_class p planned a (touches_known p.model a c planned.valid touched)).0 in
     (at.0, inter a, at.1, at.2, touched)
@@ -82,3 +82,16 @@ each_moves m valid a within =
     let some = (valid.so_far.interactions a none within).some in
     let own : list_any (λ (q : Participant). eqb q.0.0 first.0.0) i.participants ≡ true = list_any_at (λ (q : Participant). eqb q.0.0 first.0.0) i.participants 0 (record { 0 = 0 }, record { 0 = 0 }) some (eq-eqb first.0.0 first.0.0 refl) in
     (first.0.0, rw (slice_get-get_or m.interactions a none within) own)
+
+pub local_in_class : LocalStaysInItsClass
+local_in_class p planned a b c local first second = one_class_without_row p planned a b c first second (local_none p a c local first)
+
+pub reserved_listed : ReservedAreListed
+reserved_listed p list are a = (
+  λ member.
+      let at = Any-from_list_any (λ (b : InterId). eqb b.0 a) list member in
+      rw (← eqb-true at.1.0 a at.4) ((are.exact at.1.0).0 (at.0, at.2, at.3)),
+  λ reserved.
+      let at = (are.exact a).1 reserved in
+      list_any-from_Any (λ (b : InterId). eqb b.0 a) list (at.0, inter a, at.1, at.2, eq-eqb a a refl),
+)

@@ -1,13 +1,16 @@
 -- What the definitions mean, in the subject's own words: laws that a reviewer reads.
-use Rattle.std.specs.Prelude.{◌≡◌, ◌≢◌, ◌⊎◌, ℕ, ◌<◌, List, [], Bool, length, true, Contains}
+use Rattle.std.specs.Prelude.{◌≡◌, ◌≢◌, ◌⊎◌, ◌↔◌, ℕ, ◌<◌, List, [], Bool, IsTrue, length, true}
+use Rattle.std.specs.Prelude.{Contains}
 use Rattle.std.specs.Prelude.{slice_index_or}
-use Rattle.bip_model.specs.Partitions.{AreClassesOf, IsClasses, class_in}
+use Rattle.bip_model.specs.Partitions.{AreClassesOf, IsClasses, class_in, is_member}
 use Rattle.bip_model.specs.Parts.{IsSystem}
 use Rattle.bip_model.specs.Priorities.{inter}
 use Rattle.bip_model.specs.States.{State}
 use Rattle.bip_model.specs.Steps.{IsLookedAt, MayRun, after, moves}
+use Rattle.bip_model.specs.declared.numbering.InterId.{InterId}
 use Rattle.bip_model.specs.declared.parts.System.{System}
-use Rattle.bip_partition.specs.Plans.{ClassTouches, InConflict, IsReserved, IsTabled, Planned}
+use Rattle.bip_partition.specs.Plans.{AreStations, ClassTouches, InConflict, IsReserved, IsTabled}
+use Rattle.bip_partition.specs.Plans.{Planned}
 use Rattle.bip_partition.specs.Plans.{Touches}
 
 -- a valid model with a partition of its interactions
@@ -49,6 +52,24 @@ abbrev pub OneClassWithoutRow : Type 0
 OneClassWithoutRow =
     (p : Planned) → IsPlanned p → (a b c : ℕ) → Touches p.model a c → Touches p.model b c
     → (¬ IsTabled p c) → class_in p.classes a ≡ class_in p.classes b
+
+-- so what touches anything that a local interaction touches is of its class
+abbrev pub LocalStaysInItsClass : Type 0
+LocalStaysInItsClass =
+    (p : Planned) → IsPlanned p → (a b c : ℕ) → (¬ IsReserved p a) → Touches p.model a c
+    → Touches p.model b c → class_in p.classes a ≡ class_in p.classes b
+
+-- what an interaction touches its class touches
+abbrev pub TouchesWithItsClass : Type 0
+TouchesWithItsClass =
+    (p : Planned) → IsPlanned p → (a c : ℕ) → Touches p.model a c
+    → ClassTouches p (class_in p.classes a) c
+
+-- whether an interaction is reserved, by the list of those that are
+abbrev pub ReservedAreListed : Type 0
+ReservedAreListed =
+    (p : Planned) (list : List InterId) → AreStations p list
+    → (a : ℕ) → IsTrue (is_member a list) ↔ IsReserved p a
 
 -- a set of components that has what is looked at, what two classes touch, and with each one all
 -- that an interaction touches beside it

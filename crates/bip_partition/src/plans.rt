@@ -6,6 +6,7 @@ ghost use Rattle.bip_model.specs.Partitions.{AreClassesOf, IsClasses, class_in};
 ghost use Rattle.bip_model.specs.Parts.{IsSystem};
 ghost use Rattle.bip_model.specs.Steps.{IsListLookedAt, moves, participants_of};
 ghost use Rattle.bip_partition.specs.Faults.{IsLowestTooMany, IsPlanFault};
+ghost use Rattle.bip_partition.specs.Laws.{IsPlanned};
 ghost use Rattle.bip_partition.specs.Plans.{AreStations, ClassTouches, InConflict, IsCountTabled};
 ghost use Rattle.bip_partition.specs.Plans.{IsFit};
 ghost use Rattle.bip_partition.specs.Plans.{IsListTouched};
@@ -78,6 +79,7 @@ impl Plan {
     pub fn classes(&self) -> &Classes
         ensures classes { result.now ≡ self.now.classes }
         ensures of_model { AreClassesOf self.now.model self.now.classes }
+        ensures planned { IsPlanned self.now }
     {
         &self.classes
     }

@@ -95,7 +95,7 @@ impl Reading {
         }
     }
 
-    /// ReadAs one more line. Want of memory hides no fault of its syntax, which is told before
+    /// Reads one more line. Want of memory hides no fault of its syntax, which is told before
     /// anything is stored, and another one only where it lists words.
     #[tactic(auto, unfolding(crate::specs::Reading::reading_after))]
     pub(crate) fn read_line(&mut self, alloc: Global, line: &[u8]) -> Result<(), Why>

@@ -8,7 +8,7 @@ use Rattle.bip_model.specs.States.{State}
 use Rattle.bip_model.specs.Steps.{IsRun, after, start_of}
 use Rattle.bip_model.specs.Parts.{IsSystem}
 use Rattle.bip_model.specs.Naming.{IsName, name_in}
-use Rattle.bip_model.specs.Texts.{is_plain, number_of, said_in, words}
+use Rattle.bip_model.specs.Texts.{is_plain, lines, number_of, said_in, words, words_said}
 use Rattle.bip_model.specs.Wants.{components_of, moved_in}
 use Rattle.bip_model.specs.declared.grants.Grant.{Grant}
 use Rattle.bip_model.specs.declared.wants.Role.TheVariants.{Moved, Seen}
@@ -169,6 +169,20 @@ abbrev pub ReadsGrantLines : Type 0
 ReadsGrantLines =
     (m : System) (line : List ℕ) (g : Grant) → IsSystem m
     → (grant_on m line ≡ Ok (Some g)) ↔ IsGrantLine m line g
+
+-- lines with the grants that they are: one of each line that has words, in their order
+pub data AreGrantLines (m : System) : List (List ℕ) → List Grant → Type 0 where
+  no_line : AreGrantLines m [] []
+  no_words : {line : List ℕ} {rest : List (List ℕ)} {gs : List Grant} → words_said line ≡ Some []
+      → AreGrantLines m rest gs → AreGrantLines m (line ∷ rest) gs
+  grant_line : {line : List ℕ} {rest : List (List ℕ)} {g : Grant} {gs : List Grant}
+      → IsGrantLine m line g → AreGrantLines m rest gs → AreGrantLines m (line ∷ rest) (g ∷ gs)
+
+-- a text is the grants of its lines, and only lines without words are passed over
+abbrev pub GrantsLineByLine : Type 0
+GrantsLineByLine =
+    (m : System) (text : List ℕ) (gs : List Grant) → IsSystem m
+    → (grants_of m text ≡ Ok gs) ↔ AreGrantLines m (lines text) gs
 
 -- the second word of a grant's line is the name of its interaction
 abbrev pub NamesItsInteraction : Type 0

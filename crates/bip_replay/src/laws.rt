@@ -3,7 +3,8 @@ ghost use Rattle.bip_replay.specs.Laws.{AreOfModel, AtMostOneFault, AtMostOneFir
 ghost use Rattle.bip_model.specs.Laws.{EndsAfterItsLast, GoesOnByWhatMayRun, UsedGoesOn};
 ghost use Rattle.bip_model.specs.declared.parts.System.{System};
 ghost use Rattle.bip_replay.specs.Laws.{BeginningsAreRuns, FaultsAreExact, FirstFaultsAreExact};
-ghost use Rattle.bip_replay.specs.Laws.{GrantsFromTheBack, IsNextOrFaulty, IsRunOrFaulty};
+ghost use Rattle.bip_replay.specs.Laws.{GrantsFromTheBack, GrantsLineByLine, IsNextOrFaulty};
+ghost use Rattle.bip_replay.specs.Laws.{IsRunOrFaulty};
 ghost use Rattle.bip_replay.specs.Laws.{MovesAreNumbered, NamesItsInteraction, NumbersCountMoves};
 ghost use Rattle.bip_replay.specs.Laws.{ReadsGrantLines, RunsAreHistories, RunsMoveOnceEach};
 ghost use Rattle.bip_replay.specs.Laws.{RunsStepByStep, SameGrants, StatesFromTheBack};
@@ -48,11 +49,13 @@ pub fn fault_laws()
 
 /// A line reads as a grant exactly where it is that grant's line: its words are `grant`, the name
 /// of the interaction, a word for each moved want, and perhaps `see` with a word for each seen one,
-/// in any order. Texts that say the same words, line by line, are the same grants, whatever blanks
+/// in any order. A text is the grants of its lines, and only lines without words are passed over.
+/// Texts that say the same words, line by line, are the same grants, whatever blanks
 /// and skipped lines are between them; the second word of a grant's line is the name of its
 /// interaction; and what is read are grants of the model (docs/DEFINITIONS.md, "Traces").
 pub fn trace_laws()
     ensures lines { ReadsGrantLines }
+    ensures line_by_line { GrantsLineByLine }
     ensures same { SameGrants }
     ensures named { NamesItsInteraction }
     ensures of_model { AreOfModel }

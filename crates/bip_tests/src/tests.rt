@@ -13,6 +13,7 @@ mod planning;
 mod positions;
 mod reading;
 mod stepping;
+mod worked;
 mod writing;
 
 use bip_model::{Classes, CompId, Grant, Model, Name, Number, Role, Want};

@@ -34,7 +34,7 @@ const P: ClassId = ClassId(0);
 const Q: ClassId = ClassId(1);
 
 /// An offer, with its values.
-type Offered = (CompId, Number, u16, &'static [u32]);
+pub(super) type Offered = (CompId, Number, u16, &'static [u32]);
 
 fn offer(rt: &impl Abort, (comp, number, ports, values): &Offered) -> Offer {
     Offer {
@@ -46,7 +46,8 @@ fn offer(rt: &impl Abort, (comp, number, ports, values): &Offered) -> Offer {
 }
 
 /// What happens to a class, and what it says.
-enum Step {
+#[derive(Drop)]
+pub(super) enum Step {
     /// It gets an offer.
     Gets(Offered, Receipt),
     /// It learns of a used number.
@@ -61,7 +62,7 @@ fn decides(rt: &impl Abort, offers: &Offers<'_>, inter: InterId, verdict: Verdic
     assert!(rt; decide(plan, offers, inter) == verdict);
 }
 
-fn take_step(rt: &impl Abort, offers: &mut Offers<'_>, step: &Step) {
+pub(super) fn take_step(rt: &impl Abort, offers: &mut Offers<'_>, step: &Step) {
     match step {
         Step::Gets(offered, receipt) => {
             assert!(rt; offers.hold(offer(rt, offered)) == *receipt);

@@ -1,4 +1,5 @@
 use super::read;
+use super::worked::{CHAIN, CLIMB};
 use bip_model::{ClassId, CompId, InterId, PortId, Request, Role, Want, Wants};
 use bip_partition::{Plan, PlanFault, first_touching_too_many};
 use std::alloc::Global;
@@ -238,6 +239,109 @@ fn what_one_class_touches_has_no_row(rt: HostRuntime) {
         conflicts: &[(X, Y, false), (Y, X, false), (X, X, true)],
     };
     says(&rt, &plan(&rt, rt.alloc(), APART), &TOLD);
+}
+
+#[test]
+fn a_chain_has_rows_throughout(rt: HostRuntime) {
+    const W: InterId = InterId(2);
+    const TOLD: Told = Told {
+        inters: &[
+            OfInter {
+                inter: X,
+                moves: &[(A, PortId(0))],
+                looks: &[],
+                touches: &[A],
+                class: P,
+                is_reserved: true,
+            },
+            OfInter {
+                inter: Y,
+                moves: &[(A, PortId(0)), (B, PortId(0))],
+                looks: &[],
+                touches: &[A, B],
+                class: P,
+                is_reserved: true,
+            },
+            OfInter {
+                inter: W,
+                moves: &[(B, PortId(0))],
+                looks: &[],
+                touches: &[B],
+                class: Q,
+                is_reserved: true,
+            },
+        ],
+        comps: &[
+            OfComp {
+                comp: A,
+                classes: &[P],
+                is_tabled: true,
+            },
+            OfComp {
+                comp: B,
+                classes: &[P, Q],
+                is_tabled: true,
+            },
+        ],
+        tabled: 2,
+        stations: &[X, Y, W],
+        conflicts: &[(X, Y, true), (Y, W, true), (X, W, false), (W, X, false)],
+    };
+    says(&rt, &plan(&rt, rt.alloc(), CHAIN), &TOLD);
+}
+
+#[test]
+fn what_is_looked_at_has_a_row_in_one_class(rt: HostRuntime) {
+    const Z: InterId = InterId(2);
+    const TOLD: Told = Told {
+        inters: &[
+            OfInter {
+                inter: X,
+                moves: &[(A, PortId(0))],
+                looks: &[B, R],
+                touches: &[A, B, R],
+                class: P,
+                is_reserved: true,
+            },
+            OfInter {
+                inter: Y,
+                moves: &[(B, PortId(0))],
+                looks: &[R],
+                touches: &[B, R],
+                class: P,
+                is_reserved: true,
+            },
+            OfInter {
+                inter: Z,
+                moves: &[(R, PortId(0))],
+                looks: &[],
+                touches: &[R],
+                class: P,
+                is_reserved: true,
+            },
+        ],
+        comps: &[
+            OfComp {
+                comp: A,
+                classes: &[P],
+                is_tabled: true,
+            },
+            OfComp {
+                comp: B,
+                classes: &[P],
+                is_tabled: true,
+            },
+            OfComp {
+                comp: R,
+                classes: &[P],
+                is_tabled: true,
+            },
+        ],
+        tabled: 3,
+        stations: &[X, Y, Z],
+        conflicts: &[(X, Y, true), (X, Z, true), (Y, Z, true), (Z, Z, true)],
+    };
+    says(&rt, &plan(&rt, rt.alloc(), CLIMB), &TOLD);
 }
 
 #[test]

@@ -1,4 +1,4 @@
-use Rattle.bip_model.proofs.ExpressionLemmas.{sums_are_integers, transfers_at_once, transfers_in_any_order, updates_in_order}
+use Rattle.bip_model.proofs.ExpressionLemmas.{sums_are_integers, transfers_at_once, transfers_in_any_order, updates_in_order, updates_one_by_one}
 use Rattle.bip_model.proofs.laws.expression_laws.Goals as goal
 
 pub returns : goal.returns
@@ -7,4 +7,5 @@ returns c = record {
   transfers = transfers_at_once;
   any_order = transfers_in_any_order;
   updates = updates_in_order;
+  one_by_one = updates_one_by_one;
 }

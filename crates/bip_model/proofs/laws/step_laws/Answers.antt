@@ -1,4 +1,4 @@
-use Rattle.bip_model.proofs.LawLemmas.{commute, enabled_where, ends_after, goes_on, is_local, one_transition, others_stay, participants_go}
+use Rattle.bip_model.proofs.LawLemmas.{after-member, commute, enabled_where, ends_after, goes_on, is_local, one_transition, others_stay, participants_go}
 use Rattle.bip_model.proofs.StateLemmas.{states_lead_to_states}
 use Rattle.bip_model.proofs.laws.step_laws.Goals as goal
 
@@ -7,6 +7,7 @@ returns c = record {
   enabled = enabled_where;
   stay = others_stay;
   go = participants_go;
+  led = λ m valid s a i q at. after-member m s a i q valid at;
   one = one_transition;
   states = states_lead_to_states;
   local = is_local;
