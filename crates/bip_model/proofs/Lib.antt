@@ -26,4 +26,5 @@ pub mod StateLemmas
 pub mod StepLemmas
 pub mod TextLemmas
 pub mod TransitionLemmas
+pub mod WantLemmas
 pub mod WrittenLemmas

@@ -16,7 +16,8 @@ use Rattle.bip_model.specs.Partitions.{IsPartition, numbers_in, times_in}
 use Rattle.bip_model.specs.Parts.{Participant, components_in}
 use Rattle.bip_model.specs.Priorities.{IsAbove, put_pair}
 use Rattle.bip_model.specs.Scopes.{shared}
-use Rattle.bip_model.specs.Parties.{AreParties}
+use Rattle.bip_model.specs.Parties.{AreParties, AreWantsBy}
+use Rattle.bip_model.specs.declared.messages.Offer.{Offer}
 use Rattle.bip_model.specs.States.{IsStateOf, State, with_values}
 use Rattle.bip_model.specs.Steps.{IsEnabled, IsLookedAt, IsRun, MayRun, after, end_of, guard_of}
 use Rattle.bip_model.specs.Steps.{led, moves, participants_of, told, values_of}
@@ -278,6 +279,12 @@ abbrev pub PartiesMove : Type 0
 PartiesMove =
     (m : System) (a : ℕ) (wants : List Want) → IsWants wants → AreParties m a wants
     → (c : ℕ) → IsTrue (moves m a c) ↔ (0 < moved_in wants c)
+
+-- by offers an interaction has one list of wants, at most
+abbrev pub OneWantsEach : Type 0
+OneWantsEach =
+    (m : System) (o : ℕ → Offer) (a : ℕ) (xs ys : List Want) → AreWantsBy m o a xs
+    → AreWantsBy m o a ys → xs ≡ ys
 
 -- used numbers and histories of grants in two parts: the second goes on where the first ends
 abbrev pub UsedGoesOn : Type 0

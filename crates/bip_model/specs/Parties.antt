@@ -1,10 +1,12 @@
 -- The parties of an interaction: wants that move just what it moves, and see just what it looks at.
-use Rattle.std.specs.Prelude.{◌≡◌, ◌↔◌, ℕ, Bool, ◌==◌, ◌&&◌, not, List, Any, IsTrue}
+use Rattle.std.specs.Prelude.{◌≡◌, ◌↔◌, ℕ, Bool, ◌==◌, ◌&&◌, not, List, All, Any, IsTrue}
 use Rattle.std.specs.Prelude.{if◌then◌else◌}
 use Rattle.std.specs.List.{list_all, list_any}
+use Rattle.std.specs.List.Sorted.{IsStrictlyIncreasing}
 use Rattle.bip_model.specs.Parts.{Participant}
 use Rattle.bip_model.specs.Steps.{IsLookedAt, moves}
-use Rattle.bip_model.specs.Wants.{is_moved}
+use Rattle.bip_model.specs.Wants.{components_of, is_moved}
+use Rattle.bip_model.specs.declared.messages.Offer.{Offer}
 use Rattle.bip_model.specs.declared.numbering.CompId.{CompId}
 use Rattle.bip_model.specs.declared.parts.System.{System}
 use Rattle.bip_model.specs.declared.wants.Role.{Role}
@@ -19,6 +21,12 @@ IsWanted role wants c = Any (λ (w : Want). (w.comp.0 ≡ c) × (w.role ≡ role
 pub record AreParties (m : System) (a : ℕ) (wants : List Want) : Type 0 where
   pub moved : (c : ℕ) → IsWanted Moved wants c ↔ IsTrue (moves m a c)
   pub seen : (c : ℕ) → IsWanted Seen wants c ↔ IsLookedAt m a c
+
+-- wants of just the parties of an interaction, by component, each with the number of its offer
+pub record AreWantsBy (m : System) (o : ℕ → Offer) (a : ℕ) (wants : List Want) : Type 0 where
+  pub parties : AreParties m a wants
+  pub rising : IsStrictlyIncreasing (components_of wants)
+  pub numbers : All (λ (w : Want). w.number ≡ (o w.comp.0).number) wants
 
 -- What contracts of private functions say.
 

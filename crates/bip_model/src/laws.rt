@@ -9,9 +9,9 @@ ghost use Rattle.bip_model.specs.Laws.{GoesOnByWhatMayRun, IsLocal, OneTransitio
 ghost use Rattle.bip_model.specs.Laws.{ParticipantsGo, StatesLeadToStates, HistoryGoesOn};
 ghost use Rattle.bip_model.specs.Laws.{IsInOrder, MovedIsWanted, NamesInAnyOrder};
 ghost use Rattle.bip_model.specs.Laws.{SumsAreIntegers, TransfersAtOnce, TransfersInAnyOrder};
-ghost use Rattle.bip_model.specs.Laws.{AboveGoesOn, MayRunIsLocal, ParticipantsAreLed};
-ghost use Rattle.bip_model.specs.Laws.{PartiesMove, SomethingMayRun, UpdatesInOrder};
-ghost use Rattle.bip_model.specs.Laws.{UpdatesOneByOne};
+ghost use Rattle.bip_model.specs.Laws.{AboveGoesOn, MayRunIsLocal, OneWantsEach};
+ghost use Rattle.bip_model.specs.Laws.{ParticipantsAreLed, PartiesMove, SomethingMayRun};
+ghost use Rattle.bip_model.specs.Laws.{UpdatesInOrder, UpdatesOneByOne};
 ghost use Rattle.bip_model.specs.Laws.{FindsOfParticipants, NamesParticipants};
 ghost use Rattle.bip_model.specs.Laws.{PartsOrMisplaces, PutsOnePair, UsedGoesOn};
 ghost use Rattle.bip_model.specs.Grants.{IsGreatestUsed, IsHistory, MovesOnceEach, used_by};
@@ -89,12 +89,14 @@ pub fn builder_laws()
     ensures pairs { PutsOnePair }
 {}
 
-/// What wants move; what grants use up, all that they do and one more; that a used number is the
-/// greatest that was granted; and that a history moves no component twice with one number
-/// (docs/DEFINITIONS.md, "Used numbers and histories").
+/// What wants move, and that by its offers an interaction has one list of wants; what grants use
+/// up, all that they do and one more; that a used number is the greatest that was granted; and that
+/// a history moves no component twice with one number (docs/DEFINITIONS.md, "Used numbers and
+/// histories").
 pub fn history_laws()
     ensures moved { MovedIsWanted }
     ensures parties { PartiesMove }
+    ensures wants { OneWantsEach }
     ensures used { (floor : ℕ → ℕ) (gs : List Grant) (g : Grant)
         → used_by floor (gs ++ g ∷ []) ≡ raised (used_by floor gs) g.wants }
     ensures greatest { (floor : ℕ → ℕ) (gs : List Grant) (c : ℕ)

@@ -10,8 +10,8 @@ ghost use Rattle.bip_partition.specs.Laws.{StandsInItsClass, TouchesWithItsClass
 /// table are the least set that has what is looked at, what two classes touch, and what is touched
 /// beside one of them: a reserved interaction touches only these, a local one none, and what
 /// touches another component is of one class, so a local interaction shares nothing with another
-/// class. What an interaction touches its class touches. Interactions that may run and aren't in conflict run
-/// in either order, and lead to one state (docs/DEFINITIONS.md, "Plans").
+/// class. What an interaction touches its class touches. Interactions that may run and aren't in
+/// conflict run in either order, and lead to one state (docs/DEFINITIONS.md, "Plans").
 pub fn plan_laws()
     ensures moves { EachMoves }
     ensures stands { StandsInItsClass }

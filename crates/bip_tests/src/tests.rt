@@ -17,6 +17,7 @@ mod worked;
 mod writing;
 
 use bip_model::{Classes, CompId, Grant, Model, Name, Number, Role, Want};
+use bip_partition::Plan;
 use bip_reader::read_model;
 use bip_replay::read_trace;
 use std::alloc::Global;
@@ -64,6 +65,24 @@ fn over<R: Abort, T, F: FnOnce(&R, Global, &Model, T)>(
     requires { F.IsAlwaysCallable then }
 {
     then(rt, alloc, &model(rt, alloc, text), given);
+}
+
+fn plan(rt: &impl Abort, alloc: Global, text: &str) -> Plan {
+    let (model, classes) = read(rt, alloc, text);
+    Plan::of(alloc, model, classes).expect(rt, "a plan")
+}
+
+/// Calls a function with the plan of a text, and with what else it takes.
+fn over_plan<R: Abort, T, F: FnOnce(&R, Global, &Plan, T)>(
+    rt: &R,
+    alloc: Global,
+    text: &str,
+    given: T,
+    then: F,
+)
+    requires { F.IsAlwaysCallable then }
+{
+    then(rt, alloc, &plan(rt, alloc, text), given);
 }
 
 /// The grants of a text.

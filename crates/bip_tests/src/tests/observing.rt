@@ -1,5 +1,5 @@
 use self::Step::{Decides, Gets, Learns};
-use super::read;
+use super::{over, over_plan};
 use bip_model::{ClassId, CompId, InterId, LocId, Model, Number, Offer, Values};
 use bip_observe::{Offers, Receipt, Verdict, decide};
 use bip_partition::Plan;
@@ -72,16 +72,15 @@ pub(super) fn take_step(rt: &impl Abort, offers: &mut Offers<'_>, step: &Step) {
     }
 }
 
-fn take_steps(rt: &impl Abort, plan: &Plan, alloc: Global, class: ClassId, steps: &[Step]) {
-    let mut offers = Offers::new(alloc, plan, class, 0).expect(rt, "memory");
+fn take_steps(rt: &impl Abort, offers: &mut Offers<'_>, steps: &[Step]) {
     for step in steps {
-        take_step(rt, &mut offers, step);
+        take_step(rt, offers, step);
     }
 }
 
-fn plan(rt: &impl Abort, alloc: Global) -> Plan {
-    let (model, classes) = read(rt, alloc, CLIMBING);
-    Plan::of(alloc, model, classes).expect(rt, "a plan")
+fn takes(rt: &impl Abort, alloc: Global, plan: &Plan, (class, steps): (ClassId, &[Step])) {
+    let mut offers = Offers::new(alloc, plan, class, 0).expect(rt, "memory");
+    take_steps(rt, &mut offers, steps);
 }
 
 #[test]
@@ -117,7 +116,7 @@ fn a_verdict_tells_the_first_cause_and_the_lowest(rt: HostRuntime) {
         Learns(A, 2),
         Decides(X, Verdict::NotReady(A)),
     ];
-    take_steps(&rt, &plan(&rt, rt.alloc()), rt.alloc(), P, STEPS);
+    over_plan(&rt, rt.alloc(), CLIMBING, (P, STEPS), takes);
 }
 
 #[test]
@@ -149,26 +148,43 @@ fn an_offer_is_a_strangers_or_old_or_held(rt: HostRuntime) {
         Decides(Y, Verdict::PortOff(B)),
         Decides(Z, Verdict::Ready),
     ];
-    take_steps(&rt, &plan(&rt, rt.alloc()), rt.alloc(), Q, STEPS);
+    over_plan(&rt, rt.alloc(), CLIMBING, (Q, STEPS), takes);
 }
 
-/// Nothing is held above the greatest base, and one number is left.
-fn begins_above(rt: &impl Abort, alloc: Global, plan: &Plan) {
-    const BASE: Number = u64::MAX - 1;
-    let mut offers = Offers::new(alloc, plan, Q, BASE).expect(rt, "memory");
+const BASE: Number = u64::MAX - 1;
+
+/// Nothing is held at first, and no number is known to be used above the base.
+fn has_nothing(rt: &impl Abort, offers: &Offers<'_>) {
     assert!(rt; offers.class() == Q);
     assert!(rt; offers.known(B) == BASE && offers.known(CompId(3)) == BASE);
     assert!(rt; offers.held(B).is_none() && !offers.is_counted(B));
-    take_step(rt, &mut offers, &Gets((B, BASE, 3, &[]), Receipt::Old));
-    take_step(rt, &mut offers, &Gets((B, u64::MAX, 3, &[]), Receipt::Held));
+}
+
+/// The last number is held, and the class learns nothing of a component that it doesn't touch.
+fn has_the_last(rt: &impl Abort, offers: &Offers<'_>) {
     assert!(rt; offers.is_counted(B));
-    take_step(rt, &mut offers, &Learns(A, u64::MAX));
     assert!(rt; offers.known(A) == BASE);
+}
+
+fn begins_above(rt: &impl Abort, offers: &mut Offers<'_>) {
+    const STEPS: &[Step] = &[
+        Gets((B, BASE, 3, &[]), Receipt::Old),
+        Gets((B, u64::MAX, 3, &[]), Receipt::Held),
+        Learns(A, u64::MAX),
+    ];
+    has_nothing(rt, offers);
+    take_steps(rt, offers, STEPS);
+    has_the_last(rt, offers);
+}
+
+fn begins(rt: &impl Abort, alloc: Global, plan: &Plan, _: ()) {
+    let mut offers = Offers::new(alloc, plan, Q, BASE).expect(rt, "memory");
+    begins_above(rt, &mut offers);
 }
 
 #[test]
 fn a_class_begins_at_the_base(rt: HostRuntime) {
-    begins_above(&rt, rt.alloc(), &plan(&rt, rt.alloc()));
+    over_plan(&rt, rt.alloc(), CLIMBING, (), begins);
 }
 
 /// Compares what a component offers in its first location, with one value or none.
@@ -184,6 +200,12 @@ fn is_own(rt: &impl Abort, model: &Model, wanted: &Offered) {
     assert!(rt; own.values.as_slice() == *values);
 }
 
+fn are_own(rt: &impl Abort, _: Global, model: &Model, wanted: &[Offered]) {
+    for one in wanted {
+        is_own(rt, model, one);
+    }
+}
+
 #[test]
 fn a_component_offers_the_ports_of_its_local_state(rt: HostRuntime) {
     const OWN: &[Offered] = &[
@@ -192,8 +214,5 @@ fn a_component_offers_the_ports_of_its_local_state(rt: HostRuntime) {
         (R, 3, 1, &[8]),
         (R, 4, 0, &[9]),
     ];
-    let plan = plan(&rt, rt.alloc());
-    for wanted in OWN {
-        is_own(&rt, plan.model(), wanted);
-    }
+    over(&rt, rt.alloc(), CLIMBING, OWN, are_own);
 }

@@ -1,5 +1,5 @@
-use super::read;
 use super::worked::{CHAIN, CLIMB};
+use super::{over_plan, read};
 use bip_model::{ClassId, CompId, InterId, PortId, Request, Role, Want, Wants};
 use bip_partition::{Plan, PlanFault, first_touching_too_many};
 use std::alloc::Global;
@@ -66,11 +66,6 @@ struct Told {
     conflicts: &'static [(InterId, InterId, bool)],
 }
 
-fn plan(rt: &impl Abort, alloc: Global, text: &str) -> Plan {
-    let (model, classes) = read(rt, alloc, text);
-    Plan::of(alloc, model, classes).expect(rt, "a plan")
-}
-
 fn says_of_inter(rt: &impl Abort, plan: &Plan, told: &OfInter) {
     let inter = told.inter;
     assert!(rt; (inter.0 as usize) < plan.model().interactions().len());
@@ -89,7 +84,7 @@ fn says_of_comp(rt: &impl Abort, plan: &Plan, told: &OfComp) {
 }
 
 /// Numbers that the model lacks have no row, aren't reserved, and are in no conflict.
-fn says_nothing_of_others(rt: &impl Abort, plan: &Plan) {
+fn says_nothing_of_others(rt: &impl Abort, _: Global, plan: &Plan, _: ()) {
     const OTHER: InterId = InterId(2);
     assert!(rt; !plan.tabled(CompId(3)) && !plan.tabled(CompId(64)));
     assert!(rt; !plan.reserved(OTHER) && !plan.reserved(InterId(65535)));
@@ -97,7 +92,7 @@ fn says_nothing_of_others(rt: &impl Abort, plan: &Plan) {
     assert!(rt; !plan.conflict(OTHER, OTHER));
 }
 
-fn says(rt: &impl Abort, plan: &Plan, told: &Told) {
+fn says(rt: &impl Abort, _: Global, plan: &Plan, told: &Told) {
     for of_inter in told.inters {
         says_of_inter(rt, plan, of_inter);
     }
@@ -153,7 +148,7 @@ fn what_two_classes_move_has_a_row_with_all_beside_it(rt: HostRuntime) {
         stations: &[X, Y],
         conflicts: &[(X, Y, true), (Y, X, true), (X, X, true)],
     };
-    says(&rt, &plan(&rt, rt.alloc(), MEETING), &TOLD);
+    over_plan(&rt, rt.alloc(), MEETING, &TOLD, says);
 }
 
 #[test]
@@ -198,7 +193,7 @@ fn what_is_looked_at_is_touched_from_both_classes(rt: HostRuntime) {
         stations: &[X, Y],
         conflicts: &[(X, Y, true), (Y, X, true), (Y, Y, true)],
     };
-    says(&rt, &plan(&rt, rt.alloc(), LOOKING), &TOLD);
+    over_plan(&rt, rt.alloc(), LOOKING, &TOLD, says);
 }
 
 #[test]
@@ -238,115 +233,127 @@ fn what_one_class_touches_has_no_row(rt: HostRuntime) {
         stations: &[],
         conflicts: &[(X, Y, false), (Y, X, false), (X, X, true)],
     };
-    says(&rt, &plan(&rt, rt.alloc(), APART), &TOLD);
+    over_plan(&rt, rt.alloc(), APART, &TOLD, says);
 }
+
+const THIRD: InterId = InterId(2);
+
+const CHAIN_TOLD: Told = Told {
+    inters: &[
+        OfInter {
+            inter: X,
+            moves: &[(A, PortId(0))],
+            looks: &[],
+            touches: &[A],
+            class: P,
+            is_reserved: true,
+        },
+        OfInter {
+            inter: Y,
+            moves: &[(A, PortId(0)), (B, PortId(0))],
+            looks: &[],
+            touches: &[A, B],
+            class: P,
+            is_reserved: true,
+        },
+        OfInter {
+            inter: THIRD,
+            moves: &[(B, PortId(0))],
+            looks: &[],
+            touches: &[B],
+            class: Q,
+            is_reserved: true,
+        },
+    ],
+    comps: &[
+        OfComp {
+            comp: A,
+            classes: &[P],
+            is_tabled: true,
+        },
+        OfComp {
+            comp: B,
+            classes: &[P, Q],
+            is_tabled: true,
+        },
+    ],
+    tabled: 2,
+    stations: &[X, Y, THIRD],
+    conflicts: &[
+        (X, Y, true),
+        (Y, THIRD, true),
+        (X, THIRD, false),
+        (THIRD, X, false),
+    ],
+};
 
 #[test]
 fn a_chain_has_rows_throughout(rt: HostRuntime) {
-    const W: InterId = InterId(2);
-    const TOLD: Told = Told {
-        inters: &[
-            OfInter {
-                inter: X,
-                moves: &[(A, PortId(0))],
-                looks: &[],
-                touches: &[A],
-                class: P,
-                is_reserved: true,
-            },
-            OfInter {
-                inter: Y,
-                moves: &[(A, PortId(0)), (B, PortId(0))],
-                looks: &[],
-                touches: &[A, B],
-                class: P,
-                is_reserved: true,
-            },
-            OfInter {
-                inter: W,
-                moves: &[(B, PortId(0))],
-                looks: &[],
-                touches: &[B],
-                class: Q,
-                is_reserved: true,
-            },
-        ],
-        comps: &[
-            OfComp {
-                comp: A,
-                classes: &[P],
-                is_tabled: true,
-            },
-            OfComp {
-                comp: B,
-                classes: &[P, Q],
-                is_tabled: true,
-            },
-        ],
-        tabled: 2,
-        stations: &[X, Y, W],
-        conflicts: &[(X, Y, true), (Y, W, true), (X, W, false), (W, X, false)],
-    };
-    says(&rt, &plan(&rt, rt.alloc(), CHAIN), &TOLD);
+    over_plan(&rt, rt.alloc(), CHAIN, &CHAIN_TOLD, says);
 }
+
+const CLIMB_TOLD: Told = Told {
+    inters: &[
+        OfInter {
+            inter: X,
+            moves: &[(A, PortId(0))],
+            looks: &[B, R],
+            touches: &[A, B, R],
+            class: P,
+            is_reserved: true,
+        },
+        OfInter {
+            inter: Y,
+            moves: &[(B, PortId(0))],
+            looks: &[R],
+            touches: &[B, R],
+            class: P,
+            is_reserved: true,
+        },
+        OfInter {
+            inter: THIRD,
+            moves: &[(R, PortId(0))],
+            looks: &[],
+            touches: &[R],
+            class: P,
+            is_reserved: true,
+        },
+    ],
+    comps: &[
+        OfComp {
+            comp: A,
+            classes: &[P],
+            is_tabled: true,
+        },
+        OfComp {
+            comp: B,
+            classes: &[P],
+            is_tabled: true,
+        },
+        OfComp {
+            comp: R,
+            classes: &[P],
+            is_tabled: true,
+        },
+    ],
+    tabled: 3,
+    stations: &[X, Y, THIRD],
+    conflicts: &[
+        (X, Y, true),
+        (X, THIRD, true),
+        (Y, THIRD, true),
+        (THIRD, THIRD, true),
+    ],
+};
 
 #[test]
 fn what_is_looked_at_has_a_row_in_one_class(rt: HostRuntime) {
-    const Z: InterId = InterId(2);
-    const TOLD: Told = Told {
-        inters: &[
-            OfInter {
-                inter: X,
-                moves: &[(A, PortId(0))],
-                looks: &[B, R],
-                touches: &[A, B, R],
-                class: P,
-                is_reserved: true,
-            },
-            OfInter {
-                inter: Y,
-                moves: &[(B, PortId(0))],
-                looks: &[R],
-                touches: &[B, R],
-                class: P,
-                is_reserved: true,
-            },
-            OfInter {
-                inter: Z,
-                moves: &[(R, PortId(0))],
-                looks: &[],
-                touches: &[R],
-                class: P,
-                is_reserved: true,
-            },
-        ],
-        comps: &[
-            OfComp {
-                comp: A,
-                classes: &[P],
-                is_tabled: true,
-            },
-            OfComp {
-                comp: B,
-                classes: &[P],
-                is_tabled: true,
-            },
-            OfComp {
-                comp: R,
-                classes: &[P],
-                is_tabled: true,
-            },
-        ],
-        tabled: 3,
-        stations: &[X, Y, Z],
-        conflicts: &[(X, Y, true), (X, Z, true), (Y, Z, true), (Z, Z, true)],
-    };
-    says(&rt, &plan(&rt, rt.alloc(), CLIMB), &TOLD);
+    over_plan(&rt, rt.alloc(), CLIMB, &CLIMB_TOLD, says);
 }
 
 #[test]
 fn a_plan_says_nothing_of_what_the_model_lacks(rt: HostRuntime) {
-    says_nothing_of_others(&rt, &plan(&rt, rt.alloc(), MEETING));
+    over_plan(&rt, rt.alloc(), MEETING, (), says_nothing_of_others);
 }
 
 const MOVED_A: Want = Want {
@@ -406,13 +413,13 @@ fn a_request_wants_what_its_interaction_moves_and_looks_at(rt: HostRuntime) {
         (Q, InterId(2), &[MOVED_B, MOVED_R], false),
         (ClassId(2), Y, &[MOVED_B, MOVED_R], false),
     ];
-    fit(&rt, rt.alloc(), &plan(&rt, rt.alloc(), LOOKING), ASKED);
+    over_plan(&rt, rt.alloc(), LOOKING, ASKED, fit);
 }
 
 #[test]
 fn no_request_for_a_local_interaction_fits(rt: HostRuntime) {
     const ASKED: &[Asked] = &[(P, X, &[MOVED_A], false), (Q, Y, &[MOVED_B], false)];
-    fit(&rt, rt.alloc(), &plan(&rt, rt.alloc(), APART), ASKED);
+    over_plan(&rt, rt.alloc(), APART, ASKED, fit);
 }
 
 /// An interaction that moves one component and looks at the 31 or 32 that four above it move.

@@ -1,6 +1,6 @@
 //! The models of docs/EXAMPLES.md, and the verdicts that were worked there by hand.
 use super::observing::{Offered, Step, take_step};
-use super::read;
+use super::over_plan;
 use bip_model::{ClassId, CompId, InterId, Number};
 use bip_observe::{Offers, Receipt, Verdict};
 use bip_partition::Plan;
@@ -68,17 +68,15 @@ fn come_about(rt: &impl Abort, offers: &mut Offers<'_>, situation: &Situation) {
     }
 }
 
-fn are_judged(rt: &impl Abort, alloc: Global, plan: &Plan, situations: &[Situation]) {
-    for situation in situations {
-        let mut offers = Offers::new(alloc, plan, ClassId(0), 0).expect(rt, "memory");
-        come_about(rt, &mut offers, situation);
-    }
+fn is_judged(rt: &impl Abort, alloc: Global, plan: &Plan, situation: &Situation) {
+    let mut offers = Offers::new(alloc, plan, ClassId(0), 0).expect(rt, "memory");
+    come_about(rt, &mut offers, situation);
 }
 
-fn judges(rt: &impl Abort, alloc: Global, text: &str, situations: &[Situation]) {
-    let (model, classes) = read(rt, alloc, text);
-    let plan = Plan::of(alloc, model, classes).expect(rt, "a plan");
-    are_judged(rt, alloc, &plan, situations);
+fn are_judged(rt: &impl Abort, alloc: Global, plan: &Plan, situations: &[Situation]) {
+    for situation in situations {
+        is_judged(rt, alloc, plan, situation);
+    }
 }
 
 #[test]
@@ -105,7 +103,7 @@ fn two_compete_for_a_third(rt: HostRuntime) {
             says: &[(ONE, Verdict::PortOff(FIRST))],
         },
     ];
-    judges(&rt, rt.alloc(), COMPETE, SITUATIONS);
+    over_plan(&rt, rt.alloc(), COMPETE, SITUATIONS, are_judged);
 }
 
 #[test]
@@ -132,7 +130,13 @@ fn two_compete_with_priority(rt: HostRuntime) {
             says: &[(ONE, Verdict::PortOff(THIRD))],
         },
     ];
-    judges(&rt, rt.alloc(), COMPETE_WITH_PRIORITY, SITUATIONS);
+    over_plan(
+        &rt,
+        rt.alloc(),
+        COMPETE_WITH_PRIORITY,
+        SITUATIONS,
+        are_judged,
+    );
 }
 
 #[test]
@@ -159,7 +163,7 @@ fn two_compete_twice_with_priority(rt: HostRuntime) {
             says: &[(ONE, Verdict::PortOff(FIRST))],
         },
     ];
-    judges(&rt, rt.alloc(), COMPETE_TWICE, SITUATIONS);
+    over_plan(&rt, rt.alloc(), COMPETE_TWICE, SITUATIONS, are_judged);
 }
 
 #[test]
@@ -189,7 +193,7 @@ fn three_in_a_chain(rt: HostRuntime) {
             ],
         },
     ];
-    judges(&rt, rt.alloc(), CHAIN, SITUATIONS);
+    over_plan(&rt, rt.alloc(), CHAIN, SITUATIONS, are_judged);
 }
 
 #[test]
@@ -232,5 +236,5 @@ fn priorities_climb(rt: HostRuntime) {
             ],
         },
     ];
-    judges(&rt, rt.alloc(), CLIMB, SITUATIONS);
+    over_plan(&rt, rt.alloc(), CLIMB, SITUATIONS, are_judged);
 }
