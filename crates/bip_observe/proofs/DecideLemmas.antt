@@ -1,17 +1,16 @@
 -- What the searches of a decision find is its verdict.
-use Rattle.std.proofs.Common.{◌≡◌, ◌⊎◌, ℕ, ◌<◌, ◌≤◌, Bool, true, false, not, ◌&&◌, eqb, List, [], ◌∷◌, length, map, All, get_or, Option, None, Some, find, inl, inr, refl, sym, ap, ◌∙◌, slice_get, arith}
-use Rattle.std.specs.Prelude.{Contains, IsSomeAnd, IsTrue, nat_lt, unwrap_or}
+use Rattle.std.proofs.Common.{◌≡◌, ℕ, ◌<◌, ◌≤◌, Bool, true, false, not, List, [], ◌∷◌, length, map, All, get_or, Option, None, Some, find, inl, inr, refl, sym, ◌∙◌, slice_get, arith}
+use Rattle.std.specs.Prelude.{IsSomeAnd, IsTrue, nat_lt, unwrap_or}
 use Rattle.std.specs.List.{list_all}
 use Rattle.std.specs.Option.{option_map, option_map_or}
-use Rattle.std.specs.List.Sorted.{IsStrictlyIncreasing}
-use Rattle.std.proofs.lemmas.Bool.{and_parts, cases_Bool, false≢true, not-true}
+use Rattle.std.proofs.lemmas.Bool.{and_parts, false≢true, not-true}
 use Rattle.std.proofs.lemmas.List.Elements.{All-contains, All-head, All-tail, All-weaker}
 use Rattle.std.proofs.lemmas.List.Sums.{AllPass-from_list_all, list_all-from_AllPass}
 use Rattle.bip_model.specs.Expressions.{counts}
 use Rattle.bip_model.specs.Messages.{IsOfferOf}
-use Rattle.bip_model.specs.Parts.{IsInteraction, IsSystem, Participant, components_in, count_of, counts_of}
+use Rattle.bip_model.specs.Parts.{IsInteraction, IsSystem, Participant, count_of, counts_of}
 use Rattle.bip_model.specs.Priorities.{IsAbove, IsListAbove, inter}
-use Rattle.bip_model.specs.Steps.{moves, participants_of}
+use Rattle.bip_model.specs.Steps.{participants_of}
 use Rattle.bip_model.specs.declared.messages.Offer.{Offer}
 use Rattle.bip_model.specs.declared.numbering.CompId.{CompId}
 use Rattle.bip_model.specs.declared.numbering.InterId.{InterId}
@@ -22,14 +21,13 @@ use Rattle.bip_model.proofs.LawLemmas.{rising_of}
 use Rattle.bip_model.proofs.ListLemmas.{All-slice_get, found_at, not_found}
 use Rattle.std.proofs.lemmas.Option.{slice_get_cases}
 use Rattle.std.proofs.lemmas.List.{get_or_default}
-use Rattle.bip_partition.specs.Plans.{IsListTouched, Touches}
+use Rattle.bip_partition.specs.Plans.{IsListTouched}
 use Rattle.bip_observe.proofs.FirstLemmas.{first_is_lowest}
 use Rattle.bip_observe.proofs.ShowLemmas.{moves_each, touches_higher}
 use Rattle.bip_observe.proofs.VerdictLemmas.{counted_own}
 use Rattle.bip_observe.specs.Offers.{AreOwn, Observed}
-use Rattle.bip_observe.specs.Verdicts.{AllCount, ArePortsOn, CanBeJudged, Enable, IsEnabledAbove, IsLowest, IsMissing, IsOff, IsReady, IsVerdict, enables, guard_holds, is_counted, no_offer, offers_of, port_on}
-use Rattle.bip_observe.specs.declared.verdicts.Verdict.{Verdict}
-use Rattle.bip_observe.specs.declared.verdicts.Verdict.TheVariants.{Ready, NotReady, PortOff, GuardFalse, Below}
+use Rattle.bip_observe.specs.Verdicts.{AllCount, ArePortsOn, CanBeJudged, Enable, IsLowest, IsOff, IsVerdict, enables, guard_holds, is_counted, no_offer, offers_of, port_on}
+use Rattle.bip_observe.specs.declared.verdicts.Verdict.TheVariants.{Ready, NotReady, PortOff, Below}
 
 -- a test that doesn't fail passes
 passes : (b : Bool) → not b ≡ false → b ≡ true

@@ -1,8 +1,8 @@
 -- The first of a list in order is the lowest, and of a property that can be tested the lowest number that has it.
-use Rattle.std.proofs.Common.{◌≡◌, ◌⊎◌, ℕ, zero, suc, ◌<◌, Bool, true, false, List, [], ◌∷◌, length, map, get_or, None, Some, find, cond, inl, inr, refl, sym, ap, ◌∙◌, arith, subst}
+use Rattle.std.proofs.Common.{◌≡◌, ◌⊎◌, ℕ, zero, suc, ◌<◌, Bool, false, List, [], ◌∷◌, map, get_or, Some, find, inl, inr, ap, arith, subst}
 use Rattle.std.specs.Prelude.{Contains}
 use Rattle.std.specs.List.Sorted.{IsStrictlyIncreasing}
-use Rattle.std.proofs.lemmas.Bool.{cases_Bool, cases_lt, cases_order, false≢true}
+use Rattle.std.proofs.lemmas.Bool.{cases_Bool, cases_lt, cases_order}
 use Rattle.bip_model.proofs.ClimbLemmas.{Decided}
 use Rattle.bip_model.proofs.ListLemmas.{Contains-cases, Contains-none, below_later}
 use Rattle.bip_model.proofs.NumberingLemmas.{increasing_tail}

@@ -11,7 +11,7 @@ use Rattle.bip_model.specs.Numbering.{put}
 use Rattle.bip_model.specs.declared.messages.Offer.{Offer}
 use Rattle.bip_model.proofs.PutLemmas.{read-set}
 use Rattle.bip_partition.specs.Plans.{Planned}
-use Rattle.bip_observe.specs.Offers.{AreKept, AreOwn, IsExpected, KeptOffers, Observed, nothing_held, observed, with_held, with_known}
+use Rattle.bip_observe.specs.Offers.{AreKept, IsExpected, KeptOffers, Observed, nothing_held, observed, with_held, with_known}
 
 -- what is read of copies is what was copied
 read_copies : {X : Type 0} (n : ℕ) (x : X) (k : ℕ) → get_or (replicate n x) k x ≡ x

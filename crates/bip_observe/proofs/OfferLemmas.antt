@@ -1,5 +1,5 @@
 -- Why the laws of held offers hold.
-use Rattle.std.proofs.Common.{◌≡◌, ◌⊎◌, ℕ, ◌<◌, ◌≤◌, Bool, true, false, cond, eqb, eq-eqb, eqb-true, List, [], ◌∷◌, length, Option, None, Some, find, inl, inr, refl, sym, subst, ap, ◌∙◌, slice_get, arith, max, ltb-true, lt-ltb}
+use Rattle.std.proofs.Common.{◌≡◌, ℕ, ◌<◌, Bool, true, false, cond, eqb, eq-eqb, eqb-true, List, [], ◌∷◌, length, Option, None, Some, inl, inr, refl, sym, subst, ap, ◌∙◌, slice_get, arith, max, ltb-true, lt-ltb}
 use Rattle.std.specs.Prelude.{IsSomeAnd, IfSome}
 use Rattle.std.specs.Int.{bit_at}
 use Rattle.std.specs.Option.{option_map_or}
@@ -8,7 +8,7 @@ use Rattle.std.proofs.lemmas.Nat.Bits.{same_from_bits}
 use Rattle.std.proofs.lemmas.List.Elements.{All-contains}
 use Rattle.bip_model.specs.Components.{AreOffered, leaves, offers_at, transition_for}
 use Rattle.bip_model.specs.Expressions.{holds}
-use Rattle.bip_model.specs.Messages.{IsOfferIn, IsOfferOf, Shows}
+use Rattle.bip_model.specs.Messages.{IsOfferOf, Shows}
 use Rattle.bip_model.specs.Parts.{IsComponent, IsTransitionOf}
 use Rattle.bip_model.specs.Sets.{has}
 use Rattle.bip_model.specs.States.{IsLocalStateOf}
@@ -22,9 +22,8 @@ use Rattle.std.specs.Prelude.{◌↔◌, nat_lt, unwrap_or}
 use Rattle.std.proofs.lemmas.Bool.Decides.{eqb_tells}
 use Rattle.bip_model.specs.Numbering.{put}
 use Rattle.bip_observe.specs.Laws.{CountedIsHeld, HeldOnce, OldStaysOld, OneOfferEach, OneReceipt, OwnOffersAreExpected, OwnOffersShow, UsedNumbersDontCount}
-use Rattle.bip_observe.specs.Offers.{IsExpected, IsNew, IsReceipt, Observed, with_held, with_known}
-use Rattle.bip_observe.specs.Verdicts.{is_counted, no_offer, offers_of}
-use Rattle.bip_observe.specs.declared.offers.Receipt.{Receipt}
+use Rattle.bip_observe.specs.Offers.{IsReceipt, Observed, with_held, with_known}
+use Rattle.bip_observe.specs.Verdicts.{no_offer}
 use Rattle.bip_observe.specs.declared.offers.Receipt.TheVariants.{Held, Old, Stranger}
 
 pub own_offers_show : OwnOffersShow

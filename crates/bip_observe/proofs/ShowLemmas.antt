@@ -1,17 +1,16 @@
 -- Offers that show a state enable just what is enabled there.
-use Rattle.std.proofs.Common.{◌≡◌, ◌⊎◌, ℕ, ◌<◌, Bool, true, false, cond, eqb, eq-eqb, List, [], ◌∷◌, length, map, All, get_or, Option, None, Some, inl, inr, refl, sym, ◌∙◌, subst, slice_get}
+use Rattle.std.proofs.Common.{◌≡◌, ℕ, ◌<◌, Bool, true, false, cond, eqb, eq-eqb, List, [], ◌∷◌, length, map, All, get_or, Option, None, Some, inl, inr, refl, sym, ◌∙◌, subst, slice_get}
 use Rattle.std.specs.Prelude.{IsSomeAnd, IsTrue}
-use Rattle.std.specs.List.{list_any}
 use Rattle.std.proofs.lemmas.Bool.{cases_Bool}
 use Rattle.std.proofs.lemmas.List.Elements.{All-head, All-tail}
 use Rattle.std.proofs.lemmas.List.Folds.{list_any_at}
 use Rattle.bip_model.specs.Components.{offers_at}
 use Rattle.bip_model.specs.Messages.{Shows, ShowsState}
-use Rattle.bip_model.specs.Parts.{IsSystem, Participant}
+use Rattle.bip_model.specs.Parts.{Participant}
 use Rattle.bip_model.specs.Priorities.{IsAbove}
 use Rattle.bip_model.specs.Sets.{has}
 use Rattle.bip_model.specs.States.{State}
-use Rattle.bip_model.specs.Steps.{IsEnabled, MayRun, guard_of, moves, offered, participants_of, values_at, values_of}
+use Rattle.bip_model.specs.Steps.{IsEnabled, guard_of, moves, offered, participants_of, values_at, values_of}
 use Rattle.bip_model.specs.declared.messages.Offer.{Offer}
 use Rattle.bip_model.specs.declared.parts.System.{System}
 use Rattle.bip_model.specs.declared.states.LocalState.{LocalState}
@@ -19,7 +18,7 @@ use Rattle.bip_model.proofs.AboveLemmas.{IsAbove-high}
 use Rattle.bip_partition.specs.Plans.{Touches}
 use Rattle.bip_model.specs.Expressions.{holds}
 use Rattle.bip_observe.specs.Laws.{AllShow, IsNotOffered, MayRunMeansReady, OfferedValues, ReadyMeansMayRun}
-use Rattle.bip_observe.specs.Verdicts.{ArePortsOn, Enable, IsOff, IsReady, guard_holds}
+use Rattle.bip_observe.specs.Verdicts.{ArePortsOn, Enable, IsOff, guard_holds}
 
 -- a bit is 1 where a test passes
 bit_tests : (b : Bool) → eqb (cond b 1 0) 1 ≡ b

@@ -1,6 +1,6 @@
 -- Why the laws of verdicts hold: each excludes the others, one of them holds, and it is true of the state that the offers show.
-use Rattle.std.proofs.Common.{◌≡◌, ◌⊎◌, ℕ, ◌<◌, Bool, true, false, not, ◌&&◌, eqb, eq-eqb, eqb-true, List, length, map, All, get_or, Option, None, Some, inl, inr, refl, sym, ap, ◌∙◌, slice_get, arith}
-use Rattle.std.specs.Prelude.{Any, IsTrue, nat_lt, unwrap_or}
+use Rattle.std.proofs.Common.{◌≡◌, ℕ, ◌<◌, Bool, true, false, not, ◌&&◌, eqb, eq-eqb, eqb-true, length, get_or, Option, None, Some, inl, inr, refl, sym, ap, ◌∙◌}
+use Rattle.std.specs.Prelude.{IsTrue, nat_lt, unwrap_or}
 use Rattle.std.specs.Option.{option_map_or}
 use Rattle.std.specs.List.{list_all, list_any}
 use Rattle.std.proofs.lemmas.Bool.{and_parts, cases_Bool, false≢true, not-true}
@@ -8,12 +8,12 @@ use Rattle.std.proofs.Common.{ltb-true}
 use Rattle.std.proofs.lemmas.List.{get_or_default}
 use Rattle.std.proofs.lemmas.List.Sums.{AllPass-from_list_all, list_all-from_AllPass}
 use Rattle.std.proofs.lemmas.List.Elements.{All-contains}
-use Rattle.std.proofs.lemmas.List.Folds.{Any-from_list_any, list_any-from_Any, list_any_at}
+use Rattle.std.proofs.lemmas.List.Folds.{Any-from_list_any, list_any-from_Any}
 use Rattle.bip_model.specs.Messages.{ShowsState}
 use Rattle.bip_model.specs.Parts.{IsSystem, Participant}
 use Rattle.bip_model.specs.Priorities.{IsAbove}
 use Rattle.bip_model.specs.States.{State}
-use Rattle.bip_model.specs.Steps.{IsEnabled, IsLookedAt, moves, participants_of}
+use Rattle.bip_model.specs.Steps.{IsLookedAt, moves, participants_of}
 use Rattle.bip_model.specs.declared.messages.Offer.{Offer}
 use Rattle.bip_model.specs.declared.parts.System.{System}
 use Rattle.bip_model.proofs.AboveLemmas.{IsAbove-high}
@@ -25,7 +25,7 @@ use Rattle.bip_observe.proofs.FirstLemmas.{lowest_or_none, lowest_same}
 use Rattle.bip_observe.proofs.ShowLemmas.{AreShown, enabled_here, enabled_there, guard_there, moves_each, off_here, off_there, ready_may_run, shown_above, shown_own}
 use Rattle.bip_observe.specs.Laws.{AllShow, CountedShow, OneVerdict, SomeVerdict, VerdictsAreTrue}
 use Rattle.bip_observe.specs.Offers.{AreOwn, Observed}
-use Rattle.bip_observe.specs.Verdicts.{AllCount, ArePortsOn, Enable, IsEnabledAbove, IsLowest, IsMissing, IsOff, IsReady, IsVerdict, guard_holds, is_counted, no_offer, offers_of, port_on}
+use Rattle.bip_observe.specs.Verdicts.{AllCount, ArePortsOn, Enable, IsEnabledAbove, IsLowest, IsMissing, IsOff, IsVerdict, guard_holds, is_counted, no_offer, offers_of, port_on}
 use Rattle.bip_observe.specs.declared.verdicts.Verdict.{Verdict}
 use Rattle.bip_observe.specs.declared.verdicts.Verdict.TheVariants.{Ready, NotReady, PortOff, GuardFalse, Below}
 

@@ -2,7 +2,7 @@
 use Rattle.std.specs.Prelude.{◌≡◌, ◌↔◌, ℕ, ◌<◌, ◌≤◌, false, true, Some, ⊤, length, map, All, Any}
 use Rattle.std.specs.Prelude.{IsTrue}
 use Rattle.bip_model.specs.Expressions.{holds}
-use Rattle.bip_model.specs.Messages.{IsOfferIn, Shows, ShowsState}
+use Rattle.bip_model.specs.Messages.{IsOfferIn, ShowsState}
 use Rattle.bip_model.specs.Parts.{IsSystem, Participant}
 use Rattle.bip_model.specs.States.{IsStateOf, State}
 use Rattle.bip_model.specs.Steps.{IsEnabled, IsLowestAbove, MayRun, guard_of, offered}
@@ -39,7 +39,7 @@ OwnOffersAreExpected =
     → IsOfferIn p.model c number local offer → ClassTouches p class c
     → IsExpected p class offer
 
--- an offer has one receipt
+-- an offer has no two receipts
 abbrev pub OneReceipt : Type 0
 OneReceipt =
     (v : Observed) (offer : Offer) (r t : Receipt) → IsReceipt v offer r → IsReceipt v offer t

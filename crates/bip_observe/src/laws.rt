@@ -6,8 +6,8 @@ ghost use Rattle.bip_observe.specs.Laws.{OwnOffersAreExpected, OwnOffersShow, Re
 ghost use Rattle.bip_observe.specs.Laws.{SomeVerdict, UsedNumbersDontCount, VerdictsAreTrue};
 
 /// What a component offers in its local state shows the state, there is one such offer of each
-/// number, and no class that touches the component takes it for a stranger's. An offer has one
-/// receipt; one that was held just now is old, and counts; what is old stays so; one whose number
+/// number, and no class that touches the component takes it for a stranger's. An offer has no two
+/// receipts; one that was held just now is old, and counts; what is old stays so; one whose number
 /// is used doesn't count (docs/DEFINITIONS.md, "Held offers").
 pub fn offer_laws()
     ensures show { OwnOffersShow }

@@ -87,7 +87,7 @@ impl<'p> Offers<'p> {
         })
     }
 
-    /// The plan of which the class is one.
+    /// The plan of which the class is one. Each offer that is held is its component's own.
     pub fn plan(&self) -> &'p Plan
         ensures plan { result.now ≡ self.now.plan }
         ensures own { AreOwn (observed self.now) }

@@ -1,9 +1,8 @@
-use Rattle.std.proofs.Common.{◌≡◌, ◌<◌, ◌∙◌, ap, length, sym}
-use Rattle.bip_model.specs.Parts.{IsSystem}
+use Rattle.std.proofs.Common.{◌≡◌, ◌∙◌, ap, sym}
 use Rattle.bip_partition.specs.Plans.{Planned}
 use Rattle.bip_observe.proofs.DecideLemmas.{above_judged, below_found, missing_found, none_missing, none_off, off_found, own_judged, ready_found}
 use Rattle.bip_observe.specs.Offers.{observed}
-use Rattle.bip_observe.specs.Verdicts.{AllCount, ArePortsOn, Enable, offers_of}
+use Rattle.bip_observe.specs.Verdicts.{ArePortsOn, Enable, offers_of}
 use Rattle.bip_observe.proofs.verdicts.decide.Goals as goal
 
 pub returns-in-Some : goal.returns-in-Some

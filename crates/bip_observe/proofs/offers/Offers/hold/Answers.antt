@@ -1,4 +1,4 @@
-use Rattle.std.proofs.Common.{◌<◌, length, refl}
+use Rattle.std.proofs.Common.{◌<◌, length}
 use Rattle.bip_observe.specs.Offers.{KeptOffers}
 use Rattle.bip_observe.proofs.KeptLemmas.{expected_known, held_kept, held_more}
 use Rattle.bip_observe.proofs.offers.Offers.hold.Goals as goal

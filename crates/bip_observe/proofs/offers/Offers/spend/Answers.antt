@@ -1,4 +1,4 @@
-use Rattle.std.proofs.Common.{◌≡◌, ◌<◌, get_or, length, refl}
+use Rattle.std.proofs.Common.{◌≡◌, ◌<◌, get_or, length}
 use Rattle.bip_observe.specs.Offers.{KeptOffers}
 use Rattle.bip_observe.proofs.KeptLemmas.{known_kept, known_more}
 use Rattle.bip_observe.proofs.offers.Offers.spend.Goals as goal
