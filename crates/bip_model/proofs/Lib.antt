@@ -3,6 +3,7 @@ pub mod AboveLists
 pub mod ClimbLemmas
 pub mod DraftLemmas
 pub mod ExpressionLemmas
+pub mod FoundLemmas
 pub mod GrowthLemmas
 pub mod HistoryLemmas
 pub mod LawLemmas
@@ -19,6 +20,7 @@ pub mod PartyLemmas
 pub mod PortLemmas
 pub mod PriorityLemmas
 pub mod PutLemmas
+pub mod RaiseLemmas
 pub mod ScopeLemmas
 pub mod SequenceLemmas
 pub mod SetLemmas

@@ -1,5 +1,5 @@
 -- Numbers: things in order of theirs, functions of them, and the last one that a move can have.
-use Rattle.std.specs.Prelude.{ℕ, nat_lt, List, [], ◌∷◌, ◌==◌, if◌then◌else◌}
+use Rattle.std.specs.Prelude.{ℕ, ◌<◌, nat_lt, List, [], ◌∷◌, ◌==◌, if◌then◌else◌}
 
 -- a thing put among others, before the first one with a greater number
 abbrev pub put_by_number : {X : Type 0} → (X → ℕ) → X → List X → List X
@@ -11,6 +11,11 @@ put_by_number number x (y ∷ ys) =
 abbrev pub by_number : {X : Type 0} → (X → ℕ) → List X → List X
 by_number number [] = []
 by_number number (x ∷ xs) = put_by_number number x (by_number number xs)
+
+-- the lowest number with a property
+pub record IsLowest (P : ℕ → Type 0) (n : ℕ) : Type 0 where
+  pub here : P n
+  pub lower : (k : ℕ) → k < n → ¬ P k
 
 -- a function of numbers with another value at one of them
 abbrev pub put : {X : Type 0} → (ℕ → X) → ℕ → X → ℕ → X

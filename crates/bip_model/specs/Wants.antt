@@ -35,3 +35,10 @@ IsFresh used wants = All (λ (w : Want). used w.comp.0 < w.number) wants
 -- used numbers after wants were granted: the moved numbers are used then, the seen ones aren't
 abbrev pub raised : (ℕ → ℕ) → List Want → ℕ → ℕ
 raised used wants c = max (used c) (moved_in wants c)
+
+-- What contracts of private functions say.
+
+-- used numbers after one want
+abbrev pub used_up : Want → (ℕ → ℕ) → ℕ → ℕ
+used_up w used c =
+    if (w.comp.0 == c) && is_moved w.role then max (used c) w.number else used c

@@ -13,20 +13,20 @@ pub const MOST_NOTIFIES: usize = 8;
 /// values there, and the number of its next move.
 #[derive(Clone, Copy, Debug)]
 pub struct Offer {
-    pub comp: CompId,
     pub number: Number,
-    pub ports: u16,
     pub values: Values,
+    pub comp: CompId,
+    pub ports: u16,
 }
 
 /// What a component is told: to move by a port from these values. The number is that of the offer
 /// that was granted.
 #[derive(Clone, Copy, Debug, Default)]
 pub struct Notify {
-    pub comp: CompId,
     pub number: Number,
-    pub port: PortId,
     pub values: Values,
+    pub comp: CompId,
+    pub port: PortId,
 }
 
 /// One to eight notifications, kept in place. Contracts see them as the list.
@@ -85,10 +85,10 @@ impl Notifies {
 /// class numbers its requests.
 #[derive(Drop)]
 pub struct Request {
-    pub class: ClassId,
-    pub request: u64,
-    pub inter: InterId,
     pub wants: Wants,
+    pub request: u64,
+    pub class: ClassId,
+    pub inter: InterId,
 }
 
 impl Request {

@@ -22,11 +22,12 @@ pub enum Role {
     Seen,
 }
 
-/// One component of a grant, the number that it is wanted with, and its role.
+/// One component of a grant, the number that it is wanted with, and its role. Fields lie as they
+/// are written, so the widest comes first: a want takes 16 bytes.
 #[derive(Clone, Copy, Debug, Default, PartialEq, Eq, Hash)]
 pub struct Want {
-    pub comp: CompId,
     pub number: Number,
+    pub comp: CompId,
     pub role: Role,
 }
 

@@ -22,11 +22,12 @@ use Rattle.bip_model.proofs.ListLemmas.{All-slice_get, found_at, not_found}
 use Rattle.std.proofs.lemmas.Option.{slice_get_cases}
 use Rattle.std.proofs.lemmas.List.{get_or_default}
 use Rattle.bip_partition.specs.Plans.{IsListTouched}
-use Rattle.bip_observe.proofs.FirstLemmas.{first_is_lowest}
+use Rattle.bip_model.specs.Numbering.{IsLowest}
+use Rattle.bip_model.proofs.FoundLemmas.{first_is_lowest}
 use Rattle.bip_observe.proofs.ShowLemmas.{moves_each, touches_higher}
 use Rattle.bip_observe.proofs.VerdictLemmas.{counted_own}
 use Rattle.bip_observe.specs.Offers.{AreOwn, Observed}
-use Rattle.bip_observe.specs.Verdicts.{AllCount, ArePortsOn, CanBeJudged, Enable, IsLowest, IsOff, IsVerdict, enables, guard_holds, is_counted, no_offer, offers_of, port_on}
+use Rattle.bip_observe.specs.Verdicts.{AllCount, ArePortsOn, CanBeJudged, Enable, IsOff, IsVerdict, enables, guard_holds, is_counted, no_offer, offers_of, port_on}
 use Rattle.bip_observe.specs.declared.verdicts.Verdict.TheVariants.{Ready, NotReady, PortOff, Below}
 
 -- a test that doesn't fail passes

@@ -1,5 +1,4 @@
 pub mod DecideLemmas
-pub mod FirstLemmas
 pub mod KeptLemmas
 pub mod OfferLemmas
 pub mod ShowLemmas

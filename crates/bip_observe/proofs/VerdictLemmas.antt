@@ -21,11 +21,12 @@ use Rattle.bip_model.proofs.ClimbLemmas.{Decided, IsAbove-decided}
 use Rattle.bip_model.proofs.LookLemmas.{moves_known}
 use Rattle.bip_partition.specs.Plans.{Touches}
 use Rattle.bip_partition.proofs.TouchLemmas.{touched_known}
-use Rattle.bip_observe.proofs.FirstLemmas.{lowest_or_none, lowest_same}
+use Rattle.bip_model.specs.Numbering.{IsLowest}
+use Rattle.bip_model.proofs.FoundLemmas.{lowest_or_none, lowest_same}
 use Rattle.bip_observe.proofs.ShowLemmas.{AreShown, enabled_here, enabled_there, guard_there, moves_each, off_here, off_there, ready_may_run, shown_above, shown_own}
 use Rattle.bip_observe.specs.Laws.{AllShow, CountedShow, OneVerdict, SomeVerdict, VerdictsAreTrue}
 use Rattle.bip_observe.specs.Offers.{AreOwn, Observed}
-use Rattle.bip_observe.specs.Verdicts.{AllCount, ArePortsOn, Enable, IsEnabledAbove, IsLowest, IsMissing, IsOff, IsVerdict, guard_holds, is_counted, no_offer, offers_of, port_on}
+use Rattle.bip_observe.specs.Verdicts.{AllCount, ArePortsOn, Enable, IsEnabledAbove, IsMissing, IsOff, IsVerdict, guard_holds, is_counted, no_offer, offers_of, port_on}
 use Rattle.bip_observe.specs.declared.verdicts.Verdict.{Verdict}
 use Rattle.bip_observe.specs.declared.verdicts.Verdict.TheVariants.{Ready, NotReady, PortOff, GuardFalse, Below}
 

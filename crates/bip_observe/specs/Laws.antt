@@ -3,6 +3,7 @@ use Rattle.std.specs.Prelude.{◌≡◌, ◌↔◌, ℕ, ◌<◌, ◌≤◌, fal
 use Rattle.std.specs.Prelude.{IsTrue}
 use Rattle.bip_model.specs.Expressions.{holds}
 use Rattle.bip_model.specs.Messages.{IsOfferIn, ShowsState}
+use Rattle.bip_model.specs.Numbering.{IsLowest}
 use Rattle.bip_model.specs.Parts.{IsSystem, Participant}
 use Rattle.bip_model.specs.States.{IsStateOf, State}
 use Rattle.bip_model.specs.Steps.{IsEnabled, IsLowestAbove, MayRun, guard_of, offered}
@@ -12,7 +13,7 @@ use Rattle.bip_model.specs.declared.parts.System.{System}
 use Rattle.bip_model.specs.declared.states.LocalState.{LocalState}
 use Rattle.bip_partition.specs.Plans.{ClassTouches, Planned, Touches}
 use Rattle.bip_observe.specs.Offers.{AreOwn, IsExpected, IsReceipt, Observed, with_held, with_known}
-use Rattle.bip_observe.specs.Verdicts.{IsLowest, IsReady, IsVerdict, is_counted, offers_of}
+use Rattle.bip_observe.specs.Verdicts.{IsReady, IsVerdict, is_counted, offers_of}
 use Rattle.bip_observe.specs.declared.offers.Receipt.{Receipt}
 use Rattle.bip_observe.specs.declared.offers.Receipt.TheVariants.{Held, Old}
 use Rattle.bip_observe.specs.declared.verdicts.Verdict.{Verdict}

@@ -4,6 +4,7 @@ use Rattle.std.specs.Prelude.{All, Any, IsTrue}
 use Rattle.std.specs.List.{list_all}
 use Rattle.std.specs.Option.{option_map_or}
 use Rattle.bip_model.specs.Expressions.{holds}
+use Rattle.bip_model.specs.Numbering.{IsLowest}
 use Rattle.bip_model.specs.Parts.{Participant}
 use Rattle.bip_model.specs.Priorities.{IsAbove}
 use Rattle.bip_model.specs.Sets.{has}
@@ -70,11 +71,6 @@ IsOff m o a c =
 -- an interaction above another that offers enable
 abbrev pub IsEnabledAbove : System → (ℕ → Offer) → ℕ → ℕ → Type 0
 IsEnabledAbove m o a b = IsAbove m.priorities a b × Enable m o b
-
--- the lowest number with a property
-pub record IsLowest (P : ℕ → Type 0) (n : ℕ) : Type 0 where
-  pub here : P n
-  pub lower : (k : ℕ) → k < n → ¬ P k
 
 -- the verdict on an interaction, the first that applies: a component that it touches has no offer
 -- that counts; a port is off; the guard is false; an interaction above is enabled; it is ready.

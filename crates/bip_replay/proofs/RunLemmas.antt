@@ -152,49 +152,6 @@ stays_out m base gs p g fault leads why run =
     not_next m (state_after m gs) (used_after base gs) g fault (subst (λ (q : Standing). IsFaultAt q g fault) leads.there why)
     (next_at m base gs [] g run)
 
--- whether a want moves a component
-abbrev pub moves_it : Want → ℕ → Bool
-moves_it w c = eqb w.comp.0 c && is_moved w.role
-
--- a want of another component
-abbrev IsOther : ℕ → Want → Type 0
-IsOther c w = w.comp.0 ≢ c
-
--- what wants of other components move a component with
-moved_in-absent : (ws : List Want) (c : ℕ) → All (IsOther c) ws → moved_in ws c ≡ 0
-moved_in-absent [] c others = refl
-moved_in-absent (w ∷ ws) c others = grind (arith, All-head (IsOther c) w ws others, moved_in-absent ws c (All-tail (IsOther c) w ws others))
-
--- one more want, the first of its component
-moved_in-push_first : (ws : List Want) (w : Want) (c : ℕ) → All (IsOther c) ws → moved_in (ws ++ w ∷ []) c ≡ cond (moves_it w c) w.number 0
-moved_in-push_first [] w c others = refl
-moved_in-push_first (v ∷ ws) w c others = grind (arith, All-head (IsOther c) v ws others, moved_in-push_first ws w c (All-tail (IsOther c) v ws others))
-
--- one more want that doesn't move the component
-moved_in-push_other : (ws : List Want) (w : Want) (c : ℕ) → moves_it w c ≡ false → moved_in (ws ++ w ∷ []) c ≡ moved_in ws c
-moved_in-push_other [] w c other = grind arith
-moved_in-push_other (v ∷ ws) w c other = grind (arith, moved_in-push_other ws w c)
-
--- the wants before one are of other components
-others_before : (ws : List Want) (i : ℕ) (d : Want) → IsStrictlyIncreasing (components_of ws) → i < length ws → All (IsOther (get_or ws i d).comp.0) (take i ws)
-others_before ws i d rising within =
-    let shorter : length (take i ws) ≡ i = length-take-le i ws (omega arith) in
-    All-from_get_or (IsOther (get_or ws i d).comp.0) (take i ws) d (λ k below.
-    let less = below_later (λ (v : Want). v.comp.0) ws rising k i d (omega arith) within in
-    rw (get_or-take i ws k d (omega arith)) (λ same. omega arith))
-
--- used numbers after one more want
-pub raised_more : (u n : ℕ) (ws : List Want) (i : ℕ) (d : Want) (c : ℕ) → IsStrictlyIncreasing (components_of ws) → i < length ws → n ≡ max u (moved_in (take i ws) c) → cond (moves_it (get_or ws i d) c) (max n (get_or ws i d).number) n ≡ max u (moved_in (take (i + 1) ws) c)
-raised_more u n ws i d c rising within before =
-    rw (take_more ws i d within) (by_test (moves_it (get_or ws i d) c) refl)
-  where
-    by_test : (b : Bool) → moves_it (get_or ws i d) c ≡ b → cond b (max n (get_or ws i d).number) n ≡ max u (moved_in (take i ws ++ get_or ws i d ∷ []) c)
-    by_test true e =
-        let same : (get_or ws i d).comp.0 ≡ c = grind arith in
-        let others = rw same at (others_before ws i d rising within) in
-        grind (arith, moved_in-absent (take i ws) c others, moved_in-push_first (take i ws) (get_or ws i d) c others)
-    by_test false e = grind (arith, moved_in-push_other (take i ws) (get_or ws i d) c)
-
 -- where a run stands after a grant
 pub stands_on : (p : Standing) (t : State) (u : ℕ → ℕ) (g : Grant) → t ≡ after p.model p.state g.inter.0 → u ≡ raised p.used g.wants → standing_on p g ≡ record { model = p.model; base = p.base; state = t; used = u }
 stands_on p t u g e f = rw (e, f) refl

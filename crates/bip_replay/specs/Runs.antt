@@ -103,11 +103,6 @@ is_wrong known used w = nat_lt w.comp.0 known && not (has_next_number used w)
 abbrev pub used_in : List ℕ → ℕ → ℕ → ℕ
 used_in used base c = slice_index_or used c base
 
--- used numbers after one want
-abbrev pub used_up : Want → (ℕ → ℕ) → ℕ → ℕ
-used_up w used c =
-    if (w.comp.0 == c) && is_moved w.role then max (used c) w.number else used c
-
 -- the components that wants move are among so many
 abbrev pub AreMovedWithin : ℕ → List Want → Type 0
 AreMovedWithin count wants =

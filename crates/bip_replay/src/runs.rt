@@ -3,10 +3,10 @@ ghost use Rattle.std.specs.Prelude.{◌≡◌, ◌==◌, ◌<◌, ℕ, [], lengt
 ghost use Rattle.std.specs.Prelude.{OnErr};
 ghost use Rattle.std.specs.List.Sorted.{IsStrictlyIncreasing};
 ghost use Rattle.bip_model.specs.Numbering.{last_number};
-ghost use Rattle.bip_model.specs.Wants.{components_of, is_moved, raised};
+ghost use Rattle.bip_model.specs.Wants.{components_of, is_moved, raised, used_up};
 ghost use Rattle.bip_model.specs.declared.wants.Want.{Want};
 ghost use Rattle.bip_replay.specs.Runs.{AreMovedWithin, StandsAfter};
-ghost use Rattle.bip_replay.specs.Runs.{standing_of, used_in, used_up};
+ghost use Rattle.bip_replay.specs.Runs.{standing_of, used_in};
 
 use crate::{GrantRef, StepFault};
 use bip_model::{CompId, Model, Number, Role, Seq, State, Want};
@@ -156,7 +156,7 @@ impl<'m> Position<'m> {
 }
 
 /// Uses up the numbers of the wants that move their components.
-#[tactic(auto, using(crate::proofs::RunLemmas::raised_more))]
+#[tactic(auto, using(bip_model::proofs::RaiseLemmas::raised_more))]
 fn use_up(used: &mut Seq<Number>, wants: &[Want])
     requires rising { IsStrictlyIncreasing (components_of wants.now) }
     requires known { AreMovedWithin (length used.old) wants.now }

@@ -6,7 +6,7 @@ use Rattle.std.proofs.lemmas.Bool.{cases_Bool, cases_lt, cases_order}
 use Rattle.bip_model.proofs.ClimbLemmas.{Decided}
 use Rattle.bip_model.proofs.ListLemmas.{Contains-cases, Contains-none, below_later}
 use Rattle.bip_model.proofs.NumberingLemmas.{increasing_tail}
-use Rattle.bip_observe.specs.Verdicts.{IsLowest}
+use Rattle.bip_model.specs.Numbering.{IsLowest}
 
 -- of things whose numbers rise, the first that passes is the lowest that does
 pub first_is_lowest : {X : Type 0} (number : X → ℕ) (p : X → Bool) (xs : List X) (x : X) → IsStrictlyIncreasing (map number xs) → find p xs ≡ Some x → (y : X) → Contains xs y → number y < number x → p y ≡ false

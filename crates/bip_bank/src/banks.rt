@@ -1,0 +1,74 @@
+//! What the third layer is to those who ask it: a bank of requests and grants.
+ghost use Rattle.std.specs.Prelude.{◌≡◌, IfErr, IfOk, OnErr, OnOk, []};
+
+use bip_model::{Grant, Request};
+use bip_table::Decision;
+use std::alloc::AllocError;
+
+/// The number of a station: that of its place among the reserved interactions of the plan, each of
+/// which has one station.
+#[derive(Clone, Copy, Debug, Default, PartialEq, Eq, PartialOrd, Ord, Hash)]
+pub struct StationId(pub u16);
+
+/// One step of a bank.
+#[derive(Clone, Copy, Debug, PartialEq, Eq)]
+pub enum BankStep {
+    /// What stands at this place among all in flight inside the bank, in order of sending, arrives.
+    Deliver(usize),
+    /// The station decides on its oldest open request.
+    Serve(StationId),
+    /// The first station hands what it shares with the second over to it.
+    Pass(StationId, StationId),
+    /// The first station asks the second for what they share.
+    Ask(StationId, StationId),
+}
+
+/// What a step of a bank did.
+#[derive(Drop)]
+pub enum Acted {
+    /// The step doesn't apply, and nothing changed.
+    Nothing,
+    /// Something moved inside the bank, and nothing was decided.
+    Moved,
+    /// The oldest open request of an interaction is decided, and open no more.
+    Answered {
+        request: Request,
+        decision: Decision,
+    },
+}
+
+/// The third layer of a plan, whatever its form: it takes requests, and grants or refuses each by
+/// used numbers, which the grants explain (docs/DEFINITIONS.md, "Banks"). Contracts see what is kept
+/// of a bank's content. No call changes its plan or its base.
+pub trait Bank {
+    ghost use Rattle.bip_partition.specs.Plans.{IsFit};
+    ghost use Rattle.bip_bank.specs.Banks.{IsActed, KeptBank, content_of, with_request};
+
+    ghost kept: { Self → KeptBank };
+
+    /// Takes a request that fits the plan: it is open from now on, the newest of its interaction.
+    /// Without memory it comes back, and the content stays as it was.
+    fn submit(&mut self, request: Request) -> Result<(), (Request, AllocError)>
+        requires { IsFit (content_of (kept self.old)).plan request }
+        ensures ok { OnOk result (content_of (kept self.new)
+            ≡ with_request request (content_of (kept self.old))) }
+        ensures err { OnErr result (content_of (kept self.new) ≡ content_of (kept self.old)) }
+        ensures back { IfErr result (λ refused. refused.0 ≡ request) };
+
+    /// Does a step. Where it decides, this is on the oldest open request of some interaction: it
+    /// grants where the request is fresh, and else refuses with the lowest component that isn't.
+    /// Without memory the content stays as it was.
+    fn act(&mut self, step: BankStep) -> Result<Acted, AllocError>
+        ensures acted { IfOk result (λ acted. IsActed acted (content_of (kept self.old))
+            (content_of (kept self.new))) }
+        ensures err { OnErr result (content_of (kept self.new) ≡ content_of (kept self.old)) };
+
+    /// The grants, in order of decision. While there are none, all used numbers are the base.
+    fn grants(&self) -> &[Grant]
+        ensures grants { result.now ≡ (content_of (kept self.now)).grants }
+        ensures unused { result.now ≡ []
+            → (content_of (kept self.now)).used ≡ (λ c. (content_of (kept self.now)).base) };
+
+    /// How many things are in flight inside the bank.
+    fn in_flight(&self) -> usize;
+}

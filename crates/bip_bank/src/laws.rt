@@ -1,0 +1,14 @@
+//! The laws above the definitions: what a reviewer reads to know what any bank does. The call does
+//! nothing, and has the laws for its contract.
+ghost use Rattle.bip_bank.specs.Laws.{GrantsAreAllowed, GrantsAreHistories, GrantsGoOn, PlanStays};
+
+/// Whatever is asked of a bank that had no grants, its grants are a history above its base, move no
+/// component twice with one number, and explain the used numbers. The grants after any calls begin
+/// with those before; plan and base stay; and where no request was open at first, the plan allows
+/// each grant (docs/DEFINITIONS.md, "Banks").
+pub fn bank_laws()
+    ensures history { GrantsAreHistories }
+    ensures go_on { GrantsGoOn }
+    ensures plan { PlanStays }
+    ensures allowed { GrantsAreAllowed }
+{}

@@ -1,0 +1,3 @@
+pub mod DecideLemmas
+pub mod LawLemmas
+pub mod RowLemmas
