@@ -1,5 +1,5 @@
 -- The laws of banks: what any calls make of the grants.
-use Rattle.std.proofs.Common.{◌≡◌, ◌⊎◌, ℕ, List, [], ◌∷◌, ◌++◌, append_assoc, refl, sym, ap, ◌∙◌, subst, inl, inr}
+use Rattle.std.proofs.Common.{◌≡◌, ℕ, List, [], ◌∷◌, ◌++◌, append_assoc, refl, sym, ap, ◌∙◌, subst, inl, inr}
 use Rattle.std.specs.Prelude.{All}
 use Rattle.std.proofs.lemmas.Bool.Decides.{eqb_tells}
 use Rattle.std.proofs.lemmas.List.{append-nil}
@@ -14,8 +14,8 @@ use Rattle.bip_partition.specs.Plans.{IsFit, Planned}
 use Rattle.bip_table.specs.Reservations.{IsDecision, grant_of}
 use Rattle.bip_table.specs.declared.reservations.Decision.TheVariants.{Granted, Refused}
 use Rattle.bip_table.specs.declared.reservations.Decision.{Decision}
-use Rattle.bip_bank.specs.Banks.{BankContent, IsActed, IsDecided, with_decision, with_request}
-use Rattle.bip_bank.specs.Laws.{GrantsAreAllowed, GrantsAreHistories, GrantsGoOn, IsAllowed, HasNoGrants, IsHistoryOf, Lead, PlanStays, acted, at_once, taken}
+use Rattle.bip_bank.specs.Banks.{BankContent, IsActed, with_decision, with_request}
+use Rattle.bip_bank.specs.Laws.{GrantsAreAllowed, GrantsAreHistories, GrantsGoOn, IsAllowed, Lead, PlanStays, acted, at_once, taken}
 use Rattle.bip_bank.specs.declared.banks.Acted.TheVariants.{Answered, Moved, Nothing}
 use Rattle.bip_bank.specs.declared.banks.Acted.{Acted}
 

@@ -1,9 +1,7 @@
 -- The central bank: which requests have rows, what a station's turn leaves, and when it doesn't apply.
-use Rattle.std.proofs.Common.{◌≡◌, ◌⊎◌, ◌↔◌, ℕ, ◌<◌, Bool, true, List, [], ◌∷◌, ◌++◌, map, length, get_or, set, replicate, Option, None, Some, slice_get, refl, sym, ap, ◌∙◌, subst, inl, inr, arith}
-use Rattle.std.specs.Prelude.{All, Contains, IfOk, IsTrue, OnErr, Ok, Err, Result}
+use Rattle.std.proofs.Common.{◌≡◌, ◌↔◌, ℕ, ◌<◌, Bool, true, List, [], ◌∷◌, ◌++◌, map, length, get_or, set, replicate, None, Some, slice_get, refl, sym, ap, ◌∙◌, subst, inl, inr, arith}
+use Rattle.std.specs.Prelude.{All, Contains, IfErr, IfOk, IsTrue, OnErr, Ok, Err, Result}
 use Rattle.std.specs.declared.alloc.AllocError.{AllocError}
-use Rattle.std.specs.List.{list_any}
-use Rattle.std.specs.List.Sorted.{IsStrictlyIncreasing}
 use Rattle.std.proofs.lemmas.Bool.{cases_lt, false≢true}
 use Rattle.std.proofs.lemmas.Option.{get_or_from_slice_get, slice_get_within}
 use Rattle.std.proofs.lemmas.Bool.Decides.{eqb_tells}
@@ -28,14 +26,13 @@ use Rattle.bip_model.specs.declared.wants.Want.{Want}
 use Rattle.bip_model.specs.Parts.{IsSystem}
 use Rattle.bip_partition.proofs.LawLemmas.{reserved_all}
 use Rattle.bip_partition.proofs.TableLemmas.{reserved_known}
-use Rattle.bip_partition.specs.Plans.{AreStations, IsFit, IsReserved, IsTabled, Planned, Touches}
-use Rattle.bip_table.specs.Reservations.{IsAnswer, IsDecision, KeptRows, Reservations, grant_of}
+use Rattle.bip_partition.specs.Plans.{AreStations, IsFit, IsTabled, Planned, Touches}
+use Rattle.bip_table.specs.Reservations.{KeptRows, Reservations, grant_of}
 use Rattle.bip_table.specs.Rows.{has_row, rows_of, used_at}
 use Rattle.bip_table.specs.declared.reservations.Decision.TheVariants as decision
-use Rattle.bip_table.specs.declared.reservations.Decision.{Decision}
 use Rattle.bip_bank.proofs.UsedLemmas.{HaveRows, above_first, above_raised, decision_above, fresh_above}
-use Rattle.bip_bank.specs.Banks.{BankContent, IsActed, IsDecided, asked_nothing, content_of, used_above, with_request}
-use Rattle.bip_bank.specs.Central.{Applies, IsCentral, IsCentralStep, IsEnded, IsFirstDecided, IsListTabled, IsOpen, IsStationOf, IsUndecided, KeptCentral, kept_central}
+use Rattle.bip_bank.specs.Banks.{BankContent, IsActed, asked_nothing, content_of, with_request}
+use Rattle.bip_bank.specs.Central.{Applies, CannotKeep, IsCentral, IsCentralStep, IsEnded, IsFirstDecided, IsListTabled, IsOpen, IsUndecided, KeptCentral, WantsMemory, kept_central}
 use Rattle.bip_bank.specs.declared.banks.Acted.TheVariants.{Answered, Nothing}
 use Rattle.bip_bank.specs.declared.banks.Acted.TheVariants as did
 use Rattle.bip_bank.specs.declared.banks.Acted.{Acted}
@@ -234,3 +231,14 @@ turn_steps c s stations a t later (Err e) is listed here served = tt
 pub station_known : (c : KeptCentral) (s : ℕ) (stations : List InterId) (a : InterId) → IsCentral c → IsSystem c.plan.model → AreStations c.plan stations → slice_get stations s ≡ Some a → a.0 < length c.waiting
 station_known c s stations a is valid listed here =
     omega (arith, is.each, reserved_known c.plan a.0 valid ((listed.exact a.0).0 (s, slice_get_within stations s a here, get_or_from_slice_get stations s a a here)))
+
+-- memory is wanted only in place of a grant
+starves : (c : KeptCentral) (s : StationId) (stations : List InterId) (a : InterId) → IsCentral c → AreStations c.plan stations → slice_get stations s.0 ≡ Some a → (open' : List Request) → get_or c.waiting a.0 [] ≡ open' → CannotKeep c.table open' → WantsMemory c (Serve s)
+starves c s stations a is listed here [] same wants = absurd wants
+starves c s stations a is listed here (q ∷ rest) same wants =
+    let fit = (first_open c a.0 q rest is same).0.0 in
+    (a.0, q, rest, record { stations = stations; listed = listed; here = here }, same, fresh_above c.base c.table.rows q.wants (have_rows c is q fit) wants.0.fresh, wants.1)
+
+pub turn_starves : (c : KeptCentral) (s : StationId) (stations : List InterId) (a : InterId) (r : Result Acted AllocError) → IsCentral c → AreStations c.plan stations → slice_get stations s.0 ≡ Some a → IfErr r (λ e. CannotKeep c.table (get_or c.waiting a.0 [])) → IfErr r (λ e. WantsMemory c (Serve s))
+turn_starves c s stations a (Ok did) is listed here wants = tt
+turn_starves c s stations a (Err e) is listed here wants = starves c s stations a is listed here (get_or c.waiting a.0 []) refl wants

@@ -9,9 +9,9 @@ use Rattle.bip_model.specs.declared.messages.Request.{Request}
 use Rattle.bip_model.specs.declared.numbering.CompId.{CompId}
 use Rattle.bip_model.specs.declared.numbering.InterId.{InterId}
 use Rattle.bip_partition.specs.Plans.{AreStations, IsFit, IsTabled, Planned}
-use Rattle.bip_table.specs.Reservations.{IsAnswer, IsLeftBy, KeptRows, end_of_serials}
+use Rattle.bip_table.specs.Reservations.{IsTableAnswer, IsTableAfter, KeptRows, end_of_serials}
 use Rattle.bip_table.specs.Rows.{has_row}
-use Rattle.bip_table.specs.declared.faults.TableFault.TheVariants.{Ended, UnknownRow}
+use Rattle.bip_table.specs.declared.faults.TableFault.TheVariants.{Ended, Memory, UnknownRow}
 use Rattle.bip_bank.specs.Banks.{KeptBank, content_of, used_above}
 use Rattle.bip_bank.specs.declared.banks.Acted.TheVariants.{Answered, Moved, Nothing}
 use Rattle.bip_bank.specs.declared.banks.Acted.{Acted}
@@ -76,7 +76,23 @@ IsCentralStep c step Nothing = ¬ Applies c step
 IsCentralStep c (Serve s) (Answered q d) = IsStationOf c.plan s.0 q.inter.0
 IsCentralStep c step did = ⊥
 
+-- a step wants memory at the central bank where it serves a station whose oldest open request would
+-- be granted, and the table has no room for the grant
+abbrev pub WantsMemory : KeptCentral → BankStep → Type 0
+WantsMemory c (Serve s) =
+    (a : ℕ) × (q : Request) × (rest : List Request) × IsStationOf c.plan s.0 a
+    × (slice_index_or c.waiting a [] ≡ q ∷ rest)
+    × IsFresh (content_of (kept_central c)).used q.wants × (c.table.room ≡ 0)
+WantsMemory c (Deliver k) = ⊥
+WantsMemory c (Pass s t) = ⊥
+WantsMemory c (Ask s t) = ⊥
+
 -- What contracts of private functions say.
+
+-- a table can't keep the grant of the first of some requests
+abbrev pub CannotKeep : KeptRows → List Request → Type 0
+CannotKeep t [] = ⊥
+CannotKeep t (q ∷ rest) = IsTableAnswer t q.wants (Err Memory)
 
 -- the list of the components with a row, in order of their numbers
 pub record IsListTabled (p : Planned) (list : List CompId) : Type 0 where
@@ -88,7 +104,8 @@ pub record IsListTabled (p : Planned) (list : List CompId) : Type 0 where
 abbrev pub IsUndecided : KeptRows → List Request → Type 0
 IsUndecided t [] = ⊤
 IsUndecided t (q ∷ rest) =
-    IsAnswer t q.wants (Err Ended) ⊎ ((c : CompId) × IsAnswer t q.wants (Err (UnknownRow c)))
+    IsTableAnswer t q.wants (Err Ended)
+    ⊎ ((c : CompId) × IsTableAnswer t q.wants (Err (UnknownRow c)))
 
 -- what became of the first request in one of some queues, by a table
 abbrev pub IsFirstDecided : ℕ → KeptRows → List (List Request) → KeptRows → List (List Request)
@@ -98,5 +115,5 @@ IsFirstDecided place t queues later queues_later Nothing =
 IsFirstDecided place t queues later queues_later Moved = ⊥
 IsFirstDecided place t queues later queues_later (Answered q d) =
     (rest : List Request) × (slice_index_or queues place [] ≡ q ∷ rest)
-    × IsAnswer t q.wants (Ok d) × IsLeftBy q (Ok d) t later
+    × IsTableAnswer t q.wants (Ok d) × IsTableAfter q (Ok d) t later
     × (queues_later ≡ slice_set queues place rest)

@@ -1,6 +1,6 @@
 -- What a bank's calls mean, in the subject's own words: laws that a reviewer reads. They stand on
 -- what any bank's calls make of its content, and on nothing else.
-use Rattle.std.specs.Prelude.{◌≡◌, ℕ, List, [], ◌++◌, All}
+use Rattle.std.specs.Prelude.{◌≡◌, List, [], ◌++◌, All}
 use Rattle.bip_model.specs.Grants.{IsHistory, MovesOnceEach, used_by}
 use Rattle.bip_model.specs.Parties.{AreParties}
 use Rattle.bip_model.specs.declared.grants.Grant.{Grant}

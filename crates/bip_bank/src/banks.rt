@@ -38,8 +38,8 @@ pub enum Acted {
 }
 
 /// The third layer of a plan, whatever its form: it takes requests, and grants or refuses each by
-/// used numbers, which the grants explain (docs/DEFINITIONS.md, "Banks"). Contracts see what is kept
-/// of a bank's content. No call changes its plan or its base.
+/// used numbers, which the grants explain (docs/DEFINITIONS.md, "Banks"). Contracts see what is
+/// kept of a bank's content. No call changes its plan or its base.
 pub trait Bank {
     ghost use Rattle.bip_partition.specs.Plans.{IsFit};
     ghost use Rattle.bip_bank.specs.Banks.{IsActed, KeptBank, content_of, with_request};

@@ -3,7 +3,8 @@ ghost use Rattle.std.specs.Prelude.{◌≡◌, ◌<◌, [], ◌∷◌, ◌++◌,
 ghost use Rattle.std.specs.Prelude.{replicate, slice_get, slice_index_or, slice_set};
 ghost use Rattle.bip_model.specs.Numbering.{last_number};
 ghost use Rattle.bip_bank.specs.Banks.{IsActed, asked_nothing, content_of};
-ghost use Rattle.bip_bank.specs.Central.{IsCentralStep, IsFirstDecided, IsListTabled, kept_central};
+ghost use Rattle.bip_bank.specs.Central.{CannotKeep, IsCentralStep, IsFirstDecided, IsListTabled};
+ghost use Rattle.bip_bank.specs.Central.{WantsMemory, kept_central};
 ghost use Rattle.bip_bank.specs.declared.banks.BankStep.TheVariants.{Serve};
 
 use crate::{Acted, Bank, BankStep, Queue, StationId};
@@ -68,6 +69,7 @@ impl<'p> Central<'p> {
         ensures acted { IfOk result (λ acted. IsActed acted (content_of (kept_central self.old))
             (content_of (kept_central self.new))) }
         ensures step { IfOk result (IsCentralStep self.old (Serve station)) }
+        ensures memory { IfErr result (λ e. WantsMemory self.old (Serve station)) }
         ensures err { OnErr result (self.new ≡ self.old) }
     {
         let _planned = self.plan.classes();
@@ -96,6 +98,7 @@ impl<'p> Bank for Central<'p> {
         ensures acted { IfOk result (λ acted. IsActed acted (content_of (kept_central self.old))
             (content_of (kept_central self.new))) }
         ensures step { IfOk result (IsCentralStep self.old step) }
+        ensures memory { IfErr result (λ e. WantsMemory self.old step) }
         ensures err { OnErr result (content_of (kept_central self.new)
             ≡ content_of (kept_central self.old)) }
     {
@@ -182,6 +185,8 @@ fn decide_first(
     requires { place < length queues.old.items }
     ensures decided { IfOk result (IsFirstDecided place table.old queues.old.items table.new
         queues.new.items) }
+    ensures memory { IfErr result (λ e. CannotKeep table.old
+        (slice_index_or queues.old.items place [])) }
     ensures table { OnErr result (table.new ≡ table.old) }
     ensures queues { OnErr result (queues.new.items ≡ queues.old.items) }
 {

@@ -7,8 +7,6 @@ ghost use Rattle.bip_model.specs.declared.wants.Want.{Want};
 ghost use Rattle.bip_model.specs.Wants.{IsWants, components_of, is_moved};
 
 use crate::{CompId, Number};
-use smallvec::SmallVec;
-use std::alloc::Global;
 use std::marker::Model;
 
 /// How many wants a grant has at most.
@@ -35,34 +33,39 @@ pub struct Want {
 /// or more moves its component (docs/DEFINITIONS.md, "Wants"). Contracts see them as the list.
 #[derive(Drop)]
 pub struct Wants {
-    wants: SmallVec<Want, 32>,
+    wants: [Want; MOST_WANTS],
+    len: u8,
 }
 
 impl Model for Wants {
-    ghost use Rattle.std.specs.Prelude.{List};
+    ghost use Rattle.std.specs.Prelude.{◌≡◌, ◌≤◌, List, length, take};
+    ghost use Rattle.bip_model.specs.declared.wants.TheConstants.{MOST_WANTS};
     ghost use Rattle.bip_model.specs.declared.wants.Want.{Want};
     ghost use Rattle.bip_model.specs.Wants.{IsWants};
 
     ghost Value = { List Want };
 
-    ghost view = { λ w. w.wants.items };
+    ghost view = { λ w. take w.len w.wants };
 
-    ghost invariant = { λ w. IsWants w.wants.items };
+    ghost invariant = { λ w.
+        (w.len ≤ MOST_WANTS) × (length w.wants ≡ MOST_WANTS) × IsWants (take w.len w.wants) };
 }
 
 impl Wants {
-    /// The wants of a list; none where they can't be those of one grant. Takes no memory.
-    pub fn of(alloc: Global, list: &[Want]) -> Option<Wants>
+    /// The wants of a list; none where they can't be those of one grant.
+    pub fn of(list: &[Want]) -> Option<Wants>
         ensures wants { IfSome result (λ wants. wants ≡ list.now) }
         ensures exact { IsSome result ↔ IsWants list.now }
     {
         if !are_wants(list) {
             return None;
         }
-        match SmallVec::from_slice(alloc, list) {
-            Ok(wants) => Some(Wants { wants }),
-            Err(_) => unreachable!(),
-        }
+        let mut wants = [Want::default(); MOST_WANTS];
+        wants[..list.len()].copy_from_slice(list);
+        Some(Wants {
+            wants,
+            len: list.len() as u8,
+        })
     }
 
     /// The wants, by component.
@@ -70,16 +73,16 @@ impl Wants {
         ensures wants { result.now ≡ self.now }
         ensures valid { IsWants self.now }
     {
-        self.wants.as_slice()
+        &self.wants[..self.len as usize]
     }
 
-    /// The same wants once more. Takes no memory.
+    /// The same wants once more.
     pub fn copy(&self) -> Wants
         ensures { result ≡ self.now }
     {
-        match SmallVec::from_slice(*self.wants.allocator(), self.wants.as_slice()) {
-            Ok(wants) => Wants { wants },
-            Err(_) => unreachable!(),
+        Wants {
+            wants: self.wants,
+            len: self.len,
         }
     }
 }

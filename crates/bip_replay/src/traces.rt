@@ -21,7 +21,7 @@ pub fn read_trace(
     let mut room = Room::new();
     let mut grants = Vec::new(alloc);
     for (number, line) in NumberedLines::of(text) {
-        if let Err(fault) = read_one(alloc, &mut grants, &mut room, model, line) {
+        if let Err(fault) = read_one(&mut grants, &mut room, model, line) {
             return Err((number, fault));
         }
     }
@@ -30,7 +30,6 @@ pub fn read_trace(
 
 // The grant of a line, put last, or the line's fault.
 fn read_one(
-    alloc: Global,
     grants: &mut Vec<Grant>,
     room: &mut Room,
     model: &Model,
@@ -42,7 +41,7 @@ fn read_one(
         return Ok(());
     };
     let inter = grant.inter();
-    match Wants::of(alloc, grant.wants()) {
+    match Wants::of(grant.wants()) {
         None => unreachable!(),
         Some(wants) => grants
             .push(Grant { inter, wants })

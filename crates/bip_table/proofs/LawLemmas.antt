@@ -1,16 +1,14 @@
 -- The laws of the table: one answer, and no number granted twice.
-use Rattle.std.proofs.Common.{◌≡◌, ℕ, ◌<◌, ◌≤◌, true, false, max, List, length, get_or, Result, Ok, Err, refl, sym, ap, ◌∙◌, arith}
+use Rattle.std.proofs.Common.{◌≡◌, ℕ, ◌<◌, true, List, Result, Ok, Err, refl, sym, ap, ◌∙◌, arith}
 use Rattle.std.proofs.lemmas.Bool.{false≢true}
-use Rattle.std.specs.Prelude.{All, Any, IsTrue}
+use Rattle.std.specs.Prelude.{IsTrue}
 use Rattle.std.proofs.lemmas.List.Elements.{All-contains}
 use Rattle.bip_model.proofs.FoundLemmas.{lowest_same}
 use Rattle.bip_model.proofs.HistoryLemmas.{moved_above}
-use Rattle.bip_model.specs.Numbering.{IsLowest}
-use Rattle.bip_model.specs.Wants.{IsFresh, moved_in, raised}
-use Rattle.bip_model.specs.declared.numbering.CompId.{CompId}
+use Rattle.bip_model.specs.Wants.{IsFresh, raised}
 use Rattle.bip_model.specs.declared.wants.Want.{Want}
-use Rattle.bip_table.specs.Laws.{GrantedOnce, OneAnswer}
-use Rattle.bip_table.specs.Reservations.{AllHaveRows, CanBeGranted, IsAnswer, IsDecision, IsUsedUp, KeptRows, LacksRow, Reservations, end_of_serials, reservations}
+use Rattle.bip_table.specs.Laws.{GrantedOnce, OneTableAnswer}
+use Rattle.bip_table.specs.Reservations.{AllHaveRows, IsUsedUp, LacksRow, Reservations, reservations}
 use Rattle.bip_table.specs.Rows.{used_at}
 use Rattle.bip_table.specs.declared.faults.TableFault.TheVariants.{UnknownRow, Memory, Ended}
 use Rattle.bip_table.specs.declared.faults.TableFault.{TableFault}
@@ -39,7 +37,7 @@ none_used_up used wants c fresh at =
 same_refusal : (c d n k : ℕ) → c ≡ d → n ≡ k → the_refusal c n ≡ the_refusal d k
 same_refusal c d n k comps numbers = rw (comps, numbers) refl
 
-pub one_answer : OneAnswer
+pub one_answer : OneTableAnswer
 one_answer t wants (Err (UnknownRow c)) (Err (UnknownRow d)) room x y =
     ap (λ n. Err (UnknownRow (record { 0 = n }))) (lowest_same (LacksRow (reservations t) wants) c.0 d.0 x y)
 one_answer t wants (Err (UnknownRow c)) (Ok (Refused d n)) room x y = absurd (none_lacks (reservations t) wants c.0 y.0 x.here)

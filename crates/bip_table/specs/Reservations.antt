@@ -83,15 +83,15 @@ pub record CanBeGranted (t : Reservations) (wants : List Want) : Type 0 where
 -- what a table answers to wants, the first that applies: a component has no row, and this is the
 -- lowest; one isn't fresh; no serial is left; they are granted with the next one. Want of memory is
 -- told only in place of a grant, and where there is no room
-abbrev pub IsAnswer : KeptRows → List Want → Result Decision TableFault → Type 0
-IsAnswer t wants (Err (UnknownRow c)) = IsLowest (LacksRow (reservations t) wants) c.0
-IsAnswer t wants (Ok (Refused c n)) =
+abbrev pub IsTableAnswer : KeptRows → List Want → Result Decision TableFault → Type 0
+IsTableAnswer t wants (Err (UnknownRow c)) = IsLowest (LacksRow (reservations t) wants) c.0
+IsTableAnswer t wants (Ok (Refused c n)) =
     AllHaveRows (reservations t) wants × IsDecision (used_at t.rows) wants (Refused c n)
-IsAnswer t wants (Err Ended) =
+IsTableAnswer t wants (Err Ended) =
     AllHaveRows (reservations t) wants × IsFresh (used_at t.rows) wants
     × (t.serial ≡ end_of_serials)
-IsAnswer t wants (Err Memory) = CanBeGranted (reservations t) wants × (t.room ≡ 0)
-IsAnswer t wants (Ok (Granted serial)) =
+IsTableAnswer t wants (Err Memory) = CanBeGranted (reservations t) wants × (t.room ≡ 0)
+IsTableAnswer t wants (Ok (Granted serial)) =
     CanBeGranted (reservations t) wants × (serial ≡ t.serial)
 
 -- the grant of a request
@@ -109,8 +109,8 @@ with_grant g t =
 
 -- what an answer leaves: a grant joins the table, and takes room for one where there is any;
 -- otherwise all stays as it was
-abbrev pub IsLeftBy : Request → Result Decision TableFault → KeptRows → KeptRows → Type 0
-IsLeftBy q (Ok (Granted serial)) t later =
+abbrev pub IsTableAfter : Request → Result Decision TableFault → KeptRows → KeptRows → Type 0
+IsTableAfter q (Ok (Granted serial)) t later =
     (reservations later ≡ with_grant (grant_of q) (reservations t)) × (t.room ≤ later.room + 1)
-IsLeftBy q (Ok (Refused c n)) t later = later ≡ t
-IsLeftBy q (Err fault) t later = later ≡ t
+IsTableAfter q (Ok (Refused c n)) t later = later ≡ t
+IsTableAfter q (Err fault) t later = later ≡ t

@@ -3,11 +3,12 @@ ghost use Rattle.std.specs.Prelude.{◌≡◌, ◌≤◌, [], map, IfOk, IsOk, O
 ghost use Rattle.std.specs.List.Sorted.{IsStrictlyIncreasing};
 ghost use Rattle.bip_model.specs.Grants.{IsHistory, MovesOnceEach, used_by};
 ghost use Rattle.bip_model.specs.declared.numbering.CompId.{CompId};
-ghost use Rattle.bip_table.specs.Reservations.{IsAnswer, IsLeftBy};
+ghost use Rattle.bip_table.specs.Reservations.{IsTableAnswer, IsTableAfter};
 ghost use Rattle.bip_table.specs.Rows.{row_components, rows_of, used_at};
 
 use crate::rows::{Asked, find_used_up, look_up, make_rows, use_up};
 use crate::{Row, TableFault};
+use arrayvec::ArrayVec;
 use bip_model::{CompId, Grant, Number, Request, Seq};
 use std::alloc::{AllocError, Global};
 use std::marker;
@@ -24,7 +25,7 @@ pub enum Decision {
 /// The reservation table: a used number for each of some components, a floor below it, and the
 /// grants above the floor, whose serials go up by one (docs/DEFINITIONS.md, "The reservation
 /// table"). At all times the grants are a history above the floor, and explain the used numbers. A
-/// grant that is kept takes 536 bytes, since its wants stand in place: 16 for each of 32, and 24
+/// grant that is kept takes 528 bytes, since its wants stand in place: 16 for each of 32, and 16
 /// beside them. Contracts see what is kept.
 #[derive(Drop)]
 pub struct Table {
@@ -127,14 +128,14 @@ impl Table {
     /// component has no row, before all else; where no serial is left for a grant; and last where
     /// the journal can't grow. All but a grant leaves all as it was.
     pub fn decide(&mut self, request: &Request) -> Result<Decision, TableFault>
-        ensures answer { IsAnswer self.old request.now.wants result }
-        ensures left { IsLeftBy request.now result self.old self.new }
+        ensures answer { IsTableAnswer self.old request.now.wants result }
+        ensures left { IsTableAfter request.now result self.old self.new }
     {
         let wants = request.wants.as_slice();
-        let asked = match look_up(self.rows.as_slice(), wants) {
-            Ok(asked) => asked,
-            Err(comp) => return Err(TableFault::UnknownRow(comp)),
-        };
+        let mut asked = ArrayVec::new();
+        if let Some(comp) = look_up(&mut asked, self.rows.as_slice(), wants) {
+            return Err(TableFault::UnknownRow(comp));
+        }
         if let Some(row) = find_used_up(wants, asked.as_slice()) {
             return Ok(Decision::Refused {
                 comp: row.comp,

@@ -4,6 +4,7 @@
 ghost use Rattle.bip_model.specs.Partitions.{AreClassesOf};
 
 mod appending;
+mod banking;
 mod building;
 mod laws;
 mod listing;
@@ -13,6 +14,7 @@ mod planning;
 mod positions;
 mod reading;
 mod stepping;
+mod tabling;
 mod worked;
 mod writing;
 

@@ -1,3 +1,4 @@
+use bip_bank::bank_laws;
 use bip_model::{
     builder_laws, expression_laws, history_laws, partition_laws, priority_laws, step_laws,
 };
@@ -5,6 +6,7 @@ use bip_observe::{offer_laws, verdict_laws};
 use bip_partition::plan_laws;
 use bip_reader::meaning_laws;
 use bip_replay::{fault_laws, run_laws, trace_laws};
+use bip_table::table_laws;
 
 #[test]
 fn laws_can_be_called(_rt: HostRuntime) {
@@ -21,4 +23,6 @@ fn laws_can_be_called(_rt: HostRuntime) {
     fault_laws();
     run_laws();
     trace_laws();
+    table_laws();
+    bank_laws();
 }

@@ -53,7 +53,7 @@ fn are_two(rt: &impl Abort, grant: &Grant, copy: &Grant) {
 
 #[test]
 fn wants_rise_and_move_one(rt: HostRuntime) {
-    let wants = Wants::of(rt.alloc(), &[moved(0, 1), seen(2, 7)]).expect(&rt, "wants");
+    let wants = Wants::of(&[moved(0, 1), seen(2, 7)]).expect(&rt, "wants");
     let inter = InterId(3);
     let grant = Grant { inter, wants };
     are_two(&rt, &grant, &grant.copy());

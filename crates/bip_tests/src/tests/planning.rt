@@ -383,8 +383,8 @@ const MOVED_R: Want = Want {
 /// A request, and whether it fits.
 type Asked = (ClassId, InterId, &'static [Want], bool);
 
-fn fits(rt: &impl Abort, alloc: Global, plan: &Plan, (class, inter, wants, wanted): &Asked) {
-    let wants = Wants::of(alloc, wants).expect(rt, "wants");
+fn fits(rt: &impl Abort, plan: &Plan, (class, inter, wants, wanted): &Asked) {
+    let wants = Wants::of(wants).expect(rt, "wants");
     let request = Request {
         class: *class,
         request: 1,
@@ -394,9 +394,9 @@ fn fits(rt: &impl Abort, alloc: Global, plan: &Plan, (class, inter, wants, wante
     assert!(rt; plan.fits(&request) == *wanted);
 }
 
-fn fit(rt: &impl Abort, alloc: Global, plan: &Plan, asked: &[Asked]) {
+fn fit(rt: &impl Abort, _alloc: Global, plan: &Plan, asked: &[Asked]) {
     for one in asked {
-        fits(rt, alloc, plan, one);
+        fits(rt, plan, one);
     }
 }
 

@@ -1,4 +1,4 @@
-use Rattle.std.proofs.Common.{◌≡◌, List, ℕ, map, length, replicate, sym, subst, ap, ◌∙◌, rules}
+use Rattle.std.proofs.Common.{◌≡◌, List, map, length, replicate, sym, subst, ap, ◌∙◌, rules}
 use Rattle.std.specs.List.Sorted.{IsStrictlyIncreasing}
 use Rattle.bip_model.specs.declared.numbering.CompId.{CompId}
 use Rattle.bip_table.specs.Reservations.{KeptRows}

@@ -1,10 +1,8 @@
-use Rattle.std.proofs.Common.{◌≡◌, ◌<◌, Some, None, slice_get, length, get_or, ap, sym, subst, ◌∙◌}
-use Rattle.std.specs.Prelude.{IfOk}
-use Rattle.bip_model.specs.declared.numbering.InterId.{InterId}
-use Rattle.bip_partition.proofs.TableLemmas.{reserved_known}
-use Rattle.bip_bank.proofs.CentralLemmas.{no_station, station_known, turn_leaves, turn_steps}
+use Rattle.std.proofs.Common.{◌≡◌, ◌<◌, Some, None, slice_get, length, sym, subst, ◌∙◌}
+use Rattle.std.specs.Prelude.{IfErr, IfOk}
+use Rattle.bip_bank.proofs.CentralLemmas.{no_station, station_known, turn_leaves, turn_starves, turn_steps}
 use Rattle.bip_bank.specs.Banks.{IsActed, content_of}
-use Rattle.bip_bank.specs.Central.{Applies, IsCentralStep, KeptCentral, kept_central}
+use Rattle.bip_bank.specs.Central.{Applies, IsCentralStep, KeptCentral, WantsMemory, kept_central}
 use Rattle.bip_bank.specs.declared.banks.BankStep.TheVariants.{Serve}
 use Rattle.bip_bank.proofs.central.Central.serve.Goals as goal
 
@@ -35,3 +33,9 @@ pub returns-in-None-clause-step : goal.returns-in-None-clause-step
 returns-in-None-clause-step c =
     let at : slice_get c.stations.result.now c.args.station.0 ≡ None = sym c.interaction_at.ensures ∙ c.in-None.is in
     subst (λ (k : KeptCentral). ¬ Applies k (Serve c.args.station)) c.self.view_is (no_station (record { plan = c.self.inside.plan.now; base = c.self.inside.base; table = c.self.inside.table; waiting = c.self.inside.waiting.items }) c.args.station c.stations.result.now c.stations.ensures at)
+
+pub returns-in-Some-clause-memory : goal.returns-in-Some-clause-memory
+returns-in-Some-clause-memory c =
+    let at : slice_get c.stations.result.now c.args.station.0 ≡ Some c.in-Some.inter = sym c.interaction_at.ensures ∙ c.in-Some.is in
+    subst (λ (k : KeptCentral). IfErr c.decide_first.result (λ e. WantsMemory k (Serve c.args.station))) c.self.view_is
+    (turn_starves _ c.args.station c.stations.result.now c.in-Some.inter c.decide_first.result c.self.invariant c.stations.ensures at c.decide_first.ensures.memory)

@@ -1,4 +1,4 @@
-use Rattle.std.proofs.Common.{◌≡◌, ℕ, List, ap, ◌∙◌}
+use Rattle.std.proofs.Common.{List, ap, ◌∙◌}
 use Rattle.bip_model.specs.Grants.{used_by}
 use Rattle.bip_model.specs.declared.grants.Grant.{Grant}
 use Rattle.bip_bank.proofs.central.CentralBank.grants.Goals as goal

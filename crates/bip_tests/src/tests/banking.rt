@@ -1,0 +1,140 @@
+ghost use Rattle.std.specs.Prelude.{◌≡◌};
+ghost use Rattle.bip_bank.specs.Banks.{content_of};
+
+use self::Step::{Serves, Shows, Submits, Tries};
+use super::over_plan;
+use super::tabling::{Wanted, request};
+use bip_bank::{Acted, Bank, BankStep, Central, StationId};
+use bip_model::{CompId, Request};
+use bip_partition::Plan;
+use bip_table::Decision;
+use std::alloc::Global;
+use std::process::Abort;
+
+/// Two components that each move with a third, in two classes, so both interactions have a station.
+const COMPETE: &str = "bip 1\n\
+    component A\nloc off\nloc on\nport s\ntrans s off on\nend\n\
+    component B\nloc off\nloc on\nport s\ntrans s off on\nend\n\
+    component R\nloc free\nloc taken\nport g\ntrans g free taken\nend\n\
+    interaction x A.s R.g\ninteraction y B.s R.g\nclass P x\nclass Q y\n";
+
+/// What x wants, and y, each first move.
+const X: ((u16, u16), &[Wanted]) = ((0, 0), &[(0, 1, true), (2, 1, true)]);
+
+const Y: ((u16, u16), &[Wanted]) = ((1, 1), &[(1, 1, true), (2, 1, true)]);
+
+/// What is asked of a bank, and what it says.
+#[derive(Drop)]
+enum Step {
+    /// A request is submitted.
+    Submits(((u16, u16), &'static [Wanted])),
+    /// The station is served: of which interaction a request is answered, and how.
+    Serves(u16, Option<(u16, Decision)>),
+    /// A step that doesn't apply.
+    Tries(BankStep),
+    /// So many grants were given.
+    Shows(usize),
+}
+
+/// Submits a request that fits the plan.
+fn submits<B: Bank>(rt: &impl Abort, plan: &Plan, bank: &mut B, request: Request)
+    requires plan { (content_of (B.kept bank.old)).plan ≡ plan.now }
+    ensures plan { (content_of (B.kept bank.new)).plan ≡ plan.now }
+{
+    assert!(rt; plan.fits(&request));
+    let submitted = bank.submit(request).is_ok();
+    assert!(rt; submitted);
+}
+
+/// Does a step of a bank, and says what it did.
+fn acts<B: Bank>(rt: &impl Abort, plan: &Plan, bank: &mut B, step: BankStep) -> Acted
+    requires plan { (content_of (B.kept bank.old)).plan ≡ plan.now }
+    ensures plan { (content_of (B.kept bank.new)).plan ≡ plan.now }
+{
+    bank.act(step).expect(rt, "memory")
+}
+
+/// Whether an answer is to a request for this interaction, with this decision.
+fn is_answer(did: &Acted, answer: &Option<(u16, Decision)>) -> bool {
+    match (did, answer) {
+        (Acted::Answered { request, decision }, Some((inter, expected))) => {
+            request.inter.0 == *inter && decision == expected
+        }
+        (Acted::Nothing, None) => true,
+        _ => false,
+    }
+}
+
+fn take_step<B: Bank>(rt: &impl Abort, alloc: Global, plan: &Plan, bank: &mut B, step: &Step)
+    requires plan { (content_of (B.kept bank.old)).plan ≡ plan.now }
+    ensures plan { (content_of (B.kept bank.new)).plan ≡ plan.now }
+{
+    match step {
+        Step::Submits((numbers, wanted)) => {
+            submits(rt, plan, bank, request(rt, alloc, *numbers, wanted));
+        }
+        Step::Serves(station, answer) => {
+            let did = acts(rt, plan, bank, BankStep::Serve(StationId(*station)));
+            assert!(rt; is_answer(&did, answer));
+        }
+        Step::Tries(step) => {
+            let did = acts(rt, plan, bank, *step);
+            assert!(rt; is_answer(&did, &None));
+        }
+        Step::Shows(grants) => assert!(rt; bank.grants().len() == *grants),
+    }
+}
+
+fn take_steps<B: Bank>(rt: &impl Abort, alloc: Global, plan: &Plan, bank: &mut B, steps: &[Step])
+    requires plan { (content_of (B.kept bank.old)).plan ≡ plan.now }
+{
+    for step in steps {
+        take_step(rt, alloc, plan, bank, step);
+    }
+}
+
+fn central_takes(rt: &impl Abort, alloc: Global, plan: &Plan, steps: &[Step]) {
+    let mut bank = Central::new(alloc, plan, 0).expect(rt, "memory");
+    take_steps(rt, alloc, plan, &mut bank, steps);
+    assert!(rt; bank.in_flight() == 0);
+}
+
+#[test]
+fn the_first_that_is_served_is_granted(rt: HostRuntime) {
+    const STEPS: &[Step] = &[
+        Serves(0, None),
+        Submits(X),
+        Submits(Y),
+        Shows(0),
+        Serves(1, Some((1, Decision::Granted(0)))),
+        Serves(
+            0,
+            Some((
+                0,
+                Decision::Refused {
+                    comp: CompId(2),
+                    used: 1,
+                },
+            )),
+        ),
+        Serves(0, None),
+        Serves(2, None),
+        Shows(1),
+    ];
+    over_plan(&rt, rt.alloc(), COMPETE, STEPS, central_takes);
+}
+
+#[test]
+fn the_oldest_is_served_first_and_other_steps_never_apply(rt: HostRuntime) {
+    const STEPS: &[Step] = &[
+        Submits(X),
+        Submits(((0, 0), &[(0, 2, true), (2, 2, true)])),
+        Tries(BankStep::Deliver(0)),
+        Tries(BankStep::Pass(StationId(0), StationId(1))),
+        Tries(BankStep::Ask(StationId(0), StationId(1))),
+        Serves(0, Some((0, Decision::Granted(0)))),
+        Serves(0, Some((0, Decision::Granted(1)))),
+        Shows(2),
+    ];
+    over_plan(&rt, rt.alloc(), COMPETE, STEPS, central_takes);
+}
