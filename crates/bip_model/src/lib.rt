@@ -42,6 +42,7 @@ pub use partitions::{Classes, MOST_CLASSES, Partition};
 pub use parts::{Component, Interaction, MOST_PARTICIPANTS, Pair, System, Transition};
 pub use scopes::VariableName;
 pub use sequence::Seq;
+pub use sets::has_port;
 pub use states::{LocalState, State, Values};
 pub use texts::{
     Line, NumberedLines, is_plain, parse_number, parse_value, read_words, split_line, split_pair,

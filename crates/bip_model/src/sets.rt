@@ -1,8 +1,8 @@
-//! Sets of interactions, each as the bits of a number.
+//! Sets of interactions and of ports, each as the bits of a number.
 ghost use Rattle.std.specs.Prelude.{◌≡◌, ◌<◌, ◌==◌, ◌||◌, ℕ, false};
 ghost use Rattle.bip_model.specs.Sets.{has};
 
-use crate::InterId;
+use crate::{InterId, PortId};
 
 /// Whether an interaction is in a set.
 pub(crate) fn has_inter(set: u128, inter: InterId) -> bool
@@ -19,4 +19,11 @@ pub(crate) fn with_inter(set: u128, inter: InterId) -> u128
     ensures more { has set inter.0 ≡ false → set < result }
 {
     set | 1u128 << inter.0
+}
+
+/// Whether a port is in a set, as that of an offer; false for numbers that no port has.
+pub fn has_port(ports: u16, port: PortId) -> bool
+    ensures { result ≡ has ports port.0 }
+{
+    port.0 < 16 && (ports >> port.0) & 1 == 1
 }

@@ -8,7 +8,7 @@ ghost use Rattle.bip_model.specs.Numbering.{last_number};
 ghost use Rattle.bip_model.specs.Sets.{has};
 ghost use Rattle.bip_observe.specs.Offers.{nothing_held, observed};
 
-use bip_model::{ClassId, CompId, Component, Number, Offer, PortId, Seq};
+use bip_model::{ClassId, CompId, Component, Number, Offer, PortId, Seq, has_port};
 use bip_partition::Plan;
 use std::alloc::{AllocError, Global};
 use std::marker;
@@ -215,11 +215,4 @@ fn are_ports(ports: u16, count: usize) -> bool
         }
     }
     true
-}
-
-/// Whether a port is on.
-pub(crate) fn has_port(ports: u16, port: PortId) -> bool
-    ensures { result ≡ has ports port.0 }
-{
-    port.0 < 16 && (ports >> port.0) & 1 == 1
 }

@@ -11,8 +11,7 @@ ghost use Rattle.bip_observe.specs.Verdicts.{CanBeJudged, IsVerdict, enables, gu
 ghost use Rattle.bip_observe.specs.Verdicts.{is_counted, offers_of, port_on};
 
 use crate::Offers;
-use crate::offers::has_port;
-use bip_model::{CompId, InterId, MOST_PARTICIPANTS, PortId, Values};
+use bip_model::{CompId, InterId, MOST_PARTICIPANTS, PortId, Values, has_port};
 use bip_partition::Plan;
 
 /// The decision on an interaction, by the offers that a class holds. Of components and interactions

@@ -8,6 +8,7 @@ mod banking;
 mod building;
 mod laws;
 mod listing;
+mod notifying;
 mod observing;
 mod parting;
 mod planning;

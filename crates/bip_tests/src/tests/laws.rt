@@ -1,4 +1,5 @@
 use bip_bank::bank_laws;
+use bip_component::component_laws;
 use bip_model::{
     builder_laws, expression_laws, history_laws, partition_laws, priority_laws, step_laws,
 };
@@ -25,4 +26,5 @@ fn laws_can_be_called(_rt: HostRuntime) {
     trace_laws();
     table_laws();
     bank_laws();
+    component_laws();
 }

@@ -1,6 +1,6 @@
 use Rattle.std.proofs.Common.{le-ltb, refl}
 use Rattle.std.proofs.lemmas.Nat.Bits.{bit_at_above}
-use Rattle.bip_observe.proofs.offers.has_port.Goals as goal
+use Rattle.bip_model.proofs.sets.has_port.Goals as goal
 
 pub returns-else-port-lt16 : goal.returns-else-port-lt16
 returns-else-port-lt16 c =
