@@ -20,22 +20,22 @@ read_copies n x k = elim (cases_lt k n) [
   | inr past ↦ get_or_past (replicate n x) k x (rw (length-replicate n x) past)
 ]
 
--- no offers, as many as there are components
-abbrev pub no_offers : ℕ → List (Option Offer)
-no_offers n = map (λ (k : ℕ). None) (range_with_len 0 n)
+-- nothing, so many times
+abbrev pub nothings : (X : Type 0) → ℕ → List (Option X)
+nothings X n = map (λ (k : ℕ). None) (range_with_len 0 n)
 
-length_none : (n : ℕ) → length (no_offers n) ≡ n
-length_none n = simp (length-map, length-range_with_len)
+pub length_nothings : (X : Type 0) (n : ℕ) → length (nothings X n) ≡ n
+length_nothings X n = simp (length-map, length-range_with_len)
 
-read_none : (n k : ℕ) → get_or (no_offers n) k None ≡ None
-read_none n k = elim (cases_lt k n) [
+pub read_nothing : (X : Type 0) (n k : ℕ) → get_or (nothings X n) k None ≡ None
+read_nothing X n k = elim (cases_lt k n) [
   | inl within ↦ get_or-map-range_with_len (λ (j : ℕ). None) 0 n k k None within (omega arith)
-  | inr past ↦ get_or_past (no_offers n) k None (rw (length_none n) past)
+  | inr past ↦ get_or_past (nothings X n) k None (rw (length_nothings X n) past)
 ]
 
 -- what is kept at first
 abbrev pub first_kept : Planned → ℕ → ℕ → ℕ → KeptOffers
-first_kept p class base n = record { plan = p; class = class; base = base; known = replicate n base; held = no_offers n }
+first_kept p class base n = record { plan = p; class = class; base = base; known = replicate n base; held = nothings Offer n }
 
 -- what a class has, by its two functions
 abbrev having : Planned → ℕ → (ℕ → ℕ) → (ℕ → Option Offer) → Observed
@@ -46,15 +46,15 @@ same_having p class f g h k known held = ap (λ (u : ℕ → ℕ). having p clas
 
 pub nothing_kept : (p : Planned) (class base n : ℕ) → observed (first_kept p class base n) ≡ nothing_held p class base
 nothing_kept p class base n =
-    same_having p class (λ c. get_or (replicate n base) c base) (λ c. base) (λ c. get_or (no_offers n) c None) (λ c. None)
-    (fun_ext (read_copies n base)) (fun_ext (read_none n))
+    same_having p class (λ c. get_or (replicate n base) c base) (λ c. base) (λ c. get_or (nothings Offer n) c None) (λ c. None)
+    (fun_ext (read_copies n base)) (fun_ext (read_nothing Offer n))
 
 pub first_are_kept : (p : Planned) (class base n : ℕ) → n ≡ length p.model.components → AreKept (first_kept p class base n)
 first_are_kept p class base n each = record {
   each_known = length-replicate n base ∙ each;
-  each_held = length_none n ∙ each;
+  each_held = length_nothings Offer n ∙ each;
   own = λ c offer is.
-      let none = sym (read_none n c) ∙ is in
+      let none = sym (read_nothing Offer n c) ∙ is in
       absurd (cc);
 }
 

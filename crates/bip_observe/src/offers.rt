@@ -157,6 +157,8 @@ impl<'p> Offers<'p> {
             → observed self.new ≡ with_known comp.0 number (observed self.old) }
         ensures others { (¬ ClassTouches self.old.plan self.old.class comp.0)
             → self.new ≡ self.old }
+        ensures plan { self.new.plan ≡ self.old.plan }
+        ensures class { self.new.class ≡ self.old.class }
     {
         if self.plan.class_touches(self.class, comp) && self.known(comp) < number {
             self.known.set(comp.0 as usize, number);

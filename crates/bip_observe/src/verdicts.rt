@@ -120,8 +120,9 @@ impl<'p> Offers<'p> {
         model.guard(inter, &values[..participants.len()])
     }
 
-    /// The values that participants offer, in front of as many empty ones as make eight.
-    fn values_of(&self, participants: &[(CompId, PortId)]) -> [Values; MOST_PARTICIPANTS]
+    /// The values that participants offer, in front of as many empty ones as make eight; those of
+    /// one of which no offer is held are empty.
+    pub fn values_of(&self, participants: &[(CompId, PortId)]) -> [Values; MOST_PARTICIPANTS]
         requires { length participants.now ≤ MOST_PARTICIPANTS }
         ensures { take (length participants.now) result
             ≡ map (λ (q : Participant). (offers_of (observed self.now) q.0.0).values)

@@ -4,6 +4,7 @@
 ghost use Rattle.bip_model.specs.Partitions.{AreClassesOf};
 
 mod appending;
+mod asking;
 mod banking;
 mod building;
 mod laws;

@@ -1,5 +1,6 @@
 use bip_bank::bank_laws;
 use bip_component::component_laws;
+use bip_ip::{node_laws, notify_laws};
 use bip_model::{
     builder_laws, expression_laws, history_laws, partition_laws, priority_laws, step_laws,
 };
@@ -27,4 +28,6 @@ fn laws_can_be_called(_rt: HostRuntime) {
     table_laws();
     bank_laws();
     component_laws();
+    notify_laws();
+    node_laws();
 }

@@ -14,7 +14,7 @@ const COUNTER: &str = "bip 1\n\
     interaction t C.tick\ninteraction s C.stop\nclass P t s\n";
 
 /// What a component is told: of which component, with which number, port and values.
-type Told = (u16, Number, u8, &'static [u32]);
+pub(super) type Told = (u16, Number, u8, &'static [u32]);
 
 /// What it does: it offers a move with this number, these ports and values; it makes its last move;
 /// or it doesn't move.

@@ -36,7 +36,7 @@ const Q: ClassId = ClassId(1);
 /// An offer, with its values.
 pub(super) type Offered = (CompId, Number, u16, &'static [u32]);
 
-fn offer(rt: &impl Abort, (comp, number, ports, values): &Offered) -> Offer {
+pub(super) fn offer(rt: &impl Abort, (comp, number, ports, values): &Offered) -> Offer {
     Offer {
         comp: *comp,
         number: *number,

@@ -19,7 +19,7 @@ enum Step {
     Shows([Number; 3], [Number; 3], usize),
 }
 
-fn want((comp, number, moves): &Wanted) -> Want {
+pub(super) fn want((comp, number, moves): &Wanted) -> Want {
     if *moves {
         moved(*comp, *number)
     } else {

@@ -1,0 +1,4 @@
+pub mod AskingLemmas
+pub mod LawLemmas
+pub mod NodeLemmas
+pub mod TellLemmas

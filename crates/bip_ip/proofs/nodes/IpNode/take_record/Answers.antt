@@ -1,0 +1,22 @@
+use Rattle.std.proofs.Common.{◌≡◌, ◌∙◌, None, Some, ap, get_or, sym}
+use Rattle.std.specs.Option.{option_map}
+use Rattle.std.proofs.lemmas.List.{get_or_default}
+use Rattle.bip_ip.proofs.NodeLemmas.{one_less_kept, record_its, record_within}
+use Rattle.bip_ip.specs.Nodes.{KeptNode}
+use Rattle.bip_ip.proofs.nodes.IpNode.take_record.Goals as goal
+
+pub invariant_of-self : goal.invariant_of-self
+invariant_of-self c =
+    let n : KeptNode = record { offers = c.self.inside.offers; pending = c.self.inside.pending.items; next = c.self.inside.next } in
+    let a = c.inter_in-inter.result.0 in
+    let there : get_or n.pending a None ≡ Some c.in-Some.record.now = ap (λ (k : KeptNode). get_or k.pending a None) c.self.view_is ∙ (sym c.record.ensures ∙ ap (option_map (λ e. e.now)) c.in-Some.is) in
+    rw c.take.ensures.after (one_less_kept n a (record_within n.pending a c.in-Some.record.now there) c.self.invariant)
+
+pub returns-in-Some-clause-its : goal.returns-in-Some-clause-its
+returns-in-Some-clause-its c =
+    let n : KeptNode = record { offers = c.self.inside.offers; pending = c.self.inside.pending.items; next = c.self.inside.next } in
+    let a = c.inter_in-inter.result.0 in
+    let there : get_or n.pending a None ≡ Some c.in-Some.record.now = ap (λ (k : KeptNode). get_or k.pending a None) c.self.view_is ∙ (sym c.record.ensures ∙ ap (option_map (λ e. e.now)) c.in-Some.is) in
+    let within = record_within n.pending a c.in-Some.record.now there in
+    let taken : get_or n.pending a None ≡ c.take.result = get_or_default n.pending a None _ within ∙ sym (c.take.ensures.value ∙ c.index_mut.ensures.value) in
+    rw (← c.inter_in-inter.ensures, ← c.self.view_is) (record_its n a c.take.result c.self.invariant taken)

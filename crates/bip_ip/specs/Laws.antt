@@ -1,0 +1,109 @@
+-- What the definitions mean, in the subject's own words: laws that a reviewer reads.
+use Rattle.std.specs.Prelude.{◌≡◌, ◌⊎◌, ℕ, ◌<◌, true, map, Any, Contains}
+use Rattle.std.specs.List.Sorted.{IsStrictlyIncreasing}
+use Rattle.std.specs.Option.{option_map}
+use Rattle.bip_model.specs.Parts.{IsSystem}
+use Rattle.bip_model.specs.States.{State, with_values}
+use Rattle.bip_model.specs.Steps.{after, led, moves}
+use Rattle.bip_model.specs.declared.messages.Notify.{Notify}
+use Rattle.bip_model.specs.declared.messages.Offer.{Offer}
+use Rattle.bip_model.specs.declared.messages.Reply.{Reply}
+use Rattle.bip_model.specs.declared.messages.Reply.TheVariants.{Granted, Refused}
+use Rattle.bip_model.specs.declared.messages.Request.{Request}
+use Rattle.bip_model.specs.declared.parts.System.{System}
+use Rattle.bip_partition.specs.Plans.{InConflict, IsFit, Touches}
+use Rattle.bip_observe.specs.Laws.{AllShow}
+use Rattle.bip_observe.specs.Offers.{IsReceipt}
+use Rattle.bip_observe.specs.declared.offers.Receipt.{Receipt}
+use Rattle.bip_ip.specs.Asking.{told_by}
+use Rattle.bip_ip.specs.Nodes.{Awaits, ClassNode, IsAnswered, IsLeftByReply, IsTried}
+use Rattle.bip_ip.specs.Nodes.{StandsInTheWay, after_offer, after_try, with_record}
+use Rattle.bip_ip.specs.declared.nodes.Answered.{Answered}
+use Rattle.bip_ip.specs.declared.nodes.OpenRecord.{OpenRecord}
+use Rattle.bip_ip.specs.declared.nodes.Tried.{Tried}
+use Rattle.bip_ip.specs.declared.nodes.Tried.TheVariants.{Sent}
+
+-- what is told goes to components that the interaction moves
+abbrev pub TellsWhatMoves : Type 0
+TellsWhatMoves =
+    (m : System) (o : ℕ → Offer) (a : ℕ) (n : Notify) → Contains (told_by m o a) n
+    → moves m a n.comp.0 ≡ true
+
+-- with the numbers that they offered
+abbrev pub TellsOfferedNumbers : Type 0
+TellsOfferedNumbers =
+    (m : System) (o : ℕ → Offer) (a : ℕ) (n : Notify) → Contains (told_by m o a) n
+    → n.number ≡ (o n.comp.0).number
+
+-- each component that it moves is told
+abbrev pub TellsParticipants : Type 0
+TellsParticipants =
+    (m : System) (o : ℕ → Offer) (a c : ℕ) → moves m a c ≡ true
+    → Any (λ (n : Notify). n.comp.0 ≡ c) (told_by m o a)
+
+-- and once, by component
+abbrev pub TellsByComponent : Type 0
+TellsByComponent =
+    (m : System) → IsSystem m → (o : ℕ → Offer) (a : ℕ)
+    → IsStrictlyIncreasing (map (λ (n : Notify). n.comp.0) (told_by m o a))
+
+-- by offers that show a state, what a component is told leads it to where the joint step does
+abbrev pub LeadsToTheStep : Type 0
+LeadsToTheStep =
+    (m : System) → IsSystem m → (o : ℕ → Offer) (s : State) (a : ℕ)
+    → ((c : ℕ) → Touches m a c → (o c).comp.0 ≡ c) → AllShow m o s a
+    → (n : Notify) → Contains (told_by m o a) n
+    → after m s a n.comp.0
+    ≡ option_map (λ local. led m n.comp.0 n.port (with_values n.values local)) (s n.comp.0)
+
+-- what a node asks for fits its plan
+abbrev pub AskedFits : Type 0
+AskedFits =
+    (v : ClassNode) (a : ℕ) (q : Request) → IsTried v a (Sent q) → IsFit v.offers.plan q
+
+-- a request that is open stands in the way of its interaction, and of each in conflict with it
+abbrev pub AskedStandsInTheWay : Type 0
+AskedStandsInTheWay =
+    (v : ClassNode) (a b : ℕ) (q : Request) → IsTried v a (Sent q)
+    → (a ≡ b) ⊎ InConflict v.offers.plan.model b a → StandsInTheWay (with_record a q v) b a
+
+-- a try has one answer, and so has a reply
+abbrev pub OneAnswerToATry : Type 0
+OneAnswerToATry =
+    (v : ClassNode) (a : ℕ) (did other : Tried) → IsTried v a did → IsTried v a other → did ≡ other
+
+abbrev pub OneAnswerToAReply : Type 0
+OneAnswerToAReply =
+    (v : ClassNode) (reply : Reply) (did other : Answered) → IsAnswered v reply did
+    → IsAnswered v reply other → did ≡ other
+
+-- what a node does: it hears an offer, tries an interaction, or takes a reply
+pub data NodeStep (v later : ClassNode) : Type 0 where
+  hears : (offer : Offer) (receipt : Receipt) → IsReceipt v.offers offer receipt
+      → later ≡ after_offer offer receipt v → NodeStep v later
+  tries : (a : ℕ) (did : Tried) → IsTried v a did → later ≡ after_try a did v
+      → NodeStep v later
+  takes : (reply : Reply) (did : Answered) → IsAnswered v reply did
+      → IsLeftByReply reply did v later → NodeStep v later
+
+-- the number of the request that a reply is to
+abbrev pub request_in : Reply → ℕ
+request_in (Granted class request a serial) = request
+request_in (Refused class request a c used) = request
+
+-- a reply is past: a request of its number was made, and no record waits for it
+pub record IsPast (v : ClassNode) (reply : Reply) : Type 0 where
+  pub made : request_in reply < v.next
+  pub over : (e : OpenRecord) → ¬ Awaits v reply e
+
+-- a record tells once: the reply for which it waited is past then
+abbrev pub TakenOnce : Type 0
+TakenOnce =
+    (v later : ClassNode) (reply : Reply) (e : OpenRecord) (did : Answered) → Awaits v reply e
+    → e.request.request < v.next → IsAnswered v reply did → IsLeftByReply reply did v later
+    → IsPast later reply
+
+-- and stays so, whatever the node does
+abbrev pub PastStays : Type 0
+PastStays =
+    (v later : ClassNode) (reply : Reply) → NodeStep v later → IsPast v reply → IsPast later reply

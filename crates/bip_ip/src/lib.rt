@@ -1,0 +1,9 @@
+//! Interaction protocol nodes: what the node of a class asks for, and what it tells.
+#![tactic(auto)]
+
+mod asking;
+mod laws;
+mod nodes;
+
+pub use laws::{node_laws, notify_laws};
+pub use nodes::{Answered, IpNode, OpenRecord, Tried};

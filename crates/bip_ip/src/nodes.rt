@@ -1,0 +1,301 @@
+//! The node of a class.
+ghost use Rattle.std.specs.Prelude.{◌≡◌, ◌↔◌, ◌<◌, ℕ, All, IfNone, IfOk, IfSome, IsTrue, None};
+ghost use Rattle.std.specs.Prelude.{OnSome, map};
+ghost use Rattle.std.specs.Option.{option_map};
+ghost use Rattle.std.specs.List.{range_with_len};
+ghost use Rattle.std.specs.List.Sorted.{IsStrictlyIncreasing};
+ghost use Rattle.bip_model.specs.Numbering.{IsLowest, last_number};
+ghost use Rattle.bip_model.specs.Wants.{components_of};
+ghost use Rattle.bip_model.specs.declared.wants.Want.{Want};
+ghost use Rattle.bip_partition.specs.Plans.{ClassTouches};
+ghost use Rattle.bip_observe.specs.Offers.{IsReceipt, observed};
+ghost use Rattle.bip_ip.specs.Nodes.{Awaits, CanBeAsked, IsAnswered, IsItsRecord, IsLeftByReply};
+ghost use Rattle.bip_ip.specs.Nodes.{IsOwn, IsReplyTo, IsTried, StandsInTheWay, after_offer};
+ghost use Rattle.bip_ip.specs.Nodes.{after_try, first_node, inter_in, node_of, with_learned};
+ghost use Rattle.bip_ip.specs.Nodes.{without};
+ghost use Rattle.bip_ip.specs.declared.nodes.OpenRecord.{OpenRecord};
+
+use crate::asking::{told_by, wants_by};
+use bip_model::{ClassId, Grant, InterId, Notifies, Number, Offer, Reply, Request, Role, Want};
+use bip_observe::{Offers, Receipt, Verdict, decide};
+use bip_partition::Plan;
+use std::alloc::{AllocError, Global};
+use std::marker;
+
+/// What is kept of a request while it is open, and what its grant will tell.
+#[derive(Drop)]
+pub struct OpenRecord {
+    pub request: Request,
+    pub notifies: Notifies,
+}
+
+/// What a node answers to a try of an interaction.
+#[derive(Drop)]
+pub enum Tried {
+    /// The interaction isn't of the node's class.
+    Foreign,
+    /// The request for this interaction is open: it is the tried one, or in conflict with it.
+    Pending(InterId),
+    /// By the offers that the node holds the interaction isn't ready.
+    Not(Verdict),
+    /// The interaction is local, and granted at once; its components are told this.
+    Local(Grant, Notifies),
+    /// No request number is left.
+    Ended,
+    /// The interaction is asked for.
+    Sent(Request),
+}
+
+/// What a node answers to a reply.
+#[derive(Drop)]
+pub enum Answered {
+    /// The request is granted; the components are told this.
+    Told(Notifies),
+    /// The request is refused, and dropped.
+    Dropped,
+    /// No request that is open is meant.
+    Stale,
+}
+
+/// The node of a class: what it has of the components that it touches, which of its requests are
+/// open, and the number of its next one (docs/DEFINITIONS.md, "Protocol nodes"). Contracts see what
+/// is kept.
+#[derive(Drop)]
+pub struct IpNode<'p> {
+    offers: Offers<'p>,
+    pending: Vec<Option<OpenRecord>>,
+    next: u128,
+}
+
+impl<'p> marker::Model for IpNode<'p> {
+    ghost use Rattle.bip_ip.specs.Nodes.{IsKeptNode, KeptNode};
+
+    ghost Value = { KeptNode };
+
+    ghost view = { λ n. record { offers = n.offers; pending = n.pending.items; next = n.next } };
+
+    ghost invariant = { λ n.
+        IsKeptNode (record { offers = n.offers; pending = n.pending.items; next = n.next }) };
+}
+
+impl<'p> IpNode<'p> {
+    /// The node of a class at first: all used numbers that it knows are the base, it holds no
+    /// offer, and no request is open; the first one will have this number. It makes all its room,
+    /// so no later call takes memory.
+    pub fn new(
+        alloc: Global,
+        plan: &'p Plan,
+        class: ClassId,
+        base: Number,
+        first_request: u64,
+    ) -> Result<IpNode<'p>, AllocError>
+        requires { base < last_number }
+        ensures { IfOk result (λ node.
+            node_of node ≡ first_node plan.now class.0 base first_request) }
+    {
+        let offers = Offers::new(alloc, plan, class, base)?;
+        let pending = no_records(alloc, plan.model().interactions().len())?;
+        Ok(IpNode {
+            offers,
+            pending,
+            next: first_request as u128,
+        })
+    }
+
+    /// Takes an offer, and holds it in place of the one before, where it is one that the class can
+    /// get and newer than what it has. Else all stays as it was.
+    pub fn on_offer(&mut self, offer: Offer) -> Receipt
+        ensures receipt { IsReceipt (observed self.old.offers) offer result }
+        ensures left { node_of self.new ≡ after_offer offer result (node_of self.old) }
+    {
+        self.offers.hold(offer)
+    }
+
+    /// Tries an interaction, by the offers that the node holds. A local one that is ready is
+    /// granted at once, and its moved numbers are known then; a reserved one is asked for, and
+    /// recorded with what its grant will tell. Else all stays as it was: the interaction isn't of
+    /// the class; the lowest that is open, and this one or in conflict with it, stands in its way;
+    /// it isn't ready; or no request number is left. The first that applies is told
+    /// (docs/DEFINITIONS.md, "Protocol nodes").
+    pub fn try_interaction(&mut self, inter: InterId) -> Tried
+        ensures tried { IsTried (node_of self.old) inter.0 result }
+        ensures left { node_of self.new ≡ after_try inter.0 result (node_of self.old) }
+    {
+        if !self.is_own(inter) {
+            return Tried::Foreign;
+        }
+        if let Some(other) = self.in_the_way(inter) {
+            return Tried::Pending(other);
+        }
+        match decide(self.offers.plan(), &self.offers, inter) {
+            Verdict::Ready => self.ask(inter),
+            verdict => Tried::Not(verdict),
+        }
+    }
+
+    /// Takes a reply. Where a record waits for it, that one goes: a grant is told, and its moved
+    /// numbers are known then; of a refusal the used number that it names is. Else all stays as it
+    /// was (docs/DEFINITIONS.md, "Protocol nodes").
+    pub fn on_reply(&mut self, reply: &Reply) -> Answered
+        ensures answered { IsAnswered (node_of self.old) reply.now result }
+        ensures left { IsLeftByReply reply.now result (node_of self.old) (node_of self.new) }
+    {
+        let _planned = self.offers.plan().classes();
+        let Some(record) = self.take_record(reply) else {
+            return Answered::Stale;
+        };
+        match *reply {
+            Reply::Granted { .. } => {
+                learn(&mut self.offers, record.request.wants.as_slice());
+                Answered::Told(record.notifies)
+            }
+            Reply::Refused { comp, used, .. } => {
+                self.offers.spend(comp, used);
+                Answered::Dropped
+            }
+        }
+    }
+}
+
+impl<'p> IpNode<'p> {
+    fn is_own(&self, inter: InterId) -> bool
+        ensures { IsTrue result ↔ IsOwn (node_of self.now) inter.0 }
+    {
+        let plan = self.offers.plan();
+        (inter.0 as usize) < plan.model().interactions().len()
+            && plan.class_of(inter) == self.offers.class()
+    }
+
+    /// The lowest interaction that stands in the way of another.
+    fn in_the_way(&self, inter: InterId) -> Option<InterId>
+        ensures some { IfSome result (λ b.
+            IsLowest (StandsInTheWay (node_of self.now) inter.0) b.0) }
+        ensures none { IfNone result
+            ((b : ℕ) → ¬ StandsInTheWay (node_of self.now) inter.0 b) }
+    {
+        for number in 0..self.offers.plan().model().interactions().len() {
+            let other = InterId(number as u16);
+            if self.stands_in_the_way(inter, other) {
+                return Some(other);
+            }
+        }
+        None
+    }
+
+    fn stands_in_the_way(&self, inter: InterId, other: InterId) -> bool
+        ensures { IsTrue result ↔ StandsInTheWay (node_of self.now) inter.0 other.0 }
+    {
+        self.record(other).is_some()
+            && (other == inter || self.offers.plan().conflict(inter, other))
+    }
+
+    /// The record of an interaction, if its request is open.
+    fn record(&self, inter: InterId) -> Option<&OpenRecord>
+        ensures { option_map (λ e. e.now) result ≡ (node_of self.now).pending inter.0 }
+    {
+        match self.pending.get(inter.0 as usize) {
+            Some(Some(record)) => Some(record),
+            _ => None,
+        }
+    }
+
+    /// Grants an interaction that is local, and asks for one that is reserved.
+    fn ask(&mut self, inter: InterId) -> Tried
+        requires { CanBeAsked (node_of self.old) inter.0 }
+        ensures tried { IsTried (node_of self.old) inter.0 result }
+        ensures left { node_of self.new ≡ after_try inter.0 result (node_of self.old) }
+    {
+        let wants = wants_by(&self.offers, inter);
+        let notifies = told_by(&self.offers, inter);
+        let plan = self.offers.plan();
+        let _planned = plan.classes();
+        if !plan.reserved(inter) {
+            learn(&mut self.offers, wants.as_slice());
+            return Tried::Local(Grant { inter, wants }, notifies);
+        }
+        let Ok(number) = u64::try_from(self.next) else {
+            return Tried::Ended;
+        };
+        let request = Request {
+            wants,
+            request: number,
+            class: self.offers.class(),
+            inter,
+        };
+        self.next += 1;
+        self.pending[inter.0 as usize] = Some(OpenRecord {
+            request: request.copy(),
+            notifies,
+        });
+        Tried::Sent(request)
+    }
+
+    /// Takes out the record that waits for a reply.
+    fn take_record(&mut self, reply: &Reply) -> Option<OpenRecord>
+        ensures awaits { IfSome result (Awaits (node_of self.old) reply.now) }
+        ensures its { IfSome result (IsItsRecord self.old (inter_in reply.now)) }
+        ensures taken { OnSome result
+            (node_of self.new ≡ without (inter_in reply.now) (node_of self.old)) }
+        ensures offers { self.new.offers ≡ self.old.offers }
+        ensures stale { IfNone result
+            ((e : OpenRecord) → ¬ Awaits (node_of self.old) reply.now e) }
+        ensures none { IfNone result (self.new ≡ self.old) }
+    {
+        let inter = inter_in(reply);
+        match self.record(inter) {
+            Some(record) if is_reply_to(reply, &record.request) => {
+                self.pending[inter.0 as usize].take()
+            }
+            _ => None,
+        }
+    }
+}
+
+/// Room for a record of each of so many interactions, of which none is there.
+fn no_records(alloc: Global, count: usize) -> Result<Vec<Option<OpenRecord>>, AllocError>
+    ensures { IfOk result (λ v. v.items ≡ map (λ k. None) (range_with_len 0 count)) }
+{
+    (0..count).map(|_| None).collect(alloc)
+}
+
+/// Learns the numbers that wants move their components with.
+fn learn(offers: &mut Offers<'_>, wants: &[Want])
+    requires rising { IsStrictlyIncreasing (components_of wants.now) }
+    requires touched { All (λ (w : Want).
+        ClassTouches offers.old.plan offers.old.class w.comp.0) wants.now }
+    ensures learned { observed offers.new ≡ with_learned wants.now (observed offers.old) }
+{
+    for want in wants {
+        match want.role {
+            Role::Moved => offers.spend(want.comp, want.number),
+            Role::Seen => {}
+        }
+    }
+}
+
+fn inter_in(reply: &Reply) -> InterId
+    ensures { result.0 ≡ inter_in reply.now }
+{
+    match *reply {
+        Reply::Granted { inter, .. } => inter,
+        Reply::Refused { inter, .. } => inter,
+    }
+}
+
+/// Whether a reply is to a request.
+fn is_reply_to(reply: &Reply, request: &Request) -> bool
+    ensures { IsTrue result ↔ IsReplyTo reply.now request.now }
+{
+    match *reply {
+        Reply::Granted {
+            class,
+            request: number,
+            ..
+        } => request.class == class && request.request == number,
+        Reply::Refused {
+            class,
+            request: number,
+            ..
+        } => request.class == class && request.request == number,
+    }
+}
