@@ -159,10 +159,12 @@ abbrev pub without : ℕ → ClassNode → ClassNode
 without a v = record v { pending = put v.pending a None }
 
 -- what a refusal leaves: the record is gone, and the used number that is named is known, where the
--- class touches that component
+-- class touches that component; plan, class and request number stay
 pub record IsLeftByRefusal (a c used : ℕ) (v later : ClassNode) : Type 0 where
   pub pending : later.pending ≡ put v.pending a None
   pub next : later.next ≡ v.next
+  pub plan : later.offers.plan ≡ v.offers.plan
+  pub class : later.offers.class ≡ v.offers.class
   pub touched : ClassTouches v.offers.plan v.offers.class c
       → later.offers ≡ with_known c used v.offers
   pub others : (¬ ClassTouches v.offers.plan v.offers.class c) → later.offers ≡ v.offers
