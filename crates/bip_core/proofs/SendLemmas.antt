@@ -1,0 +1,88 @@
+-- Messages that are put last, one after another.
+use Rattle.std.proofs.Common.{◌≡◌, ℕ, ◌+◌, ◌<◌, ◌≤◌, List, [], ◌∷◌, ◌++◌, length, map, take, get_or, refl, sym, ap, ◌∙◌, arith}
+use Rattle.std.specs.Prelude.{All}
+use Rattle.std.proofs.lemmas.List.{append_assoc, append-nil, length-append, map-append, take_more}
+use Rattle.std.proofs.lemmas.List.Elements.{All-append, All-cons, All-head, All-map, All-nil, All-tail}
+use Rattle.bip_partition.specs.Plans.{Planned}
+use Rattle.bip_component.specs.declared.components.Notified.TheVariants as notified
+use Rattle.bip_ip.specs.declared.nodes.Answered.TheVariants as answered
+use Rattle.bip_ip.specs.declared.nodes.Tried.TheVariants as tried
+use Rattle.bip_bank.specs.declared.banks.Acted.TheVariants as acted
+use Rattle.bip_core.specs.Worlds.{FitsIfRequest}
+use Rattle.bip_core.specs.declared.events.What.{What}
+use Rattle.bip_core.specs.declared.events.What.TheVariants.{Acts, Hears, Learns, Moves, Nothing, Submits, Tries}
+use Rattle.bip_core.specs.declared.messages.Message.TheVariants.{NotifyComponent, OfferTo, ReplyToClass, RequestToBank}
+use Rattle.bip_core.specs.Events.{AreKeptOf, ArePut, AreSent, IsSending, SendsWhatFits, all_done, one_kept, one_lost, reply_to}
+use Rattle.bip_core.specs.declared.messages.Message.{Message}
+
+-- what is kept of two lists, one after the other
+kept-append : (ps xs qs ys : List Message) → AreKeptOf ps xs → AreKeptOf qs ys → AreKeptOf (ps ++ qs) (xs ++ ys)
+kept-append [] [] qs ys all_done other = other
+kept-append (p ∷ ps) (x ∷ xs) qs ys (one_kept one) other = one_kept (kept-append ps xs qs ys one other)
+kept-append (p ∷ ps) [] qs ys x4 other = elim x4 [ ]
+kept-append ps (x ∷ xs) qs ys (one_lost one) other = one_lost (kept-append ps xs qs ys one other)
+
+-- what holds of all holds of those that are kept
+pub kept_all : (P : Message → Type 0) (ps xs : List Message) → AreKeptOf ps xs → All P xs → All P ps
+kept_all P [] [] all_done all = all
+kept_all P (p ∷ ps) (x ∷ xs) (one_kept kept) all = All-cons P p ps (All-head P x xs all) (kept_all P ps xs kept (All-tail P x xs all))
+kept_all P (p ∷ ps) [] x4 all = elim x4 [ ]
+kept_all P ps (x ∷ xs) (one_lost kept) all = kept_all P ps xs kept (All-tail P x xs all)
+
+-- nothing is put
+pub none_put : (mail : List Message) → ArePut [] 0 mail mail
+none_put mail = record { put = []; kept = all_done; count = refl; last = sym (append-nil mail) }
+
+-- one list after another
+pub put_more : (xs ys : List Message) (n k : ℕ) (mail middle later : List Message) → ArePut xs n mail middle → ArePut ys k middle later → ArePut (xs ++ ys) (n + k) mail later
+put_more xs ys n k mail middle later one other = record {
+  put = one.put ++ other.put;
+  kept = kept-append one.put xs other.put ys one.kept other.kept;
+  count = rw (length-append one.put other.put, length-append xs ys) (omega (arith, one.count, other.count));
+  last = other.last ∙ (ap (λ (l : List Message). l ++ other.put) one.last ∙ append_assoc mail one.put other.put);
+}
+
+-- one more of a list of messages
+pub put_one_more : {X : Type 0} (f : X → Message) (xs : List X) (i : ℕ) (d : X) (n k : ℕ) (mail middle later : List Message) → i < length xs → ArePut (map f (take i xs)) n mail middle → ArePut (f (get_or xs i d) ∷ []) k middle later → ArePut (map f (take (i + 1) xs)) (n + k) mail later
+put_one_more f xs i d n k mail middle later within one other = rw (take_more xs i d within, map-append f (take i xs) (get_or xs i d ∷ [])) (put_more (map f (take i xs)) (f (get_or xs i d) ∷ []) n k mail middle later one other)
+
+-- no more are lost than are sent
+pub lost_few : (xs : List Message) (n : ℕ) (mail later : List Message) → ArePut xs n mail later → n ≤ length xs
+lost_few xs n mail later put = omega (arith, put.count)
+
+-- one message, put or lost
+pub one_put : (m : Message) (mail : List Message) → ArePut (m ∷ []) 0 mail (mail ++ m ∷ [])
+one_put m mail = record { put = m ∷ []; kept = one_kept all_done; count = refl; last = refl }
+
+pub one_missed : (m : Message) (mail : List Message) → ArePut (m ∷ []) 1 mail mail
+one_missed m mail = record { put = []; kept = one_lost all_done; count = refl; last = sym (append-nil mail) }
+
+-- an answer that sends nothing
+pub sends_nothing : (p : Planned) (what : What) (mail : List Message) → AreSent p what [] → IsSending p what 0 mail mail
+sends_nothing p what mail sends = record { sent = []; sends = sends; put = none_put mail }
+
+-- what is put are requests that fit, or none
+pub sent_fit : (p : Planned) (what : What) (sent : List Message) → SendsWhatFits p what → AreSent p what sent → All (FitsIfRequest p) sent
+sent_fit p Nothing sent fits sends = rw sends (All-nil (FitsIfRequest p))
+sent_fit p (Hears r) sent fits sends = rw sends (All-nil (FitsIfRequest p))
+sent_fit p Submits sent fits sends = rw sends (All-nil (FitsIfRequest p))
+sent_fit p (Learns (answered.Told notifies)) sent fits sends = rw sends (All-map (FitsIfRequest p) (λ n. NotifyComponent n) notifies (λ k d within q same. absurd (cc)))
+sent_fit p (Learns answered.Dropped) sent fits sends = rw sends (All-nil (FitsIfRequest p))
+sent_fit p (Learns answered.Stale) sent fits sends = rw sends (All-nil (FitsIfRequest p))
+sent_fit p (Moves (notified.Moved offer)) sent fits sends = rw sends.each (All-map (FitsIfRequest p) (λ k. OfferTo k offer) sends.classes (λ k d within q same. absurd (cc)))
+sent_fit p (Moves notified.Spent) sent fits sends = rw sends (All-nil (FitsIfRequest p))
+sent_fit p (Moves notified.Stale) sent fits sends = rw sends (All-nil (FitsIfRequest p))
+sent_fit p (Tries tried.Foreign) sent fits sends = rw sends (All-nil (FitsIfRequest p))
+sent_fit p (Tries (tried.Pending b)) sent fits sends = rw sends (All-nil (FitsIfRequest p))
+sent_fit p (Tries (tried.Not x)) sent fits sends = rw sends (All-nil (FitsIfRequest p))
+sent_fit p (Tries (tried.Local g notifies)) sent fits sends = rw sends (All-map (FitsIfRequest p) (λ n. NotifyComponent n) notifies (λ k d within q same. absurd (cc)))
+sent_fit p (Tries tried.Ended) sent fits sends = rw sends (All-nil (FitsIfRequest p))
+sent_fit p (Tries (tried.Sent r)) sent fits sends = rw sends (All-cons (FitsIfRequest p) (RequestToBank r) [] (λ q same. let is : r ≡ q = cc in rw (← is) fits) (All-nil (FitsIfRequest p)))
+sent_fit p (Acts acted.Nothing) sent fits sends = rw sends (All-nil (FitsIfRequest p))
+sent_fit p (Acts acted.Moved) sent fits sends = rw sends (All-nil (FitsIfRequest p))
+sent_fit p (Acts (acted.Answered r d)) sent fits sends = rw sends (All-cons (FitsIfRequest p) (ReplyToClass (reply_to r d)) [] (λ q same. absurd (cc)) (All-nil (FitsIfRequest p)))
+
+-- so requests in flight fit after they are put
+pub put_fit : (p : Planned) (what : What) (lost : ℕ) (mail later : List Message) → SendsWhatFits p what → IsSending p what lost mail later → All (FitsIfRequest p) mail → All (FitsIfRequest p) later
+put_fit p what lost mail later fits sending all =
+    rw sending.put.last (All-append (FitsIfRequest p) mail sending.put.put all (kept_all (FitsIfRequest p) sending.put.put sending.sent sending.put.kept (sent_fit p what sending.sent fits sending.sends)))

@@ -1,0 +1,418 @@
+-- What is kept of a world, as the world, and what its nodes leave.
+use Rattle.std.proofs.Common.{◌≡◌, ◌⊎◌, ℕ, suc, take, drop, ◌<◌, List, [], ◌∷◌, ◌++◌, length, set, get_or, Some, None, Option, inl, inr, refl, sym, ap, ◌∙◌, subst, slice_get, arith}
+use Rattle.std.specs.Prelude.{All, Err, IfErr, IfSome, Ok, Result}
+use Rattle.std.specs.Option.{option_map}
+use Rattle.std.proofs.Math.Path.{fun_ext}
+use Rattle.std.proofs.lemmas.Bool.{cases_lt}
+use Rattle.std.proofs.lemmas.Bool.Decides.{eqb_tells}
+use Rattle.std.proofs.lemmas.List.{get_or-set_other, get_or-set_same, get_or_default, length-set, length-take-le}
+use Rattle.std.proofs.lemmas.List.Elements.{All-append, All-drop, All-head, All-push, All-tail, All-take}
+use Rattle.std.proofs.lemmas.Option.{get_or_from_slice_get, slice_get-get_or, slice_get_past, slice_get_within}
+use Rattle.bip_model.specs.Numbering.{put}
+use Rattle.bip_model.specs.declared.grants.Grant.{Grant}
+use Rattle.bip_model.specs.declared.messages.Notify.{Notify}
+use Rattle.bip_model.specs.declared.messages.Offer.{Offer}
+use Rattle.bip_model.specs.declared.messages.Reply.{Reply}
+use Rattle.bip_model.specs.declared.messages.Reply.TheVariants as reply
+use Rattle.bip_model.specs.Parties.{AreParties}
+use Rattle.bip_model.proofs.ListLemmas.{All-slice_get, parted}
+use Rattle.bip_bank.specs.declared.banks.BankStep.{BankStep}
+use Rattle.bip_model.specs.Parts.{IsSystem}
+use Rattle.bip_model.specs.declared.messages.Request.{Request}
+use Rattle.bip_model.specs.declared.numbering.InterId.{InterId}
+use Rattle.bip_model.specs.declared.parts.System.{System}
+use Rattle.bip_model.proofs.PartyLemmas.{party_known}
+use Rattle.bip_partition.specs.Plans.{IsFit, IsReserved, Planned}
+use Rattle.bip_partition.proofs.TableLemmas.{reserved_known}
+use Rattle.bip_table.specs.Reservations.{grant_of}
+use Rattle.bip_table.specs.declared.reservations.Decision.TheVariants as decision
+use Rattle.bip_bank.specs.declared.banks.Acted.{Acted}
+use Rattle.bip_bank.specs.declared.banks.Acted.TheVariants as acted
+use Rattle.bip_ip.proofs.LawLemmas.{asked_fits}
+use Rattle.bip_observe.specs.declared.offers.Receipt.{Receipt}
+use Rattle.bip_observe.specs.declared.offers.Receipt.TheVariants.{Held, Old, Stranger}
+use Rattle.bip_component.specs.Components.{IsNodeAfter, Node}
+use Rattle.bip_component.specs.declared.components.Notified.{Notified}
+use Rattle.bip_component.specs.declared.components.Notified.TheVariants as notified
+use Rattle.bip_ip.specs.Nodes.{ClassNode, IsAnswered, IsLeftByReply, IsTried, KeptNode, after_offer, after_try, node_of}
+use Rattle.bip_ip.specs.declared.nodes.Answered.{Answered}
+use Rattle.bip_ip.specs.declared.nodes.Answered.TheVariants as answered
+use Rattle.bip_ip.specs.declared.nodes.Tried.{Tried}
+use Rattle.bip_ip.specs.declared.nodes.Tried.TheVariants as tried
+use Rattle.bip_bank.specs.Banks.{BankContent, IsActed, KeptBank, content_of, with_request}
+use Rattle.bip_core.specs.Worlds.{FitsIfRequest, IsGrantOf, IsKeptWorld, KeptWorld, WorldContent, with_class, with_component, world_of}
+use Rattle.bip_model.specs.declared.numbering.ClassId.{ClassId}
+use Rattle.bip_observe.specs.Offers.{IsReceipt, observed}
+use Rattle.bip_core.specs.Events.{CanBeSkipped, IsDelivered, IsDone, IsHandedOn, IsTraced, SendsWhatFits, TakesOut, class_named, grant_acted, grant_in, grant_tried, joined}
+use Rattle.bip_core.specs.declared.events.Event.TheVariants.{Bank, Mail, Try}
+use Rattle.bip_core.specs.declared.events.What.TheVariants.{Acts, Hears, Learns, Moves, Nothing, Submits, Tries}
+use Rattle.bip_core.specs.declared.events.What.{What}
+use Rattle.bip_core.specs.declared.messages.Message.TheVariants.{NotifyComponent, OfferTo, ReplyToClass, RequestToBank}
+use Rattle.bip_core.specs.declared.messages.Message.{Message}
+
+-- a list with another element at a place, as a function of places
+pub slice_get-set : {X : Type 0} (xs : List X) (n : ℕ) (x : X) → n < length xs → (λ k. slice_get (set xs n x) k) ≡ put (λ k. slice_get xs k) n (Some x)
+slice_get-set xs n x within = fun_ext (λ k. elim (eqb_tells k n) [
+  | inl same ↦ rw (same.0, same.1) (slice_get-get_or (set xs n x) n x (rw (length-set xs n x) within) ∙ ap Some (get_or-set_same xs n x x within))
+  | inr other ↦ elim (cases_lt k (length xs)) [
+    | inl inside ↦ rw other.0 (slice_get-get_or (set xs n x) k x (rw (length-set xs n x) inside) ∙ (ap Some (get_or-set_other xs n k x x other.1) ∙ sym (slice_get-get_or xs k x inside)))
+    | inr past ↦ rw other.0 (slice_get_past (set xs n x) k (rw (length-set xs n x) past) ∙ sym (slice_get_past xs k past))
+  ]
+])
+
+-- and as a function of another kind
+put-map : {X Y : Type 0} (v : X → Y) (f : ℕ → Option X) (n : ℕ) (x : X) → (λ k. option_map v (put f n (Some x) k)) ≡ put (λ k. option_map v (f k)) n (Some (v x))
+put-map v f n x = fun_ext (λ k. elim (eqb_tells k n) [
+  | inl same ↦ rw same.0 refl
+  | inr other ↦ rw other.0 refl
+])
+
+pub read_classes : (xs : List KeptNode) (n : ℕ) (x : KeptNode) → n < length xs → (λ k. option_map node_of (slice_get (set xs n x) k)) ≡ put (λ k. option_map node_of (slice_get xs k)) n (Some (node_of x))
+read_classes xs n x within = ap (λ (f : ℕ → Option KeptNode). λ k. option_map node_of (f k)) (slice_get-set xs n x within) ∙ put-map node_of (λ k. slice_get xs k) n x
+
+-- a world by its nodes
+abbrev of_classes : WorldContent → (ℕ → Option ClassNode) → WorldContent
+of_classes w f = record w { classes = f }
+
+abbrev of_components : WorldContent → (ℕ → Option Node) → WorldContent
+of_components w f = record w { components = f }
+
+-- with another node of a class
+pub class_put : (w : KeptWorld) (k : ℕ) (n : KeptNode) (v : ClassNode) → k < length w.classes → node_of n ≡ v → world_of (record w { classes = set w.classes k n }) ≡ with_class k v (world_of w)
+class_put w k n v within is =
+    ap (of_classes (world_of w)) (read_classes w.classes k n within) ∙ ap (λ (u : ClassNode). with_class k u (world_of w)) is
+
+pub component_put : (w : KeptWorld) (c : ℕ) (n : Node) → c < length w.components → world_of (record w { components = set w.components c n }) ≡ with_component c n (world_of w)
+component_put w c n within = ap (of_components (world_of w)) (slice_get-set w.components c n within)
+
+-- what is read of nodes of which one was put
+put_read : {X : Type 0} (xs : List X) (n : ℕ) (x : X) (k : ℕ) (y : X) → n < length xs → slice_get (set xs n x) k ≡ Some y → ((k ≡ n) × (x ≡ y)) ⊎ (slice_get xs k ≡ Some y)
+put_read {X} xs n x k y within is =
+    let read = ap (λ (g : ℕ → Option X). g k) (slice_get-set xs n x within) in
+    elim (eqb_tells k n) [
+      | inl same ↦
+          let both : Some x ≡ Some y = rw same.0 at (sym read ∙ is) in
+          inl (same.1, cc)
+      | inr other ↦ inr (rw other.0 at (sym read ∙ is))
+    ]
+
+-- a node of the same plan and class stands well in its place
+pub class_kept : (w : KeptWorld) (k : ℕ) (n old : KeptNode) → k < length w.classes → slice_get w.classes k ≡ Some old → n.offers.plan ≡ old.offers.plan → n.offers.class ≡ old.offers.class → IsKeptWorld w → IsKeptWorld (record w { classes = set w.classes k n })
+class_kept w k n old within is plan class kept = record {
+  each_component = kept.each_component;
+  each_class = length-set w.classes k n ∙ kept.each_class;
+  components = kept.components;
+  classes = λ j node read. elim (put_read w.classes k n j node within read) [
+    | inl here ↦
+        let before = kept.classes k old is in
+        rw (← here.1, here.0) (plan ∙ before.0, class ∙ before.1)
+    | inr there ↦ kept.classes j node there
+  ];
+  bank = kept.bank;
+  requests = kept.requests;
+  waiting = kept.waiting;
+  grants = kept.grants;
+}
+
+pub component_kept : (w : KeptWorld) (c : ℕ) (n old : Node) → c < length w.components → slice_get w.components c ≡ Some old → n.plan ≡ old.plan → n.comp ≡ old.comp → IsKeptWorld w → IsKeptWorld (record w { components = set w.components c n })
+component_kept w c n old within is plan comp kept = record {
+  each_component = length-set w.components c n ∙ kept.each_component;
+  each_class = kept.each_class;
+  components = λ j node read. elim (put_read w.components c n j node within read) [
+    | inl here ↦
+        let before = kept.components c old is in
+        rw (← here.1, here.0) (plan ∙ before.0, comp ∙ before.1)
+    | inr there ↦ kept.components j node there
+  ];
+  classes = kept.classes;
+  bank = kept.bank;
+  requests = kept.requests;
+  waiting = kept.waiting;
+  grants = kept.grants;
+}
+
+-- what nodes do leaves them of their plan
+pub heard_same : (offer : Offer) (receipt : Receipt) (v later : ClassNode) → later ≡ after_offer offer receipt v → (later.offers.plan ≡ v.offers.plan) × (later.offers.class ≡ v.offers.class)
+heard_same offer Held v later is = (ap (λ (u : ClassNode). u.offers.plan) is, ap (λ (u : ClassNode). u.offers.class) is)
+heard_same offer Old v later is = (ap (λ (u : ClassNode). u.offers.plan) is, ap (λ (u : ClassNode). u.offers.class) is)
+heard_same offer Stranger v later is = (ap (λ (u : ClassNode). u.offers.plan) is, ap (λ (u : ClassNode). u.offers.class) is)
+
+pub tried_same : (a : ℕ) (did : Tried) (v later : ClassNode) → later ≡ after_try a did v → (later.offers.plan ≡ v.offers.plan) × (later.offers.class ≡ v.offers.class)
+tried_same a tried.Foreign v later is = (ap (λ (u : ClassNode). u.offers.plan) is, ap (λ (u : ClassNode). u.offers.class) is)
+tried_same a (tried.Pending b) v later is = (ap (λ (u : ClassNode). u.offers.plan) is, ap (λ (u : ClassNode). u.offers.class) is)
+tried_same a (tried.Not w) v later is = (ap (λ (u : ClassNode). u.offers.plan) is, ap (λ (u : ClassNode). u.offers.class) is)
+tried_same a (tried.Local g notifies) v later is = (ap (λ (u : ClassNode). u.offers.plan) is, ap (λ (u : ClassNode). u.offers.class) is)
+tried_same a tried.Ended v later is = (ap (λ (u : ClassNode). u.offers.plan) is, ap (λ (u : ClassNode). u.offers.class) is)
+tried_same a (tried.Sent q) v later is = (ap (λ (u : ClassNode). u.offers.plan) is, ap (λ (u : ClassNode). u.offers.class) is)
+
+pub replied_same : (r : Reply) (did : Answered) (v later : ClassNode) → IsAnswered v r did → IsLeftByReply r did v later → (later.offers.plan ≡ v.offers.plan) × (later.offers.class ≡ v.offers.class)
+replied_same (reply.Granted k q a s) (answered.Told notifies) v later is left =
+    let same = left is.0 is.1 in
+    (ap (λ (u : ClassNode). u.offers.plan) same, ap (λ (u : ClassNode). u.offers.class) same)
+replied_same (reply.Granted k q a s) answered.Dropped v later is left = absurd is
+replied_same (reply.Granted k q a s) answered.Stale v later is left = (ap (λ (u : ClassNode). u.offers.plan) left, ap (λ (u : ClassNode). u.offers.class) left)
+replied_same (reply.Refused k q a c n) (answered.Told notifies) v later is left = absurd is
+replied_same (reply.Refused k q a c n) answered.Dropped v later is left = (left.plan, left.class)
+replied_same (reply.Refused k q a c n) answered.Stale v later is left = (ap (λ (u : ClassNode). u.offers.plan) left, ap (λ (u : ClassNode). u.offers.class) left)
+
+pub notified_same : (node later : Node) (n : Notify) (did : Notified) → IsNodeAfter node n did later → (later.plan ≡ node.plan) × (later.comp ≡ node.comp)
+notified_same node later n (notified.Moved offer) is = (ap (λ (u : Node). u.plan) is, ap (λ (u : Node). u.comp) is)
+notified_same node later n notified.Spent is = (ap (λ (u : Node). u.plan) is, ap (λ (u : Node). u.comp) is)
+notified_same node later n notified.Stale is = (ap (λ (u : Node). u.plan) is, ap (λ (u : Node). u.comp) is)
+
+-- what is read at a place of a list
+pub read_here : {X : Type 0} (xs : List X) (n : ℕ) (x : X) → n < length xs → x ≡ get_or xs n x → slice_get xs n ≡ Some x
+read_here xs n x within is = slice_get-get_or xs n x within ∙ ap Some (sym is)
+
+-- an offer that was handed on
+pub heard_on : (w : KeptWorld) (k : ClassId) (offer : Offer) (receipt : Receipt) (old n : KeptNode) → slice_get w.classes k.0 ≡ Some old → IsReceipt (observed old.offers) offer receipt → node_of n ≡ after_offer offer receipt (node_of old)
+    → IsHandedOn (world_of w) (OfferTo k offer) (Hears receipt) (world_of (record w { classes = set w.classes k.0 n }))
+heard_on w k offer receipt old n is receives left =
+    (node_of old, ap (option_map node_of) is, receives, class_put w k.0 n (after_offer offer receipt (node_of old)) (slice_get_within w.classes k.0 old is) left)
+
+-- a reply
+pub learned_on : (w : KeptWorld) (k : ℕ) (r : Reply) (did : Answered) (old n : KeptNode) → k ≡ class_named r → slice_get w.classes k ≡ Some old → IsAnswered (node_of old) r did → IsLeftByReply r did (node_of old) (node_of n)
+    → IsHandedOn (world_of w) (ReplyToClass r) (Learns did) (world_of (record w { classes = set w.classes k n }))
+learned_on w k r did old n named is answered left =
+    rw (← named) (node_of old, node_of n, ap (option_map node_of) is, answered, left, class_put w k n (node_of n) (slice_get_within w.classes k old is) refl)
+
+-- a grant of what an interaction of the plan's model wants
+pub wanted_grant : (m : System) (g : Grant) → IsSystem m → g.inter.0 < length m.interactions → AreParties m g.inter.0 g.wants → IsGrantOf m g
+wanted_grant m g valid declared parties = record {
+  inter = declared;
+  wants = λ k d within.
+      let w = get_or g.wants k d in
+      party_known m g.inter.0 g.wants w valid parties (k, within, get_or_default g.wants k w d within);
+}
+
+-- with one more grant
+pub joined_grants : (m : System) (trace : List Grant) (given : Option Grant) → All (IsGrantOf m) trace → IfSome given (IsGrantOf m) → All (IsGrantOf m) (joined trace given)
+joined_grants m trace None all one = all
+joined_grants m trace (Some g) all one = All-push (IsGrantOf m) trace g all one
+
+-- a try of a reserved interaction grants nothing
+pub no_grant : (v : ClassNode) (a : ℕ) (did : Tried) → IsTried v a did → IsReserved v.offers.plan a → grant_tried did ≡ None
+no_grant v a tried.Foreign is reserved = refl
+no_grant v a (tried.Pending b) is reserved = refl
+no_grant v a (tried.Not x) is reserved = refl
+no_grant v a (tried.Local g notifies) is reserved = absurd (is.1 reserved)
+no_grant v a tried.Ended is reserved = refl
+no_grant v a (tried.Sent q) is reserved = refl
+
+-- what a try grants is of the model
+pub tried_grant : (v : ClassNode) (a : ℕ) (did : Tried) → IsSystem v.offers.plan.model → IsTried v a did → IfSome (grant_tried did) (IsGrantOf v.offers.plan.model)
+tried_grant v a tried.Foreign valid is = tt
+tried_grant v a (tried.Pending b) valid is = tt
+tried_grant v a (tried.Not x) valid is = tt
+tried_grant v a (tried.Local g notifies) valid is =
+    wanted_grant v.offers.plan.model g valid (rw is.2 is.0.own.declared) (subst (λ (b : ℕ). AreParties v.offers.plan.model b g.wants) (sym is.2) is.3.parties)
+tried_grant v a tried.Ended valid is = tt
+tried_grant v a (tried.Sent q) valid is = tt
+
+-- what a try sends fits the plan
+pub tried_fits : (v : ClassNode) (a : ℕ) (did : Tried) → IsTried v a did → SendsWhatFits v.offers.plan (Tries did)
+tried_fits v a tried.Foreign is = tt
+tried_fits v a (tried.Pending b) is = tt
+tried_fits v a (tried.Not x) is = tt
+tried_fits v a (tried.Local g notifies) is = tt
+tried_fits v a tried.Ended is = tt
+tried_fits v a (tried.Sent q) is = asked_fits v a q is
+
+-- a world whose trace a grant joins
+pub trace_kept : (w : KeptWorld) (given : Option Grant) → IfSome given (IsGrantOf w.plan.model) → IsKeptWorld w → IsKeptWorld (record w { trace = joined w.trace given })
+trace_kept w given one kept = record {
+  each_component = kept.each_component;
+  each_class = kept.each_class;
+  components = kept.components;
+  classes = kept.classes;
+  bank = kept.bank;
+  requests = kept.requests;
+  waiting = kept.waiting;
+  grants = joined_grants w.plan.model w.trace given kept.grants one;
+}
+
+-- what a class tried
+pub tried_on : (w : KeptWorld) (k : ClassId) (a : InterId) (did : Tried) (old n : KeptNode) → slice_get w.classes k.0 ≡ Some old → IsTried (node_of old) a.0 did → node_of n ≡ after_try a.0 did (node_of old)
+    → IsTraced (world_of w) (Try k a) (Tries did) (world_of (record w { classes = set w.classes k.0 n; trace = joined w.trace (grant_tried did) }))
+tried_on w k a did old n is tries left = record {
+  middle = with_class k.0 (after_try a.0 did (node_of old)) (world_of w);
+  done = (node_of old, ap (option_map node_of) is, tries, refl);
+  after = ap (λ (v : WorldContent). record v { trace = joined w.trace (grant_tried did) }) (class_put w k.0 n (after_try a.0 did (node_of old)) (slice_get_within w.classes k.0 old is) left);
+}
+
+-- what a step of a bank leaves of requests that fit
+pub acted_fit : (p : Planned) (did : Acted) (b later : BankContent) → IsActed did b later → ((a : ℕ) → All (λ (q : Request). IsFit p q) (b.waiting a)) → (a : ℕ) → All (λ (q : Request). IsFit p q) (later.waiting a)
+acted_fit p acted.Nothing b later is fit a = rw (ap (λ (c : BankContent). c.waiting a) is) (fit a)
+acted_fit p acted.Moved b later is fit a = rw (ap (λ (c : BankContent). c.waiting a) is) (fit a)
+acted_fit p (acted.Answered q d) b later is fit a = rw (ap (λ (c : BankContent). c.waiting a) is.after) (elim (eqb_tells a q.inter.0) [
+  | inl same ↦ rw same.0 (All-tail (λ (r : Request). IsFit p r) q is.rest (subst (λ (l : List Request). All (λ (r : Request). IsFit p r) l) is.oldest (fit q.inter.0)))
+  | inr other ↦ rw other.0 (fit a)
+])
+
+-- and of its plan
+pub acted_plan : (did : Acted) (b later : BankContent) → IsActed did b later → later.plan ≡ b.plan
+acted_plan acted.Nothing b later is = ap (λ (c : BankContent). c.plan) is
+acted_plan acted.Moved b later is = ap (λ (c : BankContent). c.plan) is
+acted_plan (acted.Answered q (decision.Granted serial)) b later is = ap (λ (c : BankContent). c.plan) is.after
+acted_plan (acted.Answered q (decision.Refused c n)) b later is = ap (λ (x : BankContent). x.plan) is.after
+
+-- what a bank grants is of the model
+pub acted_grant : (p : Planned) (did : Acted) (b later : BankContent) → IsSystem p.model → IsActed did b later → ((a : ℕ) → All (λ (q : Request). IsFit p q) (b.waiting a)) → IfSome (grant_acted did) (IsGrantOf p.model)
+acted_grant p acted.Nothing b later valid is fit = tt
+acted_grant p acted.Moved b later valid is fit = tt
+acted_grant p (acted.Answered q (decision.Granted serial)) b later valid is fit =
+    let fits = All-head (λ (r : Request). IsFit p r) q is.rest (subst (λ (l : List Request). All (λ (r : Request). IsFit p r) l) is.oldest (fit q.inter.0)) in
+    wanted_grant p.model (grant_of q) valid (reserved_known p q.inter.0 valid fits.reserved) fits.parties
+acted_grant p (acted.Answered q (decision.Refused c n)) b later valid is fit = tt
+
+-- a world whose bank did a step
+pub bank_kept : (w : KeptWorld) (b : KeptBank) (did : Acted) → IsActed did (content_of w.bank) (content_of b) → IsKeptWorld w → IsKeptWorld (record w { bank = b })
+bank_kept w b did is kept = record {
+  each_component = kept.each_component;
+  each_class = kept.each_class;
+  components = kept.components;
+  classes = kept.classes;
+  bank = acted_plan did (content_of w.bank) (content_of b) is ∙ kept.bank;
+  requests = kept.requests;
+  waiting = acted_fit w.plan did (content_of w.bank) (content_of b) is kept.waiting;
+  grants = kept.grants;
+}
+
+-- what a class tried without a grant
+pub tried_without : (w : KeptWorld) (k : ClassId) (a : InterId) (did : Tried) (old n : KeptNode) → slice_get w.classes k.0 ≡ Some old → IsTried (node_of old) a.0 did → node_of n ≡ after_try a.0 did (node_of old) → grant_tried did ≡ None
+    → IsTraced (world_of w) (Try k a) (Tries did) (world_of (record w { classes = set w.classes k.0 n }))
+tried_without w k a did old n is tries left none =
+    let whole = tried_on w k a did old n is tries left in
+    subst (λ (given : Option Grant). IsTraced (world_of w) (Try k a) (Tries did) (world_of (record w { classes = set w.classes k.0 n; trace = joined w.trace given }))) none whole
+
+-- a step of the bank, with the grant that it gives
+pub acted_on : (w : KeptWorld) (b : KeptBank) (step : BankStep) (did : Acted) (given : Option Grant) → IsActed did (content_of w.bank) (content_of b) → grant_acted did ≡ given
+    → IsTraced (world_of w) (Bank step) (Acts did) (world_of (record w { bank = b; trace = joined w.trace given }))
+acted_on w b step did given is same = record {
+  middle = record (world_of w) { bank = content_of b };
+  done = (content_of b, is, refl);
+  after = ap (λ (x : Option Grant). record (world_of w) { bank = content_of b; trace = joined w.trace x }) (sym same);
+}
+
+-- what a message that is taken out leaves
+pub taken_out : (mail : List Message) (place : ℕ) (message : Message) → slice_get mail place ≡ Some message → TakesOut place message mail (take place mail ++ drop (suc place) mail)
+taken_out mail place message is =
+    let within = slice_get_within mail place message is in
+    record {
+      front = take place mail;
+      back = drop (suc place) mail;
+      before = length-take-le place mail (omega (arith, within));
+      whole = sym (subst (λ (m : Message). take place mail ++ m ∷ drop (suc place) mail ≡ mail) (get_or_from_slice_get mail place message message is) (parted mail place message within));
+      others = refl;
+    }
+
+-- requests fit without one message
+pub rest_fits : (p : Planned) (mail : List Message) (place : ℕ) → place < length mail → All (FitsIfRequest p) mail → All (FitsIfRequest p) (take place mail ++ drop (suc place) mail)
+rest_fits p mail place within all = All-append (FitsIfRequest p) (take place mail) (drop (suc place) mail) (All-take (FitsIfRequest p) place mail all) (All-drop (FitsIfRequest p) (suc place) mail all)
+
+-- a request that is submitted
+pub submitted_kept : (w : KeptWorld) (b : KeptBank) (q : Request) → IsFit w.plan q → content_of b ≡ with_request q (content_of w.bank) → IsKeptWorld w → IsKeptWorld (record w { bank = b })
+submitted_kept w b q fit is kept = record {
+  each_component = kept.each_component;
+  each_class = kept.each_class;
+  components = kept.components;
+  classes = kept.classes;
+  bank = ap (λ (x : BankContent). x.plan) is ∙ kept.bank;
+  requests = kept.requests;
+  waiting = λ a. rw (ap (λ (x : BankContent). x.waiting a) is) (elim (eqb_tells a q.inter.0) [
+    | inl same ↦ rw same.0 (All-push (λ (r : Request). IsFit w.plan r) ((content_of w.bank).waiting q.inter.0) q (kept.waiting q.inter.0) fit)
+    | inr other ↦ rw other.0 (kept.waiting a)
+  ]);
+  grants = kept.grants;
+}
+
+-- with other messages whose requests fit
+pub mail_kept : (w : KeptWorld) (mail : List Message) → All (FitsIfRequest w.plan) mail → IsKeptWorld w → IsKeptWorld (record w { mail = mail })
+mail_kept w mail fits kept = record {
+  each_component = kept.each_component;
+  each_class = kept.each_class;
+  components = kept.components;
+  classes = kept.classes;
+  bank = kept.bank;
+  requests = fits;
+  waiting = kept.waiting;
+  grants = kept.grants;
+}
+
+-- a delivery is what an event does
+done_mail : (w : WorldContent) (place : ℕ) (what : What) (v : WorldContent) → IsDelivered place w what v → IsDone w (Mail place) what v
+done_mail w place Nothing v d = inr d
+done_mail w place (Hears r) v d = d
+done_mail w place Submits v d = d
+done_mail w place (Learns r) v d = d
+done_mail w place (Moves r) v d = d
+done_mail w place (Tries r) v d = d
+done_mail w place (Acts r) v d = d
+
+-- and gives no grant
+nothing_granted : (w : WorldContent) (message : Message) (what : What) (v : WorldContent) → IsHandedOn w message what v → grant_in what ≡ None
+nothing_granted w message Nothing v on = refl
+nothing_granted w message (Hears r) v on = refl
+nothing_granted w message Submits v on = refl
+nothing_granted w message (Learns r) v on = refl
+nothing_granted w message (Moves r) v on = refl
+nothing_granted w (OfferTo k o) (Tries r) v on = absurd on
+nothing_granted w (RequestToBank q) (Tries r) v on = absurd on
+nothing_granted w (ReplyToClass x) (Tries r) v on = absurd on
+nothing_granted w (NotifyComponent n) (Tries r) v on = absurd on
+nothing_granted w (OfferTo k o) (Acts r) v on = absurd on
+nothing_granted w (RequestToBank q) (Acts r) v on = absurd on
+nothing_granted w (ReplyToClass x) (Acts r) v on = absurd on
+nothing_granted w (NotifyComponent n) (Acts r) v on = absurd on
+
+-- a message that was taken out and handed on
+pub delivered : (w k : KeptWorld) (place : ℕ) (message : Message) (what : What) (v : WorldContent) → TakesOut place message w.mail k.mail → k ≡ record w { mail = k.mail } → IsHandedOn (world_of k) message what v
+    → IsTraced (world_of w) (Mail place) what v
+delivered w k place message what v taken same on =
+    let none = nothing_granted (world_of k) message what v on in
+    record {
+      middle = v;
+      done = done_mail (world_of w) place what v (record { message = message; rest = k.mail; taken = taken; on = subst (λ (u : WorldContent). IsHandedOn u message what v) (ap world_of same) on });
+      after = sym (ap (λ (x : Option Grant). record v { trace = joined v.trace x }) none);
+    }
+
+-- at a place of a list there is something
+read_none : {X : Type 0} (xs : List X) (place : ℕ) → place < length xs → ¬ (slice_get xs place ≡ None)
+read_none [] place within none = omega (arith, within)
+read_none (x ∷ xs) place within none =
+    let both : Some (get_or (x ∷ xs) place x) ≡ None = sym (slice_get-get_or (x ∷ xs) place x within) ∙ none in
+    cc
+
+-- there is no such message
+pub no_mail : (w : KeptWorld) (place : ℕ) → slice_get w.mail place ≡ None → IsTraced (world_of w) (Mail place) Nothing (world_of w)
+no_mail w place none = elim (cases_lt place (length w.mail)) [
+  | inl within ↦ absurd (read_none w.mail place within none)
+  | inr past ↦ record { middle = world_of w; done = inl (past, refl); after = refl }
+]
+
+-- a request in flight fits
+pub request_fits : (w : KeptWorld) (place : ℕ) (q : Request) → IsKeptWorld w → slice_get w.mail place ≡ Some (RequestToBank q) → IsFit w.plan q
+request_fits w place q kept is = All-slice_get (FitsIfRequest w.plan) w.mail place (RequestToBank q) kept.requests is q refl
+
+-- and can be lost for want of memory
+pub request_skipped : (w : KeptWorld) (place : ℕ) (q : Request) → slice_get w.mail place ≡ Some (RequestToBank q) → CanBeSkipped (world_of w) (Mail place)
+request_skipped w place q is = (q, take place w.mail ++ drop (suc place) w.mail, taken_out w.mail place (RequestToBank q) is)
+
+-- a request that was submitted and taken out
+pub submitted : (w k l : KeptWorld) (place : ℕ) (q : Request) → world_of k ≡ record (world_of w) { bank = with_request q (content_of w.bank) } → TakesOut place (RequestToBank q) w.mail l.mail → l ≡ record k { mail = l.mail }
+    → IsTraced (world_of w) (Mail place) Submits (world_of l)
+submitted w k l place q is taken same = record {
+  middle = world_of l;
+  done = record {
+    message = RequestToBank q;
+    rest = l.mail;
+    taken = taken;
+    on = ap world_of same ∙ ap (λ (u : WorldContent). record u { mail = l.mail }) is;
+  };
+  after = refl;
+}
+
+-- what holds holds of any error
+pub if_err : {A E : Type 0} (X : Type 0) (r : Result A E) → X → IfErr r (λ e. X)
+if_err X (Ok a) x = tt
+if_err X (Err e) x = x

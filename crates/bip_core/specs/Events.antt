@@ -1,0 +1,178 @@
+-- Events: what one does, and what it leaves.
+use Rattle.std.specs.Prelude.{◌≡◌, ℕ, ◌+◌, ◌<◌, ◌≤◌, List, [], ◌∷◌, ◌++◌, Option}
+use Rattle.std.specs.Prelude.{None, Some, length}
+use Rattle.std.specs.Prelude.{◌⊎◌, map, ⊤}
+use Rattle.bip_model.specs.declared.grants.Grant.{Grant}
+use Rattle.bip_model.specs.declared.messages.Notify.{Notify}
+use Rattle.bip_model.specs.declared.messages.Reply.{Reply}
+use Rattle.bip_model.specs.declared.messages.Reply.TheVariants as reply
+use Rattle.bip_model.specs.declared.messages.Request.{Request}
+use Rattle.bip_table.specs.Reservations.{grant_of}
+use Rattle.bip_table.specs.declared.reservations.Decision.{Decision}
+use Rattle.bip_table.specs.declared.reservations.Decision.TheVariants as decision
+use Rattle.bip_partition.specs.Plans.{IsFit, IsReserved, Planned}
+use Rattle.bip_component.specs.Components.{IsNodeAfter, IsNotified, Node}
+use Rattle.bip_component.specs.declared.components.Notified.TheVariants as notified
+use Rattle.bip_ip.specs.Nodes.{ClassNode, IsAnswered, IsLeftByReply, IsTried, after_offer}
+use Rattle.bip_ip.specs.Nodes.{after_try}
+use Rattle.bip_ip.specs.declared.nodes.Answered.TheVariants as answered
+use Rattle.bip_ip.specs.declared.nodes.Tried.{Tried}
+use Rattle.bip_ip.specs.declared.nodes.Tried.TheVariants as tried
+use Rattle.bip_observe.specs.Offers.{IsReceipt}
+use Rattle.bip_bank.specs.Banks.{BankContent, IsActed, with_request}
+use Rattle.bip_bank.specs.declared.banks.Acted.{Acted}
+use Rattle.bip_bank.specs.declared.banks.Acted.TheVariants as acted
+use Rattle.bip_core.specs.Worlds.{AreOffersOf, WorldContent, with_class, with_component}
+use Rattle.bip_core.specs.declared.events.Did.{Did}
+use Rattle.bip_core.specs.declared.events.Event.{Event}
+use Rattle.bip_core.specs.declared.events.Event.TheVariants.{Mail, Try, Bank}
+use Rattle.bip_core.specs.declared.events.What.{What}
+use Rattle.bip_core.specs.declared.events.What.TheVariants.{Nothing, Hears, Submits, Learns, Moves}
+use Rattle.bip_core.specs.declared.events.What.TheVariants.{Tries, Acts}
+use Rattle.bip_core.specs.declared.messages.Message.{Message}
+use Rattle.bip_core.specs.declared.messages.Message.TheVariants.{OfferTo, RequestToBank}
+use Rattle.bip_core.specs.declared.messages.Message.TheVariants.{ReplyToClass, NotifyComponent}
+
+-- the class that a reply names
+abbrev pub class_named : Reply → ℕ
+class_named (reply.Granted k request a serial) = k.0
+class_named (reply.Refused k request a c used) = k.0
+
+-- the reply to a request, by the decision on it
+abbrev pub reply_to : Request → Decision → Reply
+reply_to q (decision.Granted serial) = reply.Granted q.class q.request q.inter serial
+reply_to q (decision.Refused c used) = reply.Refused q.class q.request q.inter c used
+
+-- a message that is handed on: the node for which it is answers by its own contract, and nothing
+-- else changes; where there is no such node nothing does
+abbrev pub IsHandedOn : WorldContent → Message → What → WorldContent → Type 0
+IsHandedOn w (OfferTo k offer) (Hears receipt) v =
+    (node : ClassNode) × (w.classes k.0 ≡ Some node) × IsReceipt node.offers offer receipt
+    × (v ≡ with_class k.0 (after_offer offer receipt node) w)
+IsHandedOn w (OfferTo k offer) Nothing v = (w.classes k.0 ≡ None) × (v ≡ w)
+IsHandedOn w (RequestToBank q) Submits v = v ≡ record w { bank = with_request q w.bank }
+IsHandedOn w (ReplyToClass r) (Learns did) v =
+    (node : ClassNode) × (later : ClassNode) × (w.classes (class_named r) ≡ Some node)
+    × IsAnswered node r did × IsLeftByReply r did node later
+    × (v ≡ with_class (class_named r) later w)
+IsHandedOn w (ReplyToClass r) Nothing v = (w.classes (class_named r) ≡ None) × (v ≡ w)
+IsHandedOn w (NotifyComponent n) (Moves did) v =
+    (node : Node) × (later : Node) × (w.components n.comp.0 ≡ Some node)
+    × IsNotified node n did × IsNodeAfter node n did later
+    × (v ≡ with_component n.comp.0 later w)
+IsHandedOn w (NotifyComponent n) Nothing v = (w.components n.comp.0 ≡ None) × (v ≡ w)
+IsHandedOn w message what v = ⊥
+
+-- messages with one at a place, and those that are left without it
+pub record TakesOut (place : ℕ) (message : Message) (mail left : List Message) : Type 0 where
+  pub front : List Message
+  pub back : List Message
+  pub before : length front ≡ place
+  pub whole : mail ≡ front ++ message ∷ back
+  pub others : left ≡ front ++ back
+
+-- the message at a place is taken out and handed on
+pub record IsDelivered (place : ℕ) (w : WorldContent) (what : What) (v : WorldContent)
+    : Type 0 where
+  pub message : Message
+  pub rest : List Message
+  pub taken : TakesOut place message w.mail rest
+  pub on : IsHandedOn (record w { mail = rest }) message what v
+
+-- what an event does, by the contract of the node that it addresses, and what that leaves
+abbrev pub IsDone : WorldContent → Event → What → WorldContent → Type 0
+IsDone w (Mail place) Nothing v =
+    ((length w.mail ≤ place) × (v ≡ w)) ⊎ IsDelivered place w Nothing v
+IsDone w (Mail place) what v = IsDelivered place w what v
+IsDone w (Try k a) (Tries did) v =
+    (node : ClassNode) × (w.classes k.0 ≡ Some node) × IsTried node a.0 did
+    × (v ≡ with_class k.0 (after_try a.0 did node) w)
+IsDone w (Try k a) Nothing v = (w.classes k.0 ≡ None) × (v ≡ w)
+IsDone w (Bank step) (Acts did) v =
+    (later : BankContent) × IsActed did w.bank later × (v ≡ record w { bank = later })
+IsDone w event what v = ⊥
+
+-- the grant that an answer gives, if any: a local one, or the bank's
+abbrev pub grant_tried : Tried → Option Grant
+grant_tried (tried.Local g notifies) = Some g
+grant_tried did = None
+
+abbrev pub grant_acted : Acted → Option Grant
+grant_acted (acted.Answered q (decision.Granted serial)) = Some (grant_of q)
+grant_acted did = None
+
+abbrev pub grant_in : What → Option Grant
+grant_in (Tries did) = grant_tried did
+grant_in (Acts did) = grant_acted did
+grant_in what = None
+
+-- a trace that a grant joins, if there is one
+abbrev pub joined : List Grant → Option Grant → List Grant
+joined trace None = trace
+joined trace (Some g) = trace ++ g ∷ []
+
+-- the messages that an answer sends: what a moved component offers goes to each class that touches
+-- it; what a grant tells to its components; a request to the bank, and its reply to its class
+abbrev pub are_notified : List Notify → List Message
+are_notified notifies = map (λ n. NotifyComponent n) notifies
+
+abbrev pub AreSent : Planned → What → List Message → Type 0
+AreSent p (Moves (notified.Moved offer)) messages = AreOffersOf p offer messages
+AreSent p (Learns (answered.Told notifies)) messages = messages ≡ are_notified notifies
+AreSent p (Tries (tried.Local g notifies)) messages = messages ≡ are_notified notifies
+AreSent p (Tries (tried.Sent q)) messages = messages ≡ RequestToBank q ∷ []
+AreSent p (Acts (acted.Answered q d)) messages = messages ≡ ReplyToClass (reply_to q d) ∷ []
+AreSent p what messages = messages ≡ []
+
+-- messages, of which some were lost
+pub data AreKeptOf : List Message → List Message → Type 0 where
+  all_done : AreKeptOf [] []
+  one_kept : {m : Message} {xs ys : List Message} → AreKeptOf xs ys → AreKeptOf (m ∷ xs) (m ∷ ys)
+  one_lost : {m : Message} {xs ys : List Message} → AreKeptOf xs ys → AreKeptOf xs (m ∷ ys)
+
+-- what an event does, and then the grant that it gives joins the trace
+pub record IsTraced (w : WorldContent) (event : Event) (what : What) (v : WorldContent)
+    : Type 0 where
+  pub middle : WorldContent
+  pub done : IsDone w event what middle
+  pub after : v ≡ record middle { trace = joined middle.trace (grant_in what) }
+
+-- messages that are put last, but for what is lost
+pub record ArePut (sent : List Message) (lost : ℕ) (mail later : List Message) : Type 0 where
+  pub put : List Message
+  pub kept : AreKeptOf put sent
+  pub count : lost + length put ≡ length sent
+  pub last : later ≡ mail ++ put
+
+-- a step of the world: the node that an event addresses acts, and its grant joins the trace; what
+-- it sends is put last, but for what is lost
+pub record IsStep (w : WorldContent) (event : Event) (did : Did) (v : WorldContent) : Type 0 where
+  pub middle : WorldContent
+  pub acted : IsTraced w event did.what middle
+  pub sent : List Message
+  pub sends : AreSent w.plan did.what sent
+  pub put : ArePut sent did.lost middle.mail v.mail
+  pub others : v ≡ record middle { mail = v.mail }
+
+-- the events that want of memory can skip: a submission, a try of a local interaction, a step of
+-- the bank
+abbrev pub CanBeSkipped : WorldContent → Event → Type 0
+CanBeSkipped w (Mail place) =
+    (q : Request) × (rest : List Message) × TakesOut place (RequestToBank q) w.mail rest
+CanBeSkipped w (Try k a) = ¬ IsReserved w.plan a.0
+CanBeSkipped w (Bank step) = ⊤
+
+-- What contracts of private functions say.
+
+-- what an answer sends is of the plan: a request fits it, and an offer is of a component
+abbrev pub SendsWhatFits : Planned → What → Type 0
+SendsWhatFits p (Tries (tried.Sent q)) = IsFit p q
+SendsWhatFits p (Moves (notified.Moved offer)) = offer.comp.0 < length p.model.components
+SendsWhatFits p what = ⊤
+
+-- what an answer sends is put last
+pub record IsSending (p : Planned) (what : What) (lost : ℕ) (mail later : List Message)
+    : Type 0 where
+  pub sent : List Message
+  pub sends : AreSent p what sent
+  pub put : ArePut sent lost mail later
