@@ -76,6 +76,14 @@ IsCentralStep c step Nothing = ¬ Applies c step
 IsCentralStep c (Serve s) (Answered q d) = IsStationOf c.plan s.0 q.inter.0
 IsCentralStep c step did = ⊥
 
+-- what a step leaves of the central bank: its table answers a request as it does, with the serial
+-- that is next, and is left as that leaves it; otherwise all stays as it was
+abbrev pub IsCentralAfter : Acted → KeptCentral → KeptCentral → Type 0
+IsCentralAfter Nothing c later = later ≡ c
+IsCentralAfter Moved c later = ⊥
+IsCentralAfter (Answered q d) c later =
+    IsTableAnswer c.table q.wants (Ok d) × IsTableAfter q (Ok d) c.table later.table
+
 -- a step wants memory at the central bank where it serves a station whose oldest open request would
 -- be granted, and the table has no room for the grant
 abbrev pub WantsMemory : KeptCentral → BankStep → Type 0

@@ -2,9 +2,9 @@
 ghost use Rattle.std.specs.Prelude.{◌≡◌, ◌<◌, [], ◌∷◌, ◌++◌, IfErr, IfOk, OnErr, OnOk, length, map};
 ghost use Rattle.std.specs.Prelude.{replicate, slice_get, slice_index_or, slice_set};
 ghost use Rattle.bip_model.specs.Numbering.{last_number};
-ghost use Rattle.bip_bank.specs.Banks.{IsActed, asked_nothing, content_of};
-ghost use Rattle.bip_bank.specs.Central.{CannotKeep, IsCentralStep, IsFirstDecided, IsListTabled};
-ghost use Rattle.bip_bank.specs.Central.{WantsMemory, kept_central};
+ghost use Rattle.bip_bank.specs.Banks.{IsActed, asked_nothing, content_of, with_request};
+ghost use Rattle.bip_bank.specs.Central.{CannotKeep, IsCentralAfter, IsCentralStep, IsFirstDecided};
+ghost use Rattle.bip_bank.specs.Central.{IsListTabled, WantsMemory, kept_central};
 ghost use Rattle.bip_bank.specs.declared.banks.BankStep.TheVariants.{Serve};
 
 use crate::{Acted, Bank, BankStep, Queue, StationId};
@@ -69,6 +69,7 @@ impl<'p> Central<'p> {
         ensures acted { IfOk result (λ acted. IsActed acted (content_of (kept_central self.old))
             (content_of (kept_central self.new))) }
         ensures step { IfOk result (IsCentralStep self.old (Serve station)) }
+        ensures after { IfOk result (λ acted. IsCentralAfter acted self.old self.new) }
         ensures memory { IfErr result (λ e. WantsMemory self.old (Serve station)) }
         ensures err { OnErr result (self.new ≡ self.old) }
     {
@@ -86,7 +87,15 @@ impl<'p> Bank for Central<'p> {
 
     ghost kept = { kept_central };
 
-    fn submit(&mut self, request: Request) -> Result<(), (Request, AllocError)> {
+    fn submit(&mut self, request: Request) -> Result<(), (Request, AllocError)>
+        requires { IsFit (content_of (kept_central self.old)).plan request }
+        ensures ok { OnOk result (content_of (kept_central self.new)
+            ≡ with_request request (content_of (kept_central self.old))) }
+        ensures err { OnErr result (content_of (kept_central self.new)
+            ≡ content_of (kept_central self.old)) }
+        ensures back { IfErr result (λ refused. refused.0 ≡ request) }
+        ensures table { self.new.table ≡ self.old.table }
+    {
         let _planned = self.plan.classes();
         if let Err(request) = put_last(&mut self.waiting, request.inter.0 as usize, request) {
             return Err((request, AllocError));
@@ -98,6 +107,8 @@ impl<'p> Bank for Central<'p> {
         ensures acted { IfOk result (λ acted. IsActed acted (content_of (kept_central self.old))
             (content_of (kept_central self.new))) }
         ensures step { IfOk result (IsCentralStep self.old step) }
+        ensures after { IfOk result (λ acted. IsCentralAfter acted self.old self.new) }
+        ensures unchanged { OnErr result (self.new ≡ self.old) }
         ensures memory { IfErr result (λ e. WantsMemory self.old step) }
         ensures err { OnErr result (content_of (kept_central self.new)
             ≡ content_of (kept_central self.old)) }

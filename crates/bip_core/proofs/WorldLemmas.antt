@@ -40,15 +40,19 @@ use Rattle.bip_ip.specs.declared.nodes.Answered.TheVariants as answered
 use Rattle.bip_ip.specs.declared.nodes.Tried.{Tried}
 use Rattle.bip_ip.specs.declared.nodes.Tried.TheVariants as tried
 use Rattle.bip_bank.specs.Banks.{BankContent, IsActed, KeptBank, content_of, with_request}
-use Rattle.bip_core.specs.Worlds.{FitsIfRequest, IsGrantOf, IsKeptWorld, KeptWorld, WorldContent, with_class, with_component, world_of}
+use Rattle.bip_core.specs.Worlds.{FitsIfRequest, IsKnownGrant, IsKeptWorld, KeptWorld, WorldContent, with_class_node, with_component_node, world_of}
 use Rattle.bip_model.specs.declared.numbering.ClassId.{ClassId}
 use Rattle.bip_observe.specs.Offers.{IsReceipt, observed}
-use Rattle.bip_core.specs.Events.{CanBeSkipped, IsDelivered, IsDone, IsHandedOn, IsTraced, SendsWhatFits, TakesOut, class_named, grant_acted, grant_in, grant_tried, joined}
+use Rattle.bip_core.specs.Events.{CanBeSkipped, IsDelivered, IsDone, IsHandedOn, IsTraced, SendsWhatFits, TakesOut, class_named, grant_acted, grant_in, grant_tried, trace_with}
 use Rattle.bip_core.specs.declared.events.Event.TheVariants.{Bank, Mail, Try}
 use Rattle.bip_core.specs.declared.events.What.TheVariants.{Acts, Hears, Learns, Moves, Nothing, Submits, Tries}
 use Rattle.bip_core.specs.declared.events.What.{What}
 use Rattle.bip_core.specs.declared.messages.Message.TheVariants.{NotifyComponent, OfferTo, ReplyToClass, RequestToBank}
 use Rattle.bip_core.specs.declared.messages.Message.{Message}
+
+-- what is kept of a world, by its parts
+abbrev pub kept_by : Planned → List Node → List KeptNode → List Message → List Grant → KeptBank → KeptWorld
+kept_by p components classes mail trace bank = record { plan = p; components = components; classes = classes; mail = mail; trace = trace; bank = bank }
 
 -- a list with another element at a place, as a function of places
 pub slice_get-set : {X : Type 0} (xs : List X) (n : ℕ) (x : X) → n < length xs → (λ k. slice_get (set xs n x) k) ≡ put (λ k. slice_get xs k) n (Some x)
@@ -78,11 +82,11 @@ abbrev of_components : WorldContent → (ℕ → Option Node) → WorldContent
 of_components w f = record w { components = f }
 
 -- with another node of a class
-pub class_put : (w : KeptWorld) (k : ℕ) (n : KeptNode) (v : ClassNode) → k < length w.classes → node_of n ≡ v → world_of (record w { classes = set w.classes k n }) ≡ with_class k v (world_of w)
+pub class_put : (w : KeptWorld) (k : ℕ) (n : KeptNode) (v : ClassNode) → k < length w.classes → node_of n ≡ v → world_of (record w { classes = set w.classes k n }) ≡ with_class_node k v (world_of w)
 class_put w k n v within is =
-    ap (of_classes (world_of w)) (read_classes w.classes k n within) ∙ ap (λ (u : ClassNode). with_class k u (world_of w)) is
+    ap (of_classes (world_of w)) (read_classes w.classes k n within) ∙ ap (λ (u : ClassNode). with_class_node k u (world_of w)) is
 
-pub component_put : (w : KeptWorld) (c : ℕ) (n : Node) → c < length w.components → world_of (record w { components = set w.components c n }) ≡ with_component c n (world_of w)
+pub component_put : (w : KeptWorld) (c : ℕ) (n : Node) → c < length w.components → world_of (record w { components = set w.components c n }) ≡ with_component_node c n (world_of w)
 component_put w c n within = ap (of_components (world_of w)) (slice_get-set w.components c n within)
 
 -- what is read of nodes of which one was put
@@ -177,7 +181,7 @@ learned_on w k r did old n named is answered left =
     rw (← named) (node_of old, node_of n, ap (option_map node_of) is, answered, left, class_put w k n (node_of n) (slice_get_within w.classes k old is) refl)
 
 -- a grant of what an interaction of the plan's model wants
-pub wanted_grant : (m : System) (g : Grant) → IsSystem m → g.inter.0 < length m.interactions → AreParties m g.inter.0 g.wants → IsGrantOf m g
+pub wanted_grant : (m : System) (g : Grant) → IsSystem m → g.inter.0 < length m.interactions → AreParties m g.inter.0 g.wants → IsKnownGrant m g
 wanted_grant m g valid declared parties = record {
   inter = declared;
   wants = λ k d within.
@@ -186,9 +190,9 @@ wanted_grant m g valid declared parties = record {
 }
 
 -- with one more grant
-pub joined_grants : (m : System) (trace : List Grant) (given : Option Grant) → All (IsGrantOf m) trace → IfSome given (IsGrantOf m) → All (IsGrantOf m) (joined trace given)
-joined_grants m trace None all one = all
-joined_grants m trace (Some g) all one = All-push (IsGrantOf m) trace g all one
+pub grants_with : (m : System) (trace : List Grant) (given : Option Grant) → All (IsKnownGrant m) trace → IfSome given (IsKnownGrant m) → All (IsKnownGrant m) (trace_with trace given)
+grants_with m trace None all one = all
+grants_with m trace (Some g) all one = All-push (IsKnownGrant m) trace g all one
 
 -- a try of a reserved interaction grants nothing
 pub no_grant : (v : ClassNode) (a : ℕ) (did : Tried) → IsTried v a did → IsReserved v.offers.plan a → grant_tried did ≡ None
@@ -200,7 +204,7 @@ no_grant v a tried.Ended is reserved = refl
 no_grant v a (tried.Sent q) is reserved = refl
 
 -- what a try grants is of the model
-pub tried_grant : (v : ClassNode) (a : ℕ) (did : Tried) → IsSystem v.offers.plan.model → IsTried v a did → IfSome (grant_tried did) (IsGrantOf v.offers.plan.model)
+pub tried_grant : (v : ClassNode) (a : ℕ) (did : Tried) → IsSystem v.offers.plan.model → IsTried v a did → IfSome (grant_tried did) (IsKnownGrant v.offers.plan.model)
 tried_grant v a tried.Foreign valid is = tt
 tried_grant v a (tried.Pending b) valid is = tt
 tried_grant v a (tried.Not x) valid is = tt
@@ -219,7 +223,7 @@ tried_fits v a tried.Ended is = tt
 tried_fits v a (tried.Sent q) is = asked_fits v a q is
 
 -- a world whose trace a grant joins
-pub trace_kept : (w : KeptWorld) (given : Option Grant) → IfSome given (IsGrantOf w.plan.model) → IsKeptWorld w → IsKeptWorld (record w { trace = joined w.trace given })
+pub trace_kept : (w : KeptWorld) (given : Option Grant) → IfSome given (IsKnownGrant w.plan.model) → IsKeptWorld w → IsKeptWorld (record w { trace = trace_with w.trace given })
 trace_kept w given one kept = record {
   each_component = kept.each_component;
   each_class = kept.each_class;
@@ -228,16 +232,16 @@ trace_kept w given one kept = record {
   bank = kept.bank;
   requests = kept.requests;
   waiting = kept.waiting;
-  grants = joined_grants w.plan.model w.trace given kept.grants one;
+  grants = grants_with w.plan.model w.trace given kept.grants one;
 }
 
 -- what a class tried
 pub tried_on : (w : KeptWorld) (k : ClassId) (a : InterId) (did : Tried) (old n : KeptNode) → slice_get w.classes k.0 ≡ Some old → IsTried (node_of old) a.0 did → node_of n ≡ after_try a.0 did (node_of old)
-    → IsTraced (world_of w) (Try k a) (Tries did) (world_of (record w { classes = set w.classes k.0 n; trace = joined w.trace (grant_tried did) }))
+    → IsTraced (world_of w) (Try k a) (Tries did) (world_of (record w { classes = set w.classes k.0 n; trace = trace_with w.trace (grant_tried did) }))
 tried_on w k a did old n is tries left = record {
-  middle = with_class k.0 (after_try a.0 did (node_of old)) (world_of w);
+  middle = with_class_node k.0 (after_try a.0 did (node_of old)) (world_of w);
   done = (node_of old, ap (option_map node_of) is, tries, refl);
-  after = ap (λ (v : WorldContent). record v { trace = joined w.trace (grant_tried did) }) (class_put w k.0 n (after_try a.0 did (node_of old)) (slice_get_within w.classes k.0 old is) left);
+  after = ap (λ (v : WorldContent). record v { trace = trace_with w.trace (grant_tried did) }) (class_put w k.0 n (after_try a.0 did (node_of old)) (slice_get_within w.classes k.0 old is) left);
 }
 
 -- what a step of a bank leaves of requests that fit
@@ -257,7 +261,7 @@ acted_plan (acted.Answered q (decision.Granted serial)) b later is = ap (λ (c :
 acted_plan (acted.Answered q (decision.Refused c n)) b later is = ap (λ (x : BankContent). x.plan) is.after
 
 -- what a bank grants is of the model
-pub acted_grant : (p : Planned) (did : Acted) (b later : BankContent) → IsSystem p.model → IsActed did b later → ((a : ℕ) → All (λ (q : Request). IsFit p q) (b.waiting a)) → IfSome (grant_acted did) (IsGrantOf p.model)
+pub acted_grant : (p : Planned) (did : Acted) (b later : BankContent) → IsSystem p.model → IsActed did b later → ((a : ℕ) → All (λ (q : Request). IsFit p q) (b.waiting a)) → IfSome (grant_acted did) (IsKnownGrant p.model)
 acted_grant p acted.Nothing b later valid is fit = tt
 acted_grant p acted.Moved b later valid is fit = tt
 acted_grant p (acted.Answered q (decision.Granted serial)) b later valid is fit =
@@ -283,15 +287,15 @@ pub tried_without : (w : KeptWorld) (k : ClassId) (a : InterId) (did : Tried) (o
     → IsTraced (world_of w) (Try k a) (Tries did) (world_of (record w { classes = set w.classes k.0 n }))
 tried_without w k a did old n is tries left none =
     let whole = tried_on w k a did old n is tries left in
-    subst (λ (given : Option Grant). IsTraced (world_of w) (Try k a) (Tries did) (world_of (record w { classes = set w.classes k.0 n; trace = joined w.trace given }))) none whole
+    subst (λ (given : Option Grant). IsTraced (world_of w) (Try k a) (Tries did) (world_of (record w { classes = set w.classes k.0 n; trace = trace_with w.trace given }))) none whole
 
 -- a step of the bank, with the grant that it gives
 pub acted_on : (w : KeptWorld) (b : KeptBank) (step : BankStep) (did : Acted) (given : Option Grant) → IsActed did (content_of w.bank) (content_of b) → grant_acted did ≡ given
-    → IsTraced (world_of w) (Bank step) (Acts did) (world_of (record w { bank = b; trace = joined w.trace given }))
+    → IsTraced (world_of w) (Bank step) (Acts did) (world_of (record w { bank = b; trace = trace_with w.trace given }))
 acted_on w b step did given is same = record {
   middle = record (world_of w) { bank = content_of b };
   done = (content_of b, is, refl);
-  after = ap (λ (x : Option Grant). record (world_of w) { bank = content_of b; trace = joined w.trace x }) (sym same);
+  after = ap (λ (x : Option Grant). record (world_of w) { bank = content_of b; trace = trace_with w.trace x }) (sym same);
 }
 
 -- what a message that is taken out leaves
@@ -373,7 +377,7 @@ delivered w k place message what v taken same on =
     record {
       middle = v;
       done = done_mail (world_of w) place what v (record { message = message; rest = k.mail; taken = taken; on = subst (λ (u : WorldContent). IsHandedOn u message what v) (ap world_of same) on });
-      after = sym (ap (λ (x : Option Grant). record v { trace = joined v.trace x }) none);
+      after = sym (ap (λ (x : Option Grant). record v { trace = trace_with v.trace x }) none);
     }
 
 -- at a place of a list there is something

@@ -22,7 +22,7 @@ use Rattle.bip_observe.specs.Offers.{IsReceipt}
 use Rattle.bip_bank.specs.Banks.{BankContent, IsActed, with_request}
 use Rattle.bip_bank.specs.declared.banks.Acted.{Acted}
 use Rattle.bip_bank.specs.declared.banks.Acted.TheVariants as acted
-use Rattle.bip_core.specs.Worlds.{AreOffersOf, WorldContent, with_class, with_component}
+use Rattle.bip_core.specs.Worlds.{AreOffersOf, WorldContent, with_class_node, with_component_node}
 use Rattle.bip_core.specs.declared.events.Did.{Did}
 use Rattle.bip_core.specs.declared.events.Event.{Event}
 use Rattle.bip_core.specs.declared.events.Event.TheVariants.{Mail, Try, Bank}
@@ -48,18 +48,18 @@ reply_to q (decision.Refused c used) = reply.Refused q.class q.request q.inter c
 abbrev pub IsHandedOn : WorldContent → Message → What → WorldContent → Type 0
 IsHandedOn w (OfferTo k offer) (Hears receipt) v =
     (node : ClassNode) × (w.classes k.0 ≡ Some node) × IsReceipt node.offers offer receipt
-    × (v ≡ with_class k.0 (after_offer offer receipt node) w)
+    × (v ≡ with_class_node k.0 (after_offer offer receipt node) w)
 IsHandedOn w (OfferTo k offer) Nothing v = (w.classes k.0 ≡ None) × (v ≡ w)
 IsHandedOn w (RequestToBank q) Submits v = v ≡ record w { bank = with_request q w.bank }
 IsHandedOn w (ReplyToClass r) (Learns did) v =
     (node : ClassNode) × (later : ClassNode) × (w.classes (class_named r) ≡ Some node)
     × IsAnswered node r did × IsLeftByReply r did node later
-    × (v ≡ with_class (class_named r) later w)
+    × (v ≡ with_class_node (class_named r) later w)
 IsHandedOn w (ReplyToClass r) Nothing v = (w.classes (class_named r) ≡ None) × (v ≡ w)
 IsHandedOn w (NotifyComponent n) (Moves did) v =
     (node : Node) × (later : Node) × (w.components n.comp.0 ≡ Some node)
     × IsNotified node n did × IsNodeAfter node n did later
-    × (v ≡ with_component n.comp.0 later w)
+    × (v ≡ with_component_node n.comp.0 later w)
 IsHandedOn w (NotifyComponent n) Nothing v = (w.components n.comp.0 ≡ None) × (v ≡ w)
 IsHandedOn w message what v = ⊥
 
@@ -86,7 +86,7 @@ IsDone w (Mail place) Nothing v =
 IsDone w (Mail place) what v = IsDelivered place w what v
 IsDone w (Try k a) (Tries did) v =
     (node : ClassNode) × (w.classes k.0 ≡ Some node) × IsTried node a.0 did
-    × (v ≡ with_class k.0 (after_try a.0 did node) w)
+    × (v ≡ with_class_node k.0 (after_try a.0 did node) w)
 IsDone w (Try k a) Nothing v = (w.classes k.0 ≡ None) × (v ≡ w)
 IsDone w (Bank step) (Acts did) v =
     (later : BankContent) × IsActed did w.bank later × (v ≡ record w { bank = later })
@@ -107,9 +107,9 @@ grant_in (Acts did) = grant_acted did
 grant_in what = None
 
 -- a trace that a grant joins, if there is one
-abbrev pub joined : List Grant → Option Grant → List Grant
-joined trace None = trace
-joined trace (Some g) = trace ++ g ∷ []
+abbrev pub trace_with : List Grant → Option Grant → List Grant
+trace_with trace None = trace
+trace_with trace (Some g) = trace ++ g ∷ []
 
 -- the messages that an answer sends: what a moved component offers goes to each class that touches
 -- it; what a grant tells to its components; a request to the bank, and its reply to its class
@@ -135,7 +135,7 @@ pub record IsTraced (w : WorldContent) (event : Event) (what : What) (v : WorldC
     : Type 0 where
   pub middle : WorldContent
   pub done : IsDone w event what middle
-  pub after : v ≡ record middle { trace = joined middle.trace (grant_in what) }
+  pub after : v ≡ record middle { trace = trace_with middle.trace (grant_in what) }
 
 -- messages that are put last, but for what is lost
 pub record ArePut (sent : List Message) (lost : ℕ) (mail later : List Message) : Type 0 where

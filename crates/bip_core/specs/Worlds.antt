@@ -47,11 +47,11 @@ world_of w =
     }
 
 -- with another node of a component, and of a class
-abbrev pub with_component : ℕ → Node → WorldContent → WorldContent
-with_component c node w = record w { components = put w.components c (Some node) }
+abbrev pub with_component_node : ℕ → Node → WorldContent → WorldContent
+with_component_node c node w = record w { components = put w.components c (Some node) }
 
-abbrev pub with_class : ℕ → ClassNode → WorldContent → WorldContent
-with_class k node w = record w { classes = put w.classes k (Some node) }
+abbrev pub with_class_node : ℕ → ClassNode → WorldContent → WorldContent
+with_class_node k node w = record w { classes = put w.classes k (Some node) }
 
 -- the messages that offer to each class that touches the offer's component, by class
 pub record AreOffersOf (p : Planned) (offer : Offer) (messages : List Message) : Type 0 where
@@ -60,7 +60,7 @@ pub record AreOffersOf (p : Planned) (offer : Offer) (messages : List Message) :
   pub each : messages ≡ map (λ k. OfferTo k offer) classes
 
 -- a grant names an interaction and components of the model
-pub record IsGrantOf (m : System) (g : Grant) : Type 0 where
+pub record IsKnownGrant (m : System) (g : Grant) : Type 0 where
   pub inter : g.inter.0 < length m.interactions
   pub wants : All (λ (w : Want). w.comp.0 < length m.components) g.wants
 
@@ -80,4 +80,4 @@ pub record IsKeptWorld (w : KeptWorld) : Type 0 where
   pub bank : (content_of w.bank).plan ≡ w.plan
   pub requests : All (FitsIfRequest w.plan) w.mail
   pub waiting : (a : ℕ) → All (λ (q : Request). IsFit w.plan q) ((content_of w.bank).waiting a)
-  pub grants : All (IsGrantOf w.plan.model) w.trace
+  pub grants : All (IsKnownGrant w.plan.model) w.trace

@@ -1,19 +1,12 @@
 use Rattle.std.proofs.Common.{◌<◌, length, rules}
 use Rattle.bip_ip.specs.Nodes.{node_of}
 use Rattle.bip_core.specs.Worlds.{KeptWorld}
-use Rattle.bip_core.proofs.WorldLemmas.{class_kept, learned_on, read_here, replied_same}
+use Rattle.bip_core.proofs.WorldLemmas.{class_kept, kept_by, learned_on, read_here, replied_same}
 use Rattle.bip_core.proofs.worlds.Machine.learn.Goals as goal
 
 pub invariant_of-self : goal.invariant_of-self
 invariant_of-self g c =
-    let w : KeptWorld = record {
-      plan = c.self.inside.plan.now;
-      components = c.self.inside.components.items;
-      classes = c.self.inside.classes.items;
-      mail = c.self.inside.mail.items;
-      trace = c.self.inside.trace.items;
-      bank = g.B.Bank.kept c.self.inside.bank;
-    } in
+    let w = kept_by c.self.inside.plan.now c.self.inside.components.items c.self.inside.classes.items c.self.inside.mail.items c.self.inside.trace.items (g.B.Bank.kept c.self.inside.bank) in
     let k = c.class_named-class.result.0 in
     let old = c.index_mut.result.now in
     let within : k < length w.classes = search rules in
@@ -23,14 +16,7 @@ invariant_of-self g c =
 
 pub returns-clause-on : goal.returns-clause-on
 returns-clause-on g c =
-    let w : KeptWorld = record {
-      plan = c.self.inside.plan.now;
-      components = c.self.inside.components.items;
-      classes = c.self.inside.classes.items;
-      mail = c.self.inside.mail.items;
-      trace = c.self.inside.trace.items;
-      bank = g.B.Bank.kept c.self.inside.bank;
-    } in
+    let w = kept_by c.self.inside.plan.now c.self.inside.components.items c.self.inside.classes.items c.self.inside.mail.items c.self.inside.trace.items (g.B.Bank.kept c.self.inside.bank) in
     let k = c.class_named-class.result.0 in
     let old = c.index_mut.result.now in
     let within : k < length w.classes = search rules in

@@ -2,20 +2,13 @@ use Rattle.std.proofs.Common.{subst, sym}
 use Rattle.bip_bank.specs.declared.banks.Acted.TheVariants.{Nothing}
 use Rattle.bip_partition.specs.Plans.{IsFit}
 use Rattle.bip_core.specs.Worlds.{KeptWorld}
-use Rattle.bip_core.proofs.WorldLemmas.{bank_kept, submitted_kept}
+use Rattle.bip_core.proofs.WorldLemmas.{bank_kept, kept_by, submitted_kept}
 use Rattle.bip_core.proofs.worlds.Machine.submit.Goals as goal
 use Rattle.bip_core.proofs.worlds.Machine.submit.Goals.{in-Ok, in-Err}
 
 pub invariant_of-self : goal.invariant_of-self
 invariant_of-self g c =
-    let w : KeptWorld = record {
-      plan = c.self.inside.plan.now;
-      components = c.self.inside.components.items;
-      classes = c.self.inside.classes.items;
-      mail = c.self.inside.mail.items;
-      trace = c.self.inside.trace.items;
-      bank = g.B.Bank.kept c.self.inside.bank;
-    } in
+    let w = kept_by c.self.inside.plan.now c.self.inside.components.items c.self.inside.classes.items c.self.inside.mail.items c.self.inside.trace.items (g.B.Bank.kept c.self.inside.bank) in
     let b = g.B.Bank.kept c.submit.new.self in
     let fit : IsFit w.plan c.args.request = subst (λ (k : KeptWorld). IsFit k.plan c.args.request) (sym c.self.view_is) c.requires in
     elim c.match-submit.branch [

@@ -1,18 +1,11 @@
 use Rattle.std.proofs.Common.{◌<◌, length, subst, sym}
 use Rattle.bip_core.specs.Worlds.{KeptWorld}
-use Rattle.bip_core.proofs.WorldLemmas.{mail_kept, rest_fits, taken_out}
+use Rattle.bip_core.proofs.WorldLemmas.{kept_by, mail_kept, rest_fits, taken_out}
 use Rattle.bip_core.proofs.worlds.Machine.take_out.Goals as goal
 
 pub invariant_of-self : goal.invariant_of-self
 invariant_of-self g c =
-    let w : KeptWorld = record {
-      plan = c.self.inside.plan.now;
-      components = c.self.inside.components.items;
-      classes = c.self.inside.classes.items;
-      mail = c.self.inside.mail.items;
-      trace = c.self.inside.trace.items;
-      bank = g.B.Bank.kept c.self.inside.bank;
-    } in
+    let w = kept_by c.self.inside.plan.now c.self.inside.components.items c.self.inside.classes.items c.self.inside.mail.items c.self.inside.trace.items (g.B.Bank.kept c.self.inside.bank) in
     let within : c.args.place < length w.mail = subst (λ (k : KeptWorld). c.args.place < length k.mail) (sym c.self.view_is) c.requires in
     rw c.remove.ensures.items (mail_kept w _ (rest_fits w.plan w.mail c.args.place within c.self.invariant.requests) c.self.invariant)
 

@@ -4,22 +4,15 @@ use Rattle.bip_model.specs.declared.grants.Grant.{Grant}
 use Rattle.bip_partition.specs.Plans.{IsReserved, Planned}
 use Rattle.bip_ip.specs.Nodes.{node_of}
 use Rattle.bip_core.specs.Events.{SendsWhatFits}
-use Rattle.bip_core.specs.Worlds.{IsGrantOf, KeptWorld}
+use Rattle.bip_core.specs.Worlds.{IsKnownGrant, KeptWorld}
 use Rattle.bip_core.specs.declared.events.What.TheVariants.{Tries}
-use Rattle.bip_core.proofs.WorldLemmas.{class_kept, no_grant, read_here, trace_kept, tried_fits, tried_grant, tried_on, tried_same, tried_without}
+use Rattle.bip_core.proofs.WorldLemmas.{class_kept, kept_by, no_grant, read_here, trace_kept, tried_fits, tried_grant, tried_on, tried_same, tried_without}
 use Rattle.bip_core.proofs.worlds.Machine.try_one.Goals as goal
 use Rattle.bip_core.proofs.worlds.Machine.try_one.Goals.{in-Some, in_default}
 
 pub invariant_of-self : goal.invariant_of-self
 invariant_of-self g c =
-    let w : KeptWorld = record {
-      plan = c.self.inside.plan.now;
-      components = c.self.inside.components.items;
-      classes = c.self.inside.classes.items;
-      mail = c.self.inside.mail.items;
-      trace = c.self.inside.trace.items;
-      bank = g.B.Bank.kept c.self.inside.bank;
-    } in
+    let w = kept_by c.self.inside.plan.now c.self.inside.components.items c.self.inside.classes.items c.self.inside.mail.items c.self.inside.trace.items (g.B.Bank.kept c.self.inside.bank) in
     let old = c.index_mut.result.now in
     let within : c.args.class.0 < length w.classes = search rules in
     let is = read_here w.classes c.args.class.0 old within c.index_mut.ensures.value in
@@ -28,14 +21,7 @@ invariant_of-self g c =
 
 pub returns-then-reserved-clause-traced : goal.returns-then-reserved-clause-traced
 returns-then-reserved-clause-traced g c =
-    let w : KeptWorld = record {
-      plan = c.self.inside.plan.now;
-      components = c.self.inside.components.items;
-      classes = c.self.inside.classes.items;
-      mail = c.self.inside.mail.items;
-      trace = c.self.inside.trace.items;
-      bank = g.B.Bank.kept c.self.inside.bank;
-    } in
+    let w = kept_by c.self.inside.plan.now c.self.inside.components.items c.self.inside.classes.items c.self.inside.mail.items c.self.inside.trace.items (g.B.Bank.kept c.self.inside.bank) in
     let old = c.index_mut.result.now in
     let within : c.args.class.0 < length w.classes = search rules in
     let is = read_here w.classes c.args.class.0 old within c.index_mut.ensures.value in
@@ -45,14 +31,7 @@ returns-then-reserved-clause-traced g c =
 
 pub returns-then-reserved-clause-fits : goal.returns-then-reserved-clause-fits
 returns-then-reserved-clause-fits g c =
-    let w : KeptWorld = record {
-      plan = c.self.inside.plan.now;
-      components = c.self.inside.components.items;
-      classes = c.self.inside.classes.items;
-      mail = c.self.inside.mail.items;
-      trace = c.self.inside.trace.items;
-      bank = g.B.Bank.kept c.self.inside.bank;
-    } in
+    let w = kept_by c.self.inside.plan.now c.self.inside.components.items c.self.inside.classes.items c.self.inside.mail.items c.self.inside.trace.items (g.B.Bank.kept c.self.inside.bank) in
     let old = c.index_mut.result.now in
     let within : c.args.class.0 < length w.classes = search rules in
     let is = read_here w.classes c.args.class.0 old within c.index_mut.ensures.value in
@@ -61,14 +40,7 @@ returns-then-reserved-clause-fits g c =
 
 pub invariant_of-self-in-Some : goal.invariant_of-self-in-Some
 invariant_of-self-in-Some g c =
-    let w : KeptWorld = record {
-      plan = c.self.inside.plan.now;
-      components = c.self.inside.components.items;
-      classes = c.self.inside.classes.items;
-      mail = c.self.inside.mail.items;
-      trace = c.self.inside.trace.items;
-      bank = g.B.Bank.kept c.self.inside.bank;
-    } in
+    let w = kept_by c.self.inside.plan.now c.self.inside.components.items c.self.inside.classes.items c.self.inside.mail.items c.self.inside.trace.items (g.B.Bank.kept c.self.inside.bank) in
     let old = c.index_mut-2.result.now in
     let did = c.try_interaction-did-2.result in
     let n = c.try_interaction-did-2.new.self in
@@ -77,19 +49,12 @@ invariant_of-self-in-Some g c =
     let plan = (c.self.invariant.classes c.args.class.0 old is).0 in
     let same = tried_same c.args.inter.0 did (node_of old) (node_of n) c.try_interaction-did-2.ensures.left in
     let granted = tried_grant (node_of old) c.args.inter.0 did (rw plan c.reserved.ensures.valid) c.try_interaction-did-2.ensures.tried in
-    let one = subst (λ given. IfSome given (IsGrantOf w.plan.model)) (sym c.grant_tried.ensures ∙ c.in-Some.is) (rw plan at granted) in
+    let one = subst (λ given. IfSome given (IsKnownGrant w.plan.model)) (sym c.grant_tried.ensures ∙ c.in-Some.is) (rw plan at granted) in
     rw (c.push_reserved.ensures.items, c.reserve.ensures.items) (trace_kept (record w { classes = set w.classes c.args.class.0 n }) (Some c.in-Some.grant) one (class_kept w c.args.class.0 n old within is same.0 same.1 c.self.invariant))
 
 pub invariant_of-self-in_default : goal.invariant_of-self-in_default
 invariant_of-self-in_default g c =
-    let w : KeptWorld = record {
-      plan = c.self.inside.plan.now;
-      components = c.self.inside.components.items;
-      classes = c.self.inside.classes.items;
-      mail = c.self.inside.mail.items;
-      trace = c.self.inside.trace.items;
-      bank = g.B.Bank.kept c.self.inside.bank;
-    } in
+    let w = kept_by c.self.inside.plan.now c.self.inside.components.items c.self.inside.classes.items c.self.inside.mail.items c.self.inside.trace.items (g.B.Bank.kept c.self.inside.bank) in
     let old = c.index_mut-2.result.now in
     let n = c.try_interaction-did-2.new.self in
     let within : c.args.class.0 < length w.classes = search rules in
@@ -99,14 +64,7 @@ invariant_of-self-in_default g c =
 
 pub returns-clause-traced : goal.returns-clause-traced
 returns-clause-traced g c =
-    let w : KeptWorld = record {
-      plan = c.self.inside.plan.now;
-      components = c.self.inside.components.items;
-      classes = c.self.inside.classes.items;
-      mail = c.self.inside.mail.items;
-      trace = c.self.inside.trace.items;
-      bank = g.B.Bank.kept c.self.inside.bank;
-    } in
+    let w = kept_by c.self.inside.plan.now c.self.inside.components.items c.self.inside.classes.items c.self.inside.mail.items c.self.inside.trace.items (g.B.Bank.kept c.self.inside.bank) in
     let old = c.index_mut-2.result.now in
     let did = c.try_interaction-did-2.result in
     let n = c.try_interaction-did-2.new.self in
@@ -125,14 +83,7 @@ returns-clause-traced g c =
 
 pub returns-clause-fits : goal.returns-clause-fits
 returns-clause-fits g c =
-    let w : KeptWorld = record {
-      plan = c.self.inside.plan.now;
-      components = c.self.inside.components.items;
-      classes = c.self.inside.classes.items;
-      mail = c.self.inside.mail.items;
-      trace = c.self.inside.trace.items;
-      bank = g.B.Bank.kept c.self.inside.bank;
-    } in
+    let w = kept_by c.self.inside.plan.now c.self.inside.components.items c.self.inside.classes.items c.self.inside.mail.items c.self.inside.trace.items (g.B.Bank.kept c.self.inside.bank) in
     let old = c.index_mut-2.result.now in
     let within : c.args.class.0 < length w.classes = search rules in
     let is = read_here w.classes c.args.class.0 old within c.index_mut-2.ensures.value in
