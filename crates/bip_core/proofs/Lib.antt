@@ -1,2 +1,4 @@
+pub mod RunLemmas
 pub mod SendLemmas
+pub mod StartLemmas
 pub mod WorldLemmas

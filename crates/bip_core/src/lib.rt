@@ -2,10 +2,14 @@
 #![tactic(auto)]
 
 mod events;
+mod machines;
 mod messages;
+mod runs;
 mod sending;
+mod starting;
 mod worlds;
 
 pub use events::{Did, Event, What};
 pub use messages::Message;
-pub use worlds::Machine;
+pub use runs::{Report, run_steps};
+pub use worlds::World;

@@ -97,7 +97,7 @@ fn notify_all(mail: &mut Vec<Message>, notifies: &[Notify]) -> usize
 }
 
 /// Puts an offer to each of these classes last, and says how many were lost.
-fn offer_to_all(mail: &mut Vec<Message>, classes: &[ClassId], offer: &Offer) -> usize
+pub(crate) fn offer_to_all(mail: &mut Vec<Message>, classes: &[ClassId], offer: &Offer) -> usize
     ensures { ArePut (map (λ k. OfferTo k offer.now) classes.now) result mail.old.items
         mail.new.items }
 {

@@ -7,8 +7,8 @@ use Rattle.bip_core.specs.Events.{SendsWhatFits}
 use Rattle.bip_core.specs.Worlds.{IsKnownGrant, KeptWorld}
 use Rattle.bip_core.specs.declared.events.What.TheVariants.{Tries}
 use Rattle.bip_core.proofs.WorldLemmas.{class_kept, kept_by, no_grant, read_here, trace_kept, tried_fits, tried_grant, tried_on, tried_same, tried_without}
-use Rattle.bip_core.proofs.worlds.Machine.try_one.Goals as goal
-use Rattle.bip_core.proofs.worlds.Machine.try_one.Goals.{in-Some, in_default}
+use Rattle.bip_core.proofs.machines.Machine.try_one.Goals as goal
+use Rattle.bip_core.proofs.machines.Machine.try_one.Goals.{in-Some, in_default}
 
 pub invariant_of-self : goal.invariant_of-self
 invariant_of-self g c =

@@ -1,7 +1,7 @@
 use Rattle.std.proofs.Common.{◌<◌, length, subst, sym}
 use Rattle.bip_core.specs.Worlds.{KeptWorld}
 use Rattle.bip_core.proofs.WorldLemmas.{kept_by, mail_kept, rest_fits, taken_out}
-use Rattle.bip_core.proofs.worlds.Machine.take_out.Goals as goal
+use Rattle.bip_core.proofs.machines.Machine.take_out.Goals as goal
 
 pub invariant_of-self : goal.invariant_of-self
 invariant_of-self g c =

@@ -4,7 +4,7 @@ use Rattle.bip_core.specs.Worlds.{world_of}
 use Rattle.bip_core.specs.declared.events.Event.TheVariants.{Mail}
 use Rattle.bip_core.specs.declared.messages.Message.TheVariants.{NotifyComponent, OfferTo, ReplyToClass, RequestToBank}
 use Rattle.bip_core.proofs.WorldLemmas.{delivered, if_err, no_mail, request_fits, request_skipped, submitted}
-use Rattle.bip_core.proofs.worlds.Machine.deliver.Goals as goal
+use Rattle.bip_core.proofs.machines.Machine.deliver.Goals as goal
 
 pub returns-in_default-clause-traced : goal.returns-in_default-clause-traced
 returns-in_default-clause-traced g c = no_mail c.args.self.now c.args.place (sym c.message_at.ensures.message ∙ c.in_default.is)

@@ -1,8 +1,7 @@
 use Rattle.std.proofs.Common.{◌<◌, length, rules}
 use Rattle.bip_ip.specs.Nodes.{node_of}
-use Rattle.bip_core.specs.Worlds.{KeptWorld}
 use Rattle.bip_core.proofs.WorldLemmas.{class_kept, heard_on, heard_same, kept_by, read_here}
-use Rattle.bip_core.proofs.worlds.Machine.hear.Goals as goal
+use Rattle.bip_core.proofs.machines.Machine.hear.Goals as goal
 
 pub invariant_of-self : goal.invariant_of-self
 invariant_of-self g c =

@@ -3,7 +3,7 @@ use Rattle.bip_core.specs.Events.{SendsWhatFits}
 use Rattle.bip_core.specs.Worlds.{KeptWorld}
 use Rattle.bip_core.proofs.SendLemmas.{put_fit}
 use Rattle.bip_core.proofs.WorldLemmas.{kept_by, mail_kept}
-use Rattle.bip_core.proofs.worlds.Machine.send.Goals as goal
+use Rattle.bip_core.proofs.machines.Machine.send.Goals as goal
 
 pub invariant_of-self : goal.invariant_of-self
 invariant_of-self g c =

@@ -3,10 +3,10 @@ use Rattle.std.specs.Prelude.{IfSome}
 use Rattle.bip_model.specs.declared.grants.Grant.{Grant}
 use Rattle.bip_bank.specs.declared.banks.Acted.TheVariants.{Nothing}
 use Rattle.bip_bank.specs.Banks.{content_of}
-use Rattle.bip_core.specs.Worlds.{IsKnownGrant, KeptWorld}
+use Rattle.bip_core.specs.Worlds.{IsKnownGrant}
 use Rattle.bip_core.proofs.WorldLemmas.{acted_grant, acted_on, bank_kept, kept_by, trace_kept}
-use Rattle.bip_core.proofs.worlds.Machine.act.Goals as goal
-use Rattle.bip_core.proofs.worlds.Machine.act.Goals.{in-Some, in_default}
+use Rattle.bip_core.proofs.machines.Machine.act.Goals as goal
+use Rattle.bip_core.proofs.machines.Machine.act.Goals.{in-Some, in_default}
 
 pub invariant_of-self-in_err-did : goal.invariant_of-self-in_err-did
 invariant_of-self-in_err-did g c =

@@ -3,8 +3,8 @@ use Rattle.bip_bank.specs.declared.banks.Acted.TheVariants.{Nothing}
 use Rattle.bip_partition.specs.Plans.{IsFit}
 use Rattle.bip_core.specs.Worlds.{KeptWorld}
 use Rattle.bip_core.proofs.WorldLemmas.{bank_kept, kept_by, submitted_kept}
-use Rattle.bip_core.proofs.worlds.Machine.submit.Goals as goal
-use Rattle.bip_core.proofs.worlds.Machine.submit.Goals.{in-Ok, in-Err}
+use Rattle.bip_core.proofs.machines.Machine.submit.Goals as goal
+use Rattle.bip_core.proofs.machines.Machine.submit.Goals.{in-Ok, in-Err}
 
 pub invariant_of-self : goal.invariant_of-self
 invariant_of-self g c =

@@ -1,0 +1,35 @@
+use Rattle.std.proofs.Common.{◌∙◌, ℕ, List, ap, refl}
+use Rattle.std.proofs.lemmas.List.Elements.{All-nil}
+use Rattle.bip_model.specs.declared.messages.Request.{Request}
+use Rattle.bip_partition.specs.Plans.{IsFit}
+use Rattle.bip_ip.specs.Nodes.{ClassNode}
+use Rattle.bip_bank.specs.Banks.{content_of}
+use Rattle.bip_core.specs.Worlds.{IsKnownGrant}
+use Rattle.bip_core.proofs.StartLemmas.{class_at, component_at, offers_fit, unasked_content}
+use Rattle.bip_core.proofs.machines.Machine.new.Goals as goal
+
+pub invariant_of-result : goal.invariant_of-result
+invariant_of-result g c = record {
+  each_component = c.in_ok-components.ensures.each;
+  each_class = c.in_ok-classes.ensures.each;
+  components = λ k node read.
+      let first = c.in_ok-components.ensures.first k node read in
+      (first.plan, first.comp);
+  classes = λ k node read.
+      let first = c.in_ok-classes.ensures.first k node read in
+      (ap (λ (v : ClassNode). v.offers.plan) first, ap (λ (v : ClassNode). v.offers.class) first);
+  bank = c.requires.unasked.plan;
+  requests = offers_fit _ c.args.plan.now _ c.in_ok-mail.mail.items c.in_ok-mail.ensures;
+  waiting = λ a. rw (ap (λ (f : ℕ → List Request). f a) c.requires.unasked.waiting) (All-nil (λ (q : Request). IsFit c.args.plan.now q));
+  grants = rw c.new.ensures.items (All-nil (IsKnownGrant c.args.plan.now.model));
+}
+
+pub returns : goal.returns
+returns g c = record {
+  plan = refl;
+  components = λ k. component_at c.args.plan.now c.args.base c.in_ok-components.components.items k c.in_ok-components.ensures;
+  classes = λ k. class_at c.args.plan.now c.args.base c.in_ok-classes.classes.items k c.in_ok-classes.ensures;
+  mail = rw (← c.deref.ensures.value) c.in_ok-mail.ensures;
+  trace = c.new.ensures.items;
+  bank = unasked_content c.args.plan.now c.args.base (content_of (g.B.Bank.kept c.args.bank)) c.requires.unasked (c.grants-granted.ensures.unused (c.grants-granted.ensures.grants ∙ c.requires.unasked.grants));
+}
