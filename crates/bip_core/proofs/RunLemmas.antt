@@ -1,12 +1,12 @@
 -- Events one after another, and their sums.
-use Rattle.std.proofs.Common.{◌≡◌, ◌∙◌, ℕ, suc, inl, inr, ◌+◌, ◌<◌, ◌^◌, List, [], ◌∷◌, ◌++◌, Bool, false, true, Option, Some, None, length, refl, sym, ap, subst, arith}
+use Rattle.std.proofs.Common.{◌≡◌, ◌∙◌, ℕ, suc, inl, inr, ◌+◌, ◌<◌, ◌^◌, List, [], ◌∷◌, ◌++◌, Bool, false, true, Option, Some, None, length, refl, sym, ap, subst, arith, ◌≤◌, slice_get}
 use Rattle.std.specs.Prelude.{count_by, cond, is_some, Err, IfErr, IfOk, Ok, OnErr, Result}
 use Rattle.std.specs.Result.{result_ok}
 use Rattle.std.specs.declared.alloc.AllocError.{AllocError}
 use Rattle.std.proofs.lemmas.List.{append_assoc, append-nil, length-append}
-use Rattle.std.proofs.lemmas.List.Sums.{count_by-le-length, sum_by-cons, sum_by_push}
+use Rattle.std.proofs.lemmas.List.Sums.{count_by-le-length, sum_by-append, sum_by-cons, sum_by_push}
 use Rattle.bip_model.specs.declared.grants.Grant.{Grant}
-use Rattle.bip_core.specs.Events.{CanBeSkipped, IsDelivered, IsDone, IsHandedOn, IsStep, grant_in, trace_with}
+use Rattle.bip_core.specs.Events.{AreKeptOf, AreSent, CanBeSkipped, IsDelivered, IsDone, IsHandedOn, IsStep, TakesOut, all_done, grant_in, one_kept, one_lost, trace_with}
 use Rattle.bip_core.specs.Runs.{AreSteps, CanCount, FitsLost, IsRun, did_so, is_grant, is_idle, is_refusal, lost_by, number_if, report_of, report_with, was_skipped}
 use Rattle.bip_core.specs.Worlds.{WorldContent}
 use Rattle.bip_core.specs.declared.events.Did.{Did}
@@ -89,14 +89,14 @@ run_more es w v x report later e (Err f) o run is counted step skipped err = rec
   sums = counted ∙ (ap (λ (given : Option Did). report_with report given) is ∙ (ap (λ (r : Report). report_with r None) run.sums ∙ report_more run.dids None));
 }
 
--- trace and plan of a world that is another one but for its nodes, mail or bank
-same_as : (v u : WorldContent) → v ≡ u → (v.trace ≡ u.trace) × (v.plan ≡ u.plan)
-same_as v u is = (ap (λ (w : WorldContent). w.trace) is, ap (λ (w : WorldContent). w.plan) is)
+-- trace, plan and messages of a world that is another one but for its nodes or its bank
+same_as : (v u : WorldContent) → v ≡ u → (v.trace ≡ u.trace) × (v.plan ≡ u.plan) × (v.mail ≡ u.mail)
+same_as v u is = (ap (λ (w : WorldContent). w.trace) is, ap (λ (w : WorldContent). w.plan) is, ap (λ (w : WorldContent). w.mail) is)
 
--- a message that is handed on leaves both
-handed_same : (w : WorldContent) (m : Message) (what : What) (v : WorldContent) → IsHandedOn w m what v → (v.trace ≡ w.trace) × (v.plan ≡ w.plan)
-handed_same w (OfferTo k o) Nothing v on = same_as v w on.1
-handed_same w (OfferTo k o) (Hears r) v on = (ap (λ (u : WorldContent). u.trace) on.3, ap (λ (u : WorldContent). u.plan) on.3)
+-- a message that is handed on leaves them
+handed_same : (w : WorldContent) (m : Message) (what : What) (v : WorldContent) → IsHandedOn w m what v → (v.trace ≡ w.trace) × (v.plan ≡ w.plan) × (v.mail ≡ w.mail)
+handed_same w (OfferTo k o) Nothing v on = same_as v _ on.1
+handed_same w (OfferTo k o) (Hears r) v on = same_as v _ on.3
 handed_same w (OfferTo k o) Submits v on = absurd on
 handed_same w (OfferTo k o) (Learns r) v on = absurd on
 handed_same w (OfferTo k o) (Moves r) v on = absurd on
@@ -104,66 +104,102 @@ handed_same w (OfferTo k o) (Tries r) v on = absurd on
 handed_same w (OfferTo k o) (Acts r) v on = absurd on
 handed_same w (RequestToBank q) Nothing v on = absurd on
 handed_same w (RequestToBank q) (Hears r) v on = absurd on
-handed_same w (RequestToBank q) Submits v on = (ap (λ (u : WorldContent). u.trace) on, ap (λ (u : WorldContent). u.plan) on)
+handed_same w (RequestToBank q) Submits v on = same_as v _ on
 handed_same w (RequestToBank q) (Learns r) v on = absurd on
 handed_same w (RequestToBank q) (Moves r) v on = absurd on
 handed_same w (RequestToBank q) (Tries r) v on = absurd on
 handed_same w (RequestToBank q) (Acts r) v on = absurd on
-handed_same w (ReplyToClass x) Nothing v on = same_as v w on.1
+handed_same w (ReplyToClass x) Nothing v on = same_as v _ on.1
 handed_same w (ReplyToClass x) (Hears r) v on = absurd on
 handed_same w (ReplyToClass x) Submits v on = absurd on
-handed_same w (ReplyToClass x) (Learns r) v on = (ap (λ (u : WorldContent). u.trace) on.5, ap (λ (u : WorldContent). u.plan) on.5)
+handed_same w (ReplyToClass x) (Learns r) v on = same_as v _ on.5
 handed_same w (ReplyToClass x) (Moves r) v on = absurd on
 handed_same w (ReplyToClass x) (Tries r) v on = absurd on
 handed_same w (ReplyToClass x) (Acts r) v on = absurd on
-handed_same w (NotifyComponent n) Nothing v on = same_as v w on.1
+handed_same w (NotifyComponent n) Nothing v on = same_as v _ on.1
 handed_same w (NotifyComponent n) (Hears r) v on = absurd on
 handed_same w (NotifyComponent n) Submits v on = absurd on
 handed_same w (NotifyComponent n) (Learns r) v on = absurd on
-handed_same w (NotifyComponent n) (Moves r) v on = (ap (λ (u : WorldContent). u.trace) on.5, ap (λ (u : WorldContent). u.plan) on.5)
+handed_same w (NotifyComponent n) (Moves r) v on = same_as v _ on.5
 handed_same w (NotifyComponent n) (Tries r) v on = absurd on
 handed_same w (NotifyComponent n) (Acts r) v on = absurd on
 
-delivered_same : (place : ℕ) (w : WorldContent) (what : What) (v : WorldContent) → IsDelivered place w what v → (v.trace ≡ w.trace) × (v.plan ≡ w.plan)
-delivered_same place w what v d = handed_same (record w { mail = d.rest }) d.message what v d.on
+-- counts of a list with one more in front, and of two lists
+count_cons : (f : Message → Bool) (x : Message) (xs : List Message) → count_by f (x ∷ xs) ≡ cond (f x) 1 0 + count_by f xs
+count_cons f x xs = sum_by-cons (λ y. cond (f y) 1 0) x xs
+
+count_append : (f : Message → Bool) (xs ys : List Message) → count_by f (xs ++ ys) ≡ count_by f xs + count_by f ys
+count_append f xs ys = sum_by-append (λ y. cond (f y) 1 0) xs ys
+
+-- a delivery leaves all messages but the one that it hands on
+delivered_mail : (place : ℕ) (w : WorldContent) (what : What) (v : WorldContent) (d : IsDelivered place w what v) (f : Message → Bool) → count_by f v.mail + count_by f (d.message ∷ []) ≡ count_by f w.mail
+delivered_mail place w what v d f =
+    let same = handed_same (record w { mail = d.rest }) d.message what v d.on in
+    let rest = same.2 ∙ d.taken.others in
+    let left = ap (λ (l : List Message). count_by f l) rest ∙ count_append f d.taken.front d.taken.back in
+    let whole = ap (λ (l : List Message). count_by f l) d.taken.whole ∙ count_append f d.taken.front (d.message ∷ d.taken.back) in
+    let one = count_cons f d.message d.taken.back in
+    let alone = count_cons f d.message [] in
+    omega (arith, left, whole, one, alone)
 
 -- and so does whatever an event does before its grant joins the trace
-done_same : (w : WorldContent) (e : Event) (what : What) (v : WorldContent) → IsDone w e what v → (v.trace ≡ w.trace) × (v.plan ≡ w.plan)
-done_same w (Mail place) Nothing v done = elim done [
-  | inl none ↦ same_as v w none.1
-  | inr d ↦ delivered_same place w Nothing v d
+record IsLeft (w v : WorldContent) : Type 0 where
+  pub trace : v.trace ≡ w.trace
+  pub plan : v.plan ≡ w.plan
+  pub mail : (f : Message → Bool) → count_by f v.mail ≤ count_by f w.mail
+
+left_as : (w v : WorldContent) → (v.trace ≡ w.trace) × (v.plan ≡ w.plan) × (v.mail ≡ w.mail) → IsLeft w v
+left_as w v same = record {
+  trace = same.0;
+  plan = same.1;
+  mail = λ f. let counted = ap (λ (l : List Message). count_by f l) same.2 in omega (arith, counted);
+}
+
+left_by : (place : ℕ) (w : WorldContent) (what : What) (v : WorldContent) → IsDelivered place w what v → IsLeft w v
+left_by place w what v d =
+    let same = handed_same (record w { mail = d.rest }) d.message what v d.on in
+    record {
+      trace = same.0;
+      plan = same.1;
+      mail = λ f. let counted = delivered_mail place w what v d f in omega (arith, counted);
+    }
+
+done_left : (w : WorldContent) (e : Event) (what : What) (v : WorldContent) → IsDone w e what v → IsLeft w v
+done_left w (Mail place) Nothing v done = elim done [
+  | inl none ↦ left_as w v (same_as v w none.1)
+  | inr d ↦ left_by place w Nothing v d
 ]
-done_same w (Mail place) (Hears r) v done = delivered_same place w (Hears r) v done
-done_same w (Mail place) Submits v done = delivered_same place w Submits v done
-done_same w (Mail place) (Learns r) v done = delivered_same place w (Learns r) v done
-done_same w (Mail place) (Moves r) v done = delivered_same place w (Moves r) v done
-done_same w (Mail place) (Tries r) v done = delivered_same place w (Tries r) v done
-done_same w (Mail place) (Acts r) v done = delivered_same place w (Acts r) v done
-done_same w (Try k a) Nothing v done = same_as v w done.1
-done_same w (Try k a) (Hears r) v done = absurd done
-done_same w (Try k a) Submits v done = absurd done
-done_same w (Try k a) (Learns r) v done = absurd done
-done_same w (Try k a) (Moves r) v done = absurd done
-done_same w (Try k a) (Tries r) v done = (ap (λ (u : WorldContent). u.trace) done.3, ap (λ (u : WorldContent). u.plan) done.3)
-done_same w (Try k a) (Acts r) v done = absurd done
-done_same w (Bank s) Nothing v done = absurd done
-done_same w (Bank s) (Hears r) v done = absurd done
-done_same w (Bank s) Submits v done = absurd done
-done_same w (Bank s) (Learns r) v done = absurd done
-done_same w (Bank s) (Moves r) v done = absurd done
-done_same w (Bank s) (Tries r) v done = absurd done
-done_same w (Bank s) (Acts r) v done = (ap (λ (u : WorldContent). u.trace) done.2, ap (λ (u : WorldContent). u.plan) done.2)
+done_left w (Mail place) (Hears r) v done = left_by place w (Hears r) v done
+done_left w (Mail place) Submits v done = left_by place w Submits v done
+done_left w (Mail place) (Learns r) v done = left_by place w (Learns r) v done
+done_left w (Mail place) (Moves r) v done = left_by place w (Moves r) v done
+done_left w (Mail place) (Tries r) v done = left_by place w (Tries r) v done
+done_left w (Mail place) (Acts r) v done = left_by place w (Acts r) v done
+done_left w (Try k a) Nothing v done = left_as w v (same_as v _ done.1)
+done_left w (Try k a) (Hears r) v done = absurd done
+done_left w (Try k a) Submits v done = absurd done
+done_left w (Try k a) (Learns r) v done = absurd done
+done_left w (Try k a) (Moves r) v done = absurd done
+done_left w (Try k a) (Tries r) v done = left_as w v (same_as v _ done.3)
+done_left w (Try k a) (Acts r) v done = absurd done
+done_left w (Bank s) Nothing v done = absurd done
+done_left w (Bank s) (Hears r) v done = absurd done
+done_left w (Bank s) Submits v done = absurd done
+done_left w (Bank s) (Learns r) v done = absurd done
+done_left w (Bank s) (Moves r) v done = absurd done
+done_left w (Bank s) (Tries r) v done = absurd done
+done_left w (Bank s) (Acts r) v done = left_as w v (same_as v _ done.2)
 
 -- the trace after an event has the grant that it gave, and no other
 pub step_trace : (w : WorldContent) (e : Event) (d : Did) (v : WorldContent) → IsStep w e d v → v.trace ≡ trace_with w.trace (grant_in d.what)
 step_trace w e d v step =
-    let same = done_same w e d.what step.acted.middle step.acted.done in
-    ap (λ (u : WorldContent). u.trace) step.others ∙ (ap (λ (u : WorldContent). u.trace) step.acted.after ∙ ap (λ (t : List Grant). trace_with t (grant_in d.what)) same.0)
+    let left = done_left w e d.what step.acted.middle step.acted.done in
+    ap (λ (u : WorldContent). u.trace) step.others ∙ (ap (λ (u : WorldContent). u.trace) step.acted.after ∙ ap (λ (t : List Grant). trace_with t (grant_in d.what)) left.trace)
 
 pub step_plan : (w : WorldContent) (e : Event) (d : Did) (v : WorldContent) → IsStep w e d v → v.plan ≡ w.plan
 step_plan w e d v step =
-    let same = done_same w e d.what step.acted.middle step.acted.done in
-    ap (λ (u : WorldContent). u.plan) step.others ∙ (ap (λ (u : WorldContent). u.plan) step.acted.after ∙ same.1)
+    let left = done_left w e d.what step.acted.middle step.acted.done in
+    ap (λ (u : WorldContent). u.plan) step.others ∙ (ap (λ (u : WorldContent). u.plan) step.acted.after ∙ left.plan)
 
 -- what a trace grows by with a grant, if there is one
 grown_by : (trace : List Grant) (given : Option Grant) → (gs : List Grant) × (trace_with trace given ≡ trace ++ gs) × (length gs ≡ cond (is_some given) 1 0)
@@ -189,3 +225,80 @@ steps_grow (f ∷ es) (Some d ∷ ds) w v so =
 steps_grow (f ∷ es) (None ∷ ds) w v so =
     let more = steps_grow es ds w v so.1 in
     (more.0, more.1, sum_by-cons (λ x. cond (did_so is_grant x) 1 0) None ds ∙ from_zero _ _ more.2)
+
+-- the plan stays over events
+pub steps_plan : (w v : WorldContent) (es : List Event) (ds : List (Option Did)) → AreSteps es ds w v → v.plan ≡ w.plan
+steps_plan w v [] [] so = ap (λ (u : WorldContent). u.plan) so
+steps_plan w v [] (o ∷ ds) so = absurd so
+steps_plan w v (f ∷ es) [] so = absurd so
+steps_plan w v (f ∷ es) (Some d ∷ ds) so = steps_plan so.0 v es ds so.2 ∙ step_plan w f d so.0 so.1
+steps_plan w v (f ∷ es) (None ∷ ds) so = steps_plan w v es ds so.1
+
+-- no more of a kind are kept than there are
+kept_counted : (f : Message → Bool) (ps xs : List Message) → AreKeptOf ps xs → count_by f ps ≤ count_by f xs
+kept_counted f [] [] all_done = omega arith
+kept_counted f (p ∷ ps) (x ∷ xs) (one_kept kept) =
+    let less = kept_counted f ps xs kept in
+    let first = count_cons f p ps in
+    let second = count_cons f p xs in
+    omega (arith, less, first, second)
+kept_counted f (p ∷ ps) [] x3 = elim x3 [ ]
+kept_counted f ps (x ∷ xs) (one_lost kept) =
+    let less = kept_counted f ps xs kept in
+    let second = count_cons f x xs in
+    omega (arith, less, second)
+
+-- what is in flight after a step
+step_counted : (w v : WorldContent) (e : Event) (d : Did) (step : IsStep w e d v) (f : Message → Bool) → count_by f v.mail ≤ count_by f step.acted.middle.mail + count_by f step.sent
+step_counted w v e d step f =
+    let last = ap (λ (l : List Message). count_by f l) step.put.last ∙ count_append f step.middle.mail step.put.put in
+    let middle = ap (λ (u : WorldContent). count_by f u.mail) step.acted.after in
+    let kept = kept_counted f step.put.put step.sent step.put.kept in
+    omega (arith, last, middle, kept)
+
+pub messages_sent : (w v : WorldContent) (e : Event) (d : Did) → IsStep w e d v → (sent : List Message) × AreSent w.plan d.what sent × ((f : Message → Bool) → count_by f v.mail ≤ count_by f w.mail + count_by f sent)
+messages_sent w v e d step = (
+  step.sent,
+  step.sends,
+  λ f.
+      let counted = step_counted w v e d step f in
+      let left = (done_left w e d.what step.acted.middle step.acted.done).mail f in
+      omega (arith, counted, left),
+)
+
+-- where there is a message it is handed on
+at_place : (w : WorldContent) (place : ℕ) (what : What) (v : WorldContent) → IsDone w (Mail place) what v → place < length w.mail → IsDelivered place w what v
+at_place w place Nothing v done within = elim done [
+  | inl none ↦
+      let far = none.0 in
+      let never : ⊥ = omega (arith, far, within) in
+      absurd never
+  | inr d ↦ d
+]
+at_place w place (Hears r) v done within = done
+at_place w place Submits v done within = done
+at_place w place (Learns r) v done within = done
+at_place w place (Moves r) v done within = done
+at_place w place (Tries r) v done within = done
+at_place w place (Acts r) v done within = done
+
+read_middle : (front : List Message) (m : Message) (back : List Message) → slice_get (front ++ m ∷ back) (length front) ≡ Some m
+read_middle [] m back = refl
+read_middle (x ∷ front) m back = read_middle front m back
+
+read_taken : (place : ℕ) (m : Message) (mail left : List Message) → TakesOut place m mail left → slice_get mail place ≡ Some m
+read_taken place m mail left taken = subst (λ (k : ℕ). slice_get mail k ≡ Some m) taken.before (subst (λ (l : List Message). slice_get l (length taken.front) ≡ Some m) (sym taken.whole) (read_middle taken.front m taken.back))
+
+pub messages_once : (w v : WorldContent) (place : ℕ) (d : Did) → IsStep w (Mail place) d v → place < length w.mail
+    → (m : Message) × (slice_get w.mail place ≡ Some m) × (sent : List Message) × AreSent w.plan d.what sent × ((f : Message → Bool) → count_by f v.mail + count_by f (m ∷ []) ≤ count_by f w.mail + count_by f sent)
+messages_once w v place d step within =
+    let here = at_place w place d.what step.acted.middle step.acted.done within in (
+      here.message,
+      read_taken place here.message w.mail here.rest here.taken,
+      step.sent,
+      step.sends,
+      λ f.
+          let counted = step_counted w v (Mail place) d step f in
+          let left = delivered_mail place w d.what step.acted.middle here f in
+          omega (arith, counted, left),
+    )

@@ -2,6 +2,7 @@
 #![tactic(auto)]
 
 mod events;
+mod laws;
 mod machines;
 mod messages;
 mod runs;
@@ -10,6 +11,7 @@ mod starting;
 mod worlds;
 
 pub use events::{Did, Event, What};
+pub use laws::world_laws;
 pub use messages::Message;
 pub use runs::{Report, run_steps};
 pub use worlds::World;

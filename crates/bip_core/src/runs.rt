@@ -10,7 +10,7 @@ use bip_bank::Acted;
 use bip_ip::Tried;
 use bip_table::Decision;
 
-/// The sums of a run of events (docs/DEFINITIONS.md, "Worlds").
+/// The sums of a run of events (docs/DEFINITIONS.md, "The world and its events").
 #[derive(Clone, Copy, Debug, PartialEq, Eq)]
 pub struct Report {
     /// Messages that were lost for want of memory.

@@ -14,7 +14,7 @@ use std::alloc::{AllocError, Global};
 use std::marker;
 
 /// The nodes of a plan, the messages in flight between them, and a bank: what events move
-/// (docs/DEFINITIONS.md, "Worlds"). Contracts see what is kept.
+/// (docs/DEFINITIONS.md, "The world and its events"). Contracts see what is kept.
 #[derive(Drop)]
 pub struct World<'p, B: bip_bank::Bank> {
     machine: Machine<'p, B>,

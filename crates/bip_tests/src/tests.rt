@@ -15,6 +15,7 @@ mod parting;
 mod planning;
 mod positions;
 mod reading;
+mod running;
 mod stepping;
 mod tabling;
 mod worked;

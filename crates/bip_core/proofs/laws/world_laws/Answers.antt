@@ -1,0 +1,17 @@
+use Rattle.bip_core.proofs.RunLemmas.{messages_once, messages_sent, step_trace, steps_grow, steps_plan}
+use Rattle.bip_core.proofs.laws.world_laws.Goals as goal
+
+pub returns-clause-join : goal.returns-clause-join
+returns-clause-join c = λ w v event did step. step_trace w event did v step
+
+pub returns-clause-go_on : goal.returns-clause-go_on
+returns-clause-go_on c = λ w v events dids so. steps_grow events dids w v so
+
+pub returns-clause-plan : goal.returns-clause-plan
+returns-clause-plan c = steps_plan
+
+pub returns-clause-sent : goal.returns-clause-sent
+returns-clause-sent c = messages_sent
+
+pub returns-clause-once : goal.returns-clause-once
+returns-clause-once c = messages_once
