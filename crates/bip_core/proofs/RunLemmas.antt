@@ -7,7 +7,7 @@ use Rattle.std.proofs.lemmas.List.{append_assoc, append-nil, length-append}
 use Rattle.std.proofs.lemmas.List.Sums.{count_by-le-length, sum_by-append, sum_by-cons, sum_by_push}
 use Rattle.bip_model.specs.declared.grants.Grant.{Grant}
 use Rattle.bip_core.specs.Events.{AreKeptOf, AreSent, CanBeSkipped, IsDelivered, IsDone, IsHandedOn, IsStep, TakesOut, all_done, grant_in, one_kept, one_lost, trace_with}
-use Rattle.bip_core.specs.Runs.{AreSteps, CanCount, FitsLost, IsRun, did_so, is_grant, is_idle, is_refusal, lost_by, number_if, report_of, report_with, was_skipped}
+use Rattle.bip_core.specs.Runs.{AreSteps, CanCount, FitsLost, IsRunOfEvents, did_so, is_grant, is_idle, is_refusal, lost_by, number_if, report_of, report_with, was_skipped}
 use Rattle.bip_core.specs.Worlds.{WorldContent}
 use Rattle.bip_core.specs.declared.events.Did.{Did}
 use Rattle.bip_core.specs.declared.events.Event.{Event}
@@ -58,11 +58,11 @@ report_more : (ds : List (Option Did)) (d : Option Did) → report_with (report_
 report_more ds d = rw (← sum_by_push lost_by ds d, length-append ds (d ∷ []), ← count_push (did_so is_grant) ds d, ← count_push (did_so is_refusal) ds d, ← count_push (did_so is_idle) ds d, ← count_push was_skipped ds d) refl
 
 -- none so far
-pub no_steps : (w : WorldContent) (report : Report) → report ≡ report_of [] → IsRun [] w w report
+pub no_steps : (w : WorldContent) (report : Report) → report ≡ report_of [] → IsRunOfEvents [] w w report
 no_steps w report is = record { dids = []; steps = refl; sums = is }
 
 -- so one more can be counted
-pub can_count : (es : List Event) (w v : WorldContent) (report : Report) → length es + 1 < 2 ^ 64 → IsRun es w v report → FitsLost report → CanCount report
+pub can_count : (es : List Event) (w v : WorldContent) (report : Report) → length es + 1 < 2 ^ 64 → IsRunOfEvents es w v report → FitsLost report → CanCount report
 can_count es w v report few run lost =
     let ds = run.dids in
     let same = steps_length es ds w v run.steps in
@@ -76,8 +76,8 @@ can_count es w v report few run lost =
     })
 
 -- one more event, with its sums
-pub run_more : (es : List Event) (w v x : WorldContent) (report later : Report) (e : Event) (r : Result Did AllocError) (o : Option Did) → IsRun es w v report → o ≡ result_ok r → later ≡ report_with report o
-    → IfOk r (λ d. IsStep v e d x) → IfErr r (λ f. CanBeSkipped v e) → OnErr r (x ≡ v) → IsRun (es ++ e ∷ []) w x later
+pub run_more : (es : List Event) (w v x : WorldContent) (report later : Report) (e : Event) (r : Result Did AllocError) (o : Option Did) → IsRunOfEvents es w v report → o ≡ result_ok r → later ≡ report_with report o
+    → IfOk r (λ d. IsStep v e d x) → IfErr r (λ f. CanBeSkipped v e) → OnErr r (x ≡ v) → IsRunOfEvents (es ++ e ∷ []) w x later
 run_more es w v x report later e (Ok d) o run is counted step skipped err = record {
   dids = run.dids ++ Some d ∷ [];
   steps = steps_more es run.dids w v x e d run.steps step;

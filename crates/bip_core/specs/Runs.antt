@@ -63,7 +63,7 @@ report_of dids =
     }
 
 -- events lead from one world to another, and this is the report
-pub record IsRun (events : List Event) (w v : WorldContent) (report : Report) : Type 0 where
+pub record IsRunOfEvents (events : List Event) (w v : WorldContent) (report : Report) : Type 0 where
   pub dids : List (Option Did)
   pub steps : AreSteps events dids w v
   pub sums : report ≡ report_of dids

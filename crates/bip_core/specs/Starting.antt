@@ -1,6 +1,6 @@
 -- How a world begins: what each component offers first is in flight.
-use Rattle.std.specs.Prelude.{◌≡◌, ℕ, zero, suc, ◌<◌, ◌≤◌, List, [], ◌++◌, Option, None, Some, length}
-use Rattle.std.specs.Prelude.{slice_get}
+use Rattle.std.specs.Prelude.{◌≡◌, ℕ, zero, suc, ◌<◌, ◌≤◌, List, [], ◌++◌, Option, None, Some}
+use Rattle.std.specs.Prelude.{length, slice_get}
 use Rattle.bip_model.specs.declared.messages.Offer.{Offer}
 use Rattle.bip_partition.specs.Plans.{Planned}
 use Rattle.bip_component.specs.Components.{IsFirst, IsOffered, Node}

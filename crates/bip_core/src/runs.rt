@@ -1,7 +1,8 @@
 //! Runs of events, and their reports.
 ghost use Rattle.std.specs.Prelude.{◌≡◌, ◌++◌, List, length};
 ghost use Rattle.bip_model.specs.declared.grants.Grant.{Grant};
-ghost use Rattle.bip_core.specs.Runs.{CanCount, FitsLost, IsRun, is_idle, is_refusal, is_grant, report_with};
+ghost use Rattle.bip_core.specs.Runs.{CanCount, FitsLost, IsRunOfEvents, is_grant, is_idle};
+ghost use Rattle.bip_core.specs.Runs.{is_refusal, report_with};
 ghost use Rattle.bip_core.specs.Worlds.{world_of};
 ghost use Rattle.bip_core.specs.declared.events.What.TheVariants.{Tries};
 
@@ -31,7 +32,7 @@ pub struct Report {
 /// Does events one after another; one for which there is no memory is skipped, and those that
 /// follow are done. Whatever the events are, the report has their sums.
 pub fn run_steps<'p, B: bip_bank::Bank>(world: &mut World<'p, B>, events: &[Event]) -> Report
-    ensures run { IsRun events.now (world_of world.old) (world_of world.new) result }
+    ensures run { IsRunOfEvents events.now (world_of world.old) (world_of world.new) result }
     ensures grown { (grants : List Grant) × (world.new.trace ≡ world.old.trace ++ grants)
         × (result.grants ≡ length grants) }
 {
