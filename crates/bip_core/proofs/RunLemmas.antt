@@ -1,8 +1,6 @@
 -- Events one after another, and their sums.
 use Rattle.std.proofs.Common.{◌≡◌, ◌∙◌, ℕ, suc, inl, inr, ◌+◌, ◌<◌, ◌^◌, List, [], ◌∷◌, ◌++◌, Bool, false, true, Option, Some, None, length, refl, sym, ap, subst, arith, ◌≤◌, slice_get}
-use Rattle.std.specs.Prelude.{count_by, cond, is_some, Err, IfErr, IfOk, Ok, OnErr, Result}
-use Rattle.std.specs.Result.{result_ok}
-use Rattle.std.specs.declared.alloc.AllocError.{AllocError}
+use Rattle.std.specs.Prelude.{count_by, cond, is_some}
 use Rattle.std.proofs.lemmas.List.{append_assoc, append-nil, length-append}
 use Rattle.std.proofs.lemmas.List.Sums.{count_by-le-length, sum_by-append, sum_by-cons, sum_by_push}
 use Rattle.bip_model.specs.declared.grants.Grant.{Grant}
@@ -76,17 +74,18 @@ can_count es w v report few run lost =
     })
 
 -- one more event, with its sums
-pub run_more : (es : List Event) (w v x : WorldContent) (report later : Report) (e : Event) (r : Result Did AllocError) (o : Option Did) → IsRunOfEvents es w v report → o ≡ result_ok r → later ≡ report_with report o
-    → IfOk r (λ d. IsStep v e d x) → IfErr r (λ f. CanBeSkipped v e) → OnErr r (x ≡ v) → IsRunOfEvents (es ++ e ∷ []) w x later
-run_more es w v x report later e (Ok d) o run is counted step skipped err = record {
+pub run_more : (es : List Event) (w v x : WorldContent) (report later : Report) (e : Event) (d : Did) → IsRunOfEvents es w v report → IsStep v e d x → later ≡ report_with report (Some d) → IsRunOfEvents (es ++ e ∷ []) w x later
+run_more es w v x report later e d run step counted = record {
   dids = run.dids ++ Some d ∷ [];
   steps = steps_more es run.dids w v x e d run.steps step;
-  sums = counted ∙ (ap (λ (given : Option Did). report_with report given) is ∙ (ap (λ (r : Report). report_with r (Some d)) run.sums ∙ report_more run.dids (Some d)));
+  sums = counted ∙ (ap (λ (r : Report). report_with r (Some d)) run.sums ∙ report_more run.dids (Some d));
 }
-run_more es w v x report later e (Err f) o run is counted step skipped err = record {
+
+pub run_skip : (es : List Event) (w v x : WorldContent) (report later : Report) (e : Event) → IsRunOfEvents es w v report → CanBeSkipped v e → x ≡ v → later ≡ report_with report None → IsRunOfEvents (es ++ e ∷ []) w x later
+run_skip es w v x report later e run can same counted = record {
   dids = run.dids ++ None ∷ [];
-  steps = steps_skip es run.dids w v x e run.steps skipped err;
-  sums = counted ∙ (ap (λ (given : Option Did). report_with report given) is ∙ (ap (λ (r : Report). report_with r None) run.sums ∙ report_more run.dids None));
+  steps = steps_skip es run.dids w v x e run.steps can same;
+  sums = counted ∙ (ap (λ (r : Report). report_with r None) run.sums ∙ report_more run.dids None);
 }
 
 -- trace, plan and messages of a world that is another one but for its nodes or its bank

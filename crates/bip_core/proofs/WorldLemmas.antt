@@ -1,5 +1,5 @@
 -- What is kept of a world, as the world, and what its nodes leave.
-use Rattle.std.proofs.Common.{◌≡◌, ◌⊎◌, ℕ, suc, take, drop, ◌<◌, List, [], ◌∷◌, ◌++◌, length, set, get_or, Some, None, Option, inl, inr, refl, sym, ap, ◌∙◌, subst, slice_get, arith}
+use Rattle.std.proofs.Common.{◌≡◌, ◌⊎◌, ℕ, suc, take, drop, ◌<◌, ◌≤◌, List, ◌∷◌, ◌++◌, length, set, get_or, Some, None, Option, inl, inr, refl, sym, ap, ◌∙◌, subst, slice_get, arith}
 use Rattle.std.specs.Prelude.{All, Err, IfErr, IfSome, Ok, Result}
 use Rattle.std.specs.Option.{option_map}
 use Rattle.std.proofs.Math.Path.{fun_ext}
@@ -380,19 +380,13 @@ delivered w k place message what v taken same on =
       after = sym (ap (λ (x : Option Grant). record v { trace = trace_with v.trace x }) none);
     }
 
--- at a place of a list there is something
-read_none : {X : Type 0} (xs : List X) (place : ℕ) → place < length xs → ¬ (slice_get xs place ≡ None)
-read_none [] place within none = omega (arith, within)
-read_none (x ∷ xs) place within none =
-    let both : Some (get_or (x ∷ xs) place x) ≡ None = sym (slice_get-get_or (x ∷ xs) place x within) ∙ none in
-    cc
-
 -- there is no such message
-pub no_mail : (w : KeptWorld) (place : ℕ) → slice_get w.mail place ≡ None → IsTraced (world_of w) (Mail place) Nothing (world_of w)
-no_mail w place none = elim (cases_lt place (length w.mail)) [
-  | inl within ↦ absurd (read_none w.mail place within none)
-  | inr past ↦ record { middle = world_of w; done = inl (past, refl); after = refl }
-]
+pub no_mail : (w : KeptWorld) (place : ℕ) → length w.mail ≤ place → IsTraced (world_of w) (Mail place) Nothing (world_of w)
+no_mail w place past = record { middle = world_of w; done = inl (past, refl); after = refl }
+
+-- what is there is there alone
+pub some_same : {X : Type 0} {x y : X} → Some x ≡ Some y → x ≡ y
+some_same is = cc
 
 -- a request in flight fits
 pub request_fits : (w : KeptWorld) (place : ℕ) (q : Request) → IsKeptWorld w → slice_get w.mail place ≡ Some (RequestToBank q) → IsFit w.plan q

@@ -1,6 +1,7 @@
 //! The machine below the world: all its parts, and its events.
-ghost use Rattle.std.specs.Prelude.{◌≡◌, ◌<◌, All, IfErr, IfOk, OnErr, OnOk, Some, length};
-ghost use Rattle.std.specs.Prelude.{slice_get};
+ghost use Rattle.std.specs.Prelude.{◌≡◌, ◌<◌, All, IfErr, IfNone, IfOk, IfSome, OnErr, OnOk};
+ghost use Rattle.std.specs.Prelude.{Some, length, slice_get};
+ghost use Rattle.bip_model.specs.declared.messages.Request.{Request};
 ghost use Rattle.bip_model.specs.Numbering.{last_number};
 ghost use Rattle.bip_partition.specs.Plans.{IsFit};
 ghost use Rattle.bip_bank.specs.Banks.{content_of, with_request};
@@ -14,10 +15,12 @@ ghost use Rattle.bip_core.specs.declared.events.Event.TheVariants.{Bank, Mail, T
 ghost use Rattle.bip_core.specs.declared.messages.Message.{Message};
 ghost use Rattle.bip_core.specs.declared.messages.Message.TheVariants.{NotifyComponent, OfferTo};
 ghost use Rattle.bip_core.specs.declared.messages.Message.TheVariants.{ReplyToClass};
+ghost use Rattle.bip_core.specs.declared.messages.Message.TheVariants.{RequestToBank};
 
+use crate::messages::Message;
 use crate::sending::send;
 use crate::starting::{first_classes, first_components, first_offers};
-use crate::{Did, Event, Message, What};
+use crate::{Event, What};
 use bip_bank::{Acted, BankStep};
 use bip_component::SrComponent;
 use bip_ip::{IpNode, Tried};
@@ -112,75 +115,81 @@ impl<'p, B: bip_bank::Bank> Machine<'p, B> {
     }
 
     /// Hands an offer on to a class.
-    fn hear(&mut self, class: ClassId, offer: Offer) -> What
-        ensures on { IsHandedOn (world_of self.old) (OfferTo class offer) result
+    fn hear(&mut self, class: ClassId, offer: Offer, what: &mut What)
+        ensures on { IsHandedOn (world_of self.old) (OfferTo class offer) what.new
             (world_of self.new) }
-        ensures fits { SendsWhatFits self.old.plan result }
+        ensures fits { SendsWhatFits self.old.plan what.new }
         ensures plan { self.new.plan ≡ self.old.plan }
     {
         if class.0 as usize >= self.classes.len() {
-            return What::Nothing;
+            *what = What::Nothing;
+            return;
         }
-        What::Hears(self.classes[class.0 as usize].on_offer(offer))
+        *what = What::Hears(self.classes[class.0 as usize].on_offer(offer));
     }
 
     /// Hands a reply on to the class that it names.
-    fn learn(&mut self, reply: &Reply) -> What
-        ensures on { IsHandedOn (world_of self.old) (ReplyToClass reply.now) result
+    fn learn(&mut self, reply: &Reply, what: &mut What)
+        ensures on { IsHandedOn (world_of self.old) (ReplyToClass reply.now) what.new
             (world_of self.new) }
-        ensures fits { SendsWhatFits self.old.plan result }
+        ensures fits { SendsWhatFits self.old.plan what.new }
         ensures plan { self.new.plan ≡ self.old.plan }
     {
         let class = class_named(reply);
         if class.0 as usize >= self.classes.len() {
-            return What::Nothing;
+            *what = What::Nothing;
+            return;
         }
-        What::Learns(self.classes[class.0 as usize].on_reply(reply))
+        *what = What::Learns(self.classes[class.0 as usize].on_reply(reply));
     }
 
     /// Hands a notification on to its component.
-    fn move_by(&mut self, notify: &Notify) -> What
-        ensures on { IsHandedOn (world_of self.old) (NotifyComponent notify.now) result
+    fn move_by(&mut self, notify: &Notify, what: &mut What)
+        ensures on { IsHandedOn (world_of self.old) (NotifyComponent notify.now) what.new
             (world_of self.new) }
-        ensures fits { SendsWhatFits self.old.plan result }
+        ensures fits { SendsWhatFits self.old.plan what.new }
         ensures plan { self.new.plan ≡ self.old.plan }
     {
         if notify.comp.0 as usize >= self.components.len() {
-            return What::Nothing;
+            *what = What::Nothing;
+            return;
         }
-        What::Moves(self.components[notify.comp.0 as usize].on_notify(notify))
+        *what = What::Moves(self.components[notify.comp.0 as usize].on_notify(notify));
     }
 
     /// Lets a class try an interaction; a local grant joins the trace, for which room is made
     /// first.
-    fn try_one(&mut self, class: ClassId, inter: InterId) -> Result<What, AllocError>
-        ensures traced { IfOk result (λ what.
-            IsTraced (world_of self.old) (Try class inter) what (world_of self.new)) }
-        ensures fits { IfOk result (SendsWhatFits self.old.plan) }
+    fn try_one(&mut self, class: ClassId, inter: InterId, what: &mut What) -> Result<(), AllocError>
+        ensures traced { OnOk result
+            (IsTraced (world_of self.old) (Try class inter) what.new (world_of self.new)) }
+        ensures fits { OnOk result (SendsWhatFits self.old.plan what.new) }
         ensures plan { self.new.plan ≡ self.old.plan }
         ensures skipped { IfErr result (λ e. CanBeSkipped (world_of self.old) (Try class inter)) }
         ensures err { OnErr result (self.new ≡ self.old) }
     {
         if class.0 as usize >= self.classes.len() {
-            return Ok(What::Nothing);
+            *what = What::Nothing;
+            return Ok(());
         }
         if self.plan.reserved(inter) {
             let did = self.classes[class.0 as usize].try_interaction(inter);
-            return Ok(What::Tries(did));
+            *what = What::Tries(did);
+            return Ok(());
         }
         self.trace.reserve(1)?;
         let did = self.classes[class.0 as usize].try_interaction(inter);
         if let Some(grant) = grant_tried(&did) {
             self.trace.push_reserved(grant);
         }
-        Ok(What::Tries(did))
+        *what = What::Tries(did);
+        Ok(())
     }
 
     /// Lets the bank do a step; a grant joins the trace, for which room is made first.
-    fn act(&mut self, step: BankStep) -> Result<What, AllocError>
-        ensures traced { IfOk result (λ what.
-            IsTraced (world_of self.old) (Bank step) what (world_of self.new)) }
-        ensures fits { IfOk result (SendsWhatFits self.old.plan) }
+    fn act(&mut self, step: BankStep, what: &mut What) -> Result<(), AllocError>
+        ensures traced { OnOk result
+            (IsTraced (world_of self.old) (Bank step) what.new (world_of self.new)) }
+        ensures fits { OnOk result (SendsWhatFits self.old.plan what.new) }
         ensures plan { self.new.plan ≡ self.old.plan }
         ensures err { OnErr result (world_of self.new ≡ world_of self.old) }
     {
@@ -190,61 +199,60 @@ impl<'p, B: bip_bank::Bank> Machine<'p, B> {
         if let Some(grant) = grant_acted(&did) {
             self.trace.push_reserved(grant);
         }
-        Ok(What::Acts(did))
+        *what = What::Acts(did);
+        Ok(())
     }
 
-    /// Takes the message at a place out, and hands it on to the node for which it is.
-    fn deliver(&mut self, place: usize) -> Result<What, AllocError>
-        ensures traced { IfOk result (λ what.
-            IsTraced (world_of self.old) (Mail place) what (world_of self.new)) }
-        ensures fits { IfOk result (SendsWhatFits self.old.plan) }
+    /// Hands the message at a place on to the node for which it is, and takes it out.
+    fn deliver(&mut self, place: usize, what: &mut What) -> Result<(), AllocError>
+        ensures traced { OnOk result
+            (IsTraced (world_of self.old) (Mail place) what.new (world_of self.new)) }
+        ensures fits { OnOk result (SendsWhatFits self.old.plan what.new) }
         ensures plan { self.new.plan ≡ self.old.plan }
         ensures skipped { IfErr result (λ e. CanBeSkipped (world_of self.old) (Mail place)) }
         ensures err { OnErr result (world_of self.new ≡ world_of self.old) }
     {
-        let Some(message) = self.message_at(place) else {
-            return Ok(What::Nothing);
-        };
-        match message {
-            Message::OfferTo(class, offer) => {
-                self.take_out(place);
-                Ok(self.hear(class, offer))
-            }
-            Message::ReplyToClass(reply) => {
-                self.take_out(place);
-                Ok(self.learn(&reply))
-            }
-            Message::NotifyComponent(notify) => {
-                self.take_out(place);
-                Ok(self.move_by(&notify))
-            }
-            Message::RequestToBank(request) => {
-                self.submit(request)?;
-                self.take_out(place);
-                Ok(What::Submits)
-            }
+        if place >= self.mails() {
+            *what = What::Nothing;
+            return Ok(());
         }
+        if let Some(request) = self.request_at(place) {
+            self.submit(request)?;
+            self.take_out(place);
+            *what = What::Submits;
+            return Ok(());
+        }
+        match self.take_out(place) {
+            Message::OfferTo(class, offer) => self.hear(class, offer, what),
+            Message::ReplyToClass(reply) => self.learn(&reply, what),
+            Message::NotifyComponent(notify) => self.move_by(&notify, what),
+            Message::RequestToBank(_) => unreachable!(),
+        }
+        Ok(())
     }
 
-    /// The message at a place among those in flight, once more.
-    fn message_at(&self, place: usize) -> Option<Message>
-        ensures message { result ≡ slice_get self.now.mail place }
+    /// The request that is the message at a place, once more; none where it is another message.
+    fn request_at(&self, place: usize) -> Option<Request>
+        requires { place < length self.now.mail }
+        ensures some { IfSome result (λ q. slice_get self.now.mail place ≡ Some (RequestToBank q)) }
+        ensures none { IfNone result
+            ((q : Request) → ¬ (slice_get self.now.mail place ≡ Some (RequestToBank q))) }
         ensures kept { IsKeptWorld self.now }
     {
-        match self.mail.get(place) {
-            Some(message) => Some(message.copy()),
-            None => None,
+        match &self.mail[place] {
+            Message::RequestToBank(posted) => Some(posted.request().copy()),
+            _ => None,
         }
     }
 
     /// Takes the message at a place out.
-    fn take_out(&mut self, place: usize)
+    fn take_out(&mut self, place: usize) -> Message
         requires { place < length self.old.mail }
-        ensures taken { (message : Message) → slice_get self.old.mail place ≡ Some message
-            → TakesOut place message self.old.mail self.new.mail }
+        ensures message { slice_get self.old.mail place ≡ Some result }
+        ensures taken { TakesOut place result self.old.mail self.new.mail }
         ensures others { self.new ≡ record self.old { mail = self.new.mail } }
     {
-        self.mail.remove(place);
+        self.mail.remove(place)
     }
 
     /// Hands a request on to the bank.
@@ -272,33 +280,31 @@ impl<'p, B: bip_bank::Bank> Machine<'p, B> {
     }
 
     /// Does what an event does before anything is sent.
-    fn happen(&mut self, event: Event) -> Result<What, AllocError>
-        ensures traced { IfOk result (λ what.
-            IsTraced (world_of self.old) event what (world_of self.new)) }
-        ensures fits { IfOk result (SendsWhatFits self.old.plan) }
+    pub fn happen(&mut self, event: Event, what: &mut What) -> Result<(), AllocError>
+        ensures traced { OnOk result
+            (IsTraced (world_of self.old) event what.new (world_of self.new)) }
+        ensures fits { OnOk result (SendsWhatFits self.old.plan what.new) }
         ensures plan { self.new.plan ≡ self.old.plan }
         ensures skipped { IfErr result (λ e. CanBeSkipped (world_of self.old) event) }
         ensures err { OnErr result (world_of self.new ≡ world_of self.old) }
     {
         match event {
-            Event::Mail(place) => self.deliver(place),
-            Event::Try(class, inter) => self.try_one(class, inter),
-            Event::Bank(step) => self.act(step),
+            Event::Mail(place) => self.deliver(place, what),
+            Event::Try(class, inter) => self.try_one(class, inter, what),
+            Event::Bank(step) => self.act(step, what),
         }
     }
 
     /// Does one event: the node that it addresses acts, and its grant joins the trace; what it
-    /// sends is put last. Want of memory skips a submission, a try of a local interaction or a step
-    /// of the bank, and then the world stays as it was; it loses messages in all others.
-    pub fn step(&mut self, event: Event) -> Result<Did, AllocError>
-        ensures step { IfOk result (λ did. IsStep (world_of self.old) event did
-            (world_of self.new)) }
+    /// sends is put last. It leaves what the event did, and answers how many messages were lost.
+    pub fn step(&mut self, event: Event, what: &mut What) -> Result<usize, AllocError>
+        ensures step { IfOk result (λ lost. IsStep (world_of self.old) event
+            (record { what = what.new; lost = lost }) (world_of self.new)) }
         ensures skipped { IfErr result (λ e. CanBeSkipped (world_of self.old) event) }
         ensures err { OnErr result (world_of self.new ≡ world_of self.old) }
     {
-        let what = self.happen(event)?;
-        let lost = self.send(&what);
-        Ok(Did { what, lost })
+        self.happen(event, what)?;
+        Ok(self.send(what))
     }
 }
 

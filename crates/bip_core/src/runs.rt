@@ -1,12 +1,12 @@
 //! Runs of events, and their reports.
-ghost use Rattle.std.specs.Prelude.{◌≡◌, ◌++◌, List, length};
+ghost use Rattle.std.specs.Prelude.{◌≡◌, ◌++◌, List, None, Some, length};
 ghost use Rattle.bip_model.specs.declared.grants.Grant.{Grant};
 ghost use Rattle.bip_core.specs.Runs.{CanCount, FitsLost, IsRunOfEvents, is_grant, is_idle};
 ghost use Rattle.bip_core.specs.Runs.{is_refusal, report_with};
 ghost use Rattle.bip_core.specs.Worlds.{world_of};
 ghost use Rattle.bip_core.specs.declared.events.What.TheVariants.{Tries};
 
-use crate::{Did, Event, What, World};
+use crate::{Event, What, World};
 use bip_bank::Acted;
 use bip_ip::Tried;
 use bip_table::Decision;
@@ -44,31 +44,38 @@ pub fn run_steps<'p, B: bip_bank::Bank>(world: &mut World<'p, B>, events: &[Even
         idle: 0,
         skipped: 0,
     };
+    let mut what = What::Nothing;
     for event in events {
-        let did = world.step(*event).ok();
-        report = with_event(&report, &did);
+        match world.step_into(*event, &mut what) {
+            Ok(lost) => count_event(&mut report, &what, lost),
+            Err(_) => count_skipped(&mut report),
+        }
     }
     report
 }
 
-/// A report with one more event, which did this, or was skipped.
-fn with_event(report: &Report, did: &Option<Did>) -> Report
-    requires { CanCount report.now }
-    ensures with_event { result ≡ report_with report.now did.now }
-    ensures lost { FitsLost result }
+/// Counts an event that did this, and lost so many messages.
+fn count_event(report: &mut Report, what: &What, lost: usize)
+    requires { CanCount report.old }
+    ensures with_event { report.new
+        ≡ report_with report.old (Some (record { what = what.now; lost = lost })) }
+    ensures lost { FitsLost report.new }
 {
-    let mut later = *report;
-    later.events += 1;
-    match did {
-        Some(did) => {
-            later.lost += did.lost as u128;
-            later.grants += u64::from(is_grant(&did.what));
-            later.refusals += u64::from(is_refusal(&did.what));
-            later.idle += u64::from(is_idle(&did.what));
-        }
-        None => later.skipped += 1,
-    }
-    later
+    report.lost += lost as u128;
+    report.events += 1;
+    report.grants += u64::from(is_grant(what));
+    report.refusals += u64::from(is_refusal(what));
+    report.idle += u64::from(is_idle(what));
+}
+
+/// Counts an event that was skipped.
+fn count_skipped(report: &mut Report)
+    requires { CanCount report.old }
+    ensures with_event { report.new ≡ report_with report.old None }
+    ensures lost { FitsLost report.new }
+{
+    report.events += 1;
+    report.skipped += 1;
 }
 
 fn is_grant(what: &What) -> bool

@@ -2,9 +2,10 @@
 ghost use Rattle.std.specs.Prelude.{◌≡◌, [], ◌∷◌, map};
 ghost use Rattle.bip_core.specs.Events.{ArePut, IsSending, SendsWhatFits, are_notified, reply_to};
 ghost use Rattle.bip_core.specs.declared.events.What.TheVariants.{Acts, Learns, Moves, Tries};
-ghost use Rattle.bip_core.specs.declared.messages.Message.TheVariants.{OfferTo};
+ghost use Rattle.bip_core.specs.declared.messages.Message.TheVariants.{OfferTo, RequestToBank};
 
-use crate::{Message, What};
+use crate::What;
+use crate::messages::{Message, Posted};
 use bip_bank::Acted;
 use bip_component::Notified;
 use bip_ip::{Answered, Tried};
@@ -59,7 +60,7 @@ fn send_tried(plan: &Plan, mail: &mut Vec<Message>, did: &Tried) -> usize
         Tried::Not(_) => 0,
         Tried::Local(_, notifies) => notify_all(mail, notifies.as_slice()),
         Tried::Ended => 0,
-        Tried::Sent(request) => put_last(mail, Message::RequestToBank(request.copy())),
+        Tried::Sent(request) => put_request(mail, request),
     }
 }
 
@@ -81,6 +82,16 @@ fn put_last(mail: &mut Vec<Message>, message: Message) -> usize
 {
     match mail.push(message) {
         Ok(()) => 0,
+        Err(_) => 1,
+    }
+}
+
+/// Puts a request to the bank last, and says how many were lost.
+fn put_request(mail: &mut Vec<Message>, request: &Request) -> usize
+    ensures { ArePut (RequestToBank request.now ∷ []) result mail.old.items mail.new.items }
+{
+    match Posted::of(*mail.allocator(), request.copy()) {
+        Ok(posted) => put_last(mail, Message::RequestToBank(posted)),
         Err(_) => 1,
     }
 }

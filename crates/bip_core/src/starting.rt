@@ -3,7 +3,7 @@ ghost use Rattle.std.specs.Prelude.{◌≡◌, ◌<◌, IfOk, length, slice_get}
 ghost use Rattle.bip_model.specs.Numbering.{last_number};
 ghost use Rattle.bip_core.specs.Starting.{AreFirstClasses, AreFirstComponents, AreOffersBelow};
 
-use crate::Message;
+use crate::messages::Message;
 use crate::sending::offer_to_all;
 use bip_component::SrComponent;
 use bip_ip::IpNode;

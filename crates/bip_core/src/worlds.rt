@@ -7,7 +7,7 @@ ghost use Rattle.bip_core.specs.Starting.{IsNewWorld, IsUnasked};
 ghost use Rattle.bip_core.specs.Worlds.{IsKnownGrant, world_of};
 
 use crate::machines::Machine;
-use crate::{Did, Event};
+use crate::{Did, Event, What};
 use bip_model::{Grant, Number};
 use bip_partition::Plan;
 use std::alloc::{AllocError, Global};
@@ -57,7 +57,20 @@ impl<'p, B: bip_bank::Bank> World<'p, B> {
         ensures skipped { IfErr result (λ e. CanBeSkipped (world_of self.old) event) }
         ensures err { OnErr result (world_of self.new ≡ world_of self.old) }
     {
-        self.machine.step(event)
+        let mut what = What::Nothing;
+        let lost = self.step_into(event, &mut what)?;
+        Ok(Did { what, lost })
+    }
+
+    /// Does one event as `step` does. It leaves what the event did, and answers how many messages
+    /// were lost.
+    pub(crate) fn step_into(&mut self, event: Event, what: &mut What) -> Result<usize, AllocError>
+        ensures step { IfOk result (λ lost. IsStep (world_of self.old) event
+            (record { what = what.new; lost = lost }) (world_of self.new)) }
+        ensures skipped { IfErr result (λ e. CanBeSkipped (world_of self.old) event) }
+        ensures err { OnErr result (world_of self.new ≡ world_of self.old) }
+    {
+        self.machine.step(event, what)
     }
 
     /// The grants, in order. Each is of an interaction and of components of the plan's model.
