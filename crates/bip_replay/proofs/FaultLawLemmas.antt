@@ -17,11 +17,12 @@ use Rattle.bip_replay.specs.Faults.{IsFaultOf, IsLowestWrong, of_step}
 use Rattle.bip_replay.specs.Replays.{IsFirstFault, IsLineFault, IsRunOf}
 use Rattle.bip_replay.specs.Runs.{HasNextNumber, IsModelRun, state_after, used_after}
 use Rattle.bip_replay.specs.Lines.{grant_on}
-use Rattle.bip_replay.specs.Traces.{grants_from, grants_of, one_more}
+use Rattle.bip_replay.specs.Items.{one_more}
+use Rattle.bip_replay.specs.Traces.{grants_from, grants_of}
 use Rattle.bip_replay.specs.declared.faults.ReplayFault.TheVariants.{Syntax, Unknown, NotARun, Memory}
 use Rattle.bip_replay.specs.declared.faults.LineFault.TheVariants as line_fault
 use Rattle.bip_replay.specs.declared.faults.ReplayFault.TheVariants as replay
-use Rattle.bip_replay.proofs.ReadingLemmas.{first_read, grants_from-append, onto, grants_from-push}
+use Rattle.bip_replay.proofs.ItemLemmas.{first_read, items_from-append, items_from-push, onto}
 use Rattle.bip_replay.proofs.RunLemmas.{not_next, IsRunFrom-push, next_at, next_or_fault}
 use Rattle.bip_replay.proofs.GrantLemmas.{grant_line}
 
@@ -32,7 +33,7 @@ onto_some gs all r is = grind arith
 -- lines of which one is at fault where those before it lead are no run
 pub stops : (m : System) (base : ℕ) (front rest : List (List ℕ)) (line : List ℕ) (gs all : List Grant) (fault : ReplayFault) → grants_from m 1 front ≡ Ok gs → IsLineFault m (state_after m gs) (used_after base gs) line fault → grants_from m 1 (front ++ line ∷ rest) ≡ Ok all → IsModelRun m base all → ⊥
 stops m base front rest line gs all fault reads why whole run =
-    let behind = onto_some gs all (grants_from m (1 + length front) (line ∷ rest)) (rw (grants_from-append m 1 front (line ∷ rest) gs reads) at whole) in
+    let behind = onto_some gs all (grants_from m (1 + length front) (line ∷ rest)) (rw (items_from-append (grant_on m) 1 front (line ∷ rest) gs reads) at whole) in
     let at = first_read (1 + length front) (grant_on m line) (grants_from m (1 + length front + 1) rest) behind.0 behind.1 in
     by_fault fault why at.0 at.1 at.2 (rw (at.4, behind.2) run)
   where
@@ -98,7 +99,7 @@ answer : (m : System) (base : ℕ) (text : List ℕ) (front rest : List (List �
 answer m base text front [] gs valid split reads run =
     inl (length gs, record { grants = gs; reads = rw (split ∙ append-nil front) reads; run = run; counted = refl })
 answer m base text front (line ∷ rest) gs valid split reads run =
-    by_line (grant_on m line) refl (λ o says. answer m base text (front ++ line ∷ []) rest (one_more gs o) valid (split ∙ sym (append_assoc front (line ∷ []) rest)) (grants_from-push m 1 front line gs o reads says))
+    by_line (grant_on m line) refl (λ o says. answer m base text (front ++ line ∷ []) rest (one_more gs o) valid (split ∙ sym (append_assoc front (line ∷ []) rest)) (items_from-push (grant_on m) 1 front line gs o reads says))
   where
     stopped : (fault : ReplayFault) → IsLineFault m (state_after m gs) (used_after base gs) line fault → Answered m base text
     stopped fault why =

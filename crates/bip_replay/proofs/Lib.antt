@@ -1,6 +1,7 @@
 pub mod FaultLawLemmas
 pub mod FaultLemmas
 pub mod GrantLemmas
+pub mod ItemLemmas
 pub mod LineByLineLemmas
 pub mod NamedLemmas
 pub mod ReadingLemmas

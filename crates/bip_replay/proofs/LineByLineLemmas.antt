@@ -9,10 +9,11 @@ use Rattle.bip_model.specs.declared.parts.System.{System}
 use Rattle.bip_model.specs.declared.wants.Role.TheVariants.{Moved}
 use Rattle.std.specs.Prelude.{codes}
 use Rattle.bip_replay.proofs.GrantLemmas.{reads_grant_lines}
-use Rattle.bip_replay.specs.Laws.{AreGrantLines, GrantsLineByLine, IsGrantLine, grant_line, no_line, no_words}
+use Rattle.bip_replay.specs.Laws.{AreGrantLines, GrantsLineByLine, grant_line, no_line, no_words}
 use Rattle.bip_replay.specs.Lines.{grant_on, known, looked_up, said, wants_said}
 use Rattle.bip_replay.specs.declared.lines.NamedWant.{NamedWant}
-use Rattle.bip_replay.specs.Traces.{before_rest, grants_from}
+use Rattle.bip_replay.specs.Items.{before_rest}
+use Rattle.bip_replay.specs.Traces.{grants_from}
 use Rattle.bip_replay.specs.declared.faults.LineFault.TheVariants.{Syntax, Unknown}
 use Rattle.bip_replay.specs.declared.faults.LineFault.{LineFault}
 

@@ -1,17 +1,17 @@
 -- Runs: in parts, step by step, what they are histories of, the numbers of moves, where one grant more
 -- leads, and used numbers of wants granted one after another.
-use Rattle.std.proofs.Common.{◌≡◌, ℕ, ◌+◌, ◌<◌, List, [], ◌∷◌, ◌++◌, refl, arith, Bool, length, Option, None, Some, find, subst, inl, inr, ◌⊎◌, sym, ap, ◌∙◌, ◌≢◌, true, false, cond, ◌&&◌, eqb, max, take, get_or}
-use Rattle.std.proofs.lemmas.List.Elements.{All-head, All-tail, filter-append, All-from_get_or}
+use Rattle.std.proofs.Common.{◌≡◌, ℕ, ◌+◌, ◌<◌, List, [], ◌∷◌, ◌++◌, refl, arith, Bool, length, Option, None, Some, find, subst, inl, inr, ◌⊎◌, sym, ap, ◌∙◌}
+use Rattle.std.proofs.lemmas.List.Elements.{All-head, All-tail, filter-append}
 use Rattle.std.specs.Prelude.{◌↔◌, All, filter, nat_lt}
 use Rattle.std.specs.List.Sorted.{IsStrictlyIncreasing}
-use Rattle.std.proofs.lemmas.List.{length-append, get_or-take, length-take-le, take_more}
+use Rattle.std.proofs.lemmas.List.{length-append}
 use Rattle.bip_model.specs.declared.grants.Grant.{Grant}
 use Rattle.bip_model.specs.declared.wants.Want.{Want}
 use Rattle.bip_model.specs.declared.parts.System.{System}
 use Rattle.bip_model.specs.Grants.{IsHistory, used_by}
 use Rattle.bip_model.specs.States.{State}
 use Rattle.bip_model.specs.Steps.{IsRun, after, end_of, start_of, MayRun}
-use Rattle.bip_model.specs.Wants.{raised, components_of, moved_in, is_moved}
+use Rattle.bip_model.specs.Wants.{raised, components_of, moved_in}
 use Rattle.bip_model.proofs.StepLemmas.{enabled_or_not}
 use Rattle.bip_model.specs.Parts.{IsSystem}
 use Rattle.bip_model.proofs.PartyLemmas.{parties_decided}
@@ -23,7 +23,6 @@ use Rattle.bip_replay.specs.Laws.{times_moved}
 use Rattle.bip_model.proofs.LowestLemmas.{may_or_below}
 use Rattle.bip_replay.proofs.FaultLemmas.{lowest_wrong, next_from_tests, none_wrong}
 use Rattle.bip_model.proofs.HistoryLemmas.{used_by-push}
-use Rattle.bip_model.proofs.ListLemmas.{below_later}
 
 pub IsRunFrom-push : (m : System) (s : State) (used : ℕ → ℕ) (gs : List Grant) (g : Grant) → IsRunFrom m s used gs → IsNext m (end_of m s (interactions_of gs)) (used_by used gs) g → IsRunFrom m s used (gs ++ g ∷ [])
 IsRunFrom-push m s used [] g run next = (next, tt)

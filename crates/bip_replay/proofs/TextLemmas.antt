@@ -10,8 +10,9 @@ use Rattle.bip_model.specs.declared.grants.Grant.{Grant}
 use Rattle.bip_model.specs.declared.parts.System.{System}
 use Rattle.bip_replay.specs.Laws.{AreOfModel, NamesItsInteraction, SameGrants, Spells}
 use Rattle.bip_replay.specs.Lines.{grant_on, looked_up, said}
-use Rattle.bip_replay.specs.Traces.{grants_from, grants_of, one_more}
-use Rattle.bip_replay.proofs.ReadingLemmas.{first_read}
+use Rattle.bip_replay.specs.Items.{one_more}
+use Rattle.bip_replay.specs.Traces.{grants_from, grants_of}
+use Rattle.bip_replay.proofs.ItemLemmas.{first_read}
 use Rattle.bip_replay.specs.Writing.{IsGrantOf, IsSpelled, ReadsBack, bare_line, behind_see, has_role, text_of, want_word, want_words, words_behind}
 use Rattle.bip_replay.specs.declared.faults.LineFault.{LineFault}
 use Rattle.bip_replay.specs.declared.faults.LineFault.TheVariants.{Syntax}

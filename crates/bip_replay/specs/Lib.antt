@@ -1,5 +1,6 @@
 pub mod Book
 pub mod Faults
+pub mod Items
 pub mod Laws
 pub mod Lines
 pub mod Replays

@@ -6,10 +6,11 @@ use Rattle.bip_model.specs.Texts.{lines}
 use Rattle.bip_model.specs.declared.grants.Grant.{Grant}
 use Rattle.bip_model.specs.declared.parts.System.{System}
 use Rattle.bip_replay.specs.Faults.{IsFaultOf, of_step}
+use Rattle.bip_replay.specs.Items.{IsOutOfMemory}
 use Rattle.bip_replay.specs.Lines.{grant_on}
 use Rattle.bip_replay.specs.Runs.{IsModelRun, IsNextAt, Standing, standing_on, state_after}
 use Rattle.bip_replay.specs.Runs.{used_after}
-use Rattle.bip_replay.specs.Traces.{IsOutOfMemory, grants_from, grants_of}
+use Rattle.bip_replay.specs.Traces.{grants_from, grants_of}
 use Rattle.bip_replay.specs.declared.faults.LineFault.TheVariants as line_fault
 use Rattle.bip_replay.specs.declared.faults.ReplayFault.TheVariants.{Memory, NotARun, Syntax}
 use Rattle.bip_replay.specs.declared.faults.ReplayFault.TheVariants.{Unknown}
@@ -48,7 +49,7 @@ pub record IsFirstFault
 -- why a trace isn't replayed: its first fault, or want of memory, which is told of the first line,
 -- where that reads
 abbrev pub IsReplayFault : System → ℕ → List ℕ → ℕ → ReplayFault → Type 0
-IsReplayFault m base text number Memory = (number ≡ 1) × IsOutOfMemory m text 1
+IsReplayFault m base text number Memory = (number ≡ 1) × IsOutOfMemory (grant_on m) text 1
 IsReplayFault m base text number Syntax = IsFirstFault m base text number Syntax
 IsReplayFault m base text number Unknown = IsFirstFault m base text number Unknown
 IsReplayFault m base text number (NotARun why) = IsFirstFault m base text number (NotARun why)

@@ -1,6 +1,6 @@
 -- Runs of a model with exact numbers: which grant may come next, what a list of grants leads to,
 -- and where a run stands.
-use Rattle.std.specs.Prelude.{All, Bool, IsTrue, List, [], if◌then◌else◌, map, max}
+use Rattle.std.specs.Prelude.{All, Bool, IsTrue, List, [], map}
 use Rattle.std.specs.Prelude.{nat_lt, not, slice_index_or, ℕ, ⊤, ◌&&◌, ◌+◌, ◌<◌, ◌==◌, ◌∷◌}
 use Rattle.std.specs.Prelude.{◌≡◌, ◌≤◌}
 use Rattle.bip_model.specs.Grants.{used_by}

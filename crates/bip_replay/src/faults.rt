@@ -115,12 +115,12 @@ impl From<StepFault> for BookFault {
     }
 }
 
-/// Why a line of a trace says no grant.
+/// Why a line of a text says no item of it.
 #[derive(Debug, Drop)]
-pub(crate) enum LineFault {
-    /// The line hasn't the form of a grant.
+pub enum LineFault {
+    /// The line hasn't the form of an item.
     Syntax,
-    /// An interaction or a component that the model lacks.
+    /// A name that the model lacks.
     Unknown,
 }
 

@@ -13,7 +13,7 @@ mod traces;
 mod writing;
 
 pub use book::Book;
-pub use faults::{BookFault, ReplayFault, StepFault, TraceFault};
+pub use faults::{BookFault, LineFault, ReplayFault, StepFault, TraceFault};
 pub use grants::GrantRef;
 pub use laws::{fault_laws, run_laws, trace_laws};
 pub use replays::replay;

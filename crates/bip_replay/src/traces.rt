@@ -1,6 +1,8 @@
 //! Reading and writing traces.
 ghost use Rattle.std.specs.Prelude.{◌≡◌, Ok, IfOk, IfErr};
-ghost use Rattle.bip_replay.specs.Traces.{IsTraceFault, Reads, grants_of};
+ghost use Rattle.bip_replay.specs.Items.{Reads};
+ghost use Rattle.bip_replay.specs.Lines.{grant_on};
+ghost use Rattle.bip_replay.specs.Traces.{IsTraceFault, grants_of};
 
 use crate::TraceFault;
 use crate::rooms::Room;
@@ -35,7 +37,7 @@ fn read_one(
     model: &Model,
     line: &[u8],
 ) -> Result<(), TraceFault>
-    ensures { Reads model.now grants.old.items line.now result grants.new.items }
+    ensures { Reads (grant_on model.now) grants.old.items line.now result grants.new.items }
 {
     let Some(grant) = room.read(model, line)? else {
         return Ok(());

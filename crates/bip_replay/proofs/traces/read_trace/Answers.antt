@@ -1,4 +1,4 @@
-use Rattle.bip_replay.proofs.ReadingLemmas.{has_read-end, has_read-fault, has_read-more}
+use Rattle.bip_replay.proofs.ItemLemmas.{has_read-end, has_read-fault, has_read-more}
 use Rattle.bip_replay.proofs.traces.read_trace.Goals as goal
 
 pub returns-in-Err-clause-fault : goal.returns-in-Err-clause-fault

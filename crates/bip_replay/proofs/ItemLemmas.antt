@@ -1,0 +1,95 @@
+-- Texts read line by line: the lines read so far, one line more, and the first line at fault.
+use Rattle.std.proofs.Common.{◌≡◌, ℕ, ◌+◌, ◌≤◌, ◌<◌, List, [], ◌∷◌, ◌++◌, length, Option, None, Some, Result, Ok, Err, refl, sym, ap, ◌∙◌, subst, arith, append_assoc}
+use Rattle.std.specs.Prelude.{IsOk, take}
+use Rattle.std.proofs.Math.Seq.{take-append_seam}
+use Rattle.std.proofs.lemmas.List.{append-nil, length-append}
+use Rattle.bip_model.specs.Texts.{lines, numbered_lines}
+use Rattle.bip_model.proofs.LineLemmas.{AreLeft, all_read, line_read, none_read}
+use Rattle.bip_replay.specs.Items.{IsOutOfMemory, IsTextFault, Reads, before_rest, items_from, items_of, one_more}
+use Rattle.bip_replay.specs.declared.faults.LineFault.{LineFault}
+use Rattle.bip_replay.specs.declared.faults.TraceFault.{TraceFault}
+use Rattle.bip_replay.specs.declared.faults.TraceFault.TheVariants.{Syntax, Unknown, Memory}
+
+-- what a line and those behind it read as
+pub first_read : {X : Type 0} (n : ℕ) (line : Result (Option X) LineFault) (behind : Result (List X) (ℕ × LineFault)) (xs : List X) → before_rest n line behind ≡ Ok xs
+    → (o : Option X) × (ys : List X) × (line ≡ Ok o) × (behind ≡ Ok ys) × (one_more [] o ++ ys ≡ xs)
+first_read n (Ok None) (Ok ys) xs is = (None, ys, refl, refl, cc)
+first_read n (Ok (Some x)) (Ok ys) xs is = (Some x, ys, refl, refl, cc)
+first_read n line behind xs is = cc
+
+-- items, and what lines behind theirs read as
+abbrev pub onto : {X : Type 0} → List X → Result (List X) (ℕ × LineFault) → Result (List X) (ℕ × LineFault)
+onto xs (Ok ys) = Ok (xs ++ ys)
+onto xs (Err e) = Err e
+
+-- by what a line says
+module _ {X : Type 0} (on : List ℕ → Result (Option X) LineFault) where
+  -- what lines read as behind those that read as items
+  pub items_from-append : (n : ℕ) (front rest : List (List ℕ)) (xs : List X) → items_from on n front ≡ Ok xs → items_from on n (front ++ rest) ≡ onto xs (items_from on (n + length front) rest)
+  items_from-append n [] rest xs reads = let same : n ≡ n + 0 = omega arith in grind arith
+  items_from-append n (line ∷ front) rest xs reads =
+      let at = first_read n (on line) (items_from on (n + 1) front) xs reads in
+      let later = items_from-append (n + 1) front rest at.1 at.3 in
+      let next : n + 1 + length front ≡ n + length (line ∷ front) = omega arith in
+      grind arith
+
+  -- the items of one line more
+  pub items_from-push : (n : ℕ) (front : List (List ℕ)) (line : List ℕ) (xs : List X) (o : Option X) → items_from on n front ≡ Ok xs → on line ≡ Ok o → items_from on n (front ++ line ∷ []) ≡ Ok (one_more xs o)
+  items_from-push n front line xs o reads says = let whole = items_from-append n front (line ∷ []) xs reads in grind (arith, append-nil xs)
+
+  -- there are no more items than lines
+  items_from-short : (n : ℕ) (front : List (List ℕ)) (xs : List X) → items_from on n front ≡ Ok xs → length xs ≤ length front
+  items_from-short n [] xs reads = grind arith
+  items_from-short n (line ∷ front) xs reads = grind (arith, items_from-short (n + 1) front)
+
+  -- what has been read of a text: the lines in front read as these items, and those are left
+  pub record HasRead (text : List ℕ) (items : List X) (left : List (ℕ × List ℕ)) : Type 0 where
+    pub front : List (List ℕ)
+    pub are_left : AreLeft text front left
+    pub reads : items_from on 1 front ≡ Ok items
+
+  pub has_read-none : (text : List ℕ) → HasRead text [] (numbered_lines text)
+  has_read-none text = record { front = []; are_left = none_read text; reads = refl }
+
+  pub has_read-more : (text line : List ℕ) (n : ℕ) (left after : List (ℕ × List ℕ)) (old new : List X) (u : Unit {0}) → HasRead text old left → left ≡ (n, line) ∷ after → Reads on old line (Ok u) new → HasRead text new after
+  has_read-more text line n left after old new u so next reads =
+      record {
+        front = so.front ++ line ∷ [];
+        are_left = (line_read text so.front left after n line so.are_left next).left;
+        reads = items_from-push 1 so.front line old reads.0 so.reads reads.1 ∙ ap (λ (xs : List X). Ok xs) (sym reads.2);
+      }
+
+  pub has_read-end : (text : List ℕ) (items : List X) (left : List (ℕ × List ℕ)) → HasRead text items left → left ≡ [] → items_of on text ≡ Ok items
+  has_read-end text items left so none = rw (all_read text so.front left so.are_left none) so.reads
+
+  -- so their count fits
+  pub has_read-below : (text line : List ℕ) (n : ℕ) (left after : List (ℕ × List ℕ)) (xs : List X) → HasRead text xs left → left ≡ (n, line) ∷ after → length xs < length text
+  has_read-below text line n left after xs so next =
+      let is = line_read text so.front left after n line so.are_left next in
+      omega (arith, items_from-short 1 so.front xs so.reads, is.number, is.short)
+
+  -- memory is wanting at a line that reads, behind lines that read
+  pub memory_at : (text line : List ℕ) (n : ℕ) (left after : List (ℕ × List ℕ)) (xs : List X) (said : Option X) → HasRead text xs left → left ≡ (n, line) ∷ after → on line ≡ Ok said → IsOutOfMemory on text n
+  memory_at text line n left after xs said so next says =
+      let is = line_read text so.front left after n line so.are_left next in
+      let front = so.front ++ line ∷ [] in
+      let split : lines text ≡ front ++ is.rest = is.split ∙ sym (append_assoc so.front (line ∷ []) is.rest) in
+      let long : length front ≡ n = omega (arith, is.number, length-append so.front (line ∷ [])) in
+      let seam = take-append_seam front is.rest in
+      let push = items_from-push 1 so.front line xs said so.reads says in
+      let reads : items_from on 1 (take n (lines text)) ≡ Ok (one_more xs said) = cc in
+      record { first = omega (arith, is.number); last = omega (arith, ap length split, length-append front is.rest, long); clear = subst IsOk (sym reads) refl }
+
+  pub has_read-fault : (text line : List ℕ) (n : ℕ) (left after : List (ℕ × List ℕ)) (old new : List X) (fault : TraceFault) → HasRead text old left → left ≡ (n, line) ∷ after → Reads on old line (Err fault) new → IsTextFault on text n fault
+  has_read-fault text line n left after old new fault so next reads = by_fault fault reads
+    where
+      at : (f : LineFault) → on line ≡ Err f → items_of on text ≡ Err (n, f)
+      at f says =
+          let is = line_read text so.front left after n line so.are_left next in
+          let here : 1 + length so.front ≡ n = omega (arith, is.number) in
+          rw is.split (items_from-append 1 so.front (line ∷ is.rest) old so.reads ∙ rw says (ap (λ (k : ℕ). Err (k, f)) here))
+
+      by_fault : (f : TraceFault) → Reads on old line (Err f) new → IsTextFault on text n f
+      by_fault Syntax says = at _ says
+      by_fault Unknown says = at _ says
+      by_fault Memory says = memory_at text line n left after old says.0 so next says.1
