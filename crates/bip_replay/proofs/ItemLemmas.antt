@@ -1,11 +1,14 @@
 -- Texts read line by line: the lines read so far, one line more, and the first line at fault.
 use Rattle.std.proofs.Common.{◌≡◌, ℕ, ◌+◌, ◌≤◌, ◌<◌, List, [], ◌∷◌, ◌++◌, length, Option, None, Some, Result, Ok, Err, refl, sym, ap, ◌∙◌, subst, arith, append_assoc}
-use Rattle.std.specs.Prelude.{IsOk, take}
+use Rattle.std.specs.Prelude.{All, IsOk, take}
+use Rattle.std.specs.List.{flat_map}
+use Rattle.std.proofs.lemmas.List.Elements.{All-head, All-tail}
 use Rattle.std.proofs.Math.Seq.{take-append_seam}
 use Rattle.std.proofs.lemmas.List.{append-nil, length-append}
-use Rattle.bip_model.specs.Texts.{lines, numbered_lines}
+use Rattle.bip_model.specs.Texts.{line_feed, lines, numbered_lines}
 use Rattle.bip_model.proofs.LineLemmas.{AreLeft, all_read, line_read, none_read}
-use Rattle.bip_replay.specs.Items.{IsOutOfMemory, IsTextFault, Reads, before_rest, items_from, items_of, one_more}
+use Rattle.bip_model.proofs.WrittenLemmas.{lines_front}
+use Rattle.bip_replay.specs.Items.{IsOutOfMemory, IsTextFault, Reads, ReadsBack, before_rest, items_from, items_of, one_more}
 use Rattle.bip_replay.specs.declared.faults.LineFault.{LineFault}
 use Rattle.bip_replay.specs.declared.faults.TraceFault.{TraceFault}
 use Rattle.bip_replay.specs.declared.faults.TraceFault.TheVariants.{Syntax, Unknown, Memory}
@@ -93,3 +96,12 @@ module _ {X : Type 0} (on : List ℕ → Result (Option X) LineFault) where
       by_fault Syntax says = at _ says
       by_fault Unknown says = at _ says
       by_fault Memory says = memory_at text line n left after old says.0 so next says.1
+
+  -- the text of items whose lines read back reads as these items
+  pub items_from-written : (line : X → List ℕ) (n : ℕ) (xs : List X) → All (ReadsBack on line) xs → items_from on n (lines (flat_map (λ x. line x ++ line_feed ∷ []) xs)) ≡ Ok xs
+  items_from-written line n [] all = refl
+  items_from-written line n (x ∷ xs) all =
+      let first : ReadsBack on line x = All-head (ReadsBack on line) x xs all in
+      let text = flat_map (λ y. line y ++ line_feed ∷ []) xs in
+      ap (λ (bytes : List ℕ). items_from on n (lines bytes)) (append_assoc (line x) (line_feed ∷ []) text)
+      ∙ rw (lines_front (line x) text first.plain, first.reads, items_from-written line (n + 1) xs (All-tail (ReadsBack on line) x xs all)) refl

@@ -1,25 +1,24 @@
 -- Texts of grants: those that say the same words say the same grants, a grant's line names its
 -- interaction, each grant is one of the model, and what is written reads back.
-use Rattle.std.proofs.Common.{arith, ◌≡◌, ℕ, ◌+◌, List, [], ◌∷◌, map, Option, None, Some, Result, Ok, Err, refl, sym, ◌∙◌, ◌<◌, ◌≤◌, Bool, true, cond, ◌++◌, length, ap}
+use Rattle.std.proofs.Common.{arith, ◌≡◌, ℕ, ◌+◌, List, [], ◌∷◌, map, Option, None, Some, Result, Ok, Err, refl, sym, ◌∙◌, ◌<◌, ◌≤◌, Bool, true, cond, ◌++◌, length}
 use Rattle.std.specs.Prelude.{All, filter, codes}
 use Rattle.std.specs.Option.{option_map, option_map_or}
 use Rattle.std.proofs.lemmas.List.Elements.{All-append, All-cons, All-nil, All-filter, All-head, All-map, All-tail, All-weaker, filter_passes}
 use Rattle.std.proofs.lemmas.Option.{get_or_from_slice_get, slice_get-get_or}
-use Rattle.bip_model.specs.Texts.{lines, said_in, says_something, words_said, is_plain, line_feed}
+use Rattle.bip_model.specs.Texts.{lines, said_in, says_something, words_said, is_plain}
 use Rattle.bip_model.specs.declared.grants.Grant.{Grant}
 use Rattle.bip_model.specs.declared.parts.System.{System}
 use Rattle.bip_replay.specs.Laws.{AreOfModel, NamesItsInteraction, SameGrants, Spells}
 use Rattle.bip_replay.specs.Lines.{grant_on, looked_up, said}
-use Rattle.bip_replay.specs.Items.{one_more}
+use Rattle.bip_replay.specs.Items.{ReadsBack, one_more}
 use Rattle.bip_replay.specs.Traces.{grants_from, grants_of}
 use Rattle.bip_replay.proofs.ItemLemmas.{first_read}
-use Rattle.bip_replay.specs.Writing.{IsGrantOf, IsSpelled, ReadsBack, bare_line, behind_see, has_role, text_of, want_word, want_words, words_behind}
+use Rattle.bip_replay.specs.Writing.{IsGrantOf, IsSpelled, bare_line, behind_see, has_role, want_word, want_words, words_behind}
 use Rattle.bip_replay.specs.declared.faults.LineFault.{LineFault}
 use Rattle.bip_replay.specs.declared.faults.LineFault.TheVariants.{Syntax}
 use Rattle.bip_replay.proofs.GrantLemmas.{grant_line, grant_of_model, line_reads}
 use Rattle.std.specs.Fmt.{decimal}
 use Rattle.std.specs.List.{AllZip, list_any}
-use Rattle.std.proofs.lemmas.List.{append_assoc}
 use Rattle.std.proofs.lemmas.List.Sorted.{IsPermutation-filter_both, IsPermutation-sym}
 use Rattle.bip_model.specs.Naming.{IsName, name_in}
 use Rattle.bip_model.specs.Parts.{IsSystem}
@@ -27,7 +26,7 @@ use Rattle.bip_model.specs.Wants.{IsWants}
 use Rattle.bip_model.specs.declared.wants.Role.{Role}
 use Rattle.bip_model.specs.declared.wants.Role.TheVariants.{Moved, Seen}
 use Rattle.bip_model.specs.declared.wants.Want.{Want}
-use Rattle.bip_model.proofs.WrittenLemmas.{IsWord, lines_front, name-word, number_of-decimal, pair-word, plain_spaced, words_spaced}
+use Rattle.bip_model.proofs.WrittenLemmas.{IsWord, name-word, number_of-decimal, pair-word, plain_spaced, words_spaced}
 
 -- a line's grant before those of the lines behind it
 abbrev with_grant : Result (Option Grant) LineFault → Option (List Grant) → Option (List Grant)
@@ -128,7 +127,7 @@ behind-words m g name spelled =
     by_seen (word ∷ words) all = All-cons IsWord (codes "see") (word ∷ words) (refl, refl) all
 
 -- the line that is written of a grant is its line, and reads as it
-pub line-reads_back : (m : System) (g : Grant) → IsSystem m → IsGrantOf m g → IsName (name_in m.interaction_names g.inter.0) → IsWants g.wants → All (IsSpelled m) g.wants → ReadsBack m g
+pub line-reads_back : (m : System) (g : Grant) → IsSystem m → IsGrantOf m g → IsName (name_in m.interaction_names g.inter.0) → IsWants g.wants → All (IsSpelled m) g.wants → ReadsBack (grant_on m) (bare_line m) g
 line-reads_back m g system grant name wants spelled =
     let all : All IsWord (words_behind m g) = behind-words m g name spelled in
     let plain : is_plain (bare_line m g) ≡ true = plain_spaced (codes "grant") (words_behind m g) refl all in
@@ -155,11 +154,3 @@ line-reads_back m g system grant name wants spelled =
     with_role : (role : Role) → AllZip (Spells m role) (want_words m role g.wants) (filter (has_role role) g.wants)
     with_role role =
         words-spell m role (filter (has_role role) g.wants) (All-filter (has_role role) (IsSpelled m) g.wants spelled) (All-filter (has_role role) HasNumber g.wants wants.numbered) (filter_passes (has_role role) g.wants)
-
--- the text of grants whose lines read back reads as these grants
-pub text-reads_back : (m : System) (n : ℕ) (gs : List Grant) → All (ReadsBack m) gs → grants_from m n (lines (text_of m gs)) ≡ Ok gs
-text-reads_back m n [] all = refl
-text-reads_back m n (g ∷ gs) all =
-    let first : ReadsBack m g = All-head (ReadsBack m) g gs all in
-    ap (λ (text : List ℕ). grants_from m n (lines text)) (append_assoc (bare_line m g) (line_feed ∷ []) (text_of m gs))
-    ∙ rw (lines_front (bare_line m g) (text_of m gs) first.plain, first.reads, text-reads_back m (n + 1) gs (All-tail (ReadsBack m) g gs all)) refl

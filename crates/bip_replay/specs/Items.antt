@@ -1,7 +1,7 @@
 -- Texts that are read line by line: each line says an item, or nothing, or is at fault.
-use Rattle.std.specs.Prelude.{Err, IsOk, List, None, Ok, Option, Result, Some, [], take, ℕ, ◌+◌}
-use Rattle.std.specs.Prelude.{◌++◌, ◌∷◌, ◌≡◌, ◌≤◌}
-use Rattle.bip_model.specs.Texts.{last_line, lines}
+use Rattle.std.specs.Prelude.{Err, IsOk, IsTrue, List, None, Ok, Option, Result, Some, [], take, ℕ}
+use Rattle.std.specs.Prelude.{◌+◌, ◌++◌, ◌∷◌, ◌≡◌, ◌≤◌}
+use Rattle.bip_model.specs.Texts.{is_plain, last_line, lines}
 use Rattle.bip_replay.specs.declared.faults.LineFault.TheVariants as line_fault
 use Rattle.bip_replay.specs.declared.faults.LineFault.{LineFault}
 use Rattle.bip_replay.specs.declared.faults.TraceFault.TheVariants.{Memory, Syntax, Unknown}
@@ -45,6 +45,12 @@ IsTextFault says text number Unknown = items_of says text ≡ Err (number, line_
 IsTextFault says text number Memory = IsOutOfMemory says text number
 
 -- What contracts of private functions say.
+
+-- the line that is written of an item, without its line feed, reads as that item
+pub record ReadsBack {X : Type 0} (says : List ℕ → Result (Option X) LineFault)
+    (line : X → List ℕ) (x : X) : Type 0 where
+  pub plain : IsTrue (is_plain (line x))
+  pub reads : says (line x) ≡ Ok (Some x)
 
 -- items, and then that of a line that says one
 abbrev pub one_more : {X : Type 0} → List X → Option X → List X

@@ -2,17 +2,17 @@
 -- between words, and a line feed after each line.
 use Rattle.std.specs.Fmt.{decimal}
 use Rattle.std.specs.List.{flat_map}
-use Rattle.std.specs.Prelude.{All, Bool, IsTrue, List, Ok, Some, [], codes, filter, length, map}
-use Rattle.std.specs.Prelude.{not, ℕ, ◌++◌, ◌<◌, ◌^◌, ◌∷◌, ◌≡◌}
+use Rattle.std.specs.Prelude.{All, Bool, List, [], codes, filter, length, map}
+use Rattle.std.specs.Prelude.{not, ℕ, ◌++◌, ◌<◌, ◌^◌, ◌∷◌}
 use Rattle.bip_model.specs.Naming.{IsName, name_in}
-use Rattle.bip_model.specs.Texts.{is_plain, line_feed, spaced}
+use Rattle.bip_model.specs.Texts.{line_feed, spaced}
 use Rattle.bip_model.specs.Wants.{is_moved}
 use Rattle.bip_model.specs.declared.grants.Grant.{Grant}
 use Rattle.bip_model.specs.declared.wants.Role.TheVariants.{Moved, Seen}
 use Rattle.bip_model.specs.declared.wants.Role.{Role}
 use Rattle.bip_model.specs.declared.wants.Want.{Want}
 use Rattle.bip_model.specs.declared.parts.System.{System}
-use Rattle.bip_replay.specs.Lines.{colon, grant_on}
+use Rattle.bip_replay.specs.Lines.{colon}
 
 -- a grant of a model: the model has its interaction and its components
 pub record IsGrantOf (m : System) (g : Grant) : Type 0 where
@@ -60,8 +60,3 @@ pub record IsSpelled (m : System) (w : Want) : Type 0 where
   pub component : w.comp.0 < length m.component_names
   pub name : IsName (name_in m.component_names w.comp.0)
   pub high : w.number < 2 ^ 64
-
--- the line of a grant reads as that grant
-pub record ReadsBack (m : System) (g : Grant) : Type 0 where
-  pub plain : IsTrue (is_plain (bare_line m g))
-  pub reads : grant_on m (bare_line m g) ≡ Ok (Some g)

@@ -6,7 +6,9 @@ ghost use Rattle.bip_model.specs.Texts.{spaced};
 ghost use Rattle.bip_model.specs.declared.wants.Role.TheVariants.{Seen};
 ghost use Rattle.bip_model.specs.declared.wants.Want.{Want};
 ghost use Rattle.bip_replay.specs.Traces.{grants_of};
-ghost use Rattle.bip_replay.specs.Writing.{IsGrantOf, IsSpelled, ReadsBack, behind_see, has_role};
+ghost use Rattle.bip_replay.specs.Items.{ReadsBack};
+ghost use Rattle.bip_replay.specs.Lines.{grant_on};
+ghost use Rattle.bip_replay.specs.Writing.{IsGrantOf, IsSpelled, bare_line, behind_see, has_role};
 ghost use Rattle.bip_replay.specs.Writing.{line_of, text_of, want_word, want_words};
 
 use bip_model::{Grant, Model, Role, Want, write_word};
@@ -31,7 +33,7 @@ pub fn write_trace(alloc: Global, model: &Model, grants: &[Grant]) -> Result<Vec
 fn write_line(text: &mut Vec<u8>, model: &Model, grant: &Grant) -> Result<(), AllocError>
     requires { IsGrantOf model.now grant.now }
     ensures text { OnOk result (text.new.items ≡ text.old.items ++ line_of model.now grant.now) }
-    ensures reads_back { OnOk result (ReadsBack model.now grant.now) }
+    ensures reads_back { OnOk result (ReadsBack (grant_on model.now) (bare_line model.now) grant.now) }
 {
     text.extend_from_slice(b"grant")?;
     let name = &model.interaction_names()[grant.inter.0 as usize];
