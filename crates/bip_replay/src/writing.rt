@@ -33,7 +33,8 @@ pub fn write_trace(alloc: Global, model: &Model, grants: &[Grant]) -> Result<Vec
 fn write_line(text: &mut Vec<u8>, model: &Model, grant: &Grant) -> Result<(), AllocError>
     requires { IsGrantOf model.now grant.now }
     ensures text { OnOk result (text.new.items ≡ text.old.items ++ line_of model.now grant.now) }
-    ensures reads_back { OnOk result (ReadsBack (grant_on model.now) (bare_line model.now) grant.now) }
+    ensures reads_back { OnOk result
+        (ReadsBack (grant_on model.now) (bare_line model.now) grant.now) }
 {
     text.extend_from_slice(b"grant")?;
     let name = &model.interaction_names()[grant.inter.0 as usize];

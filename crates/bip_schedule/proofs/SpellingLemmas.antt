@@ -16,7 +16,7 @@ use Rattle.bip_partition.specs.Plans.{AreStations, Planned}
 use Rattle.bip_replay.specs.Items.{ReadsBack}
 use Rattle.bip_schedule.proofs.StationLemmas.{place_of, station_declared}
 use Rattle.bip_schedule.specs.Lines.{event_known, event_on, event_said, name_said, station_known}
-use Rattle.bip_schedule.specs.Writing.{HasSpelling, IsNamed, bare_line, station_name, verb_of, words_behind}
+use Rattle.bip_schedule.specs.Writing.{HasSpelling, IsNamed, event_line, station_name, verb_of, event_words}
 use Rattle.bip_schedule.specs.declared.lines.NamedEvent.{NamedEvent}
 use Rattle.bip_schedule.specs.declared.lines.NamedEvent.TheVariants as named
 
@@ -75,7 +75,7 @@ module _ (p : Planned) (stations : List InterId) (valid : IsSystem p.model) (apa
   named_by (Bank (Pass s t)) = named.Pass (station_name p stations s) (station_name p stations t)
   named_by (Bank (Ask s t)) = named.Ask (station_name p stations s) (station_name p stations t)
 
-  words_name : (e : Event) → HasSpelling p stations e → IsNamed p stations e → event_said (verb_of e) (words_behind p stations e) ≡ Some (named_by e)
+  words_name : (e : Event) → HasSpelling p stations e → IsNamed p stations e → event_said (verb_of e) (event_words p stations e) ≡ Some (named_by e)
   words_name (Mail k) spelled names = rw (value_said-decimal k spelled) refl
   words_name (Try k a) spelled names = rw (said_name _ names.0, said_name _ names.1) refl
   words_name (Bank (Deliver k)) spelled names = rw (value_said-decimal k spelled) refl
@@ -92,7 +92,7 @@ module _ (p : Planned) (stations : List InterId) (valid : IsSystem p.model) (apa
   known_back (Bank (Ask s t)) spelled = rw (station_back s spelled.0, station_back t spelled.1) refl
 
   -- each is a word
-  are_words : (e : Event) → HasSpelling p stations e → IsNamed p stations e → All IsWord (words_behind p stations e)
+  are_words : (e : Event) → HasSpelling p stations e → IsNamed p stations e → All IsWord (event_words p stations e)
   are_words (Mail k) spelled names = one (decimal k) (decimal-word k (omega (arith, spelled)))
   are_words (Try k a) spelled names = two _ _ (name-word _ names.0) (name-word _ names.1)
   are_words (Bank (Deliver k)) spelled names = one (decimal k) (decimal-word k (omega (arith, spelled)))
@@ -100,12 +100,12 @@ module _ (p : Planned) (stations : List InterId) (valid : IsSystem p.model) (apa
   are_words (Bank (Pass s t)) spelled names = two _ _ (name-word _ names.0) (name-word _ names.1)
   are_words (Bank (Ask s t)) spelled names = two _ _ (name-word _ names.0) (name-word _ names.1)
 
-  pub line-reads_back : (e : Event) → HasSpelling p stations e → IsNamed p stations e → ReadsBack (event_on p stations) (bare_line p stations) e
+  pub line-reads_back : (e : Event) → HasSpelling p stations e → IsNamed p stations e → ReadsBack (event_on p stations) (event_line p stations) e
   line-reads_back e spelled names =
       let all = are_words e spelled names in
-      let plain : is_plain (bare_line p stations e) ≡ true = plain_spaced (verb_of e) (words_behind p stations e) (verb_inked e) all in
-      let says : words (bare_line p stations e) ≡ verb_of e ∷ words_behind p stations e = words_spaced (verb_of e) (words_behind p stations e) (verb_word e) all in
+      let plain : is_plain (event_line p stations e) ≡ true = plain_spaced (verb_of e) (event_words p stations e) (verb_inked e) all in
+      let says : words (event_line p stations e) ≡ verb_of e ∷ event_words p stations e = words_spaced (verb_of e) (event_words p stations e) (verb_word e) all in
       record {
         plain = plain;
-        reads = rw (plain, says, verb_says e (words_behind p stations e), words_name e spelled names, known_back e spelled) refl;
+        reads = rw (plain, says, verb_says e (event_words p stations e), words_name e spelled names, known_back e spelled) refl;
       }

@@ -48,13 +48,14 @@ event_said verb (word ∷ other ∷ []) = two_said verb word other
 event_said verb words = None
 
 -- the event that words say; no words say nothing
-abbrev pub said : List (List ℕ) → Result (Option NamedEvent) LineFault
-said [] = Ok None
-said (verb ∷ words) = option_map_or (λ e. Ok (Some e)) (event_said verb words) (Err Syntax)
+abbrev pub event_in_words : List (List ℕ) → Result (Option NamedEvent) LineFault
+event_in_words [] = Ok None
+event_in_words (verb ∷ words) =
+    option_map_or (λ e. Ok (Some e)) (event_said verb words) (Err Syntax)
 
 -- what a line says, by names
-abbrev pub named_on : List ℕ → Result (Option NamedEvent) LineFault
-named_on line = option_map_or said (words_said line) (Err Syntax)
+abbrev pub named_event_on : List ℕ → Result (Option NamedEvent) LineFault
+named_event_on line = option_map_or event_in_words (words_said line) (Err Syntax)
 
 -- the station with a name: the place of the interaction with that name among those that have
 -- stations
@@ -89,13 +90,13 @@ event_known p stations (named.Ask s t) =
     stations_known p stations (λ from to. Bank (Ask from to)) s t
 
 -- what is said by names, as an event of a plan
-abbrev pub looked_up :
+abbrev pub event_looked_up :
     Planned → List InterId → Result (Option NamedEvent) LineFault → Result (Option Event) LineFault
-looked_up p stations (Err fault) = Err fault
-looked_up p stations (Ok None) = Ok None
-looked_up p stations (Ok (Some e)) =
+event_looked_up p stations (Err fault) = Err fault
+event_looked_up p stations (Ok None) = Ok None
+event_looked_up p stations (Ok (Some e)) =
     option_map_or (λ event. Ok (Some event)) (event_known p stations e) (Err Unknown)
 
 -- the event of a line, or its fault; none of a line that says nothing
 abbrev pub event_on : Planned → List InterId → List ℕ → Result (Option Event) LineFault
-event_on p stations line = looked_up p stations (named_on line)
+event_on p stations line = event_looked_up p stations (named_event_on line)

@@ -41,34 +41,34 @@ verb_of (Bank (Serve s)) = codes "serve"
 verb_of (Bank (Pass s t)) = codes "pass"
 verb_of (Bank (Ask s t)) = codes "ask"
 
-abbrev pub words_behind : Planned → List InterId → Event → List (List ℕ)
-words_behind p stations (Mail k) = decimal k ∷ []
-words_behind p stations (Try k a) =
+abbrev pub event_words : Planned → List InterId → Event → List (List ℕ)
+event_words p stations (Mail k) = decimal k ∷ []
+event_words p stations (Try k a) =
     name_in p.classes.names k.0 ∷ name_in p.model.interaction_names a.0 ∷ []
-words_behind p stations (Bank (Deliver k)) = decimal k ∷ []
-words_behind p stations (Bank (Serve s)) = station_name p stations s ∷ []
-words_behind p stations (Bank (Pass s t)) =
+event_words p stations (Bank (Deliver k)) = decimal k ∷ []
+event_words p stations (Bank (Serve s)) = station_name p stations s ∷ []
+event_words p stations (Bank (Pass s t)) =
     station_name p stations s ∷ station_name p stations t ∷ []
-words_behind p stations (Bank (Ask s t)) =
+event_words p stations (Bank (Ask s t)) =
     station_name p stations s ∷ station_name p stations t ∷ []
 
 -- the line of an event, without its line feed
-abbrev pub bare_line : Planned → List InterId → Event → List ℕ
-bare_line p stations e = verb_of e ++ flat_map spaced (words_behind p stations e)
+abbrev pub event_line : Planned → List InterId → Event → List ℕ
+event_line p stations e = verb_of e ++ flat_map spaced (event_words p stations e)
 
 -- the same, with its line feed
-abbrev pub line_of : Planned → List InterId → Event → List ℕ
-line_of p stations e = bare_line p stations e ++ line_feed ∷ []
+abbrev pub ended_event_line : Planned → List InterId → Event → List ℕ
+ended_event_line p stations e = event_line p stations e ++ line_feed ∷ []
 
 -- the text of events
-abbrev pub text_of : Planned → List InterId → List Event → List ℕ
-text_of p stations es = flat_map (line_of p stations) es
+abbrev pub schedule_text : Planned → List InterId → List Event → List ℕ
+schedule_text p stations es = flat_map (ended_event_line p stations) es
 
 -- a text is the one spelling of events of a plan
 pub record IsWritten (p : Planned) (events : List Event) (text : List ℕ) : Type 0 where
   pub stations : List InterId
   pub are : AreStations p stations
-  pub spelled : text ≡ text_of p stations events
+  pub spelled : text ≡ schedule_text p stations events
 
 -- What contracts of private functions say.
 

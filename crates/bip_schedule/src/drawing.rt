@@ -1,7 +1,7 @@
 //! Events by chance: which event a word is.
 ghost use Rattle.std.specs.Prelude.{◌≡◌, ◌<◌, ◌≤◌, length};
-ghost use Rattle.bip_schedule.specs.Drawing.{IsDrawn, kind_drawn, one_of, station_drawn, step_drawn};
-ghost use Rattle.bip_schedule.specs.Drawing.{try_drawn};
+ghost use Rattle.bip_schedule.specs.Drawing.{IsDrawn, kind_drawn, one_of, station_drawn};
+ghost use Rattle.bip_schedule.specs.Drawing.{step_drawn, try_drawn};
 
 use bip_bank::{BankStep, StationId};
 use bip_core::Event;

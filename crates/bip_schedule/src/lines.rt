@@ -5,8 +5,8 @@ ghost use Rattle.bip_model.specs.Naming.{is_name, same_text};
 ghost use Rattle.bip_model.specs.Texts.{words};
 ghost use Rattle.bip_model.specs.declared.numbering.InterId.{InterId};
 ghost use Rattle.bip_partition.specs.Plans.{AreStations};
-ghost use Rattle.bip_schedule.specs.Lines.{event_known, event_on, event_said, named_on, one_said};
-ghost use Rattle.bip_schedule.specs.Lines.{station_known, two_said};
+ghost use Rattle.bip_schedule.specs.Lines.{event_known, event_on, event_said, named_event_on};
+ghost use Rattle.bip_schedule.specs.Lines.{one_said, station_known, two_said};
 
 use bip_bank::{BankStep, StationId};
 use bip_core::Event;
@@ -45,7 +45,7 @@ pub(crate) fn read_line(
 
 // The event that a line names; none of a line that says nothing.
 fn read_named(line: &[u8]) -> Result<Option<NamedEvent>, LineFault>
-    ensures { result ≡ named_on line.now }
+    ensures { result ≡ named_event_on line.now }
 {
     match read_words(line) {
         Line::BadByte => Err(LineFault::Syntax),

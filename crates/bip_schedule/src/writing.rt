@@ -11,7 +11,7 @@ ghost use Rattle.bip_core.specs.declared.events.Event.TheVariants.{Bank, Try};
 ghost use Rattle.bip_schedule.specs.Lines.{event_on};
 ghost use Rattle.bip_schedule.specs.Schedules.{IsEventText};
 ghost use Rattle.bip_schedule.specs.Writing.{HasSpelling, HaveSpelling, IsNamed, IsWritten};
-ghost use Rattle.bip_schedule.specs.Writing.{bare_line, line_of, station_name};
+ghost use Rattle.bip_schedule.specs.Writing.{event_line, ended_event_line, station_name};
 
 use bip_bank::{BankStep, StationId};
 use bip_core::Event;
@@ -92,9 +92,9 @@ fn write_line(
     requires stations { AreStations plan.now stations.now }
     requires spelled { HasSpelling plan.now stations.now event.now }
     ensures text { OnOk result
-        (text.new.items ≡ text.old.items ++ line_of plan.now stations.now event.now) }
+        (text.new.items ≡ text.old.items ++ ended_event_line plan.now stations.now event.now) }
     ensures reads_back { OnOk result
-        (ReadsBack (event_on plan.now stations.now) (bare_line plan.now stations.now) event.now) }
+        (ReadsBack (event_on plan.now stations.now) (event_line plan.now stations.now) event.now) }
 {
     let _named = plan.model().interaction_names();
     let _planned = plan.classes().len();
@@ -112,7 +112,7 @@ fn write_words(
     requires stations { AreStations plan.now stations.now }
     requires spelled { HasSpelling plan.now stations.now event.now }
     ensures text { OnOk result
-        (text.new.items ≡ text.old.items ++ bare_line plan.now stations.now event.now) }
+        (text.new.items ≡ text.old.items ++ event_line plan.now stations.now event.now) }
     ensures named { OnOk result (IsNamed plan.now stations.now event.now) }
 {
     match *event {
@@ -139,7 +139,7 @@ fn write_try(
     requires class { class.0 < length plan.now.classes.names }
     requires inter { inter.0 < length plan.now.model.interaction_names }
     ensures text { OnOk result
-        (text.new.items ≡ text.old.items ++ bare_line plan.now [] (Try class inter)) }
+        (text.new.items ≡ text.old.items ++ event_line plan.now [] (Try class inter)) }
     ensures named { OnOk result (IsNamed plan.now [] (Try class inter)) }
 {
     text.extend_from_slice(b"try")?;
@@ -167,7 +167,7 @@ fn write_step(
     requires stations { AreStations plan.now stations.now }
     requires spelled { HasSpelling plan.now stations.now (Bank step) }
     ensures text { OnOk result
-        (text.new.items ≡ text.old.items ++ bare_line plan.now stations.now (Bank step)) }
+        (text.new.items ≡ text.old.items ++ event_line plan.now stations.now (Bank step)) }
     ensures named { OnOk result (IsNamed plan.now stations.now (Bank step)) }
 {
     match step {
