@@ -9,10 +9,10 @@ use Rattle.bip_replay.specs.Replays.{IsFirstFault, IsRunOf}
 use Rattle.bip_replay.specs.declared.faults.BookFault.{BookFault}
 use Rattle.bip_replay.specs.declared.faults.ReplayFault.{ReplayFault}
 use Rattle.bip_replay.specs.declared.faults.ReplayFault.TheVariants as replay_fault
-use Rattle.bipr.specs.Answers.{AreCountsOf, IsAnswer, IsCheckAnswer, SaysNoGrant, complaining, no_model, no_plan, no_trace, not_a_run, planned, run, saying, unchecked}
+use Rattle.bipr.specs.Answers.{AreCountsOf, HasPlan, IsAnswer, IsCheckAnswer, IsRefusedModel, SaysNoGrant, complaining, no_model, no_plan, no_text, no_trace, not_a_run, planned, run, saying}
 use Rattle.bipr.specs.Wording.{counts_text, model_refusal, plan_refusal, run_text, trace_refusal, verdict_text}
 use Rattle.bip_partition.specs.Faults.{IsLowestTooMany}
-use Rattle.bip_partition.specs.Plans.{TouchesTooMany}
+use Rattle.bip_partition.specs.Plans.{Planned}
 use Rattle.bipr.specs.declared.wording.Counts.{Counts}
 use Rattle.bipr.specs.declared.answers.Answer.{Answer}
 use Rattle.bipr.specs.declared.answers.Status.TheVariants.{Done, Refused, NotARun}
@@ -40,18 +40,16 @@ pub has_answered-no_model : (base : ℕ) (text trace : List ℕ) (answer : Answe
     → IsAnswer base text trace answer
 has_answered-no_model base text trace answer fault other same has = subst (IsAnswer base text trace) (sym same) (no_model fault other has)
 
-pub has_answered-unchecked : (text : List ℕ) (answer : Answer) (fault : ReadFault)
+pub has_answered-planned : (text output : List ℕ) (answer : Answer) (p : Planned) (counts : Counts)
+    → answer ≡ saying Done output → output ≡ counts_text counts → HasPlan text p → AreCountsOf p counts → IsCheckAnswer text answer
+has_answered-planned text output answer p counts same written has counted = subst (IsCheckAnswer text) (sym (same ∙ ap (saying Done) written)) (planned p counts has counted)
+
+pub is_refused-no_text : (text : List ℕ) (answer : Answer) (fault : ReadFault)
     → (fault.why ≢ Memory) → answer ≡ complaining Refused (model_refusal fault) → HasFault text fault
-    → IsCheckAnswer text answer
-has_answered-unchecked text answer fault other same has = subst (IsCheckAnswer text) (sym same) (unchecked fault other has)
+    → IsRefusedModel text answer
+is_refused-no_text text answer fault other same has = subst (IsRefusedModel text) (sym same) (no_text fault other has)
 
-pub has_answered-planned : (text output : List ℕ) (answer : Answer) (m : System) (classes : Partition) (counts : Counts)
-    → answer ≡ saying Done output → output ≡ counts_text counts → Means text m classes → ((a : ℕ) → ¬ TouchesTooMany m a)
-    → AreCountsOf (record { model = m; classes = classes }) counts → IsCheckAnswer text answer
-has_answered-planned text output answer m classes counts same written means few counted =
-    subst (IsCheckAnswer text) (sym (same ∙ ap (saying Done) written)) (planned m classes counts means few counted)
-
-pub has_answered-no_plan : (text complaint : List ℕ) (answer : Answer) (m : System) (classes : Partition) (a : ℕ)
-    → answer ≡ complaining Refused complaint → complaint ≡ plan_refusal m a → Means text m classes → IsLowestTooMany m a → IsCheckAnswer text answer
-has_answered-no_plan text complaint answer m classes a same written means lowest =
-    subst (IsCheckAnswer text) (sym (same ∙ ap (complaining Refused) written)) (no_plan m classes a means lowest)
+pub is_refused-no_plan : (text complaint : List ℕ) (answer : Answer) (m : System) (classes : Partition) (a : ℕ)
+    → answer ≡ complaining Refused complaint → complaint ≡ plan_refusal m a → Means text m classes → IsLowestTooMany m a → IsRefusedModel text answer
+is_refused-no_plan text complaint answer m classes a same written means lowest =
+    subst (IsRefusedModel text) (sym (same ∙ ap (complaining Refused) written)) (no_plan m classes a means lowest)

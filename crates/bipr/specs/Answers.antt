@@ -17,6 +17,8 @@ use Rattle.bipr.specs.Wording.{counts_text, model_refusal, plan_refusal, run_tex
 use Rattle.bipr.specs.Wording.{verdict_text}
 use Rattle.bipr.specs.declared.wording.Counts.{Counts}
 use Rattle.bipr.specs.declared.answers.Answer.{Answer}
+use Rattle.bipr.specs.declared.answers.PlanOrRefusal.{PlanOrRefusal}
+use Rattle.bipr.specs.declared.answers.PlanOrRefusal.TheVariants as come
 use Rattle.bipr.specs.declared.answers.Status.{Status}
 use Rattle.bipr.specs.declared.answers.Status.TheVariants.{Done, Refused, BadCommandLine}
 use Rattle.bipr.specs.declared.answers.Status.TheVariants.{NoMemory, NotARun}
@@ -54,19 +56,32 @@ pub record AreCountsOf (p : Planned) (counts : Counts) : Type 0 where
   pub reserved : AreStations p stations
   pub counted : counts.reserved ≡ length stations
 
--- the answer to the check of a model's text
-pub data IsCheckAnswer (model : List ℕ) : Answer → Type 0 where
-  -- the text means a model with classes that has a plan
-  planned : (m : System) (classes : Partition) (counts : Counts) → Means model m classes
-      → ((a : ℕ) → ¬ TouchesTooMany m a)
-      → AreCountsOf (record { model = m; classes = classes }) counts
-      → IsCheckAnswer model (saying Done (counts_text counts))
+-- a text means a model with classes that has this plan: no interaction touches too many components
+pub record HasPlan (model : List ℕ) (p : Planned) : Type 0 where
+  pub means : Means model p.model p.classes
+  pub few : (a : ℕ) → ¬ TouchesTooMany p.model a
+
+-- the answer to a model's text that has no plan, where one is needed
+pub data IsRefusedModel (model : List ℕ) : Answer → Type 0 where
   -- the text means a model that has none: this interaction, the lowest such, touches too many
   no_plan : (m : System) (classes : Partition) (a : ℕ) → Means model m classes
-      → IsLowestTooMany m a → IsCheckAnswer model (complaining Refused (plan_refusal m a))
+      → IsLowestTooMany m a → IsRefusedModel model (complaining Refused (plan_refusal m a))
   -- the text is no model
-  unchecked : (fault : ReadFault) → fault.why ≢ Memory → HasFault model fault
-      → IsCheckAnswer model (complaining Refused (model_refusal fault))
+  no_text : (fault : ReadFault) → fault.why ≢ Memory → HasFault model fault
+      → IsRefusedModel model (complaining Refused (model_refusal fault))
+
+-- what a model's text comes to where a plan is needed
+abbrev pub IsPlanOrRefusal : List ℕ → PlanOrRefusal → Type 0
+IsPlanOrRefusal model (come.Plan p) = HasPlan model p
+IsPlanOrRefusal model (come.Refusal answer) = IsRefusedModel model answer
+
+-- the answer to the check of a model's text
+pub data IsCheckAnswer (model : List ℕ) : Answer → Type 0 where
+  -- what its plan has
+  planned : (p : Planned) (counts : Counts) → HasPlan model p → AreCountsOf p counts
+      → IsCheckAnswer model (saying Done (counts_text counts))
+  -- it has none
+  unchecked : (answer : Answer) → IsRefusedModel model answer → IsCheckAnswer model answer
 
 -- the answer to the texts of a model and a trace, from a base
 pub data IsAnswer (base : ℕ) (model trace : List ℕ) : Answer → Type 0 where

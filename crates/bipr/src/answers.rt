@@ -2,13 +2,11 @@
 //! ends.
 ghost use Rattle.std.specs.Prelude.{◌≡◌, ◌≢◌, ◌≤◌, ℕ, List, IfOk};
 ghost use Rattle.bip_model.specs.declared.partitions.Partition.{Partition};
-ghost use Rattle.bip_partition.specs.Faults.{IsLowestTooMany};
-ghost use Rattle.bip_partition.specs.Plans.{TouchesTooMany};
 ghost use Rattle.bip_reader.specs.Texts.{Means};
 ghost use Rattle.bip_reader.specs.declared.faults.Why.TheVariants.{Memory};
 ghost use Rattle.bip_model.specs.Partitions.{AreClassesOf};
-ghost use Rattle.bipr.specs.Answers.{AreCountsOf, IsAnswer, IsCheckAnswer, code_of, complaining};
-ghost use Rattle.bipr.specs.Answers.{saying};
+ghost use Rattle.bipr.specs.Answers.{AreCountsOf, HasPlan, IsAnswer, IsCheckAnswer};
+ghost use Rattle.bipr.specs.Answers.{IsPlanOrRefusal, code_of, complaining, saying};
 ghost use Rattle.bipr.specs.CommandLine.{greatest_base};
 ghost use Rattle.bipr.specs.declared.answers.Status.TheVariants.{Refused};
 ghost use Rattle.bipr.specs.Wording.{model_refusal};
@@ -87,42 +85,51 @@ pub fn answer_replay(
 pub fn answer_check(alloc: Global, model: &[u8]) -> Result<Answer, AllocError>
     ensures { IfOk result (IsCheckAnswer model.now) }
 {
-    match read_model(alloc, model) {
-        Ok((system, classes)) => answer_plan(alloc, system, classes),
-        Err(fault) => answer_fault(alloc, &fault),
+    let given = plan_text(alloc, model)?;
+    match given {
+        PlanOrRefusal::Plan(plan) => answer_counts(alloc, &plan),
+        PlanOrRefusal::Refusal(answer) => Ok(answer),
+    }
+}
+
+/// What a model's text comes to where a plan is needed: the plan, or the answer that refuses it.
+#[derive(Drop)]
+pub enum PlanOrRefusal {
+    Plan(Plan),
+    Refusal(Answer),
+}
+
+/// The plan of a model's text; else the answer that names the lowest interaction that touches too
+/// many components, or the first fault of the text. The only error is want of memory.
+pub fn plan_text(alloc: Global, text: &[u8]) -> Result<PlanOrRefusal, AllocError>
+    ensures { IfOk result (IsPlanOrRefusal text.now) }
+{
+    match read_model(alloc, text) {
+        Ok((model, classes)) => plan_model(alloc, model, classes),
+        Err(fault) => Ok(PlanOrRefusal::Refusal(answer_fault(alloc, &fault)?)),
     }
 }
 
 /// The same, where the model's text is one.
-fn answer_plan(alloc: Global, model: Model, classes: Classes) -> Result<Answer, AllocError>
+fn plan_model(alloc: Global, model: Model, classes: Classes) -> Result<PlanOrRefusal, AllocError>
     requires { AreClassesOf model classes }
-    ensures { IfOk result (λ answer. (text : List ℕ)
-        → Means text model classes → IsCheckAnswer text answer) }
+    ensures { IfOk result (λ given. (text : List ℕ)
+        → Means text model classes → IsPlanOrRefusal text given) }
 {
     if let Some(inter) = first_touching_too_many(&model) {
-        return answer_no_plan(alloc, &model, inter);
+        let complaint = plan_refusal(alloc, &model, inter)?;
+        return Ok(PlanOrRefusal::Refusal(complained(alloc, Status::Refused, complaint)));
     }
     match Plan::of(alloc, model, classes) {
-        Ok(plan) => answer_counts(alloc, &plan),
+        Ok(plan) => Ok(PlanOrRefusal::Plan(plan)),
         Err(_) => Err(AllocError),
     }
 }
 
-/// The same, where this interaction, the lowest such, touches too many components.
-fn answer_no_plan(alloc: Global, model: &Model, inter: InterId) -> Result<Answer, AllocError>
-    requires { IsLowestTooMany model.now inter.0 }
-    ensures { IfOk result (λ answer. (text : List ℕ) (classes : Partition)
-        → Means text model.now classes → IsCheckAnswer text answer) }
-{
-    let complaint = plan_refusal(alloc, model, inter)?;
-    Ok(complained(alloc, Status::Refused, complaint))
-}
-
-/// The same, where there is a plan.
+/// The answer to a check where there is a plan.
 fn answer_counts(alloc: Global, plan: &Plan) -> Result<Answer, AllocError>
-    requires { (a : ℕ) → ¬ TouchesTooMany plan.now.model a }
     ensures { IfOk result (λ answer. (text : List ℕ)
-        → Means text plan.now.model plan.now.classes → IsCheckAnswer text answer) }
+        → HasPlan text plan.now → IsCheckAnswer text answer) }
 {
     let text = counts_text(alloc, &count_plan(plan))?;
     Ok(said(alloc, Status::Done, text))

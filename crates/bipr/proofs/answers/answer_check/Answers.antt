@@ -1,7 +1,11 @@
 use Rattle.std.proofs.lemmas.Result.{IfOk-weaker}
-use Rattle.bipr.proofs.AnswerLemmas.{has_answered-unchecked}
+use Rattle.bipr.specs.Answers.{unchecked}
 use Rattle.bipr.proofs.answers.answer_check.Goals as goal
 
-pub returns-in-Err : goal.returns-in-Err
-returns-in-Err c =
-    IfOk-weaker c.answer_fault.result _ _ (λ answer is. has_answered-unchecked c.args.model.now answer c.in-Err.fault is.0 is.1 (c.in-Err.ensures.fault is.0)) c.answer_fault.ensures
+pub returns-in-Plan : goal.returns-in-Plan
+returns-in-Plan c =
+    let has = rw c.in-Plan.is at c.in_ok-given.ensures in
+    IfOk-weaker c.answer_counts.result _ _ (λ answer is. is c.args.model.now has) c.answer_counts.ensures
+
+pub returns-in-Refusal : goal.returns-in-Refusal
+returns-in-Refusal c = unchecked _ (rw c.in-Refusal.is at c.in_ok-given.ensures)

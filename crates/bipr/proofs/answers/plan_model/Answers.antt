@@ -1,0 +1,13 @@
+use Rattle.bip_partition.specs.Plans.{Planned}
+use Rattle.std.proofs.Common.{subst, sym}
+use Rattle.bipr.specs.Answers.{HasPlan}
+use Rattle.bipr.proofs.AnswerLemmas.{is_refused-no_plan}
+use Rattle.bipr.proofs.answers.plan_model.Goals as goal
+
+pub returns-in-Some : goal.returns-in-Some
+returns-in-Some c = λ text means.
+    is_refused-no_plan text _ _ c.args.model c.args.classes c.in-Some.inter.0 c.complained.ensures c.in_ok-complaint.ensures means c.in-Some.ensures.some
+
+pub returns-in-Ok : goal.returns-in-Ok
+returns-in-Ok c = λ text means.
+    subst (λ (p : Planned). HasPlan text p) (sym c.in-Ok.ensures.plan) (record { means = means; few = c.in-Ok.ensures.few })
