@@ -16,6 +16,7 @@ mod planning;
 mod positions;
 mod reading;
 mod running;
+mod scheduling;
 mod stepping;
 mod tabling;
 mod worked;
