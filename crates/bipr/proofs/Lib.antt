@@ -6,5 +6,7 @@ pub mod MarkLemmas
 pub mod OneAnswerLemmas
 pub mod OneCheckLemmas
 pub mod ReplayLemmas
+pub mod ScheduledLemmas
 pub mod SomeAnswerLemmas
+pub mod StepsLemmas
 pub mod StreamLemmas

@@ -9,39 +9,58 @@ use Rattle.clap.specs.declared.parser.matches.ArgMatches.TheViews.{out-ArgMatche
 use Rattle.bipr.specs.declared.command_line.Asked.{Asked}
 use Rattle.bipr.specs.declared.command_line.Asked.TheVariants as asks
 use Rattle.bipr.specs.declared.command_line.ReplayArguments.{ReplayArguments}
+use Rattle.bipr.specs.declared.command_line.StepsArguments.{StepsArguments}
 
 -- the greatest base: one number at least is left above it
 abbrev pub greatest_base : ℕ
 greatest_base = 18446744073709551614
 
--- the words behind `replay` ask: the paths are the first values of their arguments, the base is
--- the number that its text spells, and there is a number above it
+-- words give a base: it is the number that its text spells, and there is a number above it
+pub record IsBaseAsked (words : ArgMatches) (base : ℕ) : Type 0 where
+  pub spelt : List ℕ
+  pub given : one_text (found_of words) (codes "base") ≡ Some spelt
+  pub is : base ≡ digits_value 10 (without_leading_plus spelt)
+  pub bound : base ≤ greatest_base
+
+-- the words behind `replay` ask: the paths are the first values of their arguments
 pub record IsAsked (words : ArgMatches) (arguments : ReplayArguments) : Type 0 where
   pub model : first_value (found_of words) (codes "model") ≡ Some arguments.model.now
   pub trace : first_value (found_of words) (codes "trace") ≡ Some arguments.trace.now
-  pub spelt : List ℕ
-  pub given : one_text (found_of words) (codes "base") ≡ Some spelt
-  pub base : arguments.base ≡ digits_value 10 (without_leading_plus spelt)
-  pub bound : arguments.base ≤ greatest_base
+  pub base : IsBaseAsked words arguments.base
 
--- a command line asks to check the model that a path names, by the subcommand `check` and the word
--- behind it
-pub record AsksToCheck (words : ArgMatches) (path : List ℕ) : Type 0 where
-  pub command : subcommand_name_of words ≡ Some (codes "check")
-  pub behind : ArgMatches
+-- the words behind `steps` ask, where the resolver is the central bank
+pub record AreStepsAsked (words : ArgMatches) (arguments : StepsArguments) : Type 0 where
+  pub model : first_value (found_of words) (codes "model") ≡ Some arguments.model.now
+  pub schedule : first_value (found_of words) (codes "schedule") ≡ Some arguments.schedule.now
+  pub resolver : first_value (found_of words) (codes "resolver") ≡ Some (codes "central")
+  pub base : IsBaseAsked words arguments.base
+
+-- a command line names a command, with these words behind it
+pub record IsCommand (words : ArgMatches) (name : List ℕ) (behind : ArgMatches) : Type 0 where
+  pub command : subcommand_name_of words ≡ Some name
   pub rows : option_map (λ p. p.1) (subcommand_rows (out-ArgMatches words).subcommand)
       ≡ Some (rows_of (found_of behind))
+
+-- a command line asks to check the model that a path names
+pub record AsksToCheck (words : ArgMatches) (path : List ℕ) : Type 0 where
+  pub behind : ArgMatches
+  pub command : IsCommand words (codes "check") behind
   pub asked : first_value (found_of behind) (codes "model") ≡ Some path
 
--- a command line asks by the subcommand `replay` and the words behind it
+-- a command line asks for a replay
 pub record AsksToReplay (words : ArgMatches) (arguments : ReplayArguments) : Type 0 where
-  pub command : subcommand_name_of words ≡ Some (codes "replay")
   pub behind : ArgMatches
-  pub rows : option_map (λ p. p.1) (subcommand_rows (out-ArgMatches words).subcommand)
-      ≡ Some (rows_of (found_of behind))
+  pub command : IsCommand words (codes "replay") behind
   pub asked : IsAsked behind arguments
+
+-- a command line asks for the steps of a schedule
+pub record AsksForSteps (words : ArgMatches) (arguments : StepsArguments) : Type 0 where
+  pub behind : ArgMatches
+  pub command : IsCommand words (codes "steps") behind
+  pub asked : AreStepsAsked behind arguments
 
 -- what a command line asks
 abbrev pub Asks : ArgMatches → Asked → Type 0
 Asks words (asks.Check path) = AsksToCheck words path.now
 Asks words (asks.Replay arguments) = AsksToReplay words arguments
+Asks words (asks.Steps arguments) = AsksForSteps words arguments

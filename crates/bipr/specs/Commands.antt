@@ -1,16 +1,19 @@
 -- What the program may answer to the words of a command line.
 pub mod Check
 pub mod Replay
+pub mod Steps
 use Rattle.std.specs.Prelude.{List, ℕ, Result}
 use Rattle.clap.specs.declared.error.Error.{Error}
 use Rattle.clap.specs.declared.parser.matches.ArgMatches.{ArgMatches}
-use Rattle.bipr.specs.CommandLine.{AsksToCheck, AsksToReplay}
+use Rattle.bipr.specs.CommandLine.{AsksForSteps, AsksToCheck, AsksToReplay}
 use Rattle.bipr.specs.Commands.Check.{IsCheck}
 use Rattle.bipr.specs.Commands.Replay.{IsReplay}
+use Rattle.bipr.specs.Commands.Steps.{IsSteps}
 use Rattle.bipr.specs.Refusals.{IsErrorAnswer, bad_base}
 use Rattle.bipr.specs.Stops.{out_of_memory}
 use Rattle.bipr.specs.declared.answers.Answer.{Answer}
 use Rattle.bipr.specs.declared.command_line.ReplayArguments.{ReplayArguments}
+use Rattle.bipr.specs.declared.command_line.StepsArguments.{StepsArguments}
 use Rattle.bipr.specs.declared.inputs.InputFault.{InputFault}
 
 -- what words that are parsed may answer, where reading a path may give these texts: what they ask
@@ -21,6 +24,8 @@ pub data IsCarriedOutBy (words : ArgMatches)
       → IsCheck gives path answer → IsCarriedOutBy words gives answer
   asked : (arguments : ReplayArguments) (answer : Answer) → AsksToReplay words arguments
       → IsReplay gives arguments answer → IsCarriedOutBy words gives answer
+  steps_asked : (arguments : StepsArguments) (answer : Answer) → AsksForSteps words arguments
+      → IsSteps gives arguments answer → IsCarriedOutBy words gives answer
   unasked : IsCarriedOutBy words gives bad_base
 
 -- what the program may answer, where reading a path may give these texts

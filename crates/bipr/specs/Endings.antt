@@ -4,18 +4,24 @@ use Rattle.bipr.specs.Stops.{answer_of_stop, out_of_memory}
 use Rattle.bipr.specs.Wording.{complaint_text}
 use Rattle.bipr.specs.declared.answers.Answer.{Answer}
 use Rattle.bipr.specs.declared.answers.Status.{Status}
-use Rattle.bipr.specs.declared.answers.Status.TheVariants.{Refused}
+use Rattle.bipr.specs.declared.answers.Status.TheVariants.{Done, Refused}
 use Rattle.bipr.specs.declared.stops.Stop.{Stop}
 
 -- an answer can't be written
 abbrev pub unwritten_text : List ℕ
 unwritten_text = complaint_text (codes "cannot write")
 
+-- the status of an answer whose complaint was put: what is done is so only where that is out too
+abbrev pub told_status : Bool → Status → Status
+told_status false Done = Refused
+told_status is_told status = status
+
 -- the end of a command that has an answer, by what was put on standard output and on standard error
 pub data IsEnd (says complains : List ℕ → Bool → Type 0) (answer : Answer) : Status → Type 0 where
-  -- the output is out, and then the complaint was put; where that isn't out, the status alone tells
+  -- the output is out, and then the complaint, or the report, was put; where that isn't out, the
+  -- status alone tells
   written : (is_told : Bool) → says answer.output true → complains answer.complaint is_told
-      → IsEnd says complains answer answer.status
+      → IsEnd says complains answer (told_status is_told answer.status)
   -- the output isn't out, and that is complained of
   unwritten : (is_told : Bool) → says answer.output false → complains unwritten_text is_told
       → IsEnd says complains answer Refused

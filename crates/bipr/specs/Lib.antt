@@ -6,6 +6,7 @@ pub mod Endings
 pub mod Inputs
 pub mod Laws
 pub mod Refusals
+pub mod Scheduled
 pub mod Sources
 pub mod Stops
 pub mod Streams

@@ -5,7 +5,9 @@ use Rattle.bip_model.specs.Texts.{line_feed, lines, words}
 use Rattle.bip_model.specs.declared.parts.System.{System}
 use Rattle.bip_reader.specs.Faults.{text_of_fault}
 use Rattle.bip_reader.specs.declared.faults.ReadFault.{ReadFault}
-use Rattle.bip_replay.specs.Faults.{text_of_replay}
+use Rattle.bip_core.specs.declared.runs.Report.{Report}
+use Rattle.bip_replay.specs.Faults.{text_of_replay, text_of_trace}
+use Rattle.bip_replay.specs.declared.faults.TraceFault.{TraceFault}
 use Rattle.bip_replay.specs.declared.faults.BookFault.{BookFault}
 use Rattle.bip_replay.specs.declared.faults.BookFault.TheVariants.{NotEnabled, Below, Number}
 use Rattle.bip_replay.specs.declared.faults.BookFault.TheVariants.{Parties, Memory}
@@ -63,3 +65,25 @@ abbrev pub trace_refusal : ℕ → ReplayFault → List ℕ
 trace_refusal number fault =
     complaint_text
     (codes "trace line " ++ (decimal number ++ (codes ": " ++ text_of_replay fault)))
+
+-- a schedule's text is refused
+abbrev pub schedule_refusal : ℕ → TraceFault → List ℕ
+schedule_refusal number fault =
+    complaint_text
+    (codes "schedule line " ++ (decimal number ++ (codes ": " ++ text_of_trace fault)))
+
+-- the report of a run of events
+abbrev pub decisions_text : Report → List ℕ
+decisions_text report =
+    codes "events " ++ (decimal report.events
+    ++ (codes " grants " ++ (decimal report.grants
+    ++ (codes " refusals " ++ decimal report.refusals))))
+
+abbrev pub losses_text : Report → List ℕ
+losses_text report =
+    codes " idle " ++ (decimal report.idle
+    ++ (codes " skipped " ++ (decimal report.skipped
+    ++ (codes " lost " ++ (decimal report.lost ++ line_feed ∷ [])))))
+
+abbrev pub report_text : Report → List ℕ
+report_text report = decisions_text report ++ losses_text report

@@ -1,6 +1,6 @@
 //! The command line.
 ghost use Rattle.std.specs.Prelude.{IfSome};
-ghost use Rattle.bipr.specs.CommandLine.{Asks, IsAsked};
+ghost use Rattle.bipr.specs.CommandLine.{AreStepsAsked, Asks, IsAsked, IsBaseAsked};
 
 use bip_model::Number;
 use clap::{Arg, ArgMatches, Command, value_parser};
@@ -55,6 +55,32 @@ const REPLAY_HELP: &str = "\
 A path `-` is standard input. Where both are, the model is what stands before the first
 line `---`, and the trace what stands behind it.";
 
+const STEPS_ABOUT: &str = "Runs the steps of a schedule, and says which grants they lead to";
+
+const STEPS_HELP: &str = "\
+A schedule is a text of protocol steps, one a line:
+
+    mail K          the K-th message in flight, from 0, is handed on
+    try CLASS INTER the class tries the interaction
+    serve S         the bank decides on the oldest open request of S
+    deliver K       what is K-th in flight inside the bank arrives
+    pass S T        the station of S hands over what it shares with that of T
+    ask S T         the station of S asks for it
+
+S and T are reserved interactions. At first each component's offer is in flight to each
+class that touches it, by component, then class. Of the model of `bipr --help`,
+
+    mail 0
+    try P x
+
+are steps that lead to the trace `grant x A:1`, which `bipr replay` takes. The report on
+standard error has one line: events, grants, refused requests, steps that did nothing, and
+what was skipped or lost for want of memory.";
+
+const CENTRAL: &str = "central";
+
+const RESOLVERS: &[&str] = &[CENTRAL];
+
 /// What the command line asks: the replay of a trace on a model, each named by its path, from a
 /// base.
 #[derive(Drop)]
@@ -64,11 +90,22 @@ pub struct ReplayArguments<'a> {
     pub base: Number,
 }
 
-/// What a command line asks: the check of the model that a path names, or a replay.
+/// What the command line asks: the steps of a schedule from the new world of a model above a base,
+/// each text named by its path.
+#[derive(Drop)]
+pub struct StepsArguments<'a> {
+    pub model: &'a str,
+    pub schedule: &'a str,
+    pub base: Number,
+}
+
+/// What a command line asks: the check of the model that a path names, a replay, or the steps of a
+/// schedule.
 #[derive(Drop)]
 pub enum Asked<'a> {
     Check(&'a str),
     Replay(ReplayArguments<'a>),
+    Steps(StepsArguments<'a>),
 }
 
 /// The command line as the library reads it.
@@ -80,7 +117,8 @@ pub fn command<'a>(alloc: Global) -> Result<Command<'a>, AllocError> {
         .disable_help_subcommand(true)
         .subcommand_required(true)
         .subcommand(check(alloc)?)?
-        .subcommand(replay(alloc)?)
+        .subcommand(replay(alloc)?)?
+        .subcommand(steps(alloc)?)
 }
 
 fn check<'a>(alloc: Global) -> Result<Command<'a>, AllocError> {
@@ -117,31 +155,85 @@ fn replay<'a>(alloc: Global) -> Result<Command<'a>, AllocError> {
         .arg(base)
 }
 
+fn steps<'a>(alloc: Global) -> Result<Command<'a>, AllocError> {
+    let model = Arg::new(alloc, "model")
+        .value_name("MODEL")
+        .required(true)
+        .help("the path of the model's text, or -");
+    let schedule = Arg::new(alloc, "schedule")
+        .value_name("SCHEDULE")
+        .required(true)
+        .help("the path of the schedule's text, or -");
+    let resolver = Arg::new(alloc, "resolver")
+        .long("resolver")
+        .value_name("R")
+        .required(true)
+        .value_parser(RESOLVERS)
+        .help("who grants reserved interactions: one bank with one table");
+    let base = Arg::new(alloc, "base")
+        .long("base")
+        .value_name("N")
+        .value_parser(value_parser!(u64))
+        .default_value("0")
+        .help("the number that each component has used at first");
+    Command::new(alloc, "steps")
+        .about(STEPS_ABOUT)
+        .after_help(STEPS_HELP)
+        .arg(model)?
+        .arg(schedule)?
+        .arg(resolver)?
+        .arg(base)
+}
+
 /// What a command line asks; none where it asks for nothing, or its base is out of range
 /// (docs/DEFINITIONS.md, "Arguments").
 pub fn read_arguments<'a>(matches: &ArgMatches<'a>) -> Option<Asked<'a>>
     ensures { IfSome result (Asks matches.now) }
 {
-    match matches.subcommand_matches("check") {
-        Some(check) => Some(Asked::Check(check.get_str("model")?)),
-        None => {
-            let replay = read_replay(matches.subcommand_matches("replay")?)?;
-            Some(Asked::Replay(replay))
-        }
+    if let Some(check) = matches.subcommand_matches("check") {
+        return Some(Asked::Check(check.get_str("model")?));
     }
+    if let Some(steps) = matches.subcommand_matches("steps") {
+        return Some(Asked::Steps(read_steps(steps)?));
+    }
+    let replay = read_replay(matches.subcommand_matches("replay")?)?;
+    Some(Asked::Replay(replay))
 }
 
 // What the words behind `replay` ask.
 fn read_replay<'a>(matches: &ArgMatches<'a>) -> Option<ReplayArguments<'a>>
     ensures { IfSome result (IsAsked matches.now) }
 {
-    let base = matches.get_one::<u64>("base")?;
-    if base > GREATEST_BASE {
-        return None;
-    }
+    let base = read_base(matches)?;
     Some(ReplayArguments {
         model: matches.get_str("model")?,
         trace: matches.get_str("trace")?,
         base,
     })
+}
+
+// What the words behind `steps` ask.
+fn read_steps<'a>(matches: &ArgMatches<'a>) -> Option<StepsArguments<'a>>
+    ensures { IfSome result (AreStepsAsked matches.now) }
+{
+    let base = read_base(matches)?;
+    if matches.get_str("resolver")? != CENTRAL {
+        return None;
+    }
+    Some(StepsArguments {
+        model: matches.get_str("model")?,
+        schedule: matches.get_str("schedule")?,
+        base,
+    })
+}
+
+// The base; none where it is out of range.
+fn read_base(matches: &ArgMatches<'_>) -> Option<Number>
+    ensures { IfSome result (IsBaseAsked matches.now) }
+{
+    let base = matches.get_one::<u64>("base")?;
+    if base > GREATEST_BASE {
+        return None;
+    }
+    Some(base)
 }

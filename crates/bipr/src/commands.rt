@@ -8,6 +8,7 @@ ghost use Rattle.bipr.specs.declared.inputs.InputFault.{InputFault};
 
 pub mod check;
 pub mod replay;
+pub mod steps;
 
 use crate::answers::Status;
 use crate::command_line::{Asked, command, read_arguments};
@@ -21,6 +22,7 @@ use check::check;
 use clap::ArgMatches;
 use replay::replay;
 use std::alloc::Global;
+use steps::steps;
 
 /// Carries out what the words of a command line ask, or says why they ask for nothing, and says
 /// with which status the program ends (docs/DEFINITIONS.md, "Endings").
@@ -57,6 +59,7 @@ fn carry_out_matches<I: Inputs, O: Stream, E: Stream>(
     match read_arguments(matches) {
         Some(Asked::Check(path)) => check(alloc, inputs, path, output, errors),
         Some(Asked::Replay(asked)) => replay(alloc, inputs, &asked, output, errors),
+        Some(Asked::Steps(asked)) => steps(alloc, inputs, &asked, output, errors),
         None => refuse_base(output, errors),
     }
 }

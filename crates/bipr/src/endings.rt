@@ -1,6 +1,6 @@
 //! How a command ends: what it writes of its answer, and its status.
 ghost use Rattle.std.specs.Prelude.{◌≡◌, Err};
-ghost use Rattle.bipr.specs.Endings.{Ends, IsEnd, IsOutcome};
+ghost use Rattle.bipr.specs.Endings.{Ends, IsEnd, IsOutcome, told_status};
 ghost use Rattle.bipr.specs.Answers.{complaining};
 ghost use Rattle.bipr.specs.Streams.{Puts};
 
@@ -37,8 +37,8 @@ fn end_answered<O: Stream, E: Stream>(output: &mut O, errors: &mut E, answer: &A
         put(errors, CANNOT_WRITE);
         return Status::Refused;
     }
-    put(errors, answer.complaint.as_slice());
-    answer.status
+    let is_told = put(errors, answer.complaint.as_slice());
+    told_status(is_told, answer.status)
 }
 
 fn end_stopped<O: Stream, E: Stream>(
@@ -66,6 +66,16 @@ pub fn complain<O: Stream, E: Stream>(
     ensures { IsEnd (Puts O.writes output.old output.new) (Puts E.writes errors.old errors.new)
         (complaining status complaint.now) result }
 {
-    put(errors, complaint);
-    status
+    let is_told = put(errors, complaint);
+    told_status(is_told, status)
+}
+
+/// The status of an answer whose complaint was put: what is done is so only where that is out too.
+fn told_status(is_told: bool, status: Status) -> Status
+    ensures { result ≡ told_status is_told status }
+{
+    match status {
+        Status::Done if !is_told => Status::Refused,
+        status => status,
+    }
 }

@@ -9,6 +9,7 @@ mod endings;
 mod inputs;
 mod laws;
 mod refusals;
+mod scheduled;
 mod sources;
 mod stops;
 mod streams;

@@ -3,11 +3,14 @@ ghost use Rattle.std.specs.Prelude.{◌≡◌, ◌≤◌, ◌++◌, ◌-◌, [],
 ghost use Rattle.bip_model.specs.Texts.{lines, words};
 ghost use Rattle.bip_model.specs.Naming.{name_in};
 ghost use Rattle.bipr.specs.Wording.{counts_text, interaction_on, model_refusal, plan_refusal};
-ghost use Rattle.bipr.specs.Wording.{run_text, step_text, trace_refusal, verdict_text};
+ghost use Rattle.bipr.specs.Wording.{decisions_text, losses_text, report_text, run_text};
+ghost use Rattle.bipr.specs.Wording.{schedule_refusal, step_text};
+ghost use Rattle.bipr.specs.Wording.{trace_refusal, verdict_text};
 
+use bip_core::Report;
 use bip_model::{CompId, InterId, Model, NumberedLines, split_word};
 use bip_reader::ReadFault;
-use bip_replay::{BookFault, ReplayFault};
+use bip_replay::{BookFault, ReplayFault, TraceFault};
 use std::alloc::{AllocError, Global};
 
 /// What a check counts: the components, interactions and classes of a model, the components that
@@ -68,6 +71,46 @@ pub fn trace_refusal(alloc: Global, line: u64, fault: &ReplayFault) -> Result<Ve
     ensures { IfOk result (λ text. text.items ≡ trace_refusal line fault.now) }
 {
     Ok(format!(in alloc; "bipr: trace line {line}: {fault}\n")?.into_bytes())
+}
+
+/// The complaint of a schedule's text.
+pub fn schedule_refusal(alloc: Global, line: u64, fault: &TraceFault) -> Result<Vec<u8>, AllocError>
+    ensures { IfOk result (λ text. text.items ≡ schedule_refusal line fault.now) }
+{
+    Ok(format!(in alloc; "bipr: schedule line {line}: {fault}\n")?.into_bytes())
+}
+
+/// `events E grants G refusals R idle I skipped K lost L`.
+pub fn report_text(alloc: Global, report: &Report) -> Result<Vec<u8>, AllocError>
+    ensures { IfOk result (λ text. text.items ≡ report_text report.now) }
+{
+    let mut text = decisions_text(alloc, report)?.into_bytes();
+    text.extend_from_slice(losses_text(alloc, report)?.as_bytes())?;
+    Ok(text)
+}
+
+fn decisions_text(alloc: Global, report: &Report) -> Result<String, AllocError>
+    ensures { IfOk result (λ text. text.bytes.items ≡ decisions_text report.now) }
+{
+    let Report {
+        events,
+        grants,
+        refusals,
+        ..
+    } = *report;
+    format!(in alloc; "events {events} grants {grants} refusals {refusals}")
+}
+
+fn losses_text(alloc: Global, report: &Report) -> Result<String, AllocError>
+    ensures { IfOk result (λ text. text.bytes.items ≡ losses_text report.now) }
+{
+    let Report {
+        idle,
+        skipped,
+        lost,
+        ..
+    } = *report;
+    format!(in alloc; " idle {idle} skipped {skipped} lost {lost}\n")
 }
 
 /// The verdict on a trace whose line with this number has a grant that can't be next.

@@ -4,4 +4,4 @@ use Rattle.bipr.specs.Streams.{nothing}
 use Rattle.bipr.proofs.endings.complain.Goals as goal
 
 pub returns : goal.returns
-returns g c = written c.put.result (nothing refl) c.put.ensures
+returns g c = rw c.told_status.ensures (written c.put-is_told.result (nothing refl) c.put-is_told.ensures)

@@ -9,6 +9,7 @@ returns-then-not-put g c =
 
 pub returns : goal.returns
 returns g c =
-    written c.put-2.result
+    rw c.told_status.ensures
+    (written c.put-is_told.result
     (rw (← c.as_slice.ensures, ← c.if-not-put.false) c.put.ensures)
-    (rw (← c.as_slice-2.ensures) c.put-2.ensures)
+    (rw (← c.as_slice-2.ensures) c.put-is_told.ensures))

@@ -1,0 +1,43 @@
+-- What the steps may answer that are asked for.
+use Rattle.std.specs.Prelude.{◌≡◌, ℕ, Bool, false, true, ◌&&◌, List, Result, Ok, Err}
+use Rattle.bip_partition.specs.Plans.{Planned}
+use Rattle.bipr.specs.Answers.{HasPlan, IsRefusedModel}
+use Rattle.bipr.specs.Dividing.{after_mark, before_mark}
+use Rattle.bipr.specs.Scheduled.{IsScheduleAnswer}
+use Rattle.bipr.specs.Sources.{is_standard_input}
+use Rattle.bipr.specs.Stops.{out_of_memory, unread}
+use Rattle.bipr.specs.declared.answers.Answer.{Answer}
+use Rattle.bipr.specs.declared.command_line.StepsArguments.{StepsArguments}
+use Rattle.bipr.specs.declared.inputs.InputFault.{InputFault}
+
+-- both texts are in standard input
+abbrev pub are_joined : StepsArguments → Bool
+are_joined asked = is_standard_input asked.model.now && is_standard_input asked.schedule.now
+
+-- what the steps that are asked for may answer, where reading a path may give these texts
+pub data IsSteps (gives : List ℕ → Result (List ℕ) InputFault → Type 0)
+    (asked : StepsArguments) : Answer → Type 0 where
+  -- the text that the first path names has a plan, and the second path names a schedule
+  of_two : (model schedule : List ℕ) (p : Planned) (answer : Answer) → are_joined asked ≡ false
+      → gives asked.model.now (Ok model) → HasPlan model p → gives asked.schedule.now (Ok schedule)
+      → IsScheduleAnswer p asked.base schedule answer → IsSteps gives asked answer
+  -- the text that the first path names has none, whatever the second path names
+  no_plan_of_two : (model : List ℕ) (answer : Answer) → are_joined asked ≡ false
+      → gives asked.model.now (Ok model) → IsRefusedModel model answer → IsSteps gives asked answer
+  -- one input has both texts
+  of_one : (text : List ℕ) (p : Planned) (answer : Answer) → are_joined asked ≡ true
+      → gives asked.model.now (Ok text) → HasPlan (before_mark text) p
+      → IsScheduleAnswer p asked.base (after_mark text) answer → IsSteps gives asked answer
+  -- and the first has no plan
+  no_plan_of_one : (text : List ℕ) (answer : Answer) → are_joined asked ≡ true
+      → gives asked.model.now (Ok text) → IsRefusedModel (before_mark text) answer
+      → IsSteps gives asked answer
+  -- the text that the first path names isn't read
+  model_unread : (fault : InputFault) → gives asked.model.now (Err fault)
+      → IsSteps gives asked (unread asked.model.now fault)
+  -- the text that the second path names isn't read, and the first has a plan
+  schedule_unread : (model : List ℕ) (p : Planned) (fault : InputFault) → are_joined asked ≡ false
+      → gives asked.model.now (Ok model) → HasPlan model p → gives asked.schedule.now (Err fault)
+      → IsSteps gives asked (unread asked.schedule.now fault)
+  -- memory is out
+  no_room : IsSteps gives asked out_of_memory

@@ -1,0 +1,108 @@
+//! The command `steps`.
+ghost use Rattle.std.specs.Prelude.{◌≡◌, ◌≤◌, ℕ, false, true, List, Ok};
+ghost use Rattle.bipr.specs.Answers.{HasPlan};
+ghost use Rattle.bipr.specs.CommandLine.{greatest_base};
+ghost use Rattle.bipr.specs.Commands.Steps.{IsSteps, are_joined};
+ghost use Rattle.bipr.specs.Endings.{AllOutcomes, Ends};
+ghost use Rattle.bipr.specs.Streams.{Puts};
+
+use crate::answers::{Answer, PlanOrRefusal, Status, plan_text};
+use crate::command_line::StepsArguments;
+use crate::commands::read_input;
+use crate::dividing::divide;
+use crate::endings::end;
+use crate::inputs::Inputs;
+use crate::scheduled::answer_schedule;
+use crate::sources::is_standard_input;
+use crate::stops::Stop;
+use crate::streams::Stream;
+use bip_partition::Plan;
+use std::alloc::Global;
+
+/// Runs the events of the schedule that the second path names from the new world of the model that
+/// the first path names, with the central bank: writes the trace, and their report on standard
+/// error, and says with which status the command ends. The schedule is read only where the model
+/// has a plan; where both paths are standard input, that has both texts (docs/DEFINITIONS.md, "The
+/// steps that are asked for").
+pub fn steps<I: Inputs, O: Stream, E: Stream>(
+    alloc: Global,
+    inputs: &I,
+    asked: &StepsArguments<'_>,
+    output: &mut O,
+    errors: &mut E,
+) -> Status
+    requires { asked.now.base ≤ greatest_base }
+    ensures { Ends (IsSteps (I.gives inputs.now) asked.now) (Puts O.writes output.old output.new)
+        (Puts E.writes errors.old errors.new) result }
+{
+    end(alloc, output, errors, answer_asked(alloc, inputs, asked))
+}
+
+// The answer to what is asked.
+fn answer_asked<'a, I: Inputs>(
+    alloc: Global,
+    inputs: &I,
+    asked: &StepsArguments<'a>,
+) -> Result<Answer, Stop<'a>>
+    requires { asked.now.base ≤ greatest_base }
+    ensures { AllOutcomes result (IsSteps (I.gives inputs.now) asked.now) }
+{
+    if is_standard_input(asked.model) && is_standard_input(asked.schedule) {
+        answer_one(alloc, inputs, asked)
+    } else {
+        answer_two(alloc, inputs, asked)
+    }
+}
+
+// The answer where one input has both texts.
+fn answer_one<'a, I: Inputs>(
+    alloc: Global,
+    inputs: &I,
+    asked: &StepsArguments<'a>,
+) -> Result<Answer, Stop<'a>>
+    requires bound { asked.now.base ≤ greatest_base }
+    requires joined { are_joined asked.now ≡ true }
+    ensures { AllOutcomes result (IsSteps (I.gives inputs.now) asked.now) }
+{
+    let both = read_input(alloc, inputs, asked.model)?;
+    let (model, schedule) = divide(both.as_slice());
+    let given = plan_text(alloc, model)?;
+    match given {
+        PlanOrRefusal::Plan(plan) => Ok(answer_schedule(alloc, &plan, schedule, asked.base)?),
+        PlanOrRefusal::Refusal(answer) => Ok(answer),
+    }
+}
+
+// The answer where each path names a text: the model's half.
+fn answer_two<'a, I: Inputs>(
+    alloc: Global,
+    inputs: &I,
+    asked: &StepsArguments<'a>,
+) -> Result<Answer, Stop<'a>>
+    requires bound { asked.now.base ≤ greatest_base }
+    requires apart { are_joined asked.now ≡ false }
+    ensures { AllOutcomes result (IsSteps (I.gives inputs.now) asked.now) }
+{
+    let text = read_input(alloc, inputs, asked.model)?;
+    let given = plan_text(alloc, text.as_slice())?;
+    match given {
+        PlanOrRefusal::Plan(plan) => answer_second(alloc, inputs, asked, &plan),
+        PlanOrRefusal::Refusal(answer) => Ok(answer),
+    }
+}
+
+// The schedule's half, where the model has a plan.
+fn answer_second<'a, I: Inputs>(
+    alloc: Global,
+    inputs: &I,
+    asked: &StepsArguments<'a>,
+    plan: &Plan,
+) -> Result<Answer, Stop<'a>>
+    requires bound { asked.now.base ≤ greatest_base }
+    requires apart { are_joined asked.now ≡ false }
+    ensures { (text : List ℕ) → I.gives inputs.now asked.now.model.now (Ok text)
+        → HasPlan text plan.now → AllOutcomes result (IsSteps (I.gives inputs.now) asked.now) }
+{
+    let schedule = read_input(alloc, inputs, asked.schedule)?;
+    Ok(answer_schedule(alloc, plan, schedule.as_slice(), asked.base)?)
+}
