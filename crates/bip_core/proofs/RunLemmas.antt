@@ -4,8 +4,8 @@ use Rattle.std.specs.Prelude.{count_by, cond, is_some}
 use Rattle.std.proofs.lemmas.List.{append_assoc, append-nil, length-append}
 use Rattle.std.proofs.lemmas.List.Sums.{count_by-le-length, sum_by-append, sum_by-cons, sum_by_push}
 use Rattle.bip_model.specs.declared.grants.Grant.{Grant}
-use Rattle.bip_core.specs.Events.{AreKeptOf, AreSent, CanBeSkipped, IsDelivered, IsDone, IsHandedOn, IsStep, TakesOut, all_done, grant_in, one_kept, one_lost, trace_with}
-use Rattle.bip_core.specs.Runs.{AreSteps, CanCount, FitsLost, IsRunOfEvents, did_so, is_grant, is_idle, is_refusal, lost_by, number_if, report_of, report_with, was_skipped}
+use Rattle.bip_core.specs.Events.{AreKeptOf, AreSent, CanBeSkipped, IsDelivered, IsCounted, IsDone, IsHandedOn, IsStep, TakesOut, all_done, grant_in, kind_of, one_kept, one_lost, trace_with}
+use Rattle.bip_core.specs.Runs.{AreSteps, CanCount, FitsLost, IsRunOfEvents, did_so, is_grant, is_idle, is_kind_granted, is_kind_idle, is_kind_refused, is_refusal, lost_by, number_if, report_counted, report_of, report_with, was_skipped}
 use Rattle.bip_core.specs.Worlds.{WorldContent}
 use Rattle.bip_core.specs.declared.events.Did.{Did}
 use Rattle.bip_core.specs.declared.events.Event.{Event}
@@ -14,7 +14,11 @@ use Rattle.bip_core.specs.declared.events.What.{What}
 use Rattle.bip_core.specs.declared.events.What.TheVariants.{Acts, Hears, Learns, Moves, Nothing, Submits, Tries}
 use Rattle.bip_core.specs.declared.messages.Message.{Message}
 use Rattle.bip_core.specs.declared.messages.Message.TheVariants.{NotifyComponent, OfferTo, ReplyToClass, RequestToBank}
+use Rattle.bip_core.specs.declared.outcomes.Outcome.{Outcome}
 use Rattle.bip_core.specs.declared.runs.Report.{Report}
+use Rattle.bip_table.specs.declared.reservations.Decision.TheVariants as decision
+use Rattle.bip_ip.specs.declared.nodes.Tried.TheVariants as tried
+use Rattle.bip_bank.specs.declared.banks.Acted.TheVariants as acted
 
 -- one more event
 pub steps_more : (es : List Event) (ds : List (Option Did)) (w v x : WorldContent) (e : Event) (d : Did) → AreSteps es ds w v → IsStep v e d x → AreSteps (es ++ e ∷ []) (ds ++ Some d ∷ []) w x
@@ -55,6 +59,30 @@ report_by lost events grants refusals idle skipped = record { lost = lost; event
 report_more : (ds : List (Option Did)) (d : Option Did) → report_with (report_of ds) d ≡ report_of (ds ++ d ∷ [])
 report_more ds d = rw (← sum_by_push lost_by ds d, length-append ds (d ∷ []), ← count_push (did_so is_grant) ds d, ← count_push (did_so is_refusal) ds d, ← count_push (did_so is_idle) ds d, ← count_push was_skipped ds d) refl
 
+-- an event counts as its kind says
+kind_counts : (what : What) → (is_kind_granted (kind_of what) ≡ is_grant what) × (is_kind_refused (kind_of what) ≡ is_refusal what) × (is_kind_idle (kind_of what) ≡ is_idle what)
+kind_counts Nothing = (refl, refl, refl)
+kind_counts (Hears r) = (refl, refl, refl)
+kind_counts Submits = (refl, refl, refl)
+kind_counts (Learns r) = (refl, refl, refl)
+kind_counts (Moves r) = (refl, refl, refl)
+kind_counts (Tries tried.Foreign) = (refl, refl, refl)
+kind_counts (Tries (tried.Pending b)) = (refl, refl, refl)
+kind_counts (Tries (tried.Not x)) = (refl, refl, refl)
+kind_counts (Tries (tried.Local g notifies)) = (refl, refl, refl)
+kind_counts (Tries tried.Ended) = (refl, refl, refl)
+kind_counts (Tries (tried.Sent q)) = (refl, refl, refl)
+kind_counts (Acts acted.Nothing) = (refl, refl, refl)
+kind_counts (Acts acted.Moved) = (refl, refl, refl)
+kind_counts (Acts (acted.Answered q (decision.Granted serial))) = (refl, refl, refl)
+kind_counts (Acts (acted.Answered q (decision.Refused c used))) = (refl, refl, refl)
+
+counted_same : (report : Report) (what : What) (outcome : Outcome) → outcome.kind ≡ kind_of what → report_counted report outcome ≡ report_with report (Some (record { what = what; lost = outcome.lost }))
+counted_same report what outcome is =
+    let counts = kind_counts what in
+    let skipped : report.skipped + 0 ≡ report.skipped = omega arith in
+    rw (is, counts.0, counts.1, counts.2, skipped) refl
+
 -- none so far
 pub no_steps : (w : WorldContent) (report : Report) → report ≡ report_of [] → IsRunOfEvents [] w w report
 no_steps w report is = record { dids = []; steps = refl; sums = is }
@@ -74,12 +102,15 @@ can_count es w v report few run lost =
     })
 
 -- one more event, with its sums
-pub run_more : (es : List Event) (w v x : WorldContent) (report later : Report) (e : Event) (d : Did) → IsRunOfEvents es w v report → IsStep v e d x → later ≡ report_with report (Some d) → IsRunOfEvents (es ++ e ∷ []) w x later
+run_more : (es : List Event) (w v x : WorldContent) (report later : Report) (e : Event) (d : Did) → IsRunOfEvents es w v report → IsStep v e d x → later ≡ report_with report (Some d) → IsRunOfEvents (es ++ e ∷ []) w x later
 run_more es w v x report later e d run step counted = record {
   dids = run.dids ++ Some d ∷ [];
   steps = steps_more es run.dids w v x e d run.steps step;
   sums = counted ∙ (ap (λ (r : Report). report_with r (Some d)) run.sums ∙ report_more run.dids (Some d));
 }
+
+pub run_counted : {saw : What → Type 0} (es : List Event) (w v x : WorldContent) (report later : Report) (e : Event) (outcome : Outcome) → IsRunOfEvents es w v report → IsCounted saw v e outcome x → later ≡ report_counted report outcome → IsRunOfEvents (es ++ e ∷ []) w x later
+run_counted es w v x report later e outcome run counted is = run_more es w v x report later e (record { what = counted.what; lost = outcome.lost }) run counted.step (is ∙ counted_same report counted.what outcome counted.kind)
 
 pub run_skip : (es : List Event) (w v x : WorldContent) (report later : Report) (e : Event) → IsRunOfEvents es w v report → CanBeSkipped v e → x ≡ v → later ≡ report_with report None → IsRunOfEvents (es ++ e ∷ []) w x later
 run_skip es w v x report later e run can same counted = record {

@@ -1,5 +1,5 @@
 -- Messages that are put last, one after another.
-use Rattle.std.proofs.Common.{◌≡◌, ℕ, ◌+◌, ◌<◌, ◌≤◌, List, [], ◌∷◌, ◌++◌, length, map, take, get_or, refl, sym, ap, ◌∙◌, arith}
+use Rattle.std.proofs.Common.{◌≡◌, ℕ, ◌+◌, ◌<◌, ◌≤◌, List, [], ◌∷◌, ◌++◌, length, map, take, get_or, refl, sym, ap, subst, ◌∙◌, arith}
 use Rattle.std.specs.Prelude.{All}
 use Rattle.std.proofs.lemmas.List.{append_assoc, append-nil, length-append, map-append, take_more}
 use Rattle.std.proofs.lemmas.List.Elements.{All-append, All-cons, All-head, All-map, All-nil, All-tail}
@@ -12,8 +12,9 @@ use Rattle.bip_core.specs.Worlds.{FitsIfRequest}
 use Rattle.bip_core.specs.declared.events.What.{What}
 use Rattle.bip_core.specs.declared.events.What.TheVariants.{Acts, Hears, Learns, Moves, Nothing, Submits, Tries}
 use Rattle.bip_core.specs.declared.messages.Message.TheVariants.{NotifyComponent, OfferTo, ReplyToClass, RequestToBank}
-use Rattle.bip_core.specs.Events.{AreKeptOf, ArePut, AreSent, IsSending, SendsWhatFits, all_done, one_kept, one_lost, reply_to}
+use Rattle.bip_core.specs.Events.{AreKeptOf, ArePut, AreSent, IsSending, SendsWhatFits, all_done, kind_of, one_kept, one_lost, reply_to}
 use Rattle.bip_core.specs.declared.messages.Message.{Message}
+use Rattle.bip_core.specs.declared.outcomes.Outcome.{Outcome}
 
 -- what is kept of two lists, one after the other
 kept-append : (ps xs qs ys : List Message) → AreKeptOf ps xs → AreKeptOf qs ys → AreKeptOf (ps ++ qs) (xs ++ ys)
@@ -58,8 +59,13 @@ pub one_missed : (m : Message) (mail : List Message) → ArePut (m ∷ []) 1 mai
 one_missed m mail = record { put = []; kept = one_lost all_done; count = refl; last = sym (append-nil mail) }
 
 -- an answer that sends nothing
-pub sends_nothing : (p : Planned) (what : What) (mail : List Message) → AreSent p what [] → IsSending p what 0 mail mail
-sends_nothing p what mail sends = record { sent = []; sends = sends; put = none_put mail }
+pub sends_nothing : (p : Planned) (what : What) (outcome : Outcome) (mail : List Message) → AreSent p what [] → outcome ≡ record { kind = kind_of what; lost = 0 } → IsSending p what outcome mail mail
+sends_nothing p what outcome mail sends is = record {
+  sent = [];
+  sends = sends;
+  put = subst (λ (n : ℕ). ArePut [] n mail mail) (sym (ap (λ (o : Outcome). o.lost) is)) (none_put mail);
+  kind = ap (λ (o : Outcome). o.kind) is;
+}
 
 -- what is put are requests that fit, or none
 pub sent_fit : (p : Planned) (what : What) (sent : List Message) → SendsWhatFits p what → AreSent p what sent → All (FitsIfRequest p) sent
@@ -83,6 +89,6 @@ sent_fit p (Acts acted.Moved) sent fits sends = rw sends (All-nil (FitsIfRequest
 sent_fit p (Acts (acted.Answered r d)) sent fits sends = rw sends (All-cons (FitsIfRequest p) (ReplyToClass (reply_to r d)) [] (λ q same. absurd (cc)) (All-nil (FitsIfRequest p)))
 
 -- so requests in flight fit after they are put
-pub put_fit : (p : Planned) (what : What) (lost : ℕ) (mail later : List Message) → SendsWhatFits p what → IsSending p what lost mail later → All (FitsIfRequest p) mail → All (FitsIfRequest p) later
-put_fit p what lost mail later fits sending all =
+pub put_fit : (p : Planned) (what : What) (outcome : Outcome) (mail later : List Message) → SendsWhatFits p what → IsSending p what outcome mail later → All (FitsIfRequest p) mail → All (FitsIfRequest p) later
+put_fit p what outcome mail later fits sending all =
     rw sending.put.last (All-append (FitsIfRequest p) mail sending.put.put all (kept_all (FitsIfRequest p) sending.put.put sending.sent sending.put.kept (sent_fit p what sending.sent fits sending.sends)))

@@ -1,5 +1,5 @@
 -- What is kept of a world, as the world, and what its nodes leave.
-use Rattle.std.proofs.Common.{◌≡◌, ◌⊎◌, ℕ, suc, take, drop, ◌<◌, ◌≤◌, List, ◌∷◌, ◌++◌, length, set, get_or, Some, None, Option, inl, inr, refl, sym, ap, ◌∙◌, subst, slice_get, arith}
+use Rattle.std.proofs.Common.{◌≡◌, ◌⊎◌, ℕ, suc, take, drop, ◌<◌, ◌≤◌, List, [], ◌∷◌, ◌++◌, length, set, get_or, Some, None, Option, inl, inr, refl, sym, ap, ◌∙◌, subst, slice_get, arith}
 use Rattle.std.specs.Prelude.{All, Err, IfErr, IfSome, Ok, Result}
 use Rattle.std.specs.Option.{option_map}
 use Rattle.std.proofs.Math.Path.{fun_ext}
@@ -43,12 +43,16 @@ use Rattle.bip_bank.specs.Banks.{BankContent, IsActed, KeptBank, content_of, wit
 use Rattle.bip_core.specs.Worlds.{FitsIfRequest, IsKnownGrant, IsKeptWorld, KeptWorld, WorldContent, with_class_node, with_component_node, world_of}
 use Rattle.bip_model.specs.declared.numbering.ClassId.{ClassId}
 use Rattle.bip_observe.specs.Offers.{IsReceipt, observed}
-use Rattle.bip_core.specs.Events.{CanBeSkipped, IsDelivered, IsDone, IsHandedOn, IsTraced, SendsWhatFits, TakesOut, class_named, grant_acted, grant_in, grant_tried, trace_with}
+use Rattle.bip_core.specs.Events.{AreSent, CanBeSkipped, IsCounted, IsDelivered, IsDone, IsHandedOn, IsSending, IsTakenIn, IsTraced, SendsWhatFits, TakesOut, class_named, grant_acted, grant_in, grant_tried, kind_of, trace_with}
+use Rattle.bip_core.specs.declared.events.Event.{Event}
 use Rattle.bip_core.specs.declared.events.Event.TheVariants.{Bank, Mail, Try}
 use Rattle.bip_core.specs.declared.events.What.TheVariants.{Acts, Hears, Learns, Moves, Nothing, Submits, Tries}
 use Rattle.bip_core.specs.declared.events.What.{What}
 use Rattle.bip_core.specs.declared.messages.Message.TheVariants.{NotifyComponent, OfferTo, ReplyToClass, RequestToBank}
 use Rattle.bip_core.specs.declared.messages.Message.{Message}
+use Rattle.bip_core.specs.declared.outcomes.Kind.TheVariants as kind
+use Rattle.bip_core.specs.declared.outcomes.Outcome.{Outcome}
+use Rattle.bip_core.proofs.SendLemmas.{put_fit, sends_nothing}
 
 -- what is kept of a world, by its parts
 abbrev pub kept_by : Planned → List Node → List KeptNode → List Message → List Grant → KeptBank → KeptWorld
@@ -414,3 +418,49 @@ submitted w k l place q is taken same = record {
 pub if_err : {A E : Type 0} (X : Type 0) (r : Result A E) → X → IfErr r (λ e. X)
 if_err X (Ok a) x = tt
 if_err X (Err e) x = x
+
+-- what an answer sends leaves the world whole
+pub sent_kept : (w : KeptWorld) (what : What) (outcome : Outcome) (later : List Message) → SendsWhatFits w.plan what → IsSending w.plan what outcome w.mail later → IsKeptWorld w → IsKeptWorld (record w { mail = later })
+sent_kept w what outcome later fits sending kept = mail_kept w later (put_fit w.plan what outcome w.mail later fits sending kept.requests) kept
+
+-- there is no such node
+pub no_class : (w : KeptWorld) (k : ℕ) → length w.classes ≤ k → (world_of w).classes k ≡ None
+no_class w k past = ap (option_map node_of) (slice_get_past w.classes k past)
+
+pub no_component : (w : KeptWorld) (c : ℕ) → length w.components ≤ c → (world_of w).components c ≡ None
+no_component w c past = slice_get_past w.components c past
+
+-- so a try there does nothing
+pub no_try : (w : KeptWorld) (k : ClassId) (a : InterId) → length w.classes ≤ k.0 → IsTraced (world_of w) (Try k a) Nothing (world_of w)
+no_try w k a past = record { middle = world_of w; done = (no_class w k.0 past, refl); after = refl }
+
+-- a message for no node
+pub idle_taken : (saw : What → Type 0) (w : WorldContent) (message : Message) (outcome : Outcome) → saw Nothing → IsHandedOn w message Nothing w → outcome ≡ record { kind = kind.Idle; lost = 0 } → IsTakenIn saw w message outcome w
+idle_taken saw w message outcome seen on is = record {
+  what = Nothing;
+  seen = seen;
+  middle = w;
+  on = on;
+  sending = sends_nothing w.plan Nothing outcome w.mail refl is;
+  others = refl;
+}
+
+-- a step by its parts
+pub counted_by : (saw : What → Type 0) (w : WorldContent) (event : Event) (what : What) (outcome : Outcome) (middle v : WorldContent) → saw what → IsTraced w event what middle → IsSending w.plan what outcome middle.mail v.mail → v ≡ record middle { mail = v.mail } → IsCounted saw w event outcome v
+counted_by saw w event what outcome middle v seen traced sending others = record {
+  what = what;
+  seen = seen;
+  step = record { middle = middle; acted = traced; sent = sending.sent; sends = sending.sends; put = sending.put; others = others };
+  kind = sending.kind;
+}
+
+-- an event that does nothing, or hands a request on, sends nothing
+pub counted_quiet : (saw : What → Type 0) (w : WorldContent) (event : Event) (what : What) (outcome : Outcome) (v : WorldContent) → saw what → IsTraced w event what v → AreSent w.plan what [] → outcome ≡ record { kind = kind_of what; lost = 0 } → IsCounted saw w event outcome v
+counted_quiet saw w event what outcome v seen traced sends is = counted_by saw w event what outcome v v seen traced (sends_nothing w.plan what outcome v.mail sends is) refl
+
+-- a message that was taken out and taken in
+pub taken_counted : (saw : What → Type 0) (w k : KeptWorld) (place : ℕ) (message : Message) (outcome : Outcome) (v : WorldContent) → TakesOut place message w.mail k.mail → k ≡ record w { mail = k.mail } → IsTakenIn saw (world_of k) message outcome v
+    → IsCounted saw (world_of w) (Mail place) outcome v
+taken_counted saw w k place message outcome v taken same in_ =
+    let plan : k.plan ≡ w.plan = ap (λ (u : KeptWorld). u.plan) same in
+    counted_by saw (world_of w) (Mail place) in_.what outcome in_.middle v in_.seen (delivered w k place message in_.what in_.middle taken same in_.on) (subst (λ (p : Planned). IsSending p in_.what outcome in_.middle.mail v.mail) plan in_.sending) in_.others

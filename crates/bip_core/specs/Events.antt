@@ -31,6 +31,9 @@ use Rattle.bip_core.specs.declared.events.What.TheVariants.{Nothing, Hears, Subm
 use Rattle.bip_core.specs.declared.events.What.TheVariants.{Tries, Acts}
 use Rattle.bip_core.specs.declared.messages.Message.{Message}
 use Rattle.bip_core.specs.declared.messages.Message.TheVariants.{OfferTo, RequestToBank}
+use Rattle.bip_core.specs.declared.outcomes.Kind.{Kind}
+use Rattle.bip_core.specs.declared.outcomes.Kind.TheVariants as kind
+use Rattle.bip_core.specs.declared.outcomes.Outcome.{Outcome}
 use Rattle.bip_core.specs.declared.messages.Message.TheVariants.{ReplyToClass, NotifyComponent}
 
 -- the class that a reply names
@@ -170,9 +173,44 @@ SendsWhatFits p (Tries (tried.Sent q)) = IsFit p q
 SendsWhatFits p (Moves (notified.Moved offer)) = offer.comp.0 < length p.model.components
 SendsWhatFits p what = ⊤
 
+-- what kind of event it was, by what it did: runs count these
+abbrev pub kind_decided : Decision → Kind
+kind_decided (decision.Granted serial) = kind.Granted
+kind_decided (decision.Refused c used) = kind.Refused
+
+abbrev pub kind_of : What → Kind
+kind_of Nothing = kind.Idle
+kind_of (Tries tried.Foreign) = kind.Idle
+kind_of (Tries (tried.Pending b)) = kind.Idle
+kind_of (Tries (tried.Not verdict)) = kind.Idle
+kind_of (Tries (tried.Local g notifies)) = kind.Granted
+kind_of (Tries tried.Ended) = kind.Idle
+kind_of (Acts acted.Nothing) = kind.Idle
+kind_of (Acts (acted.Answered q d)) = kind_decided d
+kind_of what = kind.Done
+
 -- what an answer sends is put last
-pub record IsSending (p : Planned) (what : What) (lost : ℕ) (mail later : List Message)
+pub record IsSending (p : Planned) (what : What) (outcome : Outcome) (mail later : List Message)
     : Type 0 where
   pub sent : List Message
   pub sends : AreSent p what sent
-  pub put : ArePut sent lost mail later
+  pub put : ArePut sent outcome.lost mail later
+  pub kind : outcome.kind ≡ kind_of what
+
+-- a message is handed on, and what that sends is put last; a witness saw what it did
+pub record IsTakenIn (saw : What → Type 0) (w : WorldContent) (message : Message)
+    (outcome : Outcome) (v : WorldContent) : Type 0 where
+  pub what : What
+  pub seen : saw what
+  pub middle : WorldContent
+  pub on : IsHandedOn w message what middle
+  pub sending : IsSending w.plan what outcome middle.mail v.mail
+  pub others : v ≡ record middle { mail = v.mail }
+
+-- a step of the world that comes to this; a witness saw what it did
+pub record IsCounted (saw : What → Type 0) (w : WorldContent) (event : Event) (outcome : Outcome)
+    (v : WorldContent) : Type 0 where
+  pub what : What
+  pub seen : saw what
+  pub step : IsStep w event (record { what = what; lost = outcome.lost }) v
+  pub kind : outcome.kind ≡ kind_of what

@@ -10,6 +10,9 @@ use Rattle.bip_core.specs.declared.events.Did.{Did}
 use Rattle.bip_core.specs.declared.events.Event.{Event}
 use Rattle.bip_core.specs.declared.events.What.{What}
 use Rattle.bip_core.specs.declared.events.What.TheVariants.{Acts, Nothing, Tries}
+use Rattle.bip_core.specs.declared.outcomes.Kind.{Kind}
+use Rattle.bip_core.specs.declared.outcomes.Kind.TheVariants as kind
+use Rattle.bip_core.specs.declared.outcomes.Outcome.{Outcome}
 use Rattle.bip_core.specs.declared.runs.Report.{Report}
 
 -- events lead from one world to another, one after another: each did this, or was skipped
@@ -84,6 +87,30 @@ report_with report did =
       refusals = report.refusals + number_if (did_so is_refusal did);
       idle = report.idle + number_if (did_so is_idle did);
       skipped = report.skipped + number_if (was_skipped did);
+    }
+
+-- and with one that comes to this
+abbrev pub is_kind_granted : Kind → Bool
+is_kind_granted kind.Granted = true
+is_kind_granted other = false
+
+abbrev pub is_kind_refused : Kind → Bool
+is_kind_refused kind.Refused = true
+is_kind_refused other = false
+
+abbrev pub is_kind_idle : Kind → Bool
+is_kind_idle kind.Idle = true
+is_kind_idle other = false
+
+abbrev pub report_counted : Report → Outcome → Report
+report_counted report outcome =
+    record {
+      lost = report.lost + outcome.lost;
+      events = report.events + 1;
+      grants = report.grants + number_if (is_kind_granted outcome.kind);
+      refusals = report.refusals + number_if (is_kind_refused outcome.kind);
+      idle = report.idle + number_if (is_kind_idle outcome.kind);
+      skipped = report.skipped;
     }
 
 -- no more than what each of so many events can lose

@@ -5,6 +5,7 @@ mod events;
 mod laws;
 mod machines;
 mod messages;
+mod outcomes;
 mod runs;
 mod sending;
 mod starting;

@@ -1,14 +1,12 @@
 //! The machine below the world: all its parts, and its events.
 ghost use Rattle.std.specs.Prelude.{◌≡◌, ◌<◌, All, IfErr, IfNone, IfOk, IfSome, OnErr, OnOk};
-ghost use Rattle.std.specs.Prelude.{Some, length, slice_get};
+ghost use Rattle.std.specs.Prelude.{Some, length, slice_get, vec_capacity, vec_len};
 ghost use Rattle.bip_model.specs.declared.messages.Request.{Request};
 ghost use Rattle.bip_model.specs.Numbering.{last_number};
 ghost use Rattle.bip_partition.specs.Plans.{IsFit};
 ghost use Rattle.bip_bank.specs.Banks.{content_of, with_request};
-ghost use Rattle.bip_core.specs.Events.{CanBeSkipped, IsHandedOn, IsSending, IsStep, IsTraced};
-ghost use Rattle.bip_core.specs.Events.{SendsWhatFits};
-ghost use Rattle.bip_core.specs.Events.{TakesOut};
-ghost use Rattle.bip_core.specs.Events.{class_named, grant_acted, grant_tried};
+ghost use Rattle.bip_core.specs.Events.{CanBeSkipped, IsCounted, IsTakenIn, TakesOut};
+ghost use Rattle.bip_core.specs.Events.{class_named, grant_acted, grant_tried, trace_with};
 ghost use Rattle.bip_core.specs.Starting.{IsNewWorld, IsUnasked};
 ghost use Rattle.bip_core.specs.Worlds.{IsKeptWorld, IsKnownGrant, world_of};
 ghost use Rattle.bip_core.specs.declared.events.Event.TheVariants.{Bank, Mail, Try};
@@ -18,7 +16,8 @@ ghost use Rattle.bip_core.specs.declared.messages.Message.TheVariants.{ReplyToCl
 ghost use Rattle.bip_core.specs.declared.messages.Message.TheVariants.{RequestToBank};
 
 use crate::messages::Message;
-use crate::sending::send;
+use crate::outcomes::{Kind, Outcome, Witness};
+use crate::sending::{send_acted, send_moved, send_told, send_tried};
 use crate::starting::{first_classes, first_components, first_offers};
 use crate::{Event, What};
 use bip_bank::{Acted, BankStep};
@@ -115,132 +114,134 @@ impl<'p, B: bip_bank::Bank> Machine<'p, B> {
     }
 
     /// Hands an offer on to a class.
-    fn hear(&mut self, class: ClassId, offer: Offer, what: &mut What)
-        ensures on { IsHandedOn (world_of self.old) (OfferTo class offer) what.new
-            (world_of self.new) }
-        ensures fits { SendsWhatFits self.old.plan what.new }
-        ensures plan { self.new.plan ≡ self.old.plan }
+    fn hear<W: Witness>(&mut self, class: ClassId, offer: Offer, witness: &mut W) -> Outcome
+        ensures { IsTakenIn (λ what. W.saw what witness.new) (world_of self.old)
+            (OfferTo class offer) result (world_of self.new) }
     {
         if class.0 as usize >= self.classes.len() {
-            *what = What::Nothing;
-            return;
+            witness.see(What::Nothing);
+            return Outcome::of(Kind::Idle);
         }
-        *what = What::Hears(self.classes[class.0 as usize].on_offer(offer));
+        let receipt = self.classes[class.0 as usize].on_offer(offer);
+        witness.see(What::Hears(receipt));
+        Outcome::of(Kind::Done)
     }
 
     /// Hands a reply on to the class that it names.
-    fn learn(&mut self, reply: &Reply, what: &mut What)
-        ensures on { IsHandedOn (world_of self.old) (ReplyToClass reply.now) what.new
-            (world_of self.new) }
-        ensures fits { SendsWhatFits self.old.plan what.new }
-        ensures plan { self.new.plan ≡ self.old.plan }
+    fn learn<W: Witness>(&mut self, reply: &Reply, witness: &mut W) -> Outcome
+        ensures { IsTakenIn (λ what. W.saw what witness.new) (world_of self.old)
+            (ReplyToClass reply.now) result (world_of self.new) }
     {
         let class = class_named(reply);
         if class.0 as usize >= self.classes.len() {
-            *what = What::Nothing;
-            return;
+            witness.see(What::Nothing);
+            return Outcome::of(Kind::Idle);
         }
-        *what = What::Learns(self.classes[class.0 as usize].on_reply(reply));
+        let did = self.classes[class.0 as usize].on_reply(reply);
+        let outcome = send_told(self.plan, &mut self.mail, &did);
+        witness.see(What::Learns(did));
+        outcome
     }
 
     /// Hands a notification on to its component.
-    fn move_by(&mut self, notify: &Notify, what: &mut What)
-        ensures on { IsHandedOn (world_of self.old) (NotifyComponent notify.now) what.new
-            (world_of self.new) }
-        ensures fits { SendsWhatFits self.old.plan what.new }
-        ensures plan { self.new.plan ≡ self.old.plan }
+    fn move_by<W: Witness>(&mut self, notify: &Notify, witness: &mut W) -> Outcome
+        ensures { IsTakenIn (λ what. W.saw what witness.new) (world_of self.old)
+            (NotifyComponent notify.now) result (world_of self.new) }
     {
         if notify.comp.0 as usize >= self.components.len() {
-            *what = What::Nothing;
-            return;
+            witness.see(What::Nothing);
+            return Outcome::of(Kind::Idle);
         }
-        *what = What::Moves(self.components[notify.comp.0 as usize].on_notify(notify));
+        let did = self.components[notify.comp.0 as usize].on_notify(notify);
+        let outcome = send_moved(self.plan, &mut self.mail, &did);
+        witness.see(What::Moves(did));
+        outcome
     }
 
     /// Lets a class try an interaction; a local grant joins the trace, for which room is made
     /// first.
-    fn try_one(&mut self, class: ClassId, inter: InterId, what: &mut What) -> Result<(), AllocError>
-        ensures traced { OnOk result
-            (IsTraced (world_of self.old) (Try class inter) what.new (world_of self.new)) }
-        ensures fits { OnOk result (SendsWhatFits self.old.plan what.new) }
-        ensures plan { self.new.plan ≡ self.old.plan }
+    fn try_one<W: Witness>(
+        &mut self,
+        class: ClassId,
+        inter: InterId,
+        witness: &mut W,
+    ) -> Result<Outcome, AllocError>
+        ensures counted { IfOk result (λ outcome. IsCounted (λ what. W.saw what witness.new)
+            (world_of self.old) (Try class inter) outcome (world_of self.new)) }
         ensures skipped { IfErr result (λ e. CanBeSkipped (world_of self.old) (Try class inter)) }
         ensures err { OnErr result (self.new ≡ self.old) }
     {
         if class.0 as usize >= self.classes.len() {
-            *what = What::Nothing;
-            return Ok(());
+            witness.see(What::Nothing);
+            return Ok(Outcome::of(Kind::Idle));
         }
         if self.plan.reserved(inter) {
             let did = self.classes[class.0 as usize].try_interaction(inter);
-            *what = What::Tries(did);
-            return Ok(());
+            let outcome = send_tried(self.plan, &mut self.mail, &did);
+            witness.see(What::Tries(did));
+            return Ok(outcome);
         }
         self.trace.reserve(1)?;
         let did = self.classes[class.0 as usize].try_interaction(inter);
-        if let Some(grant) = grant_tried(&did) {
-            self.trace.push_reserved(grant);
-        }
-        *what = What::Tries(did);
-        Ok(())
+        join_tried(&mut self.trace, &did);
+        let outcome = send_tried(self.plan, &mut self.mail, &did);
+        witness.see(What::Tries(did));
+        Ok(outcome)
     }
 
     /// Lets the bank do a step; a grant joins the trace, for which room is made first.
-    fn act(&mut self, step: BankStep, what: &mut What) -> Result<(), AllocError>
-        ensures traced { OnOk result
-            (IsTraced (world_of self.old) (Bank step) what.new (world_of self.new)) }
-        ensures fits { OnOk result (SendsWhatFits self.old.plan what.new) }
-        ensures plan { self.new.plan ≡ self.old.plan }
+    fn act<W: Witness>(&mut self, step: BankStep, witness: &mut W) -> Result<Outcome, AllocError>
+        ensures counted { IfOk result (λ outcome. IsCounted (λ what. W.saw what witness.new)
+            (world_of self.old) (Bank step) outcome (world_of self.new)) }
         ensures err { OnErr result (world_of self.new ≡ world_of self.old) }
     {
         let _planned = self.plan.classes();
         self.trace.reserve(1)?;
         let did = self.bank.act(step)?;
-        if let Some(grant) = grant_acted(&did) {
-            self.trace.push_reserved(grant);
-        }
-        *what = What::Acts(did);
-        Ok(())
+        join_acted(&mut self.trace, &did);
+        let outcome = send_acted(self.plan, &mut self.mail, &did);
+        witness.see(What::Acts(did));
+        Ok(outcome)
     }
 
     /// Hands the message at a place on to the node for which it is, and takes it out.
-    fn deliver(&mut self, place: usize, what: &mut What) -> Result<(), AllocError>
-        ensures traced { OnOk result
-            (IsTraced (world_of self.old) (Mail place) what.new (world_of self.new)) }
-        ensures fits { OnOk result (SendsWhatFits self.old.plan what.new) }
-        ensures plan { self.new.plan ≡ self.old.plan }
+    fn deliver<W: Witness>(&mut self, place: usize, witness: &mut W) -> Result<Outcome, AllocError>
+        ensures counted { IfOk result (λ outcome. IsCounted (λ what. W.saw what witness.new)
+            (world_of self.old) (Mail place) outcome (world_of self.new)) }
         ensures skipped { IfErr result (λ e. CanBeSkipped (world_of self.old) (Mail place)) }
         ensures err { OnErr result (world_of self.new ≡ world_of self.old) }
     {
         if place >= self.mails() {
-            *what = What::Nothing;
-            return Ok(());
+            witness.see(What::Nothing);
+            return Ok(Outcome::of(Kind::Idle));
         }
-        if let Some(request) = self.request_at(place) {
+        if let Some(posted) = self.request_at(place) {
+            let request = posted.copy();
             self.submit(request)?;
             self.take_out(place);
-            *what = What::Submits;
-            return Ok(());
+            witness.see(What::Submits);
+            return Ok(Outcome::of(Kind::Done));
         }
-        match self.take_out(place) {
-            Message::OfferTo(class, offer) => self.hear(class, offer, what),
-            Message::ReplyToClass(reply) => self.learn(&reply, what),
-            Message::NotifyComponent(notify) => self.move_by(&notify, what),
+        let outcome = match self.take_out(place) {
+            Message::OfferTo(class, offer) => self.hear(class, offer, witness),
+            Message::ReplyToClass(reply) => self.learn(&reply, witness),
+            Message::NotifyComponent(notify) => self.move_by(&notify, witness),
             Message::RequestToBank(_) => unreachable!(),
-        }
-        Ok(())
+        };
+        Ok(outcome)
     }
 
-    /// The request that is the message at a place, once more; none where it is another message.
-    fn request_at(&self, place: usize) -> Option<Request>
+    /// The request that is the message at a place; none where it is another message.
+    fn request_at(&self, place: usize) -> Option<&Request>
         requires { place < length self.now.mail }
-        ensures some { IfSome result (λ q. slice_get self.now.mail place ≡ Some (RequestToBank q)) }
+        ensures some { IfSome result (λ q.
+            slice_get self.now.mail place ≡ Some (RequestToBank q.now)) }
         ensures none { IfNone result
             ((q : Request) → ¬ (slice_get self.now.mail place ≡ Some (RequestToBank q))) }
         ensures kept { IsKeptWorld self.now }
     {
         match &self.mail[place] {
-            Message::RequestToBank(posted) => Some(posted.request().copy()),
+            Message::RequestToBank(posted) => Some(posted.request()),
             _ => None,
         }
     }
@@ -270,67 +271,47 @@ impl<'p, B: bip_bank::Bank> Machine<'p, B> {
         }
     }
 
-    /// Puts what an answer sends last.
-    fn send(&mut self, what: &What) -> usize
-        requires { SendsWhatFits self.old.plan what.now }
-        ensures sending { IsSending self.old.plan what.now result self.old.mail self.new.mail }
-        ensures others { self.new ≡ record self.old { mail = self.new.mail } }
-    {
-        send(self.plan, &mut self.mail, what)
-    }
-
-    /// Does what an event does before anything is sent.
-    pub fn happen(&mut self, event: Event, what: &mut What) -> Result<(), AllocError>
-        ensures traced { OnOk result
-            (IsTraced (world_of self.old) event what.new (world_of self.new)) }
-        ensures fits { OnOk result (SendsWhatFits self.old.plan what.new) }
-        ensures plan { self.new.plan ≡ self.old.plan }
+    /// Does one event: the node that it addresses acts, and its grant joins the trace; what it
+    /// sends is put last. The witness sees what the event did.
+    pub fn step<W: Witness>(&mut self, event: Event, witness: &mut W) -> Result<Outcome, AllocError>
+        ensures counted { IfOk result (λ outcome. IsCounted (λ what. W.saw what witness.new)
+            (world_of self.old) event outcome (world_of self.new)) }
         ensures skipped { IfErr result (λ e. CanBeSkipped (world_of self.old) event) }
         ensures err { OnErr result (world_of self.new ≡ world_of self.old) }
     {
         match event {
-            Event::Mail(place) => self.deliver(place, what),
-            Event::Try(class, inter) => self.try_one(class, inter, what),
-            Event::Bank(step) => self.act(step, what),
+            Event::Mail(place) => self.deliver(place, witness),
+            Event::Try(class, inter) => self.try_one(class, inter, witness),
+            Event::Bank(step) => self.act(step, witness),
         }
     }
-
-    /// Does one event: the node that it addresses acts, and its grant joins the trace; what it
-    /// sends is put last. It leaves what the event did, and answers how many messages were lost.
-    pub fn step(&mut self, event: Event, what: &mut What) -> Result<usize, AllocError>
-        ensures step { IfOk result (λ lost. IsStep (world_of self.old) event
-            (record { what = what.new; lost = lost }) (world_of self.new)) }
-        ensures skipped { IfErr result (λ e. CanBeSkipped (world_of self.old) event) }
-        ensures err { OnErr result (world_of self.new ≡ world_of self.old) }
-    {
-        self.happen(event, what)?;
-        Ok(self.send(what))
-    }
 }
 
-/// The grant that a try gives, if any.
-fn grant_tried(did: &Tried) -> Option<Grant>
-    ensures { result ≡ grant_tried did.now }
+/// The grant that a try gives joins the trace, if there is one. There is room for it.
+fn join_tried(trace: &mut Vec<Grant>, did: &Tried)
+    requires { vec_len trace.old < vec_capacity trace.old }
+    ensures { trace.new.items ≡ trace_with trace.old.items (grant_tried did.now) }
 {
     match did {
-        Tried::Local(grant, _) => Some(grant.copy()),
-        _ => None,
+        Tried::Local(grant, _) => trace.push_reserved(grant.copy()),
+        _ => {}
     }
 }
 
-/// The grant that a step of a bank gives, if any.
-fn grant_acted(did: &Acted) -> Option<Grant>
-    ensures { result ≡ grant_acted did.now }
+/// The grant that a step of a bank gives joins the trace, if there is one. There is room for it.
+fn join_acted(trace: &mut Vec<Grant>, did: &Acted)
+    requires { vec_len trace.old < vec_capacity trace.old }
+    ensures { trace.new.items ≡ trace_with trace.old.items (grant_acted did.now) }
 {
     match did {
         Acted::Answered { request, decision } => match decision {
-            Decision::Granted(_) => Some(Grant {
+            Decision::Granted(_) => trace.push_reserved(Grant {
                 inter: request.inter,
                 wants: request.wants.copy(),
             }),
-            Decision::Refused { .. } => None,
+            Decision::Refused { .. } => {}
         },
-        _ => None,
+        _ => {}
     }
 }
 

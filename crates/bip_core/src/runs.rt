@@ -1,15 +1,12 @@
 //! Runs of events, and their reports.
-ghost use Rattle.std.specs.Prelude.{◌≡◌, ◌++◌, List, None, Some, length};
+ghost use Rattle.std.specs.Prelude.{◌≡◌, ◌++◌, List, None, length};
 ghost use Rattle.bip_model.specs.declared.grants.Grant.{Grant};
-ghost use Rattle.bip_core.specs.Runs.{CanCount, FitsLost, IsRunOfEvents, is_grant, is_idle};
-ghost use Rattle.bip_core.specs.Runs.{is_refusal, report_with};
+ghost use Rattle.bip_core.specs.Runs.{CanCount, FitsLost, IsRunOfEvents, report_counted};
+ghost use Rattle.bip_core.specs.Runs.{report_with};
 ghost use Rattle.bip_core.specs.Worlds.{world_of};
-ghost use Rattle.bip_core.specs.declared.events.What.TheVariants.{Tries};
 
-use crate::{Event, What, World};
-use bip_bank::Acted;
-use bip_ip::Tried;
-use bip_table::Decision;
+use crate::outcomes::{Kind, Outcome};
+use crate::{Event, World};
 
 /// The sums of a run of events (docs/DEFINITIONS.md, "The world and its events").
 #[derive(Clone, Copy, Debug, PartialEq, Eq)]
@@ -44,28 +41,29 @@ pub fn run_steps<'p, B: bip_bank::Bank>(world: &mut World<'p, B>, events: &[Even
         idle: 0,
         skipped: 0,
     };
-    let mut what = What::Nothing;
     for event in events {
-        match world.step_into(*event, &mut what) {
-            Ok(lost) => count_event(&mut report, &what, lost),
+        match world.count(*event) {
+            Ok(outcome) => count_event(&mut report, outcome),
             Err(_) => count_skipped(&mut report),
         }
     }
     report
 }
 
-/// Counts an event that did this, and lost so many messages.
-fn count_event(report: &mut Report, what: &What, lost: usize)
+/// Counts an event that comes to this.
+fn count_event(report: &mut Report, outcome: Outcome)
     requires { CanCount report.old }
-    ensures with_event { report.new
-        ≡ report_with report.old (Some (record { what = what.now; lost = lost })) }
+    ensures with_event { report.new ≡ report_counted report.old outcome }
     ensures lost { FitsLost report.new }
 {
-    report.lost += lost as u128;
+    report.lost += outcome.lost as u128;
     report.events += 1;
-    report.grants += u64::from(is_grant(what));
-    report.refusals += u64::from(is_refusal(what));
-    report.idle += u64::from(is_idle(what));
+    match outcome.kind {
+        Kind::Done => {}
+        Kind::Granted => report.grants += 1,
+        Kind::Refused => report.refusals += 1,
+        Kind::Idle => report.idle += 1,
+    }
 }
 
 /// Counts an event that was skipped.
@@ -76,47 +74,4 @@ fn count_skipped(report: &mut Report)
 {
     report.events += 1;
     report.skipped += 1;
-}
-
-fn is_grant(what: &What) -> bool
-    ensures { result ≡ is_grant what.now }
-{
-    match what {
-        What::Tries(Tried::Local(..)) => true,
-        What::Acts(Acted::Answered { decision, .. }) => matches!(decision, Decision::Granted(_)),
-        _ => false,
-    }
-}
-
-fn is_refusal(what: &What) -> bool
-    ensures { result ≡ is_refusal what.now }
-{
-    match what {
-        What::Acts(Acted::Answered { decision, .. }) => matches!(
-            decision,
-            Decision::Refused { .. }
-        ),
-        _ => false,
-    }
-}
-
-fn is_idle(what: &What) -> bool
-    ensures { result ≡ is_idle what.now }
-{
-    match what {
-        What::Nothing => true,
-        What::Tries(did) => is_idle_try(did),
-        What::Acts(did) => matches!(did, Acted::Nothing),
-        _ => false,
-    }
-}
-
-fn is_idle_try(did: &Tried) -> bool
-    ensures { result ≡ is_idle (Tries did.now) }
-{
-    match did {
-        Tried::Local(..) => false,
-        Tried::Sent(_) => false,
-        _ => true,
-    }
 }

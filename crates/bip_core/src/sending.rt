@@ -1,11 +1,12 @@
-//! Messages that are put last.
+//! Messages that are put last, one by one: one for which there is no memory is lost.
 ghost use Rattle.std.specs.Prelude.{◌≡◌, [], ◌∷◌, map};
-ghost use Rattle.bip_core.specs.Events.{ArePut, IsSending, SendsWhatFits, are_notified, reply_to};
+ghost use Rattle.bip_core.specs.Events.{ArePut, IsSending, SendsWhatFits, are_notified};
+ghost use Rattle.bip_core.specs.Events.{kind_decided, reply_to};
 ghost use Rattle.bip_core.specs.declared.events.What.TheVariants.{Acts, Learns, Moves, Tries};
 ghost use Rattle.bip_core.specs.declared.messages.Message.TheVariants.{OfferTo, RequestToBank};
 
-use crate::What;
 use crate::messages::{Message, Posted};
+use crate::outcomes::{Kind, Outcome};
 use bip_bank::Acted;
 use bip_component::Notified;
 use bip_ip::{Answered, Tried};
@@ -13,66 +14,76 @@ use bip_model::{ClassId, Notify, Offer, Reply, Request};
 use bip_partition::Plan;
 use bip_table::Decision;
 
-/// Puts what an answer sends last, message by message, and says how many were lost: those for which
-/// there was no memory.
-pub(crate) fn send(plan: &Plan, mail: &mut Vec<Message>, what: &What) -> usize
-    requires { SendsWhatFits plan.now what.now }
-    ensures { IsSending plan.now what.now result mail.old.items mail.new.items }
-{
-    match what {
-        What::Nothing => 0,
-        What::Hears(_) => 0,
-        What::Submits => 0,
-        What::Learns(did) => send_told(plan, mail, did),
-        What::Moves(did) => send_moved(plan, mail, did),
-        What::Tries(did) => send_tried(plan, mail, did),
-        What::Acts(did) => send_acted(plan, mail, did),
-    }
-}
-
-fn send_told(plan: &Plan, mail: &mut Vec<Message>, did: &Answered) -> usize
+/// Puts what an answer to a reply sends last, and says what that comes to.
+pub(crate) fn send_told(plan: &Plan, mail: &mut Vec<Message>, did: &Answered) -> Outcome
     ensures { IsSending plan.now (Learns did.now) result mail.old.items mail.new.items }
 {
     match did {
-        Answered::Told(notifies) => notify_all(mail, notifies.as_slice()),
-        Answered::Dropped => 0,
-        Answered::Stale => 0,
+        Answered::Told(notifies) => Outcome {
+            kind: Kind::Done,
+            lost: notify_all(mail, notifies.as_slice()),
+        },
+        Answered::Dropped => Outcome::of(Kind::Done),
+        Answered::Stale => Outcome::of(Kind::Done),
     }
 }
 
-fn send_moved(plan: &Plan, mail: &mut Vec<Message>, did: &Notified) -> usize
+/// Puts what an answer to a notification sends last.
+pub(crate) fn send_moved(plan: &Plan, mail: &mut Vec<Message>, did: &Notified) -> Outcome
     requires { SendsWhatFits plan.now (Moves did.now) }
     ensures { IsSending plan.now (Moves did.now) result mail.old.items mail.new.items }
 {
     match did {
-        Notified::Moved(offer) => offer_to_all(mail, plan.classes_of(offer.comp), offer),
-        Notified::Spent => 0,
-        Notified::Stale => 0,
+        Notified::Moved(offer) => Outcome {
+            kind: Kind::Done,
+            lost: offer_to_all(mail, plan.classes_of(offer.comp), offer),
+        },
+        Notified::Spent => Outcome::of(Kind::Done),
+        Notified::Stale => Outcome::of(Kind::Done),
     }
 }
 
-fn send_tried(plan: &Plan, mail: &mut Vec<Message>, did: &Tried) -> usize
+/// Puts what an answer to a try sends last.
+pub(crate) fn send_tried(plan: &Plan, mail: &mut Vec<Message>, did: &Tried) -> Outcome
     ensures { IsSending plan.now (Tries did.now) result mail.old.items mail.new.items }
 {
     match did {
-        Tried::Foreign => 0,
-        Tried::Pending(_) => 0,
-        Tried::Not(_) => 0,
-        Tried::Local(_, notifies) => notify_all(mail, notifies.as_slice()),
-        Tried::Ended => 0,
-        Tried::Sent(request) => put_request(mail, request),
+        Tried::Foreign => Outcome::of(Kind::Idle),
+        Tried::Pending(_) => Outcome::of(Kind::Idle),
+        Tried::Not(_) => Outcome::of(Kind::Idle),
+        Tried::Local(_, notifies) => Outcome {
+            kind: Kind::Granted,
+            lost: notify_all(mail, notifies.as_slice()),
+        },
+        Tried::Ended => Outcome::of(Kind::Idle),
+        Tried::Sent(request) => Outcome {
+            kind: Kind::Done,
+            lost: put_request(mail, request),
+        },
     }
 }
 
-fn send_acted(plan: &Plan, mail: &mut Vec<Message>, did: &Acted) -> usize
+/// Puts what an answer of the bank sends last.
+pub(crate) fn send_acted(plan: &Plan, mail: &mut Vec<Message>, did: &Acted) -> Outcome
     ensures { IsSending plan.now (Acts did.now) result mail.old.items mail.new.items }
 {
     match did {
-        Acted::Nothing => 0,
-        Acted::Moved => 0,
-        Acted::Answered { request, decision } => {
-            put_last(mail, Message::ReplyToClass(reply_to(request, decision)))
-        }
+        Acted::Nothing => Outcome::of(Kind::Idle),
+        Acted::Moved => Outcome::of(Kind::Done),
+        Acted::Answered { request, decision } => Outcome {
+            kind: kind_decided(decision),
+            lost: put_last(mail, Message::ReplyToClass(reply_to(request, decision))),
+        },
+    }
+}
+
+/// What kind of event a decision is.
+fn kind_decided(decision: &Decision) -> Kind
+    ensures { result ≡ kind_decided decision.now }
+{
+    match decision {
+        Decision::Granted(_) => Kind::Granted,
+        Decision::Refused { .. } => Kind::Refused,
     }
 }
 

@@ -1,12 +1,13 @@
 //! The world: a machine of nodes, messages and a bank.
-ghost use Rattle.std.specs.Prelude.{◌≡◌, ◌<◌, All, IfErr, IfOk, OnErr, length};
+ghost use Rattle.std.specs.Prelude.{◌≡◌, ◌<◌, All, IfErr, IfOk, OnErr, length, ⊤};
 ghost use Rattle.bip_model.specs.Numbering.{last_number};
 ghost use Rattle.bip_bank.specs.Banks.{content_of};
-ghost use Rattle.bip_core.specs.Events.{CanBeSkipped, IsStep};
+ghost use Rattle.bip_core.specs.Events.{CanBeSkipped, IsCounted, IsStep};
 ghost use Rattle.bip_core.specs.Starting.{IsNewWorld, IsUnasked};
 ghost use Rattle.bip_core.specs.Worlds.{IsKnownGrant, world_of};
 
 use crate::machines::Machine;
+use crate::outcomes::{NoOne, Outcome};
 use crate::{Did, Event, What};
 use bip_model::{Grant, Number};
 use bip_partition::Plan;
@@ -58,19 +59,21 @@ impl<'p, B: bip_bank::Bank> World<'p, B> {
         ensures err { OnErr result (world_of self.new ≡ world_of self.old) }
     {
         let mut what = What::Nothing;
-        let lost = self.step_into(event, &mut what)?;
-        Ok(Did { what, lost })
+        let outcome = self.machine.step(event, &mut what)?;
+        Ok(Did {
+            what,
+            lost: outcome.lost,
+        })
     }
 
-    /// Does one event as `step` does. It leaves what the event did, and answers how many messages
-    /// were lost.
-    pub(crate) fn step_into(&mut self, event: Event, what: &mut What) -> Result<usize, AllocError>
-        ensures step { IfOk result (λ lost. IsStep (world_of self.old) event
-            (record { what = what.new; lost = lost }) (world_of self.new)) }
+    /// Does one event as `step` does, and says what it comes to.
+    pub(crate) fn count(&mut self, event: Event) -> Result<Outcome, AllocError>
+        ensures counted { IfOk result (λ outcome. IsCounted (λ what. ⊤) (world_of self.old) event
+            outcome (world_of self.new)) }
         ensures skipped { IfErr result (λ e. CanBeSkipped (world_of self.old) event) }
         ensures err { OnErr result (world_of self.new ≡ world_of self.old) }
     {
-        self.machine.step(event, what)
+        self.machine.step(event, &mut NoOne)
     }
 
     /// The grants, in order. Each is of an interaction and of components of the plan's model.

@@ -4,7 +4,7 @@ use Rattle.bip_core.specs.Runs.{FitsLost}
 use Rattle.bip_core.specs.Worlds.{world_of}
 use Rattle.bip_core.specs.declared.events.Event.TheVariants.{Mail}
 use Rattle.bip_core.specs.declared.runs.Report.{Report}
-use Rattle.bip_core.proofs.RunLemmas.{can_count, run_more, run_skip, steps_grow}
+use Rattle.bip_core.proofs.RunLemmas.{can_count, run_counted, run_skip, steps_grow}
 use Rattle.bip_core.proofs.runs.run_steps.Goals as goal
 use Rattle.bip_core.proofs.runs.run_steps.Goals.{in-Ok, in-Err}
 
@@ -27,13 +27,13 @@ loop-event-preserved g c =
     let i = c.loop-event.event-index in
     let es = take i c.args.events.now in
     let more = take_more c.args.events.now i (Mail 0) c.loop-event-test.true in
-    elim c.match-step_into.branch [
+    elim c.match-count.branch [
       | in-Ok w ↦ (
-        rw (more, w.report-is) (run_more es (world_of c.args.world.now) (world_of c.loop-event.world) (world_of c.step_into.new.self) c.loop-event.report w.count_event.new.report _ (record { what = c.step_into.new.what; lost = w.in-Ok.lost }) c.loop-event.invariant.0 w.in-Ok.ensures.step w.count_event.ensures.with_event),
+        rw (more, w.report-is) (run_counted es (world_of c.args.world.now) (world_of c.loop-event.world) (world_of c.count.new.self) c.loop-event.report w.count_event.new.report _ w.in-Ok.outcome c.loop-event.invariant.0 w.in-Ok.ensures.counted w.count_event.ensures.with_event),
         subst FitsLost (sym w.report-is) w.count_event.ensures.lost,
       )
       | in-Err w ↦ (
-        rw (more, w.report-is) (run_skip es (world_of c.args.world.now) (world_of c.loop-event.world) (world_of c.step_into.new.self) c.loop-event.report w.count_skipped.new.report _ c.loop-event.invariant.0 w.in-Err.ensures.skipped w.in-Err.ensures.err w.count_skipped.ensures.with_event),
+        rw (more, w.report-is) (run_skip es (world_of c.args.world.now) (world_of c.loop-event.world) (world_of c.count.new.self) c.loop-event.report w.count_skipped.new.report _ c.loop-event.invariant.0 w.in-Err.ensures.skipped w.in-Err.ensures.err w.count_skipped.ensures.with_event),
         subst FitsLost (sym w.report-is) w.count_skipped.ensures.lost,
       )
     ]

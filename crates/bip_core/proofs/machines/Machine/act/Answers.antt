@@ -1,42 +1,31 @@
-use Rattle.std.proofs.Common.{◌≡◌, ◌∙◌, List, [], ◌∷◌, ◌++◌, None, Some, ap, subst, sym}
-use Rattle.std.specs.Prelude.{IfSome}
-use Rattle.bip_model.specs.declared.grants.Grant.{Grant}
+use Rattle.std.proofs.Common.{refl}
 use Rattle.bip_bank.specs.declared.banks.Acted.TheVariants.{Nothing}
 use Rattle.bip_bank.specs.Banks.{content_of}
-use Rattle.bip_core.specs.Worlds.{IsKnownGrant}
-use Rattle.bip_core.proofs.WorldLemmas.{acted_grant, acted_on, bank_kept, kept_by, trace_kept}
+use Rattle.bip_core.specs.Events.{grant_acted, trace_with}
+use Rattle.bip_core.specs.Worlds.{world_of}
+use Rattle.bip_core.specs.declared.events.Event.TheVariants.{Bank}
+use Rattle.bip_core.specs.declared.events.What.TheVariants.{Acts}
+use Rattle.bip_core.proofs.WorldLemmas.{acted_grant, acted_on, bank_kept, counted_by, kept_by, sent_kept, trace_kept}
 use Rattle.bip_core.proofs.machines.Machine.act.Goals as goal
-use Rattle.bip_core.proofs.machines.Machine.act.Goals.{in-Some, in_default}
 
 pub invariant_of-self-in_err-did : goal.invariant_of-self-in_err-did
 invariant_of-self-in_err-did g c =
     let w = kept_by c.self.inside.plan.now c.self.inside.components.items c.self.inside.classes.items c.self.inside.mail.items c.self.inside.trace.items (g.B.Bank.kept c.self.inside.bank) in
     rw c.reserve.ensures.items (bank_kept w (g.B.Bank.kept c.act.new.self) Nothing c.in_err-did.ensures.err c.self.invariant)
 
-pub invariant_of-self-in-Some : goal.invariant_of-self-in-Some
-invariant_of-self-in-Some g c =
+pub invariant_of-self-2 : goal.invariant_of-self-2
+invariant_of-self-2 g c =
     let w = kept_by c.self.inside.plan.now c.self.inside.components.items c.self.inside.classes.items c.self.inside.mail.items c.self.inside.trace.items (g.B.Bank.kept c.self.inside.bank) in
     let b = g.B.Bank.kept c.act.new.self in
+    let did = c.in_ok-did.did in
     let acted = c.in_ok-did.ensures.acted in
-    let granted = acted_grant w.plan c.in_ok-did.did (content_of w.bank) (content_of b) c.classes-planned.ensures.planned.valid acted c.self.invariant.waiting in
-    let one = subst (λ given. IfSome given (IsKnownGrant w.plan.model)) (sym c.grant_acted.ensures ∙ c.in-Some.is) granted in
-    rw (c.push_reserved.ensures.items, c.reserve.ensures.items) (trace_kept (record w { bank = b }) (Some c.in-Some.grant) one (bank_kept w b c.in_ok-did.did acted c.self.invariant))
+    let granted = acted_grant w.plan did (content_of w.bank) (content_of b) c.classes-planned.ensures.planned.valid acted c.self.invariant.waiting in
+    let kept = trace_kept (record w { bank = b }) (grant_acted did) granted (bank_kept w b did acted c.self.invariant) in
+    rw (c.join_acted.ensures, c.reserve.ensures.items) (sent_kept (record w { bank = b; trace = trace_with w.trace (grant_acted did) }) (Acts did) c.send_acted-outcome.result c.send_acted-outcome.new.mail.items tt c.send_acted-outcome.ensures kept)
 
-pub invariant_of-self-in_default : goal.invariant_of-self-in_default
-invariant_of-self-in_default g c =
-    let w = kept_by c.self.inside.plan.now c.self.inside.components.items c.self.inside.classes.items c.self.inside.mail.items c.self.inside.trace.items (g.B.Bank.kept c.self.inside.bank) in
-    rw c.reserve.ensures.items (bank_kept w (g.B.Bank.kept c.act.new.self) c.in_ok-did.did c.in_ok-did.ensures.acted c.self.invariant)
-
-pub returns-clause-traced : goal.returns-clause-traced
-returns-clause-traced g c =
+pub returns-clause-counted : goal.returns-clause-counted
+returns-clause-counted g c =
     let w = kept_by c.self.inside.plan.now c.self.inside.components.items c.self.inside.classes.items c.self.inside.mail.items c.self.inside.trace.items (g.B.Bank.kept c.self.inside.bank) in
     let b = g.B.Bank.kept c.act.new.self in
-    let acted = c.in_ok-did.ensures.acted in
-    elim c.match-grant_acted.branch [
-      | in-Some v ↦
-          let same : c.match-grant_acted.self ≡ record w { bank = b; trace = w.trace ++ v.in-Some.grant ∷ [] } = v.self-is ∙ ap (λ (t : List Grant). record w { bank = b; trace = t }) (v.push_reserved.ensures.items ∙ ap (λ (l : List Grant). l ++ v.in-Some.grant ∷ []) c.reserve.ensures.items) in
-          rw (← c.self.view_is, same) (acted_on w b c.args.step c.in_ok-did.did (Some v.in-Some.grant) acted (sym c.grant_acted.ensures ∙ v.in-Some.is))
-      | in_default v ↦
-          let same : c.match-grant_acted.self ≡ record w { bank = b } = v.self-is ∙ ap (λ (t : List Grant). record w { bank = b; trace = t }) c.reserve.ensures.items in
-          rw (← c.self.view_is, same) (acted_on w b c.args.step c.in_ok-did.did None acted (sym c.grant_acted.ensures ∙ v.in_default.is))
-    ]
+    let did = c.in_ok-did.did in
+    rw (← c.self.view_is, c.join_acted.ensures, c.reserve.ensures.items) (counted_by _ (world_of w) (Bank c.args.step) (Acts did) _ (world_of (record w { bank = b; trace = trace_with w.trace (grant_acted did) })) _ c.see.ensures (acted_on w b c.args.step did (grant_acted did) c.in_ok-did.ensures.acted refl) c.send_acted-outcome.ensures refl)

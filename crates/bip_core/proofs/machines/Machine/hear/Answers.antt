@@ -1,7 +1,16 @@
-use Rattle.std.proofs.Common.{◌<◌, length, rules}
+use Rattle.std.proofs.Common.{◌<◌, ◌≤◌, length, refl, rules, set}
 use Rattle.bip_ip.specs.Nodes.{node_of}
-use Rattle.bip_core.proofs.WorldLemmas.{class_kept, heard_on, heard_same, kept_by, read_here}
+use Rattle.bip_core.specs.Worlds.{world_of}
+use Rattle.bip_core.specs.declared.events.What.TheVariants.{Hears}
+use Rattle.bip_core.proofs.SendLemmas.{sends_nothing}
+use Rattle.bip_core.proofs.WorldLemmas.{class_kept, heard_on, heard_same, idle_taken, kept_by, no_class, read_here}
 use Rattle.bip_core.proofs.machines.Machine.hear.Goals as goal
+
+pub returns-then-class-len : goal.returns-then-class-len
+returns-then-class-len g c =
+    let w = kept_by c.self.inside.plan.now c.self.inside.components.items c.self.inside.classes.items c.self.inside.mail.items c.self.inside.trace.items (g.B.Bank.kept c.self.inside.bank) in
+    let past : length w.classes ≤ c.args.class.0 = search rules in
+    rw (← c.self.view_is) (idle_taken _ (world_of w) _ _ c.see.ensures (no_class w c.args.class.0 past, refl) c.of.ensures)
 
 pub invariant_of-self : goal.invariant_of-self
 invariant_of-self g c =
@@ -9,13 +18,20 @@ invariant_of-self g c =
     let old = c.index_mut.result.now in
     let within : c.args.class.0 < length w.classes = search rules in
     let is = read_here w.classes c.args.class.0 old within c.index_mut.ensures.value in
-    let same = heard_same c.args.offer c.on_offer.result (node_of old) (node_of c.on_offer.new.self) c.on_offer.ensures.left in
-    class_kept w c.args.class.0 c.on_offer.new.self old within is same.0 same.1 c.self.invariant
+    let same = heard_same c.args.offer c.on_offer-receipt.result (node_of old) (node_of c.on_offer-receipt.new.self) c.on_offer-receipt.ensures.left in
+    class_kept w c.args.class.0 c.on_offer-receipt.new.self old within is same.0 same.1 c.self.invariant
 
-pub returns-clause-on : goal.returns-clause-on
-returns-clause-on g c =
+pub returns : goal.returns
+returns g c =
     let w = kept_by c.self.inside.plan.now c.self.inside.components.items c.self.inside.classes.items c.self.inside.mail.items c.self.inside.trace.items (g.B.Bank.kept c.self.inside.bank) in
     let old = c.index_mut.result.now in
     let within : c.args.class.0 < length w.classes = search rules in
     let is = read_here w.classes c.args.class.0 old within c.index_mut.ensures.value in
-    rw (← c.self.view_is) (heard_on w c.args.class c.args.offer c.on_offer.result old c.on_offer.new.self is c.on_offer.ensures.receipt c.on_offer.ensures.left)
+    rw (← c.self.view_is) (record {
+      what = Hears c.on_offer-receipt.result;
+      seen = c.see-2.ensures;
+      middle = world_of (record w { classes = set w.classes c.args.class.0 c.on_offer-receipt.new.self });
+      on = heard_on w c.args.class c.args.offer c.on_offer-receipt.result old c.on_offer-receipt.new.self is c.on_offer-receipt.ensures.receipt c.on_offer-receipt.ensures.left;
+      sending = sends_nothing w.plan (Hears c.on_offer-receipt.result) _ w.mail refl c.of-2.ensures;
+      others = refl;
+    })

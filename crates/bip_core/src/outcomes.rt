@@ -1,0 +1,66 @@
+//! What an event comes to for those who count, and those who look on.
+ghost use Rattle.std.specs.Prelude.{◌≡◌};
+ghost use Rattle.bip_core.specs.declared.outcomes.Outcome.{Outcome};
+
+use crate::What;
+
+/// What kind of event it was, for the report of a run.
+#[derive(Clone, Copy)]
+pub(crate) enum Kind {
+    /// It did something, and neither gave a grant nor refused a request.
+    Done,
+    /// A grant joined the trace.
+    Granted,
+    /// The bank refused a request.
+    Refused,
+    /// It did nothing.
+    Idle,
+}
+
+/// What an event comes to: its kind, and how many of its messages were lost.
+#[derive(Clone, Copy)]
+pub(crate) struct Outcome {
+    pub kind: Kind,
+    pub lost: usize,
+}
+
+impl Outcome {
+    /// An event of this kind that lost no message.
+    pub fn of(kind: Kind) -> Outcome
+        ensures { result ≡ record { kind = kind; lost = 0 } }
+    {
+        Outcome { kind, lost: 0 }
+    }
+}
+
+/// Who looks on while an event is done, and sees what it did.
+pub(crate) trait Witness {
+    ghost use Rattle.bip_core.specs.declared.events.What.{What};
+
+    /// That this is what it saw last, so far as it remembers.
+    ghost saw: { What → Self → Type 0 };
+
+    fn see(&mut self, what: What)
+        ensures { saw what self.new };
+}
+
+impl Witness for What {
+    ghost saw = { λ what seen. seen ≡ what };
+
+    fn see(&mut self, what: What) {
+        *self = what;
+    }
+}
+
+/// No one: what an event did is forgotten at once.
+#[derive(Drop)]
+pub(crate) struct NoOne;
+
+impl Witness for NoOne {
+    ghost use Rattle.std.specs.Prelude.{⊤};
+
+    ghost saw = { λ what seen. ⊤ };
+
+    #[inline(always)]
+    fn see(&mut self, _what: What) {}
+}
