@@ -1,9 +1,10 @@
 //! The machine below the world: all its parts, and its events.
-ghost use Rattle.std.specs.Prelude.{◌≡◌, ◌<◌, All, IfErr, IfNone, IfOk, IfSome, OnErr, OnOk};
-ghost use Rattle.std.specs.Prelude.{Some, length, slice_get, vec_capacity, vec_len};
+ghost use Rattle.std.specs.Prelude.{◌≡◌, ◌<◌, ◌⊎◌, All, IfErr, IfNone, IfOk, IfSome, OnErr, OnOk};
+ghost use Rattle.std.specs.Prelude.{None, Some, length, slice_get, vec_capacity, vec_len};
 ghost use Rattle.bip_model.specs.declared.messages.Request.{Request};
 ghost use Rattle.bip_model.specs.Numbering.{last_number};
-ghost use Rattle.bip_partition.specs.Plans.{IsFit};
+ghost use Rattle.bip_model.specs.Parts.{IsSystem};
+ghost use Rattle.bip_partition.specs.Plans.{IsFit, IsReserved};
 ghost use Rattle.bip_bank.specs.Banks.{content_of, with_request};
 ghost use Rattle.bip_core.specs.Events.{CanBeSkipped, IsCounted, IsTakenIn, TakesOut};
 ghost use Rattle.bip_core.specs.Events.{class_named, grant_acted, grant_tried, trace_with};
@@ -175,13 +176,7 @@ impl<'p, B: bip_bank::Bank> Machine<'p, B> {
             witness.see(What::Nothing);
             return Ok(Outcome::of(Kind::Idle));
         }
-        if self.plan.reserved(inter) {
-            let did = self.classes[class.0 as usize].try_interaction(inter);
-            let outcome = send_tried(self.plan, &mut self.mail, &did);
-            witness.see(What::Tries(did));
-            return Ok(outcome);
-        }
-        self.trace.reserve(1)?;
+        make_room(self.plan, &mut self.trace, inter)?;
         let did = self.classes[class.0 as usize].try_interaction(inter);
         join_tried(&mut self.trace, &did);
         let outcome = send_tried(self.plan, &mut self.mail, &did);
@@ -287,9 +282,23 @@ impl<'p, B: bip_bank::Bank> Machine<'p, B> {
     }
 }
 
+/// Makes room in a trace for the grant of an interaction, if it is local.
+fn make_room(plan: &Plan, trace: &mut Vec<Grant>, inter: InterId) -> Result<(), AllocError>
+    ensures same { trace.new.items ≡ trace.old.items }
+    ensures room { OnOk result (IsReserved plan.now inter.0
+        ⊎ (vec_len trace.new < vec_capacity trace.new)) }
+    ensures local { IfErr result (λ e. ¬ IsReserved plan.now inter.0) }
+    ensures valid { IsSystem plan.now.model }
+{
+    if plan.reserved(inter) {
+        return Ok(());
+    }
+    trace.reserve(1)
+}
+
 /// The grant that a try gives joins the trace, if there is one. There is room for it.
 fn join_tried(trace: &mut Vec<Grant>, did: &Tried)
-    requires { vec_len trace.old < vec_capacity trace.old }
+    requires { (grant_tried did.now ≡ None) ⊎ (vec_len trace.old < vec_capacity trace.old) }
     ensures { trace.new.items ≡ trace_with trace.old.items (grant_tried did.now) }
 {
     match did {
