@@ -388,10 +388,6 @@ delivered w k place message what v taken same on =
 pub no_mail : (w : KeptWorld) (place : ℕ) → length w.mail ≤ place → IsTraced (world_of w) (Mail place) Nothing (world_of w)
 no_mail w place past = record { middle = world_of w; done = inl (past, refl); after = refl }
 
--- what is there is there alone
-pub some_same : {X : Type 0} {x y : X} → Some x ≡ Some y → x ≡ y
-some_same is = cc
-
 -- a request in flight fits
 pub request_fits : (w : KeptWorld) (place : ℕ) (q : Request) → IsKeptWorld w → slice_get w.mail place ≡ Some (RequestToBank q) → IsFit w.plan q
 request_fits w place q kept is = All-slice_get (FitsIfRequest w.plan) w.mail place (RequestToBank q) kept.requests is q refl
@@ -401,9 +397,9 @@ pub request_skipped : (w : KeptWorld) (place : ℕ) (q : Request) → slice_get 
 request_skipped w place q is = (q, take place w.mail ++ drop (suc place) w.mail, taken_out w.mail place (RequestToBank q) is)
 
 -- a request that was submitted and taken out
-pub submitted : (w k l : KeptWorld) (place : ℕ) (q : Request) → world_of k ≡ record (world_of w) { bank = with_request q (content_of w.bank) } → TakesOut place (RequestToBank q) w.mail l.mail → l ≡ record k { mail = l.mail }
+pub handed_in : (w k l : KeptWorld) (place : ℕ) (q : Request) → world_of k ≡ record (world_of w) { bank = with_request q (content_of w.bank) } → TakesOut place (RequestToBank q) w.mail l.mail → l ≡ record k { mail = l.mail }
     → IsTraced (world_of w) (Mail place) Submits (world_of l)
-submitted w k l place q is taken same = record {
+handed_in w k l place q is taken same = record {
   middle = world_of l;
   done = record {
     message = RequestToBank q;
@@ -459,8 +455,9 @@ pub counted_quiet : (saw : What → Type 0) (w : WorldContent) (event : Event) (
 counted_quiet saw w event what outcome v seen traced sends is = counted_by saw w event what outcome v v seen traced (sends_nothing w.plan what outcome v.mail sends is) refl
 
 -- a message that was taken out and taken in
-pub taken_counted : (saw : What → Type 0) (w k : KeptWorld) (place : ℕ) (message : Message) (outcome : Outcome) (v : WorldContent) → TakesOut place message w.mail k.mail → k ≡ record w { mail = k.mail } → IsTakenIn saw (world_of k) message outcome v
+pub taken_counted : (saw : What → Type 0) (w u k : KeptWorld) (place : ℕ) (message : Message) (outcome : Outcome) (v : WorldContent) → world_of u ≡ world_of w → TakesOut place message u.mail k.mail → k ≡ record u { mail = k.mail } → IsTakenIn saw (world_of k) message outcome v
     → IsCounted saw (world_of w) (Mail place) outcome v
-taken_counted saw w k place message outcome v taken same in_ =
-    let plan : k.plan ≡ w.plan = ap (λ (u : KeptWorld). u.plan) same in
-    counted_by saw (world_of w) (Mail place) in_.what outcome in_.middle v in_.seen (delivered w k place message in_.what in_.middle taken same in_.on) (subst (λ (p : Planned). IsSending p in_.what outcome in_.middle.mail v.mail) plan in_.sending) in_.others
+taken_counted saw w u k place message outcome v whole taken same in_ =
+    let plan : k.plan ≡ u.plan = ap (λ (x : KeptWorld). x.plan) same in
+    let counted = counted_by saw (world_of u) (Mail place) in_.what outcome in_.middle v in_.seen (delivered u k place message in_.what in_.middle taken same in_.on) (subst (λ (p : Planned). IsSending p in_.what outcome in_.middle.mail v.mail) plan in_.sending) in_.others in
+    subst (λ (x : WorldContent). IsCounted saw x (Mail place) outcome v) whole counted

@@ -173,6 +173,11 @@ SendsWhatFits p (Tries (tried.Sent q)) = IsFit p q
 SendsWhatFits p (Moves (notified.Moved offer)) = offer.comp.0 < length p.model.components
 SendsWhatFits p what = ⊤
 
+-- a message that is handed on to the bank, if it is a request
+abbrev pub submitted : Message → WorldContent → WorldContent
+submitted (RequestToBank q) w = record w { bank = with_request q w.bank }
+submitted message w = w
+
 -- what kind of event it was, by what it did: runs count these
 abbrev pub kind_decided : Decision → Kind
 kind_decided (decision.Granted serial) = kind.Granted

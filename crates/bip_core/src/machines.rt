@@ -7,16 +7,19 @@ ghost use Rattle.bip_model.specs.Parts.{IsSystem};
 ghost use Rattle.bip_partition.specs.Plans.{IsFit, IsReserved};
 ghost use Rattle.bip_bank.specs.Banks.{content_of, with_request};
 ghost use Rattle.bip_core.specs.Events.{CanBeSkipped, IsCounted, IsTakenIn, TakesOut};
-ghost use Rattle.bip_core.specs.Events.{class_named, grant_acted, grant_tried, trace_with};
+ghost use Rattle.bip_core.specs.Events.{class_named, grant_acted, grant_tried, submitted};
+ghost use Rattle.bip_core.specs.Events.{trace_with};
 ghost use Rattle.bip_core.specs.Starting.{IsNewWorld, IsUnasked};
 ghost use Rattle.bip_core.specs.Worlds.{IsKeptWorld, IsKnownGrant, world_of};
 ghost use Rattle.bip_core.specs.declared.events.Event.TheVariants.{Bank, Mail, Try};
+ghost use Rattle.bip_core.specs.declared.events.What.TheVariants.{Submits};
 ghost use Rattle.bip_core.specs.declared.messages.Message.{Message};
 ghost use Rattle.bip_core.specs.declared.messages.Message.TheVariants.{NotifyComponent, OfferTo};
 ghost use Rattle.bip_core.specs.declared.messages.Message.TheVariants.{ReplyToClass};
 ghost use Rattle.bip_core.specs.declared.messages.Message.TheVariants.{RequestToBank};
+ghost use Rattle.bip_core.specs.declared.outcomes.Kind.TheVariants.{Done};
 
-use crate::messages::Message;
+use crate::messages::{Message, Posted};
 use crate::outcomes::{Kind, Outcome, Witness};
 use crate::sending::{send_acted, send_moved, send_told, send_tried};
 use crate::starting::{first_classes, first_components, first_offers};
@@ -210,20 +213,30 @@ impl<'p, B: bip_bank::Bank> Machine<'p, B> {
             witness.see(What::Nothing);
             return Ok(Outcome::of(Kind::Idle));
         }
-        if let Some(posted) = self.request_at(place) {
-            let request = posted.copy();
-            self.submit(request)?;
-            self.take_out(place);
-            witness.see(What::Submits);
-            return Ok(Outcome::of(Kind::Done));
-        }
+        self.submit_at(place)?;
         let outcome = match self.take_out(place) {
             Message::OfferTo(class, offer) => self.hear(class, offer, witness),
+            Message::RequestToBank(posted) => let_go(posted, witness),
             Message::ReplyToClass(reply) => self.learn(&reply, witness),
             Message::NotifyComponent(notify) => self.move_by(&notify, witness),
-            Message::RequestToBank(_) => unreachable!(),
         };
         Ok(outcome)
+    }
+
+    /// Hands the message at a place on to the bank, if it is a request. It isn't taken out yet.
+    fn submit_at(&mut self, place: usize) -> Result<(), AllocError>
+        requires { place < length self.old.mail }
+        ensures ok { OnOk result ((m : Message) → slice_get self.old.mail place ≡ Some m
+            → world_of self.new ≡ submitted m (world_of self.old)) }
+        ensures mail { self.new.mail ≡ self.old.mail }
+        ensures skipped { IfErr result (λ e. CanBeSkipped (world_of self.old) (Mail place)) }
+        ensures err { OnErr result (world_of self.new ≡ world_of self.old) }
+    {
+        let Some(posted) = self.request_at(place) else {
+            return Ok(());
+        };
+        let request = posted.copy();
+        self.submit(request)
     }
 
     /// The request that is the message at a place; none where it is another message.
@@ -280,6 +293,15 @@ impl<'p, B: bip_bank::Bank> Machine<'p, B> {
             Event::Bank(step) => self.act(step, witness),
         }
     }
+}
+
+/// Lets a request go that the bank has.
+fn let_go<W: Witness>(_posted: Posted, witness: &mut W) -> Outcome
+    ensures outcome { result ≡ record { kind = Done; lost = 0 } }
+    ensures seen { W.saw Submits witness.new }
+{
+    witness.see(What::Submits);
+    Outcome::of(Kind::Done)
 }
 
 /// Makes room in a trace for the grant of an interaction, if it is local.

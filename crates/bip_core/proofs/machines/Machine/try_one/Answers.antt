@@ -5,7 +5,7 @@ use Rattle.bip_core.specs.Events.{SendsWhatFits, grant_tried, trace_with}
 use Rattle.bip_core.specs.Worlds.{world_of}
 use Rattle.bip_core.specs.declared.events.Event.TheVariants.{Try}
 use Rattle.bip_core.specs.declared.events.What.TheVariants.{Nothing, Tries}
-use Rattle.bip_core.proofs.WorldLemmas.{class_kept, counted_by, counted_quiet, kept_by, no_class, no_grant, no_try, read_here, sent_kept, trace_kept, tried_fits, tried_grant, tried_on, tried_same}
+use Rattle.bip_core.proofs.WorldLemmas.{class_kept, counted_by, counted_quiet, kept_by, no_grant, no_try, read_here, sent_kept, trace_kept, tried_fits, tried_grant, tried_on, tried_same}
 use Rattle.bip_core.proofs.machines.Machine.try_one.Goals as goal
 
 pub returns-then-class-len-clause-counted : goal.returns-then-class-len-clause-counted
