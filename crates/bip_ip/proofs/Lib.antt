@@ -2,3 +2,4 @@ pub mod AskingLemmas
 pub mod LawLemmas
 pub mod NodeLemmas
 pub mod TellLemmas
+pub mod SetLemmas

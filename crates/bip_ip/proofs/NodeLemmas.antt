@@ -1,15 +1,17 @@
 -- What is kept of a node, as the node, and what its calls leave.
 use Rattle.std.proofs.Common.{◌≡◌, ◌⊎◌, ℕ, ◌+◌, ◌<◌, true, false, cond, max, List, length, take, set, get_or, Some, None, Option, inl, inr, refl, sym, ap, ◌∙◌, subst, arith}
-use Rattle.std.specs.Prelude.{All, IfSome}
+use Rattle.std.specs.Prelude.{All, IfSome, OnSome, is_some}
 use Rattle.std.specs.List.Sorted.{IsStrictlyIncreasing}
 use Rattle.std.proofs.Math.Path.{fun_ext}
 use Rattle.std.proofs.lemmas.Bool.{eq-eqb}
 use Rattle.std.proofs.lemmas.Bool.Decides.{eqb_tells}
 use Rattle.std.proofs.lemmas.Bool.{cases_lt}
 use Rattle.std.proofs.lemmas.List.{get_or_default, get_or_past, length-set}
+use Rattle.std.proofs.lemmas.Nat.Bits.{bit_at-zero}
 use Rattle.bip_model.specs.Numbering.{put}
 use Rattle.bip_model.specs.Parties.{AreParties}
 use Rattle.bip_model.specs.Partitions.{class_in}
+use Rattle.bip_model.specs.Sets.{has}
 use Rattle.bip_model.specs.Wants.{components_of, is_moved, raised}
 use Rattle.bip_model.specs.declared.messages.Notify.{Notify}
 use Rattle.bip_model.specs.declared.messages.Offer.{Offer}
@@ -25,7 +27,7 @@ use Rattle.bip_observe.specs.Offers.{IsLeftBy, KeptOffers, Observed, nothing_hel
 use Rattle.bip_observe.specs.declared.offers.Receipt.{Receipt}
 use Rattle.bip_observe.specs.declared.offers.Receipt.TheVariants.{Held, Old, Stranger}
 use Rattle.bip_observe.proofs.KeptLemmas.{length_nothings, nothings, read_nothing}
-use Rattle.bip_ip.specs.Nodes.{ClassNode, IsItsRecord, IsKeptNode, IsLeftByRefusal, KeptNode, after_offer, first_node, node_of, told_of, with_grant_known, with_learned, with_record, without}
+use Rattle.bip_ip.specs.Nodes.{AreAsked, ClassNode, IsItsRecord, IsKeptNode, IsLeftByRefusal, KeptNode, after_offer, first_node, node_of, told_of, with_grant_known, with_learned, with_record, without}
 use Rattle.bip_ip.specs.declared.nodes.OpenRecord.{OpenRecord}
 
 -- what the parties of an interaction are its class touches
@@ -205,3 +207,25 @@ pub heard_node : (n : KeptNode) (offer : Offer) (receipt : Receipt) (o : KeptOff
 heard_node n offer Held o left = ap (λ (v : Observed). node_by v (node_of n).pending n.next) left
 heard_node n offer Old o left = ap (λ (k : KeptOffers). node_of (record n { offers = k })) left
 heard_node n offer Stranger o left = ap (λ (k : KeptOffers). node_of (record n { offers = k })) left
+
+-- the interactions whose requests are open, where none is
+pub none_asked : (n : ℕ) → AreAsked 0 (nothings OpenRecord n)
+none_asked n = λ a. rw (bit_at-zero a, read_nothing OpenRecord n a) refl
+
+-- and where one record was put
+pub asked_put : (before later : ℕ) (xs : List (Option OpenRecord)) (a : ℕ) (x : Option OpenRecord) → a < length xs → AreAsked before xs → ((b : ℕ) → has later b ≡ put (has before) a (is_some x) b) → AreAsked later (set xs a x)
+asked_put before later xs a x within asked is = λ b.
+    let read : get_or (set xs a x) b None ≡ put (λ k. get_or xs k None) a x b = ap (λ (g : ℕ → Option OpenRecord). g b) (read-set xs a x None within) in
+    elim (eqb_tells b a) [
+      | inl same ↦ (rw same.0 at (is b)) ∙ sym (ap is_some (rw same.0 at read))
+      | inr apart ↦ (rw apart.0 at (is b)) ∙ (asked b ∙ sym (ap is_some (rw apart.0 at read)))
+    ]
+
+-- a node without the record of an interaction
+pub taken_node : (n : KeptNode) (a : ℕ) → a < length n.pending → node_of (record n { pending = set n.pending a None }) ≡ without a (node_of n)
+taken_node n a within = ap (λ (f : ℕ → Option OpenRecord). node_by (observed n.offers) f n.next) (read-set n.pending a None None within)
+
+-- what holds in any case holds where there is a record
+pub on_some : (result : Option OpenRecord) (P : Type 0) → P → OnSome result P
+on_some None P holds = tt
+on_some (Some e) P holds = holds

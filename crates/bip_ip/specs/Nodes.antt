@@ -1,9 +1,10 @@
 -- Interaction protocol nodes: what the node of a class has, what it answers, and what that leaves.
 use Rattle.std.specs.Prelude.{◌≡◌, ◌≢◌, ◌⊎◌, ℕ, ◌+◌, ◌<◌, ◌≤◌, List, Option, None, Some, length}
-use Rattle.std.specs.Prelude.{slice_index_or, IsSome}
+use Rattle.std.specs.Prelude.{slice_index_or, is_some, IsSome}
 use Rattle.bip_model.specs.Numbering.{IsLowest, last_number, put}
 use Rattle.bip_model.specs.Parties.{AreWantsBy}
 use Rattle.bip_model.specs.Partitions.{class_in}
+use Rattle.bip_model.specs.Sets.{has}
 use Rattle.bip_model.specs.Wants.{raised}
 use Rattle.bip_model.specs.declared.messages.Notify.{Notify}
 use Rattle.bip_model.specs.declared.messages.Offer.{Offer}
@@ -198,3 +199,9 @@ pub record IsKeptNode (n : KeptNode) : Type 0 where
   pub each : length n.pending ≡ length n.offers.plan.model.interactions
   pub records : (a : ℕ) (e : OpenRecord) → slice_index_or n.pending a None ≡ Some e
       → IsItsRecord n a e
+
+-- What contracts of private functions say.
+
+-- a set has the interactions whose requests are open
+abbrev pub AreAsked : ℕ → List (Option OpenRecord) → Type 0
+AreAsked set pending = (a : ℕ) → has set a ≡ is_some (slice_index_or pending a None)

@@ -1,5 +1,5 @@
 //! The node of a class.
-ghost use Rattle.std.specs.Prelude.{◌≡◌, ◌↔◌, ◌<◌, ℕ, All, IfNone, IfOk, IfSome, IsTrue, None};
+ghost use Rattle.std.specs.Prelude.{◌≡◌, ◌↔◌, ◌⊎◌, ◌<◌, ℕ, All, IfNone, IfOk, IfSome, IsTrue, None};
 ghost use Rattle.std.specs.Prelude.{OnSome, map};
 ghost use Rattle.std.specs.Option.{option_map};
 ghost use Rattle.std.specs.List.{range_with_len};
@@ -7,7 +7,7 @@ ghost use Rattle.std.specs.List.Sorted.{IsStrictlyIncreasing};
 ghost use Rattle.bip_model.specs.Numbering.{IsLowest, last_number};
 ghost use Rattle.bip_model.specs.Wants.{components_of};
 ghost use Rattle.bip_model.specs.declared.wants.Want.{Want};
-ghost use Rattle.bip_partition.specs.Plans.{ClassTouches};
+ghost use Rattle.bip_partition.specs.Plans.{ClassTouches, InConflict};
 ghost use Rattle.bip_observe.specs.Offers.{IsReceipt, observed};
 ghost use Rattle.bip_ip.specs.Nodes.{Awaits, CanBeAsked, IsAnswered, IsItsRecord, IsLeftByReply};
 ghost use Rattle.bip_ip.specs.Nodes.{IsOwn, IsReplyTo, IsTried, StandsInTheWay, after_offer};
@@ -16,6 +16,7 @@ ghost use Rattle.bip_ip.specs.Nodes.{without};
 ghost use Rattle.bip_ip.specs.declared.nodes.OpenRecord.{OpenRecord};
 
 use crate::asking::{told_by, wants_by};
+use crate::sets::{lowest_inter, with_inter, without_inter};
 use bip_model::{ClassId, Grant, InterId, Notifies, Number, Offer, Reply, Request, Role, Want};
 use bip_observe::{Offers, Receipt, Verdict, decide};
 use bip_partition::Plan;
@@ -64,18 +65,21 @@ pub enum Answered {
 pub struct IpNode<'p> {
     offers: Offers<'p>,
     pending: Vec<Option<OpenRecord>>,
+    /// The interactions whose requests are open, a bit each.
+    asked: u128,
     next: u128,
 }
 
 impl<'p> marker::Model for IpNode<'p> {
-    ghost use Rattle.bip_ip.specs.Nodes.{IsKeptNode, KeptNode};
+    ghost use Rattle.bip_ip.specs.Nodes.{AreAsked, IsKeptNode, KeptNode};
 
     ghost Value = { KeptNode };
 
     ghost view = { λ n. record { offers = n.offers; pending = n.pending.items; next = n.next } };
 
     ghost invariant = { λ n.
-        IsKeptNode (record { offers = n.offers; pending = n.pending.items; next = n.next }) };
+        IsKeptNode (record { offers = n.offers; pending = n.pending.items; next = n.next })
+        × AreAsked n.asked n.pending.items };
 }
 
 impl<'p> IpNode<'p> {
@@ -98,6 +102,7 @@ impl<'p> IpNode<'p> {
         Ok(IpNode {
             offers,
             pending,
+            asked: 0,
             next: first_request as u128,
         })
     }
@@ -173,20 +178,22 @@ impl<'p> IpNode<'p> {
         ensures none { IfNone result
             ((b : ℕ) → ¬ StandsInTheWay (node_of self.now) inter.0 b) }
     {
-        for number in 0..self.offers.plan().model().interactions().len() {
-            let other = InterId(number as u16);
-            if self.stands_in_the_way(inter, other) {
+        let mut left = self.asked;
+        while let Some(other) = lowest_inter(left) {
+            if self.keeps_out(inter, other) {
                 return Some(other);
             }
+            left = without_inter(left, other);
         }
         None
     }
 
-    fn stands_in_the_way(&self, inter: InterId, other: InterId) -> bool
-        ensures { IsTrue result ↔ StandsInTheWay (node_of self.now) inter.0 other.0 }
+    /// Whether an interaction stands in the way of another while its request is open.
+    fn keeps_out(&self, inter: InterId, other: InterId) -> bool
+        ensures { IsTrue result
+            ↔ ((other.0 ≡ inter.0) ⊎ InConflict self.now.offers.plan.model inter.0 other.0) }
     {
-        self.record(other).is_some()
-            && (other == inter || self.offers.plan().conflict(inter, other))
+        other == inter || self.offers.plan().conflict(inter, other)
     }
 
     /// The record of an interaction, if its request is open.
@@ -223,6 +230,7 @@ impl<'p> IpNode<'p> {
             inter,
         };
         self.next += 1;
+        self.asked = with_inter(self.asked, inter);
         self.pending[inter.0 as usize] = Some(OpenRecord {
             request: request.copy(),
             notifies,
@@ -242,8 +250,10 @@ impl<'p> IpNode<'p> {
         ensures none { IfNone result (self.new ≡ self.old) }
     {
         let inter = inter_in(reply);
+        let _planned = self.offers.plan().classes();
         match self.record(inter) {
             Some(record) if is_reply_to(reply, &record.request) => {
+                self.asked = without_inter(self.asked, inter);
                 self.pending[inter.0 as usize].take()
             }
             _ => None,

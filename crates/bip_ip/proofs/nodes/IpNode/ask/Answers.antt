@@ -1,10 +1,10 @@
-use Rattle.std.proofs.Common.{◌≡◌, ◌<◌, ◌∙◌, ap, length, refl, subst, sym, rules}
+use Rattle.std.proofs.Common.{◌≡◌, ◌<◌, ◌∙◌, Some, ap, length, refl, subst, sym, rules}
 use Rattle.bip_model.specs.declared.messages.Request.{Request}
 use Rattle.bip_partition.specs.Laws.{IsPlanned}
 use Rattle.bip_partition.specs.Plans.{IsFit, IsReserved}
 use Rattle.bip_observe.specs.Offers.{Observed}
 use Rattle.bip_ip.specs.Nodes.{IsOwn, KeptNode, node_of}
-use Rattle.bip_ip.proofs.NodeLemmas.{asked_node, class_touched, kept_on, one_more_kept, record_by, same_record}
+use Rattle.bip_ip.proofs.NodeLemmas.{asked_node, asked_put, class_touched, kept_on, one_more_kept, record_by, same_record}
 use Rattle.bip_ip.proofs.nodes.IpNode.ask.Goals as goal
 
 pub learn-requires-clause-touched : goal.learn-requires-clause-touched
@@ -17,25 +17,29 @@ learn-requires-clause-touched c =
 pub invariant_of-self : goal.invariant_of-self
 invariant_of-self c =
     let n : KeptNode = record { offers = c.self.inside.offers; pending = c.self.inside.pending.items; next = c.self.inside.next } in
-    kept_on n c.learn.new.offers (ap (λ (v : Observed). v.plan) c.learn.ensures.learned) (ap (λ (v : Observed). v.class) c.learn.ensures.learned) c.self.invariant
+    (kept_on n c.learn.new.offers (ap (λ (v : Observed). v.plan) c.learn.ensures.learned) (ap (λ (v : Observed). v.class) c.learn.ensures.learned) c.self.invariant.0, c.self.invariant.1)
 
 pub invariant_of-self-2 : goal.invariant_of-self-2
 invariant_of-self-2 c =
     let n : KeptNode = record { offers = c.self.inside.offers; pending = c.self.inside.pending.items; next = c.self.inside.next } in
     let a = c.args.inter.0 in
     let own : IsOwn (node_of n) a = subst (λ (k : KeptNode). IsOwn (node_of k) a) (sym c.self.view_is) c.requires.own in
-    let within : a < length n.pending = rw c.self.invariant.each own.declared in
+    let within : a < length n.pending = rw c.self.invariant.0.each own.declared in
     let q : Request = record { wants = c.wants_by-wants.result; request = c.in-Ok.number; class = c.class.result; inter = c.args.inter } in
     let number : c.in-Ok.number ≡ n.next = search rules in
     let reserved : IsReserved n.offers.plan a = rw c.plan-plan.ensures.plan at (c.reserved.ensures.reserved.0 c.if-not-reserved.false) in
     let fit : IsFit n.offers.plan q = record { reserved = reserved; class = c.class.ensures ∙ sym own.class; parties = c.wants_by-wants.ensures.parties } in
-    rw c.copy.ensures (one_more_kept n a (record_by q c.told_by-notifies.result) within refl c.class.ensures fit number c.self.invariant)
+    let e = record_by q c.told_by-notifies.result in
+    rw c.copy.ensures (
+      one_more_kept n a e within refl c.class.ensures fit number c.self.invariant.0,
+      asked_put c.self.inside.asked c.with_inter-self-inside.result n.pending a (Some e) within c.self.invariant.1 c.with_inter-self-inside.ensures,
+    )
 
 pub returns-clause-left : goal.returns-clause-left
 returns-clause-left c =
     let n : KeptNode = record { offers = c.self.inside.offers; pending = c.self.inside.pending.items; next = c.self.inside.next } in
     let a = c.args.inter.0 in
     let own : IsOwn (node_of n) a = subst (λ (k : KeptNode). IsOwn (node_of k) a) (sym c.self.view_is) c.requires.own in
-    let within : a < length n.pending = rw c.self.invariant.each own.declared in
+    let within : a < length n.pending = rw c.self.invariant.0.each own.declared in
     let q : Request = record { wants = c.wants_by-wants.result; request = c.in-Ok.number; class = c.class.result; inter = c.args.inter } in
     rw (← c.self.view_is) (asked_node n a q (record_by c.copy.result c.told_by-notifies.result) within (same_record c.copy.result q c.told_by-notifies.result _ c.copy.ensures c.told_by-notifies.ensures))

@@ -6,7 +6,7 @@ pub invariant_of-self : goal.invariant_of-self
 invariant_of-self c =
     let n : KeptNode = record { offers = c.self.inside.offers; pending = c.self.inside.pending.items; next = c.self.inside.next } in
     let same = left_plan c.args.offer c.hold.result n.offers c.hold.new.self c.hold.ensures.left in
-    kept_on n c.hold.new.self same.0 same.1 c.self.invariant
+    (kept_on n c.hold.new.self same.0 same.1 c.self.invariant.0, c.self.invariant.1)
 
 pub returns-clause-left : goal.returns-clause-left
 returns-clause-left c =

@@ -24,12 +24,12 @@ learn-requires-clause-touched c =
 pub invariant_of-self : goal.invariant_of-self
 invariant_of-self c =
     let n : KeptNode = record { offers = c.self-2.inside.offers; pending = c.self-2.inside.pending.items; next = c.self-2.inside.next } in
-    kept_on n c.learn.new.offers (ap (λ (v : Observed). v.plan) c.learn.ensures.learned) (ap (λ (v : Observed). v.class) c.learn.ensures.learned) c.self-2.invariant
+    (kept_on n c.learn.new.offers (ap (λ (v : Observed). v.plan) c.learn.ensures.learned) (ap (λ (v : Observed). v.class) c.learn.ensures.learned) c.self-2.invariant.0, c.self-2.invariant.1)
 
 pub invariant_of-self-in-Refused : goal.invariant_of-self-in-Refused
 invariant_of-self-in-Refused c =
     let n : KeptNode = record { offers = c.self-2.inside.offers; pending = c.self-2.inside.pending.items; next = c.self-2.inside.next } in
-    kept_on n c.spend.new.self c.spend.ensures.plan c.spend.ensures.class c.self-2.invariant
+    (kept_on n c.spend.new.self c.spend.ensures.plan c.spend.ensures.class c.self-2.invariant.0, c.self-2.invariant.1)
 
 pub returns-in-Granted-clause-left : goal.returns-in-Granted-clause-left
 returns-in-Granted-clause-left c = λ e awaits.

@@ -1,7 +1,7 @@
 use Rattle.std.proofs.Common.{◌≡◌, ◌∙◌, None, Some, ap, get_or, sym}
 use Rattle.std.specs.Option.{option_map}
 use Rattle.std.proofs.lemmas.List.{get_or_default}
-use Rattle.bip_ip.proofs.NodeLemmas.{one_less_kept, record_its, record_within}
+use Rattle.bip_ip.proofs.NodeLemmas.{asked_put, on_some, one_less_kept, record_its, record_within, taken_node}
 use Rattle.bip_ip.specs.Nodes.{KeptNode}
 use Rattle.bip_ip.proofs.nodes.IpNode.take_record.Goals as goal
 
@@ -10,7 +10,11 @@ invariant_of-self c =
     let n : KeptNode = record { offers = c.self.inside.offers; pending = c.self.inside.pending.items; next = c.self.inside.next } in
     let a = c.inter_in-inter.result.0 in
     let there : get_or n.pending a None ≡ Some c.in-Some.record.now = ap (λ (k : KeptNode). get_or k.pending a None) c.self.view_is ∙ (sym c.record.ensures ∙ ap (option_map (λ e. e.now)) c.in-Some.is) in
-    rw c.take.ensures.after (one_less_kept n a (record_within n.pending a c.in-Some.record.now there) c.self.invariant)
+    let within = record_within n.pending a c.in-Some.record.now there in
+    rw c.take.ensures.after (
+      one_less_kept n a within c.self.invariant.0,
+      asked_put c.self.inside.asked c.without_inter-self-inside.result n.pending a None within c.self.invariant.1 c.without_inter-self-inside.ensures.has,
+    )
 
 pub returns-in-Some-clause-its : goal.returns-in-Some-clause-its
 returns-in-Some-clause-its c =
@@ -19,4 +23,11 @@ returns-in-Some-clause-its c =
     let there : get_or n.pending a None ≡ Some c.in-Some.record.now = ap (λ (k : KeptNode). get_or k.pending a None) c.self.view_is ∙ (sym c.record.ensures ∙ ap (option_map (λ e. e.now)) c.in-Some.is) in
     let within = record_within n.pending a c.in-Some.record.now there in
     let taken : get_or n.pending a None ≡ c.take.result = get_or_default n.pending a None _ within ∙ sym (c.take.ensures.value ∙ c.index_mut.ensures.value) in
-    rw (← c.inter_in-inter.ensures, ← c.self.view_is) (record_its n a c.take.result c.self.invariant taken)
+    rw (← c.inter_in-inter.ensures, ← c.self.view_is) (record_its n a c.take.result c.self.invariant.0 taken)
+
+pub returns-in-Some-clause-taken : goal.returns-in-Some-clause-taken
+returns-in-Some-clause-taken c =
+    let n : KeptNode = record { offers = c.self.inside.offers; pending = c.self.inside.pending.items; next = c.self.inside.next } in
+    let a = c.inter_in-inter.result.0 in
+    let there : get_or n.pending a None ≡ Some c.in-Some.record.now = ap (λ (k : KeptNode). get_or k.pending a None) c.self.view_is ∙ (sym c.record.ensures ∙ ap (option_map (λ e. e.now)) c.in-Some.is) in
+    on_some c.take.result _ (rw (c.take.ensures.after, ← c.inter_in-inter.ensures, ← c.self.view_is) (taken_node n a (record_within n.pending a c.in-Some.record.now there)))
