@@ -1,5 +1,6 @@
 pub mod AskingLemmas
 pub mod LawLemmas
 pub mod NodeLemmas
+pub mod OwnLemmas
 pub mod TellLemmas
 pub mod SetLemmas

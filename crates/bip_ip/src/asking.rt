@@ -1,11 +1,9 @@
 //! What a class asks for, and what it tells the components, by the offers that it holds.
-ghost use Rattle.std.specs.Prelude.{◌≡◌, ◌<◌, ◌≤◌, length, map, take, zip};
-ghost use Rattle.bip_model.specs.Expressions.{transferred};
+ghost use Rattle.std.specs.Prelude.{◌≡◌, ◌<◌, ◌≤◌, length, map, zip};
 ghost use Rattle.bip_model.specs.Parties.{AreWantsBy};
-ghost use Rattle.bip_model.specs.Steps.{participants_of, transfer_of};
 ghost use Rattle.bip_observe.specs.Offers.{observed};
 ghost use Rattle.bip_observe.specs.Verdicts.{AllCount, offers_of};
-ghost use Rattle.bip_ip.specs.Asking.{notify_of, told_by, values_offered, want_by};
+ghost use Rattle.bip_ip.specs.Asking.{notify_of, told_by, want_by};
 
 use bip_model::{
     CompId, InterId, MOST_PARTICIPANTS, MOST_WANTS, Notifies, Notify, Number, PortId, Role, Values,
@@ -64,24 +62,11 @@ pub(crate) fn told_by(offers: &Offers<'_>, inter: InterId) -> Notifies
     requires counted { AllCount (observed offers.now) inter.0 }
     ensures { result ≡ told_by offers.now.plan.model (offers_of (observed offers.now)) inter.0 }
 {
-    let participants = offers.plan().model().participants(inter);
-    let values = values_told(offers, inter);
-    tell(offers, participants, &values[..participants.len()])
-}
-
-/// The values of participants after the transfer, in front of as many empty ones as make eight.
-fn values_told(offers: &Offers<'_>, inter: InterId) -> [Values; MOST_PARTICIPANTS]
-    requires declared { inter.0 < length offers.now.plan.model.interactions }
-    requires counted { AllCount (observed offers.now) inter.0 }
-    ensures { take (length (participants_of offers.now.plan.model inter.0)) result
-        ≡ transferred (transfer_of offers.now.plan.model inter.0)
-        (values_offered offers.now.plan.model (offers_of (observed offers.now)) inter.0) }
-{
     let model = offers.plan().model();
     let participants = model.participants(inter);
     let mut values = offers.values_of(participants);
     model.transfer(inter, &mut values[..participants.len()]);
-    values
+    tell(offers, participants, &values[..participants.len()])
 }
 
 /// Tells participants to move, each from its values.

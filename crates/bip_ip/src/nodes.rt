@@ -5,6 +5,7 @@ ghost use Rattle.std.specs.Option.{option_map};
 ghost use Rattle.std.specs.List.{range_with_len};
 ghost use Rattle.std.specs.List.Sorted.{IsStrictlyIncreasing};
 ghost use Rattle.bip_model.specs.Numbering.{IsLowest, last_number};
+ghost use Rattle.bip_model.specs.Partitions.{is_member};
 ghost use Rattle.bip_model.specs.Wants.{components_of};
 ghost use Rattle.bip_model.specs.declared.wants.Want.{Want};
 ghost use Rattle.bip_partition.specs.Plans.{ClassTouches, InConflict};
@@ -133,9 +134,10 @@ impl<'p> IpNode<'p> {
             return Tried::Pending(other);
         }
         match decide(self.offers.plan(), &self.offers, inter) {
-            Verdict::Ready => self.ask(inter),
-            verdict => Tried::Not(verdict),
+            Verdict::Ready => {}
+            verdict => return Tried::Not(verdict),
         }
+        self.ask(inter)
     }
 
     /// Takes a reply. Where a record waits for it, that one goes: a grant is told, and its moved
@@ -149,26 +151,23 @@ impl<'p> IpNode<'p> {
         let Some(record) = self.take_record(reply) else {
             return Answered::Stale;
         };
-        match *reply {
-            Reply::Granted { .. } => {
-                learn(&mut self.offers, record.request.wants.as_slice());
-                Answered::Told(record.notifies)
-            }
-            Reply::Refused { comp, used, .. } => {
-                self.offers.spend(comp, used);
-                Answered::Dropped
-            }
+        if let Reply::Refused { comp, used, .. } = *reply {
+            self.offers.spend(comp, used);
+            return Answered::Dropped;
         }
+        learn(&mut self.offers, record.request.wants.as_slice());
+        Answered::Told(record.notifies)
     }
 }
 
 impl<'p> IpNode<'p> {
+    /// Whether an interaction is of the node's class.
     fn is_own(&self, inter: InterId) -> bool
         ensures { IsTrue result ↔ IsOwn (node_of self.now) inter.0 }
     {
-        let plan = self.offers.plan();
-        (inter.0 as usize) < plan.model().interactions().len()
-            && plan.class_of(inter) == self.offers.class()
+        let class = self.offers.class();
+        let classes = self.offers.plan().classes();
+        (class.0 as usize) < classes.len() && is_among(classes.members(class), inter)
     }
 
     /// The lowest interaction that stands in the way of another.
@@ -252,12 +251,11 @@ impl<'p> IpNode<'p> {
         let inter = inter_in(reply);
         let _planned = self.offers.plan().classes();
         match self.record(inter) {
-            Some(record) if is_reply_to(reply, &record.request) => {
-                self.asked = without_inter(self.asked, inter);
-                self.pending[inter.0 as usize].take()
-            }
-            _ => None,
+            Some(record) if is_reply_to(reply, &record.request) => {}
+            _ => return None,
         }
+        self.asked = without_inter(self.asked, inter);
+        self.pending[inter.0 as usize].take()
     }
 }
 
@@ -281,6 +279,13 @@ fn learn(offers: &mut Offers<'_>, wants: &[Want])
             Role::Seen => {}
         }
     }
+}
+
+/// Whether an interaction is one of these.
+fn is_among(inters: &[InterId], inter: InterId) -> bool
+    ensures { result ≡ is_member inter.0 inters.now }
+{
+    inters.iter().any(|one| *one == inter)
 }
 
 fn inter_in(reply: &Reply) -> InterId

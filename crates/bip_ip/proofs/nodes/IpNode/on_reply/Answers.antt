@@ -21,18 +21,18 @@ learn-requires-clause-touched c =
     let touched = class_touched o.plan c.in-Some.record.request.inter.0 o.class c.in-Some.record.request.wants planned its.fit.parties (sym its.fit.class ∙ its.class) in
     rw c.as_slice.ensures.wants (subst (λ (k : KeptOffers). All (λ (w : Want). ClassTouches k.plan k.class w.comp.0) c.in-Some.record.request.wants) (sym same) touched)
 
-pub invariant_of-self : goal.invariant_of-self
-invariant_of-self c =
+pub invariant_of-self-2 : goal.invariant_of-self-2
+invariant_of-self-2 c =
     let n : KeptNode = record { offers = c.self-2.inside.offers; pending = c.self-2.inside.pending.items; next = c.self-2.inside.next } in
     (kept_on n c.learn.new.offers (ap (λ (v : Observed). v.plan) c.learn.ensures.learned) (ap (λ (v : Observed). v.class) c.learn.ensures.learned) c.self-2.invariant.0, c.self-2.invariant.1)
 
-pub invariant_of-self-in-Refused : goal.invariant_of-self-in-Refused
-invariant_of-self-in-Refused c =
+pub invariant_of-self : goal.invariant_of-self
+invariant_of-self c =
     let n : KeptNode = record { offers = c.self-2.inside.offers; pending = c.self-2.inside.pending.items; next = c.self-2.inside.next } in
     (kept_on n c.spend.new.self c.spend.ensures.plan c.spend.ensures.class c.self-2.invariant.0, c.self-2.invariant.1)
 
-pub returns-in-Granted-clause-left : goal.returns-in-Granted-clause-left
-returns-in-Granted-clause-left c = λ e awaits.
+pub returns-clause-left : goal.returns-clause-left
+returns-clause-left c = λ e awaits.
     let n : KeptNode = record { offers = c.self-2.inside.offers; pending = c.self-2.inside.pending.items; next = c.self-2.inside.next } in
     let wants : c.as_slice.result.now ≡ e.request.wants = c.as_slice.ensures.wants ∙ ap (λ (x : OpenRecord). x.request.wants) (one_record (node_of c.args.self.now) c.args.reply.now c.in-Some.record e c.in-Some.ensures.awaits awaits) in
     learned_node n c.learn.new.offers c.as_slice.result.now c.learn.ensures.learned

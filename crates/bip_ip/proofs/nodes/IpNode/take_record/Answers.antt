@@ -16,8 +16,8 @@ invariant_of-self c =
       asked_put c.self.inside.asked c.without_inter-self-inside.result n.pending a None within c.self.invariant.1 c.without_inter-self-inside.ensures.has,
     )
 
-pub returns-in-Some-clause-its : goal.returns-in-Some-clause-its
-returns-in-Some-clause-its c =
+pub returns-clause-its : goal.returns-clause-its
+returns-clause-its c =
     let n : KeptNode = record { offers = c.self.inside.offers; pending = c.self.inside.pending.items; next = c.self.inside.next } in
     let a = c.inter_in-inter.result.0 in
     let there : get_or n.pending a None ≡ Some c.in-Some.record.now = ap (λ (k : KeptNode). get_or k.pending a None) c.self.view_is ∙ (sym c.record.ensures ∙ ap (option_map (λ e. e.now)) c.in-Some.is) in
@@ -25,8 +25,8 @@ returns-in-Some-clause-its c =
     let taken : get_or n.pending a None ≡ c.take.result = get_or_default n.pending a None _ within ∙ sym (c.take.ensures.value ∙ c.index_mut.ensures.value) in
     rw (← c.inter_in-inter.ensures, ← c.self.view_is) (record_its n a c.take.result c.self.invariant.0 taken)
 
-pub returns-in-Some-clause-taken : goal.returns-in-Some-clause-taken
-returns-in-Some-clause-taken c =
+pub returns-clause-taken : goal.returns-clause-taken
+returns-clause-taken c =
     let n : KeptNode = record { offers = c.self.inside.offers; pending = c.self.inside.pending.items; next = c.self.inside.next } in
     let a = c.inter_in-inter.result.0 in
     let there : get_or n.pending a None ≡ Some c.in-Some.record.now = ap (λ (k : KeptNode). get_or k.pending a None) c.self.view_is ∙ (sym c.record.ensures ∙ ap (option_map (λ e. e.now)) c.in-Some.is) in
