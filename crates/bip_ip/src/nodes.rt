@@ -216,8 +216,9 @@ impl<'p> IpNode<'p> {
         let plan = self.offers.plan();
         let _planned = plan.classes();
         if !plan.reserved(inter) {
-            learn(&mut self.offers, wants.as_slice());
-            return Tried::Local(Grant { inter, wants }, notifies);
+            let grant = Grant { inter, wants };
+            learn(&mut self.offers, grant.wants.as_slice());
+            return Tried::Local(grant, notifies);
         }
         let Ok(number) = u64::try_from(self.next) else {
             return Tried::Ended;
