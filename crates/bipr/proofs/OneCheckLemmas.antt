@@ -2,11 +2,10 @@
 use Rattle.std.proofs.Common.{◌≡◌, ℕ, List, length, map, refl, sym, ap, ◌∙◌, subst, inl, inr}
 use Rattle.std.proofs.lemmas.Bool.{cases_order}
 use Rattle.bip_model.specs.declared.numbering.CompId.{CompId}
-use Rattle.bip_model.specs.declared.numbering.InterId.{InterId}
 use Rattle.bip_model.specs.declared.parts.System.{System}
 use Rattle.bip_model.proofs.NumberingLemmas.{rises_from_increasing, same_list}
 use Rattle.bip_partition.specs.Faults.{IsLowestTooMany}
-use Rattle.bip_partition.specs.Plans.{AreStations, IsCountTabled, Planned}
+use Rattle.bip_partition.specs.Plans.{IsCountTabled, Planned}
 use Rattle.bipr.specs.Answers.{AreCountsOf, HasPlan, IsCheckAnswer, IsRefusedModel, no_plan, no_text, planned, unchecked}
 use Rattle.bipr.specs.declared.answers.Answer.{Answer}
 use Rattle.bipr.specs.declared.wording.Counts.{Counts}

@@ -1,6 +1,4 @@
 use Rattle.bip_core.specs.Worlds.{world_of}
-use Rattle.bip_replay.specs.Writing.{text_of}
-use Rattle.std.proofs.Common.{◌∙◌, ap}
 use Rattle.bipr.proofs.ScheduledLemmas.{has_answered-stepped}
 use Rattle.bipr.proofs.scheduled.answer_events.Goals as goal
 
