@@ -1,5 +1,5 @@
 //! What the third layer is to those who ask it: a bank of requests and grants.
-ghost use Rattle.std.specs.Prelude.{◌≡◌, IfErr, IfOk, OnErr, OnOk, []};
+ghost use Rattle.std.specs.Prelude.{◌≡◌, ℕ, IfErr, IfOk, OnErr, OnOk, []};
 
 use bip_model::{Grant, Request};
 use bip_table::Decision;
@@ -46,6 +46,9 @@ pub trait Bank {
 
     ghost kept: { Self → KeptBank };
 
+    /// How many things are in flight inside the bank.
+    ghost flight: { Self → ℕ };
+
     /// Takes a request that fits the plan: it is open from now on, the newest of its interaction.
     /// Without memory it comes back, and the content stays as it was.
     fn submit(&mut self, request: Request) -> Result<(), (Request, AllocError)>
@@ -69,6 +72,7 @@ pub trait Bank {
         ensures unused { result.now ≡ []
             → (content_of (kept self.now)).used ≡ (λ c. (content_of (kept self.now)).base) };
 
-    /// How many things are in flight inside the bank.
-    fn in_flight(&self) -> usize;
+    /// How many things are in flight inside the bank: so far steps that deliver may count.
+    fn in_flight(&self) -> usize
+        ensures { result ≡ flight self.now };
 }
