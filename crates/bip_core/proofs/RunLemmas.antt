@@ -1,11 +1,11 @@
 -- Events one after another, and their sums.
-use Rattle.std.proofs.Common.{◌≡◌, ◌∙◌, ℕ, suc, inl, inr, ◌+◌, ◌<◌, ◌^◌, List, [], ◌∷◌, ◌++◌, Bool, false, true, Option, Some, None, length, refl, sym, ap, subst, arith, ◌≤◌, slice_get}
+use Rattle.std.proofs.Common.{◌≡◌, ◌∙◌, ℕ, suc, inl, inr, ◌+◌, ◌<◌, List, [], ◌∷◌, ◌++◌, Bool, false, true, Option, Some, None, length, refl, sym, ap, subst, arith, ◌≤◌, slice_get}
 use Rattle.std.specs.Prelude.{count_by, cond, is_some}
 use Rattle.std.proofs.lemmas.List.{append_assoc, append-nil, length-append}
-use Rattle.std.proofs.lemmas.List.Sums.{count_by-le-length, sum_by-append, sum_by-cons, sum_by_push}
+use Rattle.std.proofs.lemmas.List.Sums.{sum_by-append, sum_by-cons, sum_by_push}
 use Rattle.bip_model.specs.declared.grants.Grant.{Grant}
 use Rattle.bip_core.specs.Events.{AreKeptOf, AreSent, CanBeSkipped, IsDelivered, IsCounted, IsDone, IsHandedOn, IsStep, TakesOut, all_done, grant_in, kind_of, one_kept, one_lost, trace_with}
-use Rattle.bip_core.specs.Runs.{AreSteps, CanCount, FitsLost, IsRunOfEvents, did_so, is_grant, is_idle, is_kind_granted, is_kind_idle, is_kind_refused, is_refusal, lost_by, number_if, report_counted, report_of, report_with, was_skipped}
+use Rattle.bip_core.specs.Runs.{AreSteps, IsEventCounted, IsRunOfEvents, did_so, is_grant, is_idle, is_kind_granted, is_kind_idle, is_kind_refused, is_refusal, lost_by, number_if, report_counted, report_of, report_with, was_skipped}
 use Rattle.bip_core.specs.Worlds.{WorldContent}
 use Rattle.bip_core.specs.declared.events.Did.{Did}
 use Rattle.bip_core.specs.declared.events.Event.{Event}
@@ -21,7 +21,7 @@ use Rattle.bip_ip.specs.declared.nodes.Tried.TheVariants as tried
 use Rattle.bip_bank.specs.declared.banks.Acted.TheVariants as acted
 
 -- one more event
-pub steps_more : (es : List Event) (ds : List (Option Did)) (w v x : WorldContent) (e : Event) (d : Did) → AreSteps es ds w v → IsStep v e d x → AreSteps (es ++ e ∷ []) (ds ++ Some d ∷ []) w x
+steps_more : (es : List Event) (ds : List (Option Did)) (w v x : WorldContent) (e : Event) (d : Did) → AreSteps es ds w v → IsStep v e d x → AreSteps (es ++ e ∷ []) (ds ++ Some d ∷ []) w x
 steps_more [] [] w v x e d so step = (x, subst (λ (u : WorldContent). IsStep u e d x) so step, refl)
 steps_more [] (o ∷ ds) w v x e d so step = absurd so
 steps_more (f ∷ es) [] w v x e d so step = absurd so
@@ -29,7 +29,7 @@ steps_more (f ∷ es) (Some o ∷ ds) w v x e d so step = (so.0, so.1, steps_mor
 steps_more (f ∷ es) (None ∷ ds) w v x e d so step = (so.0, steps_more es ds w v x e d so.1 step)
 
 -- one more that is skipped
-pub steps_skip : (es : List Event) (ds : List (Option Did)) (w v x : WorldContent) (e : Event) → AreSteps es ds w v → CanBeSkipped v e → x ≡ v → AreSteps (es ++ e ∷ []) (ds ++ None ∷ []) w x
+steps_skip : (es : List Event) (ds : List (Option Did)) (w v x : WorldContent) (e : Event) → AreSteps es ds w v → CanBeSkipped v e → x ≡ v → AreSteps (es ++ e ∷ []) (ds ++ None ∷ []) w x
 steps_skip [] [] w v x e so can same = (subst (λ (u : WorldContent). CanBeSkipped u e) so can, same ∙ so)
 steps_skip [] (o ∷ ds) w v x e so can same = absurd so
 steps_skip (f ∷ es) [] w v x e so can same = absurd so
@@ -37,7 +37,7 @@ steps_skip (f ∷ es) (Some o ∷ ds) w v x e so can same = (so.0, so.1, steps_s
 steps_skip (f ∷ es) (None ∷ ds) w v x e so can same = (so.0, steps_skip es ds w v x e so.1 can same)
 
 -- as many outcomes as events
-steps_length : (es : List Event) (ds : List (Option Did)) (w v : WorldContent) → AreSteps es ds w v → length ds ≡ length es
+pub steps_length : (es : List Event) (ds : List (Option Did)) (w v : WorldContent) → AreSteps es ds w v → length ds ≡ length es
 steps_length [] [] w v so = refl
 steps_length [] (o ∷ ds) w v so = absurd so
 steps_length (f ∷ es) [] w v so = absurd so
@@ -87,36 +87,28 @@ counted_same report what outcome is =
 pub no_steps : (w : WorldContent) (report : Report) → report ≡ report_of [] → IsRunOfEvents [] w w report
 no_steps w report is = record { dids = []; steps = refl; sums = is }
 
--- so one more can be counted
-pub can_count : (es : List Event) (w v : WorldContent) (report : Report) → length es + 1 < 2 ^ 64 → IsRunOfEvents es w v report → FitsLost report → CanCount report
-can_count es w v report few run lost =
-    let ds = run.dids in
-    let same = steps_length es ds w v run.steps in
-    rw run.sums (record {
-      events = rw same few;
-      grants = count_by-le-length (did_so is_grant) ds;
-      refusals = count_by-le-length (did_so is_refusal) ds;
-      idle = count_by-le-length (did_so is_idle) ds;
-      skipped = count_by-le-length was_skipped ds;
-      lost = subst FitsLost run.sums lost;
-    })
+-- a run counts its events
+pub events_counted : (es : List Event) (w v : WorldContent) (report : Report) → IsRunOfEvents es w v report → report.events ≡ length es
+events_counted es w v report run = ap (λ (r : Report). r.events) run.sums ∙ steps_length es run.dids w v run.steps
 
--- one more event, with its sums
-run_more : (es : List Event) (w v x : WorldContent) (report later : Report) (e : Event) (d : Did) → IsRunOfEvents es w v report → IsStep v e d x → later ≡ report_with report (Some d) → IsRunOfEvents (es ++ e ∷ []) w x later
-run_more es w v x report later e d run step counted = record {
-  dids = run.dids ++ Some d ∷ [];
-  steps = steps_more es run.dids w v x e d run.steps step;
-  sums = counted ∙ (ap (λ (r : Report). report_with r (Some d)) run.sums ∙ report_more run.dids (Some d));
+-- an event that is done is counted
+pub event_counted : {saw : What → Type 0} (v x : WorldContent) (report later : Report) (e : Event) (outcome : Outcome) → IsCounted saw v e outcome x → later ≡ report_counted report outcome → IsEventCounted e v x report later
+event_counted v x report later e outcome counted is = record {
+  did = Some (record { what = counted.what; lost = outcome.lost });
+  steps = (x, counted.step, refl);
+  sums = is ∙ counted_same report counted.what outcome counted.kind;
 }
 
-pub run_counted : {saw : What → Type 0} (es : List Event) (w v x : WorldContent) (report later : Report) (e : Event) (outcome : Outcome) → IsRunOfEvents es w v report → IsCounted saw v e outcome x → later ≡ report_counted report outcome → IsRunOfEvents (es ++ e ∷ []) w x later
-run_counted es w v x report later e outcome run counted is = run_more es w v x report later e (record { what = counted.what; lost = outcome.lost }) run counted.step (is ∙ counted_same report counted.what outcome counted.kind)
+-- events and one more
+pub steps_one : (es : List Event) (ds : List (Option Did)) (w v x : WorldContent) (e : Event) (d : Option Did) → AreSteps es ds w v → AreSteps (e ∷ []) (d ∷ []) v x → AreSteps (es ++ e ∷ []) (ds ++ d ∷ []) w x
+steps_one es ds w v x e None so one = steps_skip es ds w v x e so one.0 one.1
+steps_one es ds w v x e (Some d) so one = subst (λ (u : WorldContent). AreSteps (es ++ e ∷ []) (ds ++ Some d ∷ []) w u) (sym one.2) (steps_more es ds w v one.0 e d so one.1)
 
-pub run_skip : (es : List Event) (w v x : WorldContent) (report later : Report) (e : Event) → IsRunOfEvents es w v report → CanBeSkipped v e → x ≡ v → later ≡ report_with report None → IsRunOfEvents (es ++ e ∷ []) w x later
-run_skip es w v x report later e run can same counted = record {
-  dids = run.dids ++ None ∷ [];
-  steps = steps_skip es run.dids w v x e run.steps can same;
-  sums = counted ∙ (ap (λ (r : Report). report_with r None) run.sums ∙ report_more run.dids None);
+pub run_more : (es : List Event) (w v x : WorldContent) (report later : Report) (e : Event) → IsRunOfEvents es w v report → IsEventCounted e v x report later → IsRunOfEvents (es ++ e ∷ []) w x later
+run_more es w v x report later e run one = record {
+  dids = run.dids ++ one.did ∷ [];
+  steps = steps_one es run.dids w v x e one.did run.steps one.steps;
+  sums = one.sums ∙ (ap (λ (r : Report). report_with r one.did) run.sums ∙ report_more run.dids one.did);
 }
 
 -- trace, plan and messages of a world that is another one but for its nodes or its bank

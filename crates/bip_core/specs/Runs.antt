@@ -1,5 +1,5 @@
 -- Runs: what events lead to one after another, and their sums.
-use Rattle.std.specs.Prelude.{◌≡◌, ℕ, ◌+◌, ◌*◌, ◌<◌, ◌≤◌, ◌^◌, Bool, false, true, List, [], ◌∷◌}
+use Rattle.std.specs.Prelude.{◌≡◌, ℕ, ◌+◌, ◌*◌, ◌≤◌, Bool, false, true, List, [], ◌∷◌}
 use Rattle.std.specs.Prelude.{Option, None, Some, count_by, is_some, length, sum_by}
 use Rattle.bip_table.specs.declared.reservations.Decision.TheVariants as decision
 use Rattle.bip_ip.specs.declared.nodes.Tried.TheVariants as tried
@@ -71,9 +71,7 @@ pub record IsRunOfEvents (events : List Event) (w v : WorldContent) (report : Re
   pub steps : AreSteps events dids w v
   pub sums : report ≡ report_of dids
 
--- What contracts of private functions say.
-
--- a report with one more event
+-- a report with one more event, which did this or was skipped
 abbrev pub number_if : Bool → ℕ
 number_if false = 0
 number_if true = 1
@@ -89,7 +87,24 @@ report_with report did =
       skipped = report.skipped + number_if (was_skipped did);
     }
 
--- and with one that comes to this
+-- one event leads from one world to another or is skipped, and is counted
+pub record IsEventCounted (event : Event) (w v : WorldContent) (report later : Report)
+    : Type 0 where
+  pub did : Option Did
+  pub steps : AreSteps (event ∷ []) (did ∷ []) w v
+  pub sums : later ≡ report_with report did
+
+-- a report has no sum above its events, and lost no more than what each of so many events can lose
+pub record AddsUp (report : Report) : Type 0 where
+  pub grants : report.grants ≤ report.events
+  pub refusals : report.refusals ≤ report.events
+  pub idle : report.idle ≤ report.events
+  pub skipped : report.skipped ≤ report.events
+  pub lost : report.lost ≤ report.events * 18446744073709551615
+
+-- What contracts of private functions say.
+
+-- a report with one more event, which comes to this
 abbrev pub is_kind_granted : Kind → Bool
 is_kind_granted kind.Granted = true
 is_kind_granted other = false
@@ -112,16 +127,3 @@ report_counted report outcome =
       idle = report.idle + number_if (is_kind_idle outcome.kind);
       skipped = report.skipped;
     }
-
--- no more than what each of so many events can lose
-abbrev pub FitsLost : Report → Type 0
-FitsLost report = report.lost ≤ report.events * 18446744073709551615
-
--- a report of so many events that one more can be counted
-pub record CanCount (report : Report) : Type 0 where
-  pub events : report.events + 1 < 2 ^ 64
-  pub grants : report.grants ≤ report.events
-  pub refusals : report.refusals ≤ report.events
-  pub idle : report.idle ≤ report.events
-  pub skipped : report.skipped ≤ report.events
-  pub lost : FitsLost report

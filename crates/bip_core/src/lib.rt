@@ -14,5 +14,5 @@ mod worlds;
 pub use events::{Did, Event, What};
 pub use laws::world_laws;
 pub use messages::Message;
-pub use runs::{Report, run_steps};
+pub use runs::{Report, run_event, run_steps};
 pub use worlds::World;

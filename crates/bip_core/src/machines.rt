@@ -96,6 +96,13 @@ impl<'p, B: bip_bank::Bank> Machine<'p, B> {
         })
     }
 
+    /// The plan.
+    pub fn plan(&self) -> &'p Plan
+        ensures { result.now ≡ self.now.plan }
+    {
+        self.plan
+    }
+
     /// The grants, in order.
     pub fn trace(&self) -> &[Grant]
         ensures trace { result.now ≡ self.now.trace }

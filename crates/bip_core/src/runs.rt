@@ -1,8 +1,9 @@
 //! Runs of events, and their reports.
-ghost use Rattle.std.specs.Prelude.{◌≡◌, ◌++◌, List, None, length};
+ghost use Rattle.std.specs.Prelude.{◌≡◌, ◌<◌, ◌++◌, List, [], None, length};
+ghost use Rattle.bip_model.specs.Numbering.{last_number};
 ghost use Rattle.bip_model.specs.declared.grants.Grant.{Grant};
-ghost use Rattle.bip_core.specs.Runs.{CanCount, FitsLost, IsRunOfEvents, report_counted};
-ghost use Rattle.bip_core.specs.Runs.{report_with};
+ghost use Rattle.bip_core.specs.Runs.{AddsUp, IsEventCounted, IsRunOfEvents, report_counted};
+ghost use Rattle.bip_core.specs.Runs.{report_of, report_with};
 ghost use Rattle.bip_core.specs.Worlds.{world_of};
 
 use crate::outcomes::{Kind, Outcome};
@@ -26,6 +27,66 @@ pub struct Report {
     pub skipped: u64,
 }
 
+impl Report {
+    /// The report of no event.
+    pub fn empty() -> Report
+        ensures sums { result ≡ report_of [] }
+        ensures adds_up { AddsUp result }
+    {
+        Report {
+            lost: 0,
+            events: 0,
+            grants: 0,
+            refusals: 0,
+            idle: 0,
+            skipped: 0,
+        }
+    }
+
+    /// Counts an event that comes to this.
+    fn count(&mut self, outcome: Outcome)
+        requires room { self.old.events < last_number }
+        requires adds_up { AddsUp self.old }
+        ensures counted { self.new ≡ report_counted self.old outcome }
+        ensures adds_up { AddsUp self.new }
+    {
+        self.lost += outcome.lost as u128;
+        self.events += 1;
+        match outcome.kind {
+            Kind::Done => {}
+            Kind::Granted => self.grants += 1,
+            Kind::Refused => self.refusals += 1,
+            Kind::Idle => self.idle += 1,
+        }
+    }
+
+    /// Counts an event that was skipped.
+    fn count_skipped(&mut self)
+        requires room { self.old.events < last_number }
+        requires adds_up { AddsUp self.old }
+        ensures counted { self.new ≡ report_with self.old None }
+        ensures adds_up { AddsUp self.new }
+    {
+        self.events += 1;
+        self.skipped += 1;
+    }
+}
+
+/// Does one event, and counts it; one for which there is no memory is skipped, and then the world
+/// stays as it was. The report is one of fewer than 2^64 - 1 events.
+pub fn run_event<'p, B: bip_bank::Bank>(world: &mut World<'p, B>, event: Event, report: &mut Report)
+    requires room { report.old.events < last_number }
+    requires adds_up { AddsUp report.old }
+    ensures done { IsEventCounted event (world_of world.old) (world_of world.new) report.old
+        report.new }
+    ensures adds_up { AddsUp report.new }
+{
+    match world.count(event) {
+        Ok(outcome) => report.count(outcome),
+        Err(_) => report.count_skipped(),
+    }
+}
+
 /// Does events one after another; one for which there is no memory is skipped, and those that
 /// follow are done. Whatever the events are, the report has their sums.
 pub fn run_steps<'p, B: bip_bank::Bank>(world: &mut World<'p, B>, events: &[Event]) -> Report
@@ -33,45 +94,9 @@ pub fn run_steps<'p, B: bip_bank::Bank>(world: &mut World<'p, B>, events: &[Even
     ensures grown { (grants : List Grant) × (world.new.trace ≡ world.old.trace ++ grants)
         × (result.grants ≡ length grants) }
 {
-    let mut report = Report {
-        lost: 0,
-        events: 0,
-        grants: 0,
-        refusals: 0,
-        idle: 0,
-        skipped: 0,
-    };
+    let mut report = Report::empty();
     for event in events {
-        match world.count(*event) {
-            Ok(outcome) => count_event(&mut report, outcome),
-            Err(_) => count_skipped(&mut report),
-        }
+        run_event(world, *event, &mut report);
     }
     report
-}
-
-/// Counts an event that comes to this.
-fn count_event(report: &mut Report, outcome: Outcome)
-    requires { CanCount report.old }
-    ensures with_event { report.new ≡ report_counted report.old outcome }
-    ensures lost { FitsLost report.new }
-{
-    report.lost += outcome.lost as u128;
-    report.events += 1;
-    match outcome.kind {
-        Kind::Done => {}
-        Kind::Granted => report.grants += 1,
-        Kind::Refused => report.refusals += 1,
-        Kind::Idle => report.idle += 1,
-    }
-}
-
-/// Counts an event that was skipped.
-fn count_skipped(report: &mut Report)
-    requires { CanCount report.old }
-    ensures with_event { report.new ≡ report_with report.old None }
-    ensures lost { FitsLost report.new }
-{
-    report.events += 1;
-    report.skipped += 1;
 }

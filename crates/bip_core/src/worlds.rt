@@ -76,6 +76,13 @@ impl<'p, B: bip_bank::Bank> World<'p, B> {
         self.machine.step(event, &mut NoOne)
     }
 
+    /// The plan that the world is of.
+    pub fn plan(&self) -> &'p Plan
+        ensures { result.now ≡ self.now.plan }
+    {
+        self.machine.plan()
+    }
+
     /// The grants, in order. Each is of an interaction and of components of the plan's model.
     pub fn trace(&self) -> &[Grant]
         ensures trace { result.now ≡ self.now.trace }

@@ -1,42 +1,28 @@
-use Rattle.std.proofs.Common.{◌∙◌, ◌+◌, ◌<◌, ◌^◌, ap, arith, length, rules, subst, sym, take}
+use Rattle.std.proofs.Common.{◌∙◌, ◌≡◌, ◌<◌, ◌^◌, ap, arith, length, rules, take}
 use Rattle.std.proofs.lemmas.List.{length-take-le, take_more}
-use Rattle.bip_core.specs.Runs.{FitsLost}
 use Rattle.bip_core.specs.Worlds.{world_of}
 use Rattle.bip_core.specs.declared.events.Event.TheVariants.{Mail}
 use Rattle.bip_core.specs.declared.runs.Report.{Report}
-use Rattle.bip_core.proofs.RunLemmas.{can_count, run_counted, run_skip, steps_grow}
+use Rattle.bip_core.proofs.RunLemmas.{events_counted, run_more, steps_grow}
 use Rattle.bip_core.proofs.runs.run_steps.Goals as goal
-use Rattle.bip_core.proofs.runs.run_steps.Goals.{in-Ok, in-Err}
 
-pub count_event-requires : goal.count_event-requires
-count_event-requires g c =
-    let es = take c.loop-event.event-index c.args.events.now in
+pub run_event-requires-clause-room : goal.run_event-requires-clause-room
+run_event-requires-clause-room g c =
+    let i = c.loop-event.event-index in
+    let es = take i c.args.events.now in
     let small : length c.args.events.now < 2 ^ 64 = search rules in
-    let few : length es + 1 < 2 ^ 64 = rw (length-take-le c.loop-event.event-index c.args.events.now c.loop-event.auto.event-index-end) (omega (arith, small, c.loop-event-test.true)) in
-    can_count es (world_of c.args.world.now) (world_of c.loop-event.world) c.loop-event.report few c.loop-event.invariant.0 c.loop-event.invariant.1
-
-pub count_skipped-requires : goal.count_skipped-requires
-count_skipped-requires g c =
-    let es = take c.loop-event.event-index c.args.events.now in
-    let small : length c.args.events.now < 2 ^ 64 = search rules in
-    let few : length es + 1 < 2 ^ 64 = rw (length-take-le c.loop-event.event-index c.args.events.now c.loop-event.auto.event-index-end) (omega (arith, small, c.loop-event-test.true)) in
-    can_count es (world_of c.args.world.now) (world_of c.loop-event.world) c.loop-event.report few c.loop-event.invariant.0 c.loop-event.invariant.1
+    let few : length es ≡ i = length-take-le i c.args.events.now c.loop-event.auto.event-index-end in
+    let counted = events_counted es (world_of c.args.world.now) (world_of c.loop-event.world) c.loop-event.report c.loop-event.invariant.0 in
+    omega (arith, small, few, counted, c.loop-event-test.true)
 
 pub loop-event-preserved : goal.loop-event-preserved
 loop-event-preserved g c =
     let i = c.loop-event.event-index in
     let es = take i c.args.events.now in
-    let more = take_more c.args.events.now i (Mail 0) c.loop-event-test.true in
-    elim c.match-count.branch [
-      | in-Ok w ↦ (
-        rw (more, w.report-is) (run_counted es (world_of c.args.world.now) (world_of c.loop-event.world) (world_of c.count.new.self) c.loop-event.report w.count_event.new.report _ w.in-Ok.outcome c.loop-event.invariant.0 w.in-Ok.ensures.counted w.count_event.ensures.with_event),
-        subst FitsLost (sym w.report-is) w.count_event.ensures.lost,
-      )
-      | in-Err w ↦ (
-        rw (more, w.report-is) (run_skip es (world_of c.args.world.now) (world_of c.loop-event.world) (world_of c.count.new.self) c.loop-event.report w.count_skipped.new.report _ c.loop-event.invariant.0 w.in-Err.ensures.skipped w.in-Err.ensures.err w.count_skipped.ensures.with_event),
-        subst FitsLost (sym w.report-is) w.count_skipped.ensures.lost,
-      )
-    ]
+    let more = take_more c.args.events.now i (Mail 0) c.loop-event-test.true in (
+      rw more (run_more es (world_of c.args.world.now) (world_of c.loop-event.world) _ c.loop-event.report _ _ c.loop-event.invariant.0 c.run_event.ensures.done),
+      c.run_event.ensures.adds_up,
+    )
 
 pub returns-clause-grown : goal.returns-clause-grown
 returns-clause-grown g c =
