@@ -1,4 +1,6 @@
 pub mod Drawing
+pub mod Exploring
 pub mod Lines
 pub mod Schedules
+pub mod Seeding
 pub mod Writing

@@ -2,10 +2,14 @@
 #![tactic(auto)]
 
 mod drawing;
+mod exploring;
 mod lines;
 mod schedules;
+mod seeding;
 mod writing;
 
 pub use drawing::event_of;
+pub use exploring::{ExploreFault, Explored, explore, explore_seed};
 pub use schedules::read_schedule;
+pub use seeding::seeded;
 pub use writing::{have_spelling, write_schedule};

@@ -1,0 +1,166 @@
+//! The explorer: many runs by chance, each checked to be a run of the model.
+ghost use Rattle.std.specs.Prelude.{◌≡◌, ◌<◌, ◌≤◌, IfErr, IfOk, Ok, OnOk, Some};
+ghost use Rattle.bip_model.specs.Numbering.{last_number};
+ghost use Rattle.bip_replay.specs.Runs.{IsModelRun};
+ghost use Rattle.bip_bank.specs.Banks.{content_of};
+ghost use Rattle.bip_core.specs.Starting.{IsNewWorld, IsUnasked};
+ghost use Rattle.bip_core.specs.Worlds.{world_of};
+ghost use Rattle.bip_schedule.specs.Exploring.{AreExplored, IsExploreFault, IsSeedFault};
+ghost use Rattle.bip_schedule.specs.Exploring.{IsSeedRun, IsTraceFault, number_of_explore};
+ghost use Rattle.bip_schedule.specs.Exploring.{text_of_explore};
+ghost use Rattle.bip_schedule.specs.Seeding.{IsFlightOf};
+ghost use Rattle.bip_schedule.specs.declared.exploring.ExploreFault.TheVariants.{Memory};
+
+use crate::seeding::run_seed;
+use bip_bank::Bank;
+use bip_core::World;
+use bip_model::{Grant, Model, Number};
+use bip_partition::Plan;
+use bip_replay::{GrantRef, Position, StepFault};
+use std::alloc::{AllocError, Global};
+use std::fmt;
+use thiserror::Error;
+
+/// What was explored: how many seeds, and how many grants their traces have in all.
+#[derive(Clone, Copy, Debug, PartialEq, Eq)]
+pub struct Explored {
+    pub runs: u32,
+    pub grants: u64,
+}
+
+/// Why seeds aren't explored.
+#[derive(Debug, Drop, Error)]
+pub enum ExploreFault {
+    /// The trace of this seed is no run of the model: its first grant that can't be next has this
+    /// fault. The traces of all seeds before it are runs.
+    NotARun(u32, StepFault),
+    /// Want of memory.
+    Memory,
+}
+
+impl fmt::Display for ExploreFault {
+    ghost output = { λ fault. Some (text_of_explore fault) };
+
+    fn fmt<W: fmt::Write>(&self, f: &mut fmt::Formatter<W>) -> fmt::Result {
+        match self {
+            ExploreFault::NotARun(seed, fault) => write!(f, "seed {seed}: {fault}"),
+            ExploreFault::Memory => write!(f, "no memory"),
+        }
+    }
+}
+
+impl ExploreFault {
+    /// The fault's number.
+    pub fn number(&self) -> u8
+        ensures { result ≡ number_of_explore self.now }
+    {
+        match self {
+            ExploreFault::NotARun(_, _) => 1,
+            ExploreFault::Memory => 2,
+        }
+    }
+}
+
+impl From<AllocError> for ExploreFault {
+    ghost from_gives = { λ _ fault. fault ≡ Memory };
+
+    fn from(_: AllocError) -> ExploreFault {
+        ExploreFault::Memory
+    }
+}
+
+/// Explores the seeds from 1 on, so many of them: each draws so many events in the new world of the
+/// plan above the base, and its trace is checked to be a run of the model. Ends at the first seed
+/// whose trace is none, or where memory is out. `make` gives a bank of that plan and base without
+/// grants or open requests. One seed's world is kept at a time (docs/DEFINITIONS.md, "Exploring").
+pub fn explore<'p, B: Bank + Drop, F: Fn() -> Result<B, AllocError>>(
+    alloc: Global,
+    plan: &'p Plan,
+    make: F,
+    base: Number,
+    seeds: u32,
+    count: u32,
+) -> Result<Explored, ExploreFault>
+    requires base { base < last_number }
+    requires callable { F.IsAlwaysCallable make }
+    requires unasked { (bank : B) → F.post make (Ok bank)
+        → IsUnasked plan.now base (content_of (B.kept bank)) }
+    ensures runs { IfOk result (λ done. done.runs ≡ seeds) }
+    ensures explored { IfOk result (λ done. AreExplored (IsFlightOf B.kept B.flight) plan.now base
+        count seeds done.grants) }
+    ensures fault { IfErr result (IsExploreFault (IsFlightOf B.kept B.flight) plan.now base count
+        seeds) }
+{
+    let mut grants = 0;
+    for done in 0..seeds {
+        grants += explore_seed(alloc, plan, &make, base, done + 1, count)?;
+    }
+    Ok(Explored {
+        runs: seeds,
+        grants,
+    })
+}
+
+/// Explores one seed, as `explore` does, and says how many grants its trace has
+/// (docs/DEFINITIONS.md, "Exploring").
+pub fn explore_seed<'p, B: Bank + Drop, F: Fn() -> Result<B, AllocError>>(
+    alloc: Global,
+    plan: &'p Plan,
+    make: &F,
+    base: Number,
+    seed: u32,
+    count: u32,
+) -> Result<u64, ExploreFault>
+    requires base { base < last_number }
+    requires callable { F.IsAlwaysCallable make.now }
+    requires unasked { (bank : B) → F.post make.now (Ok bank)
+        → IsUnasked plan.now base (content_of (B.kept bank)) }
+    ensures run { IfOk result (IsSeedRun (IsFlightOf B.kept B.flight) plan.now base count seed) }
+    ensures few { IfOk result (λ grants. grants ≤ count) }
+    ensures fault { IfErr result (IsSeedFault (IsFlightOf B.kept B.flight) plan.now base count
+        seed) }
+{
+    let mut world = new_world(alloc, plan, make, base)?;
+    run_seed(&mut world, u64::from(seed), count);
+    let trace = world.trace();
+    check_run(alloc, plan.model(), base, seed, trace)?;
+    Ok(trace.len() as u64)
+}
+
+/// The new world of a plan above a base, with a new bank.
+fn new_world<'p, B: Bank + Drop, F: Fn() -> Result<B, AllocError>>(
+    alloc: Global,
+    plan: &'p Plan,
+    make: &F,
+    base: Number,
+) -> Result<World<'p, B>, AllocError>
+    requires base { base < last_number }
+    requires callable { F.IsAlwaysCallable make.now }
+    requires unasked { (bank : B) → F.post make.now (Ok bank)
+        → IsUnasked plan.now base (content_of (B.kept bank)) }
+    ensures { IfOk result (λ world. IsNewWorld plan.now base (world_of world)) }
+{
+    let bank = make()?;
+    World::new(alloc, plan, bank, base)
+}
+
+/// Checks that the grants of a seed's trace are a run of a model above a base.
+fn check_run(
+    alloc: Global,
+    model: &Model,
+    base: Number,
+    seed: u32,
+    trace: &[Grant],
+) -> Result<(), ExploreFault>
+    requires { base < last_number }
+    ensures run { OnOk result (IsModelRun model.now base trace.now) }
+    ensures fault { IfErr result (IsTraceFault model.now base seed trace.now) }
+{
+    let mut position = Position::start(alloc, model, base)?;
+    for grant in trace {
+        if let Err(fault) = position.step(&GrantRef::of(grant)) {
+            return Err(ExploreFault::NotARun(seed, fault));
+        }
+    }
+    Ok(())
+}

@@ -1,0 +1,78 @@
+//! Events by chance, done one after another.
+ghost use Rattle.std.specs.Prelude.{◌≡◌, ◌<◌, List, IfOk, OnErr, length};
+ghost use Rattle.rand_pcg.specs.Pcg.{pcg32};
+ghost use Rattle.bip_model.specs.Numbering.{last_number};
+ghost use Rattle.bip_core.specs.Runs.{AddsUp, IsEventCounted, IsRunOfEvents};
+ghost use Rattle.bip_core.specs.Worlds.{world_of};
+ghost use Rattle.bip_core.specs.declared.events.Event.{Event};
+ghost use Rattle.bip_schedule.specs.Seeding.{AreSeeded, IsDrawnIn, IsFlightOf, generator_of};
+
+use crate::event_of;
+use bip_bank::Bank;
+use bip_core::{Event, Report, World, run_event};
+use rand_core::utils::NextWord;
+use rand_pcg::Lcg64Xsh32;
+use std::alloc::{AllocError, Global};
+
+/// Draws so many events from a seed and does them, one after another: each is that of the
+/// generator's next word in the world before it. Answers the events, with their report; the only
+/// error is want of memory for that list, and then the world stays as it was
+/// (docs/DEFINITIONS.md, "Events by chance").
+pub fn seeded<'p, B: Bank>(
+    alloc: Global,
+    world: &mut World<'p, B>,
+    seed: u64,
+    count: u32,
+) -> Result<(Vec<Event>, Report), AllocError>
+    ensures drawn { IfOk result (λ done. AreSeeded (IsFlightOf B.kept B.flight) seed count
+        done.0.items (world_of world.old) (world_of world.new) done.1) }
+    ensures run { IfOk result (λ done. IsRunOfEvents done.0.items (world_of world.old)
+        (world_of world.new) done.1) }
+    ensures err { OnErr result (world_of world.new ≡ world_of world.old) }
+{
+    let mut events = Vec::with_capacity(alloc, count as usize)?;
+    let mut words = words_of(seed);
+    let mut report = Report::empty();
+    for _ in 0..count {
+        let event = draw(world, &mut words, &mut report);
+        events.push_reserved(event);
+    }
+    Ok((events, report))
+}
+
+/// Does what `seeded` does, and keeps no list of the events.
+pub(crate) fn run_seed<'p, B: Bank>(world: &mut World<'p, B>, seed: u64, count: u32) -> Report
+    ensures { (events : List Event) × AreSeeded (IsFlightOf B.kept B.flight) seed count events
+        (world_of world.old) (world_of world.new) result }
+{
+    let mut words = words_of(seed);
+    let mut report = Report::empty();
+    for _ in 0..count {
+        draw(world, &mut words, &mut report);
+    }
+    report
+}
+
+/// The generator of a seed, before its first word.
+fn words_of(seed: u64) -> Lcg64Xsh32
+    ensures { result ≡ generator_of seed }
+{
+    Lcg64Xsh32::new(seed, 1)
+}
+
+/// Draws one event, does it and counts it.
+fn draw<'p, B: Bank>(world: &mut World<'p, B>, words: &mut Lcg64Xsh32, report: &mut Report) -> Event
+    requires room { report.old.events < last_number }
+    requires adds_up { AddsUp report.old }
+    ensures drawn { IsDrawnIn (IsFlightOf B.kept B.flight) (world_of world.old) (pcg32 words.old).0
+        result }
+    ensures word { words.new ≡ (pcg32 words.old).1 }
+    ensures done { IsEventCounted result (world_of world.old) (world_of world.new) report.old
+        report.new }
+    ensures adds_up { AddsUp report.new }
+{
+    let word = words.next_word();
+    let event = event_of(word, world.mails(), world.plan(), world.bank().in_flight());
+    run_event(world, event, report);
+    event
+}
