@@ -1,6 +1,7 @@
 pub mod AnswerLemmas
 pub mod CheckLemmas
 pub mod EndingLemmas
+pub mod ExploredLemmas
 pub mod KnownLemmas
 pub mod MarkLemmas
 pub mod OneAnswerLemmas

@@ -1,6 +1,7 @@
 -- What is put on a stream.
-use Rattle.std.proofs.Common.{◌≡◌, ◌==◌, ℕ, Bool, true, false, List, [], ◌∷◌, length, refl, rules, sym, subst}
-use Rattle.bipr.specs.Streams.{Puts, nothing, one}
+use Rattle.std.proofs.Common.{◌≡◌, ◌==◌, ℕ, Bool, true, false, List, [], ◌∷◌, ◌++◌, length, refl, rules, sym, subst}
+use Rattle.std.proofs.lemmas.List.{append_assoc, append-nil}
+use Rattle.bipr.specs.Streams.{Puts, PutsEach, none_put, nothing, one, one_put}
 
 -- nothing is put for an empty text
 pub puts_nothing : {S : Type 0} (writes : S → List ℕ → Bool → S → Type 0) (stream : S) (text : List ℕ) (is_out : Bool)
@@ -13,3 +14,16 @@ pub puts_one : {S : Type 0} (writes : S → List ℕ → Bool → S → Type 0) 
     → false ≡ (length text == 0) → writes before text is_out after → Puts writes before after text is_out
 puts_one writes before after [] is_out some written = absurd (search rules)
 puts_one writes before after (b ∷ bs) is_out some written = one b bs is_out written
+
+-- one text
+pub puts_each_one : {S : Type 0} (writes : S → List ℕ → Bool → S → Type 0) (before after : S) (text : List ℕ) (is_out : Bool)
+    → Puts writes before after text is_out → PutsEach writes before (text ∷ []) after
+puts_each_one writes before after text is_out put = one_put [] text is_out before after none_put put
+
+-- texts behind others
+pub puts_each_append : {S : Type 0} (writes : S → List ℕ → Bool → S → Type 0) (before middle after : S) (xs ys : List (List ℕ))
+    → PutsEach writes before xs middle → PutsEach writes middle ys after → PutsEach writes before (xs ++ ys) after
+puts_each_append writes before middle after xs ys first none_put = subst (λ (ts : List (List ℕ)). PutsEach writes before ts middle) (sym (append-nil xs)) first
+puts_each_append writes before middle after xs ys first (one_put texts text is_out between last rest put) =
+    subst (λ (ts : List (List ℕ)). PutsEach writes before ts last) (append_assoc xs texts (text ∷ []))
+    (one_put (xs ++ texts) text is_out between last (puts_each_append writes before middle between xs texts first rest) put)

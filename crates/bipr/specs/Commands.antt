@@ -1,37 +1,44 @@
 -- What the program may answer to the words of a command line.
 pub mod Check
+pub mod Explore
 pub mod Replay
 pub mod Steps
-use Rattle.std.specs.Prelude.{List, ℕ, Result}
+use Rattle.std.specs.Prelude.{List, [], ℕ, Result}
 use Rattle.clap.specs.declared.error.Error.{Error}
 use Rattle.clap.specs.declared.parser.matches.ArgMatches.{ArgMatches}
-use Rattle.bipr.specs.CommandLine.{AsksForSteps, AsksToCheck, AsksToReplay}
+use Rattle.bipr.specs.CommandLine.{AsksForSteps, AsksToCheck, AsksToExplore, AsksToReplay}
 use Rattle.bipr.specs.Commands.Check.{IsCheck}
+use Rattle.bipr.specs.Commands.Explore.{IsExplore}
 use Rattle.bipr.specs.Commands.Replay.{IsReplay}
 use Rattle.bipr.specs.Commands.Steps.{IsSteps}
 use Rattle.bipr.specs.Refusals.{IsErrorAnswer, bad_base}
 use Rattle.bipr.specs.Stops.{out_of_memory}
 use Rattle.bipr.specs.declared.answers.Answer.{Answer}
+use Rattle.bipr.specs.declared.command_line.ExploreArguments.{ExploreArguments}
 use Rattle.bipr.specs.declared.command_line.ReplayArguments.{ReplayArguments}
 use Rattle.bipr.specs.declared.command_line.StepsArguments.{StepsArguments}
 use Rattle.bipr.specs.declared.inputs.InputFault.{InputFault}
 
--- what words that are parsed may answer, where reading a path may give these texts: what they ask
--- for, or that the base is out of range
+-- what words that are parsed may tell on the way and answer, where reading a path may give these
+-- texts: what they ask for, or that the base is out of range
 pub data IsCarriedOutBy (words : ArgMatches)
-    (gives : List ℕ → Result (List ℕ) InputFault → Type 0) : Answer → Type 0 where
+    (gives : List ℕ → Result (List ℕ) InputFault → Type 0) : List (List ℕ) → Answer → Type 0 where
   check_asked : (path : List ℕ) (answer : Answer) → AsksToCheck words path
-      → IsCheck gives path answer → IsCarriedOutBy words gives answer
+      → IsCheck gives path answer → IsCarriedOutBy words gives [] answer
   asked : (arguments : ReplayArguments) (answer : Answer) → AsksToReplay words arguments
-      → IsReplay gives arguments answer → IsCarriedOutBy words gives answer
+      → IsReplay gives arguments answer → IsCarriedOutBy words gives [] answer
   steps_asked : (arguments : StepsArguments) (answer : Answer) → AsksForSteps words arguments
-      → IsSteps gives arguments answer → IsCarriedOutBy words gives answer
-  unasked : IsCarriedOutBy words gives bad_base
+      → IsSteps gives arguments answer → IsCarriedOutBy words gives [] answer
+  explore_asked : (arguments : ExploreArguments) (told : List (List ℕ)) (answer : Answer)
+      → AsksToExplore words arguments → IsExplore gives arguments told answer
+      → IsCarriedOutBy words gives told answer
+  unasked : IsCarriedOutBy words gives [] bad_base
 
--- what the program may answer, where reading a path may give these texts
-pub data IsCarriedOut (gives : List ℕ → Result (List ℕ) InputFault → Type 0) : Answer → Type 0 where
-  parsed : (words : ArgMatches) (answer : Answer) → IsCarriedOutBy words gives answer
-      → IsCarriedOut gives answer
+-- what the program may tell on the way and answer, where reading a path may give these texts
+pub data IsCarriedOut (gives : List ℕ → Result (List ℕ) InputFault → Type 0) :
+    List (List ℕ) → Answer → Type 0 where
+  parsed : (words : ArgMatches) (told : List (List ℕ)) (answer : Answer)
+      → IsCarriedOutBy words gives told answer → IsCarriedOut gives told answer
   unparsed : (error : Error) (answer : Answer) → IsErrorAnswer error answer
-      → IsCarriedOut gives answer
-  lacking : IsCarriedOut gives out_of_memory
+      → IsCarriedOut gives [] answer
+  lacking : IsCarriedOut gives [] out_of_memory

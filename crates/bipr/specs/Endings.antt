@@ -1,6 +1,7 @@
 -- How a command ends: what is written of its answer, and its status.
 use Rattle.std.specs.Prelude.{◌≡◌, ◌⊎◌, ℕ, Bool, false, true, List, Result, Ok, Err, codes}
 use Rattle.bipr.specs.Stops.{answer_of_stop, out_of_memory}
+use Rattle.bipr.specs.Streams.{Puts, PutsEach}
 use Rattle.bipr.specs.Wording.{complaint_text}
 use Rattle.bipr.specs.declared.answers.Answer.{Answer}
 use Rattle.bipr.specs.declared.answers.Status.{Status}
@@ -32,6 +33,16 @@ abbrev pub Ends : (Answer → Type 0) → (List ℕ → Bool → Type 0) → (Li
 Ends may_answer says complains status =
     (answer : Answer) × may_answer answer × IsEnd says complains answer status
 
+-- the end of a command that tells lines on its way: these were put on standard error, and then the
+-- command ended with an answer that it may have with them
+pub record EndsTelling {S : Type 0} (may_answer : List (List ℕ) → Answer → Type 0)
+    (says : List ℕ → Bool → Type 0) (writes : S → List ℕ → Bool → S → Type 0) (before after : S)
+    (status : Status) : Type 0 where
+  pub told : List (List ℕ)
+  pub middle : S
+  pub on_the_way : PutsEach writes before told middle
+  pub ends : Ends (may_answer told) says (Puts writes middle after) status
+
 -- what a command says that has an answer, or was stopped; what is complained of takes memory
 abbrev pub IsOutcome : Result Answer Stop → Answer → Type 0
 IsOutcome (Ok given) answer = answer ≡ given
@@ -40,3 +51,11 @@ IsOutcome (Err why) answer = (answer ≡ answer_of_stop why) ⊎ (answer ≡ out
 -- a fact of whatever a command says that has an answer, or was stopped
 abbrev pub AllOutcomes : Result Answer Stop → (Answer → Type 0) → Type 0
 AllOutcomes given holds = (answer : Answer) → IsOutcome given answer → holds answer
+
+-- the same, where lines were told on the way
+pub record AllOutcomesTelling {S : Type 0} (writes : S → List ℕ → Bool → S → Type 0)
+    (before after : S) (given : Result Answer Stop) (holds : List (List ℕ) → Answer → Type 0)
+    : Type 0 where
+  pub told : List (List ℕ)
+  pub on_the_way : PutsEach writes before told after
+  pub outcomes : AllOutcomes given (holds told)

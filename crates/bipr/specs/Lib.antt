@@ -3,6 +3,7 @@ pub mod CommandLine
 pub mod Commands
 pub mod Dividing
 pub mod Endings
+pub mod Explored
 pub mod Inputs
 pub mod Laws
 pub mod Refusals

@@ -87,3 +87,17 @@ losses_text report =
 
 abbrev pub report_text : Report → List ℕ
 report_text report = decisions_text report ++ losses_text report
+
+-- `seeds K runs K`
+abbrev pub seeds_text : ℕ → List ℕ
+seeds_text seeds =
+    codes "seeds " ++ (decimal seeds ++ (codes " runs " ++ (decimal seeds ++ line_feed ∷ [])))
+
+-- `seed S: not a run`
+abbrev pub seed_verdict : ℕ → List ℕ
+seed_verdict seed = codes "seed " ++ (decimal seed ++ (codes ": not a run" ++ line_feed ∷ []))
+
+-- `seeds D of K`, where so many of the seeds are done
+abbrev pub progress_text : ℕ → ℕ → List ℕ
+progress_text done seeds =
+    codes "seeds " ++ (decimal done ++ (codes " of " ++ (decimal seeds ++ line_feed ∷ [])))

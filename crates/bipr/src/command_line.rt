@@ -1,9 +1,11 @@
 //! The command line.
-ghost use Rattle.std.specs.Prelude.{IfSome};
+ghost use Rattle.std.specs.Prelude.{◌≡◌, IfSome, IsTrue, Some, codes};
+ghost use Rattle.clap.specs.Matches.{first_value, found_of};
 ghost use Rattle.bipr.specs.CommandLine.{AreStepsAsked, Asks, IsAsked, IsBaseAsked};
+ghost use Rattle.bipr.specs.CommandLine.{IsExploreAsked};
 
 use bip_model::Number;
-use clap::{Arg, ArgMatches, Command, value_parser};
+use clap::{Arg, ArgAction, ArgMatches, Command, value_parser};
 use std::alloc::{AllocError, Global};
 
 /// The greatest base: one number at least is left above it.
@@ -77,6 +79,19 @@ are steps that lead to the trace `grant x A:1`, which `bipr replay` takes. The r
 standard error has one line: events, grants, refused requests, steps that did nothing, and
 what was skipped or lost for want of memory.";
 
+const EXPLORE_ABOUT: &str = "Runs steps by chance, and checks that each trace is a run";
+
+const EXPLORE_HELP: &str = "\
+For each seed from 1 to K, N protocol steps are drawn by chance and done, from the new
+world of the model on, as `bipr steps` does those of a schedule; and the trace to which
+they lead is checked as `bipr replay` does. Of the model of `bipr --help`,
+
+    bipr explore MODEL --resolver central --seeds 3 --events 200
+
+writes `seeds 3 runs 3`: the traces of all three seeds are runs of the model. Were one
+none, the answer would be `seed S: not a run`, of the lowest such seed. A seed draws the
+same steps each time.";
+
 const CENTRAL: &str = "central";
 
 const RESOLVERS: &[&str] = &[CENTRAL];
@@ -99,13 +114,24 @@ pub struct StepsArguments<'a> {
     pub base: Number,
 }
 
-/// What a command line asks: the check of the model that a path names, a replay, or the steps of a
-/// schedule.
+/// What the command line asks: to explore the model that a path names by the seeds from 1 on, with
+/// so many events each; and whether progress is told.
+#[derive(Drop)]
+pub struct ExploreArguments<'a> {
+    pub model: &'a str,
+    pub seeds: u32,
+    pub events: u32,
+    pub is_told: bool,
+}
+
+/// What a command line asks: the check of the model that a path names, a replay, the steps of a
+/// schedule, or to explore.
 #[derive(Drop)]
 pub enum Asked<'a> {
     Check(&'a str),
     Replay(ReplayArguments<'a>),
     Steps(StepsArguments<'a>),
+    Explore(ExploreArguments<'a>),
 }
 
 /// The command line as the library reads it.
@@ -118,71 +144,96 @@ pub fn command<'a>(alloc: Global) -> Result<Command<'a>, AllocError> {
         .subcommand_required(true)
         .subcommand(check(alloc)?)?
         .subcommand(replay(alloc)?)?
-        .subcommand(steps(alloc)?)
+        .subcommand(steps(alloc)?)?
+        .subcommand(explore(alloc)?)
 }
 
 fn check<'a>(alloc: Global) -> Result<Command<'a>, AllocError> {
-    let model = Arg::new(alloc, "model")
-        .value_name("MODEL")
-        .required(true)
-        .help("the path of the model's text, or -");
     Command::new(alloc, "check")
         .about(CHECK_ABOUT)
         .after_help(CHECK_HELP)
-        .arg(model)
+        .arg(model(alloc))
 }
 
 fn replay<'a>(alloc: Global) -> Result<Command<'a>, AllocError> {
-    let model = Arg::new(alloc, "model")
-        .value_name("MODEL")
-        .required(true)
-        .help("the path of the model's text, or -");
     let trace = Arg::new(alloc, "trace")
         .value_name("TRACE")
         .required(true)
         .help("the path of the trace's text, or -");
-    let base = Arg::new(alloc, "base")
-        .long("base")
-        .value_name("N")
-        .value_parser(value_parser!(u64))
-        .default_value("0")
-        .help("the number that each component has used before the trace");
     Command::new(alloc, "replay")
         .about(REPLAY_ABOUT)
         .after_help(REPLAY_HELP)
-        .arg(model)?
+        .arg(model(alloc))?
         .arg(trace)?
-        .arg(base)
+        .arg(base(alloc).help("the number that each component has used before the trace"))
 }
 
 fn steps<'a>(alloc: Global) -> Result<Command<'a>, AllocError> {
-    let model = Arg::new(alloc, "model")
-        .value_name("MODEL")
-        .required(true)
-        .help("the path of the model's text, or -");
     let schedule = Arg::new(alloc, "schedule")
         .value_name("SCHEDULE")
         .required(true)
         .help("the path of the schedule's text, or -");
-    let resolver = Arg::new(alloc, "resolver")
+    Command::new(alloc, "steps")
+        .about(STEPS_ABOUT)
+        .after_help(STEPS_HELP)
+        .arg(model(alloc))?
+        .arg(schedule)?
+        .arg(resolver(alloc))?
+        .arg(base(alloc).help("the number that each component has used at first"))
+}
+
+fn explore<'a>(alloc: Global) -> Result<Command<'a>, AllocError> {
+    let seeds = Arg::new(alloc, "seeds")
+        .long("seeds")
+        .value_name("K")
+        .required(true)
+        .value_parser(value_parser!(u32).range(1..=1_000_000))
+        .help("how many seeds, from 1 on: 1 to 1000000");
+    let events = Arg::new(alloc, "events")
+        .long("events")
+        .value_name("N")
+        .required(true)
+        .value_parser(value_parser!(u32).range(0..=1_000_000))
+        .help("how many steps of each seed: 0 to 1000000");
+    let progress = Arg::new(alloc, "progress")
+        .long("progress")
+        .action(ArgAction::SetTrue)
+        .help("write `seeds D of K` on standard error with each hundredth that is done");
+    Command::new(alloc, "explore")
+        .about(EXPLORE_ABOUT)
+        .after_help(EXPLORE_HELP)
+        .arg(model(alloc))?
+        .arg(resolver(alloc))?
+        .arg(seeds)?
+        .arg(events)?
+        .arg(progress)
+}
+
+// The argument that all commands have.
+fn model<'a>(alloc: Global) -> Arg<'a> {
+    Arg::new(alloc, "model")
+        .value_name("MODEL")
+        .required(true)
+        .help("the path of the model's text, or -")
+}
+
+// The option that names who grants.
+fn resolver<'a>(alloc: Global) -> Arg<'a> {
+    Arg::new(alloc, "resolver")
         .long("resolver")
         .value_name("R")
         .required(true)
         .value_parser(RESOLVERS)
-        .help("who grants reserved interactions: one bank with one table");
-    let base = Arg::new(alloc, "base")
+        .help("who grants reserved interactions: one bank with one table")
+}
+
+// The option of a base.
+fn base<'a>(alloc: Global) -> Arg<'a> {
+    Arg::new(alloc, "base")
         .long("base")
         .value_name("N")
         .value_parser(value_parser!(u64))
         .default_value("0")
-        .help("the number that each component has used at first");
-    Command::new(alloc, "steps")
-        .about(STEPS_ABOUT)
-        .after_help(STEPS_HELP)
-        .arg(model)?
-        .arg(schedule)?
-        .arg(resolver)?
-        .arg(base)
 }
 
 /// What a command line asks; none where it asks for nothing, or its base is out of range
@@ -195,6 +246,9 @@ pub fn read_arguments<'a>(matches: &ArgMatches<'a>) -> Option<Asked<'a>>
     }
     if let Some(steps) = matches.subcommand_matches("steps") {
         return Some(Asked::Steps(read_steps(steps)?));
+    }
+    if let Some(explore) = matches.subcommand_matches("explore") {
+        return Some(Asked::Explore(read_explore(explore)?));
     }
     let replay = read_replay(matches.subcommand_matches("replay")?)?;
     Some(Asked::Replay(replay))
@@ -217,7 +271,7 @@ fn read_steps<'a>(matches: &ArgMatches<'a>) -> Option<StepsArguments<'a>>
     ensures { IfSome result (AreStepsAsked matches.now) }
 {
     let base = read_base(matches)?;
-    if matches.get_str("resolver")? != CENTRAL {
+    if !is_central(matches) {
         return None;
     }
     Some(StepsArguments {
@@ -225,6 +279,32 @@ fn read_steps<'a>(matches: &ArgMatches<'a>) -> Option<StepsArguments<'a>>
         schedule: matches.get_str("schedule")?,
         base,
     })
+}
+
+// What the words behind `explore` ask.
+fn read_explore<'a>(matches: &ArgMatches<'a>) -> Option<ExploreArguments<'a>>
+    ensures { IfSome result (IsExploreAsked matches.now) }
+{
+    if !is_central(matches) {
+        return None;
+    }
+    Some(ExploreArguments {
+        model: matches.get_str("model")?,
+        seeds: matches.get_one("seeds")?,
+        events: matches.get_one("events")?,
+        is_told: matches.get_flag("progress"),
+    })
+}
+
+// Whether the resolver that is named is the central bank.
+fn is_central(matches: &ArgMatches<'_>) -> bool
+    ensures { IsTrue result
+        → first_value (found_of matches.now) (codes "resolver") ≡ Some (codes "central") }
+{
+    match matches.get_str("resolver") {
+        Some(resolver) => resolver == CENTRAL,
+        None => false,
+    }
 }
 
 // The base; none where it is out of range.

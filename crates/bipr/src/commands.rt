@@ -1,12 +1,13 @@
 //! The commands, and what they have in common.
 ghost use Rattle.std.specs.Prelude.{◌≡◌, Ok, Err, IfErr, IfOk};
 ghost use Rattle.bipr.specs.Commands.{IsCarriedOut, IsCarriedOutBy};
-ghost use Rattle.bipr.specs.Endings.{Ends};
+ghost use Rattle.bipr.specs.Endings.{EndsTelling};
 ghost use Rattle.bipr.specs.Stops.{answer_of_stop, unread};
 ghost use Rattle.bipr.specs.Streams.{Puts};
 ghost use Rattle.bipr.specs.declared.inputs.InputFault.{InputFault};
 
 pub mod check;
+pub mod explore;
 pub mod replay;
 pub mod steps;
 
@@ -20,6 +21,7 @@ use crate::streams::Stream;
 use bip_model::Seq;
 use check::check;
 use clap::ArgMatches;
+use explore::explore;
 use replay::replay;
 use std::alloc::Global;
 use steps::steps;
@@ -33,8 +35,8 @@ pub fn carry_out<'a, I: Inputs, O: Stream, E: Stream>(
     output: &mut O,
     errors: &mut E,
 ) -> Status
-    ensures { Ends (IsCarriedOut (I.gives inputs.now)) (Puts O.writes output.old output.new)
-        (Puts E.writes errors.old errors.new) result }
+    ensures { EndsTelling (IsCarriedOut (I.gives inputs.now)) (Puts O.writes output.old output.new)
+        E.writes errors.old errors.new result }
 {
     let Ok(command) = command(alloc) else {
         return complain(output, errors, Status::NoMemory, NO_MEMORY);
@@ -53,13 +55,14 @@ fn carry_out_matches<I: Inputs, O: Stream, E: Stream>(
     output: &mut O,
     errors: &mut E,
 ) -> Status
-    ensures { Ends (IsCarriedOutBy matches.now (I.gives inputs.now))
-        (Puts O.writes output.old output.new) (Puts E.writes errors.old errors.new) result }
+    ensures { EndsTelling (IsCarriedOutBy matches.now (I.gives inputs.now))
+        (Puts O.writes output.old output.new) E.writes errors.old errors.new result }
 {
     match read_arguments(matches) {
         Some(Asked::Check(path)) => check(alloc, inputs, path, output, errors),
         Some(Asked::Replay(asked)) => replay(alloc, inputs, &asked, output, errors),
         Some(Asked::Steps(asked)) => steps(alloc, inputs, &asked, output, errors),
+        Some(Asked::Explore(asked)) => explore(alloc, inputs, &asked, output, errors),
         None => refuse_base(output, errors),
     }
 }

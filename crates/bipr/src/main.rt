@@ -6,6 +6,7 @@ mod command_line;
 mod commands;
 mod dividing;
 mod endings;
+mod explored;
 mod inputs;
 mod laws;
 mod refusals;

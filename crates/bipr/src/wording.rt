@@ -4,7 +4,8 @@ ghost use Rattle.bip_model.specs.Texts.{lines, words};
 ghost use Rattle.bip_model.specs.Naming.{name_in};
 ghost use Rattle.bipr.specs.Wording.{counts_text, interaction_on, model_refusal, plan_refusal};
 ghost use Rattle.bipr.specs.Wording.{decisions_text, losses_text, report_text, run_text};
-ghost use Rattle.bipr.specs.Wording.{schedule_refusal, step_text};
+ghost use Rattle.bipr.specs.Wording.{progress_text, schedule_refusal, seed_verdict, seeds_text};
+ghost use Rattle.bipr.specs.Wording.{step_text};
 ghost use Rattle.bipr.specs.Wording.{trace_refusal, verdict_text};
 
 use bip_core::Report;
@@ -111,6 +112,27 @@ fn losses_text(alloc: Global, report: &Report) -> Result<String, AllocError>
         ..
     } = *report;
     format!(in alloc; " idle {idle} skipped {skipped} lost {lost}\n")
+}
+
+/// `seeds K runs K`.
+pub fn seeds_text(alloc: Global, seeds: u32) -> Result<Vec<u8>, AllocError>
+    ensures { IfOk result (λ text. text.items ≡ seeds_text seeds) }
+{
+    Ok(format!(in alloc; "seeds {seeds} runs {seeds}\n")?.into_bytes())
+}
+
+/// `seed S: not a run`.
+pub fn seed_verdict(alloc: Global, seed: u32) -> Result<Vec<u8>, AllocError>
+    ensures { IfOk result (λ text. text.items ≡ seed_verdict seed) }
+{
+    Ok(format!(in alloc; "seed {seed}: not a run\n")?.into_bytes())
+}
+
+/// `seeds D of K`, where so many of the seeds are done.
+pub fn progress_text(alloc: Global, done: u32, seeds: u32) -> Result<Vec<u8>, AllocError>
+    ensures { IfOk result (λ text. text.items ≡ progress_text done seeds) }
+{
+    Ok(format!(in alloc; "seeds {done} of {seeds}\n")?.into_bytes())
 }
 
 /// The verdict on a trace whose line with this number has a grant that can't be next.

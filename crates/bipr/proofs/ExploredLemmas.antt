@@ -1,0 +1,58 @@
+-- What is told on the way while seeds are explored, and the answers.
+use Rattle.std.proofs.Common.{◌≡◌, ◌∙◌, ◌+◌, ◌++◌, ◌∷◌, ◌≤◌, add-one, ap, ℕ, true, false, List, [], Result, Ok, Err, refl, subst, sym}
+use Rattle.std.specs.Prelude.{IsErr, MatchResult}
+use Rattle.std.specs.declared.alloc.AllocError.{AllocError}
+use Rattle.bip_partition.specs.Plans.{Planned}
+use Rattle.bip_replay.specs.declared.faults.StepFault.{StepFault}
+use Rattle.bip_schedule.specs.Exploring.{AreExplored, IsSeedFault}
+use Rattle.bip_schedule.specs.declared.exploring.ExploreFault.TheVariants as explore_fault
+use Rattle.bipr.specs.Answers.{saying}
+use Rattle.bipr.specs.Commands.Explore.{IsExplore, of_no_text}
+use Rattle.bipr.specs.Explored.{IsCentralFlight, IsExploreAnswer, ends_hundredth, explored, no_run, told_at, told_until}
+use Rattle.bipr.specs.Stops.{answer_of_stop, unread}
+use Rattle.bipr.specs.Wording.{progress_text, seed_verdict, seeds_text}
+use Rattle.bipr.specs.declared.answers.Answer.{Answer}
+use Rattle.bipr.specs.declared.answers.Status.TheVariants.{Done, NotARun}
+use Rattle.bipr.specs.declared.command_line.ExploreArguments.{ExploreArguments}
+use Rattle.bipr.specs.declared.inputs.InputFault.{InputFault}
+use Rattle.bipr.specs.declared.stops.Stop.{Stop}
+
+-- what is told with a seed
+pub told_here : (asked : ExploreArguments) (seed : ℕ) → asked.is_told ≡ true → true ≡ ends_hundredth asked.seeds seed → progress_text seed asked.seeds ∷ [] ≡ told_at asked seed
+told_here asked seed told ends = rw (told, ← ends) refl
+
+pub untold : (asked : ExploreArguments) (seed : ℕ) → asked.is_told ≡ false → [] ≡ told_at asked seed
+untold asked seed told = rw told refl
+
+pub untold_yet : (asked : ExploreArguments) (seed : ℕ) → asked.is_told ≡ true → false ≡ ends_hundredth asked.seeds seed → [] ≡ told_at asked seed
+untold_yet asked seed told ends = rw (told, ← ends) refl
+
+pub told_more : (asked : ExploreArguments) (done : ℕ) → told_until asked done ++ told_at asked (done + 1) ≡ told_until asked (done + 1)
+told_more asked done = rw (add-one done) refl
+
+-- want of memory ends with an error
+pub told_lacking : (result : Result Answer AllocError) (P : Answer → Type 0) (Q : Type 0) → IsErr result → Q → MatchResult result P (λ (e : AllocError). Q)
+told_lacking (Ok answer) P Q is held = cc
+told_lacking (Err e) P Q is held = held
+
+-- a trace that is no run is told
+pub no_run_said : (p : Planned) (asked : ExploreArguments) (done grants seed : ℕ) (fault : StepFault) (answer : Answer) (text : List ℕ)
+    → done + 1 ≤ asked.seeds → AreExplored IsCentralFlight p 0 asked.events done grants
+    → IsSeedFault IsCentralFlight p 0 asked.events (done + 1) (explore_fault.NotARun seed fault)
+    → answer ≡ saying NotARun text → text ≡ seed_verdict seed → IsExploreAnswer p asked (told_until asked done) answer
+no_run_said p asked done grants seed fault answer text few so why said spelled =
+    subst (IsExploreAnswer p asked (told_until asked done)) (sym (said ∙ ap (saying NotARun) (spelled ∙ ap seed_verdict why.0)))
+    (no_run done grants fault few so (subst (λ (s : ℕ). IsSeedFault IsCentralFlight p 0 asked.events (done + 1) (explore_fault.NotARun s fault)) why.0 why))
+
+-- that all are runs is said
+pub explored_said : (p : Planned) (asked : ExploreArguments) (grants : ℕ) (answer : Answer) (text : List ℕ)
+    → AreExplored IsCentralFlight p 0 asked.events asked.seeds grants
+    → answer ≡ saying Done text → text ≡ seeds_text asked.seeds → IsExploreAnswer p asked (told_until asked asked.seeds) answer
+explored_said p asked grants answer text so said spelled =
+    subst (IsExploreAnswer p asked (told_until asked asked.seeds)) (sym (said ∙ ap (saying Done) spelled)) (explored grants so)
+
+-- what is said where the text isn't read
+pub stopped_at_explored : (gives : List ℕ → Result (List ℕ) InputFault → Type 0) (asked : ExploreArguments) (why : Stop)
+    → (fault : InputFault) × gives asked.model.now (Err fault) × (answer_of_stop why ≡ unread asked.model.now fault)
+    → IsExplore gives asked [] (answer_of_stop why)
+stopped_at_explored gives asked why (fault, given, same) = subst (IsExplore gives asked []) (sym same) (of_no_text fault given)

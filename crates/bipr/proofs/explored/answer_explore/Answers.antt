@@ -1,0 +1,63 @@
+use Rattle.std.proofs.Common.{◌≡◌, ◌+◌, ◌≤◌, ℕ, List, arith, rules, subst}
+use Rattle.bip_schedule.specs.Exploring.{AreExplored, none_explored, one_explored}
+use Rattle.bipr.specs.Explored.{IsCentralFlight, ends_without_memory, told_until}
+use Rattle.bipr.specs.Streams.{PutsEach, none_put}
+use Rattle.bipr.proofs.ExploredLemmas.{explored_said, no_run_said, told_lacking, told_more}
+use Rattle.bipr.proofs.StreamLemmas.{puts_each_append}
+use Rattle.bipr.proofs.explored.answer_explore.Goals as goal
+
+pub loop-done-init : goal.loop-done-init
+loop-done-init g c = (0, none_explored, none_put)
+
+pub loop-done-preserved : goal.loop-done-preserved
+loop-done-preserved g c =
+    let writes = g.E.Stream.writes in
+    let so = c.loop-done.invariant in (
+      so.0 + c.in-Ok.field-0,
+      one_explored c.loop-done.done so.0 c.in-Ok.field-0 so.1 c.in-Ok.ensures.run,
+      subst (λ (texts : List (List ℕ)). PutsEach writes c.args.errors.now texts c.tell.new.errors) (told_more c.args.asked.now c.loop-done.done)
+          (puts_each_append writes c.args.errors.now c.loop-done.errors c.tell.new.errors _ _ so.2 c.in_ok-tell.ensures.ok),
+    )
+
+pub returns-in_err-seed_verdict-in-Err-NotARun : goal.returns-in_err-seed_verdict-in-Err-NotARun
+returns-in_err-seed_verdict-in-Err-NotARun g c =
+    let so = c.loop-done.invariant in
+    let few : c.loop-done.done ≤ c.args.asked.now.seeds = omega arith in
+    (_, so.2, told_lacking c.from_residual.result _ _ (search rules) (ends_without_memory c.loop-done.done so.0 few so.1))
+
+pub returns-in-Err-NotARun : goal.returns-in-Err-NotARun
+returns-in-Err-NotARun g c =
+    let so = c.loop-done.invariant in
+    let few : c.loop-done.done + 1 ≤ c.args.asked.now.seeds = omega (arith, c.loop-done-test.true) in
+    (_, so.2, no_run_said c.args.plan.now c.args.asked.now c.loop-done.done so.0 c.in-Err-NotARun.seed c.in-Err-NotARun.field-0-1 _ _ few so.1 (rw c.in-Err-NotARun.field-0-is at c.in-Err-NotARun.ensures.fault) c.said.ensures (let spelled = c.in_ok-seed_verdict-in-Err-NotARun.ensures in let seed = c.in-Err-NotARun.seed-is in cc))
+
+pub returns-in-Err-Memory : goal.returns-in-Err-Memory
+returns-in-Err-Memory g c =
+    let so = c.loop-done.invariant in
+    let few : c.loop-done.done ≤ c.args.asked.now.seeds = omega arith in
+    (_, so.2, ends_without_memory c.loop-done.done so.0 few so.1)
+
+pub returns-in_err-tell : goal.returns-in_err-tell
+returns-in_err-tell g c =
+    let so = c.loop-done.invariant in
+    let few : c.loop-done.done ≤ c.args.asked.now.seeds = omega arith in (
+      _,
+      rw c.in_err-tell.ensures.err so.2,
+      told_lacking c.from_residual-in_err-tell.result _ _ (search rules) (ends_without_memory c.loop-done.done so.0 few so.1),
+    )
+
+pub returns-in_err-seeds_text : goal.returns-in_err-seeds_text
+returns-in_err-seeds_text g c =
+    let so = c.loop-done.invariant in
+    let few : c.loop-done.done ≤ c.args.asked.now.seeds = omega arith in
+    (_, so.2, told_lacking c.from_residual-in_err-seeds_text.result _ _ (search rules) (ends_without_memory c.loop-done.done so.0 few so.1))
+
+pub returns : goal.returns
+returns g c =
+    let writes = g.E.Stream.writes in
+    let so = c.loop-done.invariant in
+    let all : c.loop-done.done ≡ c.args.asked.now.seeds = omega (arith, c.loop-done-test.false) in (
+      told_until c.args.asked.now c.args.asked.now.seeds,
+      subst (λ (n : ℕ). PutsEach writes c.args.errors.now (told_until c.args.asked.now n) c.loop-done.errors) all so.2,
+      explored_said c.args.plan.now c.args.asked.now so.0 c.said-2.result _ (subst (λ (n : ℕ). AreExplored IsCentralFlight c.args.plan.now 0 c.args.asked.now.events n so.0) all so.1) c.said-2.ensures c.in_ok-seeds_text.ensures,
+    )

@@ -1,0 +1,49 @@
+//! The command `explore`.
+ghost use Rattle.bipr.specs.Commands.Explore.{IsExplore};
+ghost use Rattle.bipr.specs.Endings.{AllOutcomesTelling, EndsTelling};
+ghost use Rattle.bipr.specs.Streams.{Puts};
+
+use crate::answers::{Answer, PlanOrRefusal, Status, plan_text};
+use crate::command_line::ExploreArguments;
+use crate::commands::read_input;
+use crate::endings::end;
+use crate::explored::answer_explore;
+use crate::inputs::Inputs;
+use crate::stops::Stop;
+use crate::streams::Stream;
+use std::alloc::Global;
+
+/// Explores the plan of the model that the path names by so many seeds, with the central bank:
+/// tells progress on standard error where that is asked for, writes the answer, and says with which
+/// status the command ends (docs/DEFINITIONS.md, "The exploring that is asked for").
+pub fn explore<I: Inputs, O: Stream, E: Stream>(
+    alloc: Global,
+    inputs: &I,
+    asked: &ExploreArguments<'_>,
+    output: &mut O,
+    errors: &mut E,
+) -> Status
+    ensures { EndsTelling (IsExplore (I.gives inputs.now) asked.now)
+        (Puts O.writes output.old output.new) E.writes errors.old errors.new result }
+{
+    let answer = answer_asked(alloc, inputs, asked, errors);
+    end(alloc, output, errors, answer)
+}
+
+// The answer to what is asked, with what is told on the way.
+fn answer_asked<'a, I: Inputs, E: Stream>(
+    alloc: Global,
+    inputs: &I,
+    asked: &ExploreArguments<'a>,
+    errors: &mut E,
+) -> Result<Answer, Stop<'a>>
+    ensures { AllOutcomesTelling E.writes errors.old errors.new result
+        (IsExplore (I.gives inputs.now) asked.now) }
+{
+    let text = read_input(alloc, inputs, asked.model)?;
+    let given = plan_text(alloc, text.as_slice())?;
+    match given {
+        PlanOrRefusal::Plan(plan) => Ok(answer_explore(alloc, &plan, asked, errors)?),
+        PlanOrRefusal::Refusal(answer) => Ok(answer),
+    }
+}
