@@ -2,8 +2,13 @@
 //! same. `record MODEL SEED COUNT` draws a schedule of so many events, and prints it: half of them
 //! hand on one of the messages in flight, the others try an interaction or serve a station.
 //! `record-busy` leaves those out that do nothing.
+//!
+//! `explore MODEL SEEDS EVENTS` answers what `bipr explore` does. `seeds MODEL SEEDS EVENTS` prints
+//! the report of each seed.
 
 mod model;
+mod run;
+mod seeds;
 mod world;
 
 use model::Model;
@@ -28,6 +33,7 @@ fn write_event(schedule: &mut String, event: Event) {
         Event::Mail(place) => ('m', 0, place as u16),
         Event::Try(class, inter) => ('t', class, inter),
         Event::Serve(station) => ('s', 0, station),
+        Event::Other => unreachable!("none is drawn here"),
     };
     schedule.push(kind);
     schedule.extend([class, number % 64, number / 64].map(|it| (b'0' + it as u8) as char));
@@ -82,6 +88,12 @@ fn sum_of(world: &World<'_>) -> u64 {
     sum
 }
 
+fn tell(report: &Report) {
+    let Report { events, grants, refusals, idle, skipped, lost } = report;
+    print!("events {events} grants {grants} refusals {refusals} idle {idle} ");
+    println!("skipped {skipped} lost {lost}");
+}
+
 fn time(model: &Model, events: &[Event], rounds: u32) {
     let mut last = None;
     for _ in 0..rounds {
@@ -90,10 +102,22 @@ fn time(model: &Model, events: &[Event], rounds: u32) {
         last = Some((report, world.mails(), sum_of(&world)));
     }
     let (did, mails, sum) = last.expect("a round");
-    let Report { events, grants, refusals, idle, skipped, lost } = did;
-    print!("events {events} grants {grants} refusals {refusals} idle {idle} ");
-    println!("skipped {skipped} lost {lost}");
+    tell(&did);
     println!("in flight {mails} sum {sum}");
+}
+
+fn explore(model: &Model, seeds: u32, events: u32, is_told: bool) {
+    for seed in 1..=seeds {
+        let (world, report) = seeds::run(model, u64::from(seed), events);
+        if is_told {
+            tell(&report);
+        }
+        if !run::is_run(model, &world.trace) {
+            println!("seed {seed}: not a run");
+            return;
+        }
+    }
+    println!("seeds {seeds} runs {seeds}");
 }
 
 fn main() {
@@ -104,6 +128,11 @@ fn main() {
             let count = count.parse().expect("a count");
             let (schedule, mails) = record(&Model::read(model), seed, count, verb == "record-busy");
             println!("{schedule} {mails:.1}");
+        }
+        [verb @ ("explore" | "seeds"), model, seeds, events] => {
+            let seeds = seeds.parse().expect("a count");
+            let events = events.parse().expect("a count");
+            explore(&Model::read(model), seeds, events, verb == "seeds");
         }
         [model, schedule, rounds] => {
             let events: Vec<Event> = schedule.as_bytes().chunks(4).map(event).collect();

@@ -64,6 +64,8 @@ pub enum Event {
     Mail(usize),
     Try(u16, u16),
     Serve(u16),
+    /// A step of another bank than the central one.
+    Other,
 }
 
 #[derive(Clone, Copy, Default)]
@@ -403,6 +405,7 @@ impl<'m> World<'m> {
             Event::Mail(place) => self.deliver(place),
             Event::Try(class, inter) => self.try_one(class, inter, report),
             Event::Serve(station) => self.serve(station, report),
+            Event::Other => None,
         };
         report.idle += u64::from(did.is_none());
     }
