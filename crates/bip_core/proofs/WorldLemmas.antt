@@ -5,7 +5,7 @@ use Rattle.std.specs.Option.{option_map}
 use Rattle.std.proofs.Math.Path.{fun_ext}
 use Rattle.std.proofs.lemmas.Bool.{cases_lt}
 use Rattle.std.proofs.lemmas.Bool.Decides.{eqb_tells}
-use Rattle.std.proofs.lemmas.List.{get_or-set_other, get_or-set_same, get_or_default, length-set, length-take-le}
+use Rattle.std.proofs.lemmas.List.{get_or-set_other, get_or-set_same, get_or_default, length-set, set-get_or, length-take-le}
 use Rattle.std.proofs.lemmas.List.Elements.{All-append, All-drop, All-head, All-push, All-tail, All-take}
 use Rattle.std.proofs.lemmas.Option.{get_or_from_slice_get, slice_get-get_or, slice_get_past, slice_get_within}
 use Rattle.bip_model.specs.Numbering.{put}
@@ -34,11 +34,13 @@ use Rattle.bip_observe.specs.declared.offers.Receipt.TheVariants.{Held, Old, Str
 use Rattle.bip_component.specs.Components.{IsNodeAfter, Node}
 use Rattle.bip_component.specs.declared.components.Notified.{Notified}
 use Rattle.bip_component.specs.declared.components.Notified.TheVariants as notified
-use Rattle.bip_ip.specs.Nodes.{ClassNode, IsAnswered, IsLeftByReply, IsTried, KeptNode, after_offer, after_try, node_of}
+use Rattle.bip_ip.specs.Nodes.{ClassNode, IsAnswered, IsLeftByReply, IsTried, KeptNode, after_offer, after_try, node_of, tried_of}
 use Rattle.bip_ip.specs.declared.nodes.Answered.{Answered}
 use Rattle.bip_ip.specs.declared.nodes.Answered.TheVariants as answered
 use Rattle.bip_ip.specs.declared.nodes.Tried.{Tried}
 use Rattle.bip_ip.specs.declared.nodes.Tried.TheVariants as tried
+use Rattle.bip_ip.specs.declared.nodes.WhyNot.{WhyNot}
+use Rattle.bip_ip.specs.declared.nodes.WhyNot.TheVariants as why_not
 use Rattle.bip_bank.specs.Banks.{BankContent, IsActed, KeptBank, content_of, with_request}
 use Rattle.bip_core.specs.Worlds.{FitsIfRequest, IsKnownGrant, IsKeptWorld, KeptWorld, WorldContent, with_class_node, with_component_node, world_of}
 use Rattle.bip_model.specs.declared.numbering.ClassId.{ClassId}
@@ -293,6 +295,17 @@ tried_without w k a did old n is tries left none =
     let whole = tried_on w k a did old n is tries left in
     subst (λ (given : Option Grant). IsTraced (world_of w) (Try k a) (Tries did) (world_of (record w { classes = set w.classes k.0 n; trace = trace_with w.trace given }))) none whole
 
+-- a list with an element where that stands
+set_there : (xs : List KeptNode) (n : ℕ) (x : KeptNode) → slice_get xs n ≡ Some x → set xs n x ≡ xs
+set_there xs n x is = subst (λ (y : KeptNode). set xs n y ≡ xs) (get_or_from_slice_get xs n x x is) (set-get_or xs n x)
+
+-- a try that asks for nothing leaves the world as it was
+tried_idly : (w : KeptWorld) (k : ClassId) (a : InterId) (did : Tried) (old : KeptNode) → slice_get w.classes k.0 ≡ Some old → IsTried (node_of old) a.0 did → node_of old ≡ after_try a.0 did (node_of old) → grant_tried did ≡ None
+    → IsTraced (world_of w) (Try k a) (Tries did) (world_of w)
+tried_idly w k a did old is tries left none =
+    subst (λ (nodes : List KeptNode). IsTraced (world_of w) (Try k a) (Tries did) (world_of (record w { classes = nodes }))) (set_there w.classes k.0 old is)
+    (tried_without w k a did old old is tries left none)
+
 -- a step of the bank, with the grant that it gives
 pub acted_on : (w : KeptWorld) (b : KeptBank) (step : BankStep) (did : Acted) (given : Option Grant) → IsActed did (content_of w.bank) (content_of b) → grant_acted did ≡ given
     → IsTraced (world_of w) (Bank step) (Acts did) (world_of (record w { bank = b; trace = trace_with w.trace given }))
@@ -453,6 +466,13 @@ counted_by saw w event what outcome middle v seen traced sending others = record
 -- an event that does nothing, or hands a request on, sends nothing
 pub counted_quiet : (saw : What → Type 0) (w : WorldContent) (event : Event) (what : What) (outcome : Outcome) (v : WorldContent) → saw what → IsTraced w event what v → AreSent w.plan what [] → outcome ≡ record { kind = kind_of what; lost = 0 } → IsCounted saw w event outcome v
 counted_quiet saw w event what outcome v seen traced sends is = counted_by saw w event what outcome v v seen traced (sends_nothing w.plan what outcome v.mail sends is) refl
+
+-- a try that asks for nothing
+pub counted_idly : (saw : What → Type 0) (w : KeptWorld) (k : ClassId) (a : InterId) (why : WhyNot) (old : KeptNode) (outcome : Outcome) → saw (Tries (tried_of why)) → slice_get w.classes k.0 ≡ Some old → IsTried (node_of old) a.0 (tried_of why) → outcome ≡ record { kind = kind.Idle; lost = 0 }
+    → IsCounted saw (world_of w) (Try k a) outcome (world_of w)
+counted_idly saw w k a why_not.Foreign old outcome seen is tries idle = counted_quiet saw (world_of w) (Try k a) (Tries tried.Foreign) outcome (world_of w) seen (tried_idly w k a tried.Foreign old is tries refl refl) refl idle
+counted_idly saw w k a (why_not.Pending b) old outcome seen is tries idle = counted_quiet saw (world_of w) (Try k a) (Tries (tried.Pending b)) outcome (world_of w) seen (tried_idly w k a (tried.Pending b) old is tries refl refl) refl idle
+counted_idly saw w k a (why_not.Not verdict) old outcome seen is tries idle = counted_quiet saw (world_of w) (Try k a) (Tries (tried.Not verdict)) outcome (world_of w) seen (tried_idly w k a (tried.Not verdict) old is tries refl refl) refl idle
 
 -- a message that was taken out and taken in
 pub taken_counted : (saw : What → Type 0) (w u k : KeptWorld) (place : ℕ) (message : Message) (outcome : Outcome) (v : WorldContent) → world_of u ≡ world_of w → TakesOut place message u.mail k.mail → k ≡ record u { mail = k.mail } → IsTakenIn saw (world_of k) message outcome v

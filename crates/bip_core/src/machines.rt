@@ -170,7 +170,7 @@ impl<'p, B: bip_bank::Bank> Machine<'p, B> {
     }
 
     /// Lets a class try an interaction; a local grant joins the trace, for which room is made
-    /// first.
+    /// first. Most tries ask for nothing, and cost no more than to see that.
     fn try_one<W: Witness>(
         &mut self,
         class: ClassId,
@@ -186,8 +186,12 @@ impl<'p, B: bip_bank::Bank> Machine<'p, B> {
             witness.see(What::Nothing);
             return Ok(Outcome::of(Kind::Idle));
         }
+        if let Some(why) = self.classes[class.0 as usize].why_not(inter) {
+            witness.see_why_not(why);
+            return Ok(Outcome::of(Kind::Idle));
+        }
         make_room(self.plan, &mut self.trace, inter)?;
-        let did = self.classes[class.0 as usize].try_interaction(inter);
+        let did = self.classes[class.0 as usize].ask(inter);
         join_tried(&mut self.trace, &did);
         let outcome = send_tried(self.plan, &mut self.mail, &did);
         witness.see(What::Tries(did));

@@ -3,6 +3,7 @@ ghost use Rattle.std.specs.Prelude.{◌≡◌};
 ghost use Rattle.bip_core.specs.declared.outcomes.Outcome.{Outcome};
 
 use crate::What;
+use bip_ip::{Tried, WhyNot};
 
 /// What kind of event it was, for the report of a run.
 #[derive(Clone, Copy)]
@@ -35,6 +36,8 @@ impl Outcome {
 
 /// Who looks on while an event is done, and sees what it did.
 pub(crate) trait Witness {
+    ghost use Rattle.bip_ip.specs.Nodes.{tried_of};
+    ghost use Rattle.bip_core.specs.declared.events.What.TheVariants.{Tries};
     ghost use Rattle.bip_core.specs.declared.events.What.{What};
 
     /// That this is what it saw last, so far as it remembers.
@@ -42,6 +45,10 @@ pub(crate) trait Witness {
 
     fn see(&mut self, what: What)
         ensures { saw what self.new };
+
+    /// Sees a try that asks for nothing.
+    fn see_why_not(&mut self, why: WhyNot)
+        ensures { saw (Tries (tried_of why)) self.new };
 }
 
 impl Witness for What {
@@ -49,6 +56,10 @@ impl Witness for What {
 
     fn see(&mut self, what: What) {
         *self = what;
+    }
+
+    fn see_why_not(&mut self, why: WhyNot) {
+        *self = What::Tries(Tried::from(why));
     }
 }
 
@@ -63,4 +74,6 @@ impl Witness for NoOne {
 
     #[inline(always)]
     fn see(&mut self, _what: What) {}
+
+    fn see_why_not(&mut self, _why: WhyNot) {}
 }

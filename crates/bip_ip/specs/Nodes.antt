@@ -22,6 +22,8 @@ use Rattle.bip_observe.specs.declared.verdicts.Verdict.TheVariants.{Ready}
 use Rattle.bip_ip.specs.Asking.{told_by}
 use Rattle.bip_ip.specs.declared.nodes.OpenRecord.{OpenRecord}
 use Rattle.bip_ip.specs.declared.nodes.Tried.{Tried}
+use Rattle.bip_ip.specs.declared.nodes.WhyNot.{WhyNot}
+use Rattle.bip_ip.specs.declared.nodes.WhyNot.TheVariants as why_not
 use Rattle.bip_ip.specs.declared.nodes.Tried.TheVariants.{Foreign, Pending, Not, Local, Ended, Sent}
 use Rattle.bip_ip.specs.declared.nodes.Answered.{Answered}
 use Rattle.bip_ip.specs.declared.nodes.Answered.TheVariants.{Told, Dropped, Stale}
@@ -101,6 +103,12 @@ IsTried v a (Local g notifies) =
 IsTried v a Ended = CanBeAsked v a × IsReserved v.offers.plan a × (last_number < v.next)
 IsTried v a (Sent q) =
     CanBeAsked v a × IsReserved v.offers.plan a × (v.next ≤ last_number) × IsNextRequest v a q
+
+-- a try that asks for nothing, by why
+abbrev pub tried_of : WhyNot → Tried
+tried_of why_not.Foreign = Foreign
+tried_of (why_not.Pending b) = Pending b
+tried_of (why_not.Not verdict) = Not verdict
 
 -- with the numbers known as used that wants move their components with
 abbrev pub with_learned : List Want → Observed → Observed

@@ -7,4 +7,4 @@ mod nodes;
 mod sets;
 
 pub use laws::{node_laws, notify_laws};
-pub use nodes::{Answered, IpNode, OpenRecord, Tried};
+pub use nodes::{Answered, IpNode, OpenRecord, Tried, WhyNot};

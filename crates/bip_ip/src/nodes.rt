@@ -12,8 +12,8 @@ ghost use Rattle.bip_partition.specs.Plans.{ClassTouches, InConflict};
 ghost use Rattle.bip_observe.specs.Offers.{IsReceipt, observed};
 ghost use Rattle.bip_ip.specs.Nodes.{Awaits, CanBeAsked, IsAnswered, IsItsRecord, IsLeftByReply};
 ghost use Rattle.bip_ip.specs.Nodes.{IsOwn, IsReplyTo, IsTried, StandsInTheWay, after_offer};
-ghost use Rattle.bip_ip.specs.Nodes.{after_try, first_node, inter_in, node_of, with_learned};
-ghost use Rattle.bip_ip.specs.Nodes.{without};
+ghost use Rattle.bip_ip.specs.Nodes.{after_try, first_node, inter_in, node_of, tried_of};
+ghost use Rattle.bip_ip.specs.Nodes.{with_learned, without};
 ghost use Rattle.bip_ip.specs.declared.nodes.OpenRecord.{OpenRecord};
 
 use crate::asking::{told_by, wants_by};
@@ -46,6 +46,31 @@ pub enum Tried {
     Ended,
     /// The interaction is asked for.
     Sent(Request),
+}
+
+/// Why a try of an interaction asks for nothing, and changes nothing.
+#[derive(Clone, Copy, Debug, PartialEq, Eq)]
+pub enum WhyNot {
+    /// The interaction isn't of the node's class.
+    Foreign,
+    /// The request for this interaction is open: it is the tried one, or in conflict with it.
+    Pending(InterId),
+    /// By the offers that the node holds the interaction isn't ready.
+    Not(Verdict),
+}
+
+impl From<WhyNot> for Tried {
+    ghost use Rattle.bip_ip.specs.Nodes.{tried_of};
+
+    ghost from_gives = { λ why did. did ≡ tried_of why };
+
+    fn from(why: WhyNot) -> Tried {
+        match why {
+            WhyNot::Foreign => Tried::Foreign,
+            WhyNot::Pending(other) => Tried::Pending(other),
+            WhyNot::Not(verdict) => Tried::Not(verdict),
+        }
+    }
 }
 
 /// What a node answers to a reply.
@@ -127,17 +152,62 @@ impl<'p> IpNode<'p> {
         ensures tried { IsTried (node_of self.old) inter.0 result }
         ensures left { node_of self.new ≡ after_try inter.0 result (node_of self.old) }
     {
+        match self.why_not(inter) {
+            Some(why) => Tried::from(why),
+            None => self.ask(inter),
+        }
+    }
+
+    /// Why a try of an interaction asks for nothing, where it does: what `try_interaction` answers
+    /// then. Else the interaction can be asked for (docs/DEFINITIONS.md, "Protocol nodes").
+    pub fn why_not(&self, inter: InterId) -> Option<WhyNot>
+        ensures some { IfSome result (λ why. IsTried (node_of self.now) inter.0 (tried_of why)) }
+        ensures none { IfNone result (CanBeAsked (node_of self.now) inter.0) }
+    {
         if !self.is_own(inter) {
-            return Tried::Foreign;
+            return Some(WhyNot::Foreign);
         }
         if let Some(other) = self.in_the_way(inter) {
-            return Tried::Pending(other);
+            return Some(WhyNot::Pending(other));
         }
         match decide(self.offers.plan(), &self.offers, inter) {
-            Verdict::Ready => {}
-            verdict => return Tried::Not(verdict),
+            Verdict::Ready => None,
+            verdict => Some(WhyNot::Not(verdict)),
         }
-        self.ask(inter)
+    }
+
+    /// Grants an interaction that can be asked for and is local, and asks for one that is reserved,
+    /// as `try_interaction` does.
+    pub fn ask(&mut self, inter: InterId) -> Tried
+        requires { CanBeAsked (node_of self.old) inter.0 }
+        ensures tried { IsTried (node_of self.old) inter.0 result }
+        ensures left { node_of self.new ≡ after_try inter.0 result (node_of self.old) }
+    {
+        let wants = wants_by(&self.offers, inter);
+        let notifies = told_by(&self.offers, inter);
+        let plan = self.offers.plan();
+        let _planned = plan.classes();
+        if !plan.reserved(inter) {
+            let grant = Grant { inter, wants };
+            learn(&mut self.offers, grant.wants.as_slice());
+            return Tried::Local(grant, notifies);
+        }
+        let Ok(number) = u64::try_from(self.next) else {
+            return Tried::Ended;
+        };
+        let request = Request {
+            wants,
+            request: number,
+            class: self.offers.class(),
+            inter,
+        };
+        self.next += 1;
+        self.asked = with_inter(self.asked, inter);
+        self.pending[inter.0 as usize] = Some(OpenRecord {
+            request: request.copy(),
+            notifies,
+        });
+        Tried::Sent(request)
     }
 
     /// Takes a reply. Where a record waits for it, that one goes: a grant is told, and its moved
@@ -203,39 +273,6 @@ impl<'p> IpNode<'p> {
             Some(Some(record)) => Some(record),
             _ => None,
         }
-    }
-
-    /// Grants an interaction that is local, and asks for one that is reserved.
-    fn ask(&mut self, inter: InterId) -> Tried
-        requires { CanBeAsked (node_of self.old) inter.0 }
-        ensures tried { IsTried (node_of self.old) inter.0 result }
-        ensures left { node_of self.new ≡ after_try inter.0 result (node_of self.old) }
-    {
-        let wants = wants_by(&self.offers, inter);
-        let notifies = told_by(&self.offers, inter);
-        let plan = self.offers.plan();
-        let _planned = plan.classes();
-        if !plan.reserved(inter) {
-            let grant = Grant { inter, wants };
-            learn(&mut self.offers, grant.wants.as_slice());
-            return Tried::Local(grant, notifies);
-        }
-        let Ok(number) = u64::try_from(self.next) else {
-            return Tried::Ended;
-        };
-        let request = Request {
-            wants,
-            request: number,
-            class: self.offers.class(),
-            inter,
-        };
-        self.next += 1;
-        self.asked = with_inter(self.asked, inter);
-        self.pending[inter.0 as usize] = Some(OpenRecord {
-            request: request.copy(),
-            notifies,
-        });
-        Tried::Sent(request)
     }
 
     /// Takes out the record that waits for a reply.
