@@ -1,3 +1,4 @@
+pub mod ExpectedLemmas
 pub mod FaultLawLemmas
 pub mod FaultLemmas
 pub mod GrantLemmas

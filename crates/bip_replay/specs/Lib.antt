@@ -1,4 +1,5 @@
 pub mod Book
+pub mod Expected
 pub mod Faults
 pub mod Items
 pub mod Laws

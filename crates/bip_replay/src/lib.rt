@@ -2,8 +2,10 @@
 #![tactic(auto)]
 
 mod book;
+mod expected;
 mod faults;
 mod grants;
+mod guesses;
 mod laws;
 mod lines;
 mod replays;

@@ -4,6 +4,8 @@ ghost use Rattle.bip_model.specs.Numbering.{last_number};
 ghost use Rattle.bip_replay.specs.Runs.{standing_of};
 ghost use Rattle.bip_replay.specs.Replays.{IsReplayFault, IsRunOf, Takes};
 
+use crate::expected::read_expected;
+use crate::guesses::Guesses;
 use crate::rooms::Room;
 use crate::{Position, ReplayFault};
 use bip_model::{Model, Number, NumberedLines};
@@ -28,9 +30,10 @@ pub fn replay(
     let Ok(mut position) = Position::start(alloc, model, base) else {
         return Err((1, told_without_memory(&mut room, model, text)));
     };
+    let mut guesses = Guesses::new();
     let mut count = 0;
     for (number, line) in NumberedLines::of(text) {
-        match take_line(&mut position, &mut room, line) {
+        match take_line(&mut position, &mut guesses, &mut room, line) {
             Ok(found) => count += u64::from(found),
             Err(fault) => return Err((number, fault)),
         }
@@ -53,9 +56,18 @@ fn told_without_memory(room: &mut Room, model: &Model, text: &[u8]) -> ReplayFau
 }
 
 // Goes on by the grant of a line: whether it has one, or why the trace stops there.
-fn take_line(position: &mut Position<'_>, room: &mut Room, line: &[u8]) -> Result<bool, ReplayFault>
+fn take_line(
+    position: &mut Position<'_>,
+    guesses: &mut Guesses,
+    room: &mut Room,
+    line: &[u8],
+) -> Result<bool, ReplayFault>
     ensures { Takes (standing_of position.old) line.now result (standing_of position.new) }
 {
+    if let Some(inter) = read_expected(guesses, position, line) {
+        position.step_expected(inter)?;
+        return Ok(true);
+    }
     let Some(grant) = room.read(position.model(), line)? else {
         return Ok(false);
     };

@@ -1,15 +1,17 @@
 //! A position in a run: the state and the used numbers to which grants lead, without the grants.
 ghost use Rattle.std.specs.Prelude.{◌≡◌, ◌==◌, ◌<◌, ℕ, [], length, find, IsTrue, IfOk, IfErr, OnOk};
-ghost use Rattle.std.specs.Prelude.{OnErr};
+ghost use Rattle.std.specs.Prelude.{OnErr, All, ◌+◌, if◌then◌else◌};
 ghost use Rattle.std.specs.List.Sorted.{IsStrictlyIncreasing};
 ghost use Rattle.bip_model.specs.Numbering.{last_number};
 ghost use Rattle.bip_model.specs.Wants.{components_of, is_moved, raised, used_up};
 ghost use Rattle.bip_model.specs.declared.wants.Want.{Want};
+ghost use Rattle.bip_model.specs.Parts.{Participant, components_in};
+ghost use Rattle.bip_replay.specs.Expected.{HasNextIn, takes_part};
 ghost use Rattle.bip_replay.specs.Runs.{AreMovedWithin, StandsAfter};
 ghost use Rattle.bip_replay.specs.Runs.{standing_of, used_in};
 
 use crate::{GrantRef, StepFault};
-use bip_model::{CompId, Model, Number, Role, Seq, State, Want};
+use bip_model::{CompId, InterId, Model, Number, PortId, Role, Seq, State, Want};
 use std::alloc::{AllocError, Global};
 use std::marker;
 
@@ -37,6 +39,9 @@ impl<'m> marker::Model for Position<'m> {
 }
 
 impl<'m> Position<'m> {
+    ghost use Rattle.bip_model.specs.Steps.{MayRun};
+    ghost use Rattle.bip_model.specs.declared.grants.Grant.{Grant};
+    ghost use Rattle.bip_replay.specs.Expected.{HasExpected, IsExpected};
     ghost use Rattle.bip_replay.specs.Faults.{IsFaultAt};
     ghost use Rattle.bip_replay.specs.Runs.{IsNextAt, standing_on};
 
@@ -91,12 +96,7 @@ impl<'m> Position<'m> {
         let model = self.model;
         let inter = grant.inter();
         let wants = grant.wants();
-        if !model.enabled(&self.state, inter) {
-            return Err(StepFault::NotEnabled);
-        }
-        if let Some(higher) = model.blocked_by(&self.state, inter) {
-            return Err(StepFault::Below(higher));
-        }
+        self.may_run(inter)?;
         if let Some(want) = self.first_wrong(model.components().len(), wants) {
             return Err(StepFault::Number(want.comp, self.expected(want.comp)));
         }
@@ -104,6 +104,51 @@ impl<'m> Position<'m> {
             return Err(StepFault::Parties);
         }
         Ok(())
+    }
+
+    /// Goes on by the grant that is expected of an interaction. Where that may not run, this is
+    /// refused with the grant's fault, and the position stays.
+    pub(crate) fn step_expected(&mut self, inter: InterId) -> Result<(), StepFault>
+        requires { HasExpected (standing_of self.old) inter.0 }
+        ensures next { OnOk result ((g : Grant) → IsExpected (standing_of self.old) inter.0 g
+            → IsNextAt (standing_of self.old) g) }
+        ensures on { OnOk result ((g : Grant) → IsExpected (standing_of self.old) inter.0 g
+            → standing_of self.new ≡ standing_on (standing_of self.old) g) }
+        ensures fault { IfErr result (λ e. (g : Grant)
+            → g.inter.0 ≡ inter.0 → IsFaultAt (standing_of self.old) g e) }
+        ensures err { OnErr result (self.new ≡ self.old) }
+    {
+        self.may_run(inter)?;
+        self.go_on_expected(inter);
+        Ok(())
+    }
+
+    /// Whether an interaction may run, or why none of its grants can be next.
+    fn may_run(&self, inter: InterId) -> Result<(), StepFault>
+        ensures may { OnOk result
+            (MayRun self.now.model (standing_of self.now).state inter.0) }
+        ensures fault { IfErr result (λ e. (g : Grant)
+            → g.inter.0 ≡ inter.0 → IsFaultAt (standing_of self.now) g e) }
+    {
+        if !self.model.enabled(&self.state, inter) {
+            return Err(StepFault::NotEnabled);
+        }
+        match self.model.blocked_by(&self.state, inter) {
+            Some(higher) => Err(StepFault::Below(higher)),
+            None => Ok(()),
+        }
+    }
+
+    /// Makes the step of the grant that is expected of an interaction that may run.
+    fn go_on_expected(&mut self, inter: InterId)
+        requires expected { HasExpected (standing_of self.old) inter.0 }
+        requires may { MayRun self.old.model (standing_of self.old).state inter.0 }
+        ensures { (g : Grant) → IsExpected (standing_of self.old) inter.0 g
+            → standing_of self.new ≡ standing_on (standing_of self.old) g }
+    {
+        let participants = self.model.participants(inter);
+        self.model.run(&mut self.state, inter);
+        use_next(&mut self.used, participants);
     }
 
     /// Makes the step of a grant that can be next.
@@ -178,5 +223,21 @@ fn use_one(used: &mut Seq<Number>, want: Want)
         let place = want.comp.0 as usize;
         let before = used.as_slice()[place];
         used.set(place, before.max(want.number));
+    }
+}
+
+/// Uses up the next number of each participant.
+fn use_next(used: &mut Seq<Number>, participants: &[(CompId, PortId)])
+    requires rising { IsStrictlyIncreasing (components_in participants.now) }
+    requires next { All (λ (q : Participant). HasNextIn used.old q.0) participants.now }
+    ensures used { (base c : ℕ) → used_in used.new base c
+        ≡ (if takes_part participants.now c then used_in used.old base c + 1
+        else used_in used.old base c) }
+    ensures counted { length used.new ≡ length used.old }
+{
+    for participant in participants {
+        let place = participant.0.0 as usize;
+        let number = used.as_slice()[place] + 1;
+        used.set(place, number);
     }
 }

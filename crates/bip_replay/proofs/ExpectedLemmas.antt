@@ -1,0 +1,394 @@
+-- Grants that are expected: where there is one, a line that is written as it reads as it; and where
+-- it leads.
+use Rattle.std.proofs.Common.{◌≡◌, ℕ, ◌+◌, ◌<◌, ◌≤◌, Bool, true, false, cond, not, ◌||◌, eqb, eqb-true, eq-eqb, List, [], ◌∷◌, ◌++◌, length, map, take, set, get_or, position, Option, None, Some, refl, sym, ap, ◌∙◌, inl, inr, arith}
+use Rattle.std.specs.Prelude.{◌↔◌, All, codes, MatchOption, IfSome}
+use Rattle.std.specs.Fmt.{decimal}
+use Rattle.std.specs.List.{AllByRecursion, AllZip, IsDistinct, flat_map, list_any}
+use Rattle.std.specs.List.Sorted.{IsPermutation, IsStrictlyIncreasing}
+use Rattle.std.proofs.lemmas.Bool.{and_parts, cases_Bool, false≢true, ne_eqb}
+use Rattle.std.proofs.lemmas.Cmp.{nat_eq_equiv}
+use Rattle.std.proofs.lemmas.Grind.{common_steps, flat_map-append}
+use Rattle.std.proofs.lemmas.List.{append_assoc, append-nil, get_or-take, get_or_default, length-append, length-map, length-take-le, map-append, take_more}
+use Rattle.std.proofs.lemmas.List.Elements.{All-append, All-contains, All-from_get_or, All-cons, All-from_recursion, All-head, All-map, All-nil, All-tail, All-weaker, Contains-get_or, recursion_from_All}
+use Rattle.std.proofs.lemmas.List.Folds.{Any-from_list_any, list_any-append, list_any-from_Any, list_any_at, list_any_none}
+use Rattle.std.proofs.lemmas.List.Quantifiers.{position-Some}
+use Rattle.std.proofs.lemmas.List.Sorted.{All-permutation, length_permutation, list_any-IsPermutation}
+use Rattle.std.proofs.lemmas.Map.Keys.{IsDistinct-cons, IsDistinct-head, IsDistinct-tail}
+use Rattle.std.proofs.lemmas.Option.{slice_get-get_or, slice_get_cases}
+use Rattle.std.proofs.lemmas.Simd.{map-map}
+use Rattle.bip_model.proofs.ListLemmas.{All-slice_get, below_later}
+use Rattle.bip_model.proofs.LookLemmas.{looked_known, moves_known}
+use Rattle.bip_model.proofs.NumberingLemmas.{AreNumbered, apart_from_rises, by_number-IsPermutation, by_number-rises, increasing_from_rises, rises_from_increasing}
+use Rattle.bip_model.proofs.PartyLemmas.{in_looks, moved_role}
+use Rattle.bip_model.proofs.WrittenLemmas.{IsWord, name-word, number_of-decimal, pair-word, plain_spaced, words_spaced}
+use Rattle.bip_model.specs.Naming.{IsName, name_in, same_text}
+use Rattle.bip_model.specs.Numbering.{by_number, last_number}
+use Rattle.bip_model.specs.Parties.{AreParties, IsWanted, is_moving, is_seeing}
+use Rattle.bip_model.specs.Parts.{IsInteraction, IsSystem, Participant, components_in}
+use Rattle.bip_model.specs.Steps.{IsListLookedAt, moves, participants_of}
+use Rattle.bip_model.specs.Texts.{spaced}
+use Rattle.bip_model.specs.Wants.{is_moved, moved_in, raised}
+use Rattle.bip_model.specs.declared.grants.Grant.{Grant}
+use Rattle.bip_model.specs.declared.numbering.CompId.{CompId}
+use Rattle.bip_model.specs.declared.parts.Interaction.{Interaction}
+use Rattle.bip_model.specs.declared.parts.System.{System}
+use Rattle.bip_model.specs.declared.wants.Role.{Role}
+use Rattle.bip_model.specs.declared.wants.Role.TheVariants.{Moved, Seen}
+use Rattle.bip_model.specs.declared.wants.Want.{Want}
+use Rattle.bip_replay.proofs.GrantLemmas.{line_reads}
+use Rattle.bip_replay.proofs.NamedLemmas.{comp_of, name_at}
+use Rattle.bip_replay.specs.Expected.{BeginsWith, BeginsWithWants, Expects, HasNextIn, HasNextWord, IsExpected, IsInterName, IsNameAt, comps_of, next_word, takes_part}
+use Rattle.bip_replay.specs.Laws.{IsGrantLine, Spells}
+use Rattle.bip_replay.specs.Runs.{HasNextNumber, Kept, Standing, standing_of}
+use Rattle.bip_replay.specs.Writing.{behind_see}
+
+-- what is said where there is a value
+pub if_some : {X : Type 0} (A : Type 0) (P : X → Type 0) (r : Option X) → MatchOption r A P → IfSome r P
+if_some A P None is = tt
+if_some A P (Some x) is = is
+
+-- a name that is found is the interaction's
+pub name_found : (names : List (List ℕ)) (text : List ℕ) (n : ℕ) → IsName text → position (same_text text) names ≡ Some n → IsNameAt names text n
+name_found names text n name at =
+    record { known = (position-Some (same_text text) names n [] at).0; named = sym (name_at names text n at); name = name }
+
+-- a component by its number, piece by piece
+pub begins_one : (p : Standing) (c : CompId) (text first second third rest : List ℕ) → HasNextWord p c → text ≡ 32 ∷ first → first ≡ name_in p.model.component_names c.0 ++ second → second ≡ 58 ∷ third → third ≡ decimal (p.used c.0 + 1) ++ rest
+    → BeginsWith p (c ∷ []) text rest
+begins_one p c text first second third rest next e f g h =
+    record {
+      begins = rw (e, f, g, h) (simp (append_assoc, append-nil));
+      words = All-cons (HasNextWord p) c [] next (All-nil (HasNextWord p));
+    }
+
+-- nothing yet
+pub begins_none : (p : Standing) (text : List ℕ) → BeginsWith p [] text text
+begins_none p text = record { begins = refl; words = All-nil (HasNextWord p) }
+
+-- one component more
+pub begins_more : (p : Standing) (before after : List CompId) (c : CompId) (text mid rest : List ℕ) → BeginsWith p before text mid → BeginsWith p (c ∷ []) mid rest → after ≡ before ++ c ∷ [] → BeginsWith p after text rest
+begins_more p before after c text mid rest so one is =
+    rw is (record {
+      begins = rw (so.begins, one.begins) (simp (map-append, flat_map-append, append_assoc));
+      words = All-append (HasNextWord p) before (c ∷ []) so.words one.words;
+    })
+
+-- of numbers in two lists, each of which has none twice, none is in both
+distinct_beside : (ns ks : List ℕ) → IsDistinct eqb ns → IsDistinct eqb ks → All (λ n. list_any (eqb n) ks ≡ false) ns → IsDistinct eqb (ns ++ ks)
+distinct_beside [] ks one other apart = other
+distinct_beside (n ∷ ns) ks one other apart =
+    IsDistinct-cons eqb n (ns ++ ks)
+    (recursion_from_All (λ k. eqb n k ≡ false) (ns ++ ks)
+    (All-append (λ k. eqb n k ≡ false) ns ks (All-from_recursion (λ k. eqb n k ≡ false) ns (IsDistinct-head eqb n ns one)) (All-from_recursion (λ k. eqb n k ≡ false) ks (none ks (All-head (λ i. list_any (eqb i) ks ≡ false) n ns apart)))))
+    (distinct_beside ns ks (IsDistinct-tail eqb n ns one) other (All-tail (λ i. list_any (eqb i) ks ≡ false) n ns apart))
+  where
+    none : (js : List ℕ) → list_any (eqb n) js ≡ false → AllByRecursion (λ k. eqb n k ≡ false) js
+    none [] is = tt
+    none (j ∷ js) is = (grind arith, none js (grind arith))
+
+-- the numbers of components
+abbrev numbers_of : List CompId → List ℕ
+numbers_of cs = map (λ (c : CompId). c.0) cs
+
+-- whether a component is among others
+abbrev is_one : ℕ → List CompId → Bool
+is_one n cs = list_any (λ (c : CompId). eqb c.0 n) cs
+
+any_number : (n : ℕ) (cs : List CompId) → list_any (eqb n) (numbers_of cs) ≡ is_one n cs
+any_number n [] = refl
+any_number n (c ∷ cs) = rw (nat_eq_equiv.symm n c.0, any_number n cs) refl
+
+is_one-from : (cs : List CompId) → All (λ n. is_one n cs ≡ true) (numbers_of cs)
+is_one-from cs = λ k d within.
+    let inside : k < length cs = simp length-map at within in
+    rw (← any_number (get_or (numbers_of cs) k d) cs)
+    (list_any-from_Any (eqb (get_or (numbers_of cs) k d)) (numbers_of cs) (k, get_or (numbers_of cs) k d, within, get_or_default (numbers_of cs) k (get_or (numbers_of cs) k d) d within, nat_eq_equiv.refl (get_or (numbers_of cs) k d)))
+
+moved_by : (qs : List Participant) (n : ℕ) → is_one n (comps_of qs) ≡ list_any (λ (q : Participant). eqb q.0.0 n) qs
+moved_by [] n = refl
+moved_by (q ∷ qs) n = rw (moved_by qs n) refl
+
+-- the want of a component by the number of its next move
+abbrev next_want : (ℕ → ℕ) → Role → CompId → Want
+next_want used role c = record { number = used c.0 + 1; comp = c; role = role }
+
+abbrev next_wants : (ℕ → ℕ) → Role → List CompId → List Want
+next_wants used role cs = map (next_want used role) cs
+
+comps_wanted : (used : ℕ → ℕ) (role : Role) (cs : List CompId) → map comp_of (next_wants used role cs) ≡ numbers_of cs
+comps_wanted used role cs = map-map comp_of (next_want used role) cs
+
+moving-moved : (used : ℕ → ℕ) (cs : List CompId) (n : ℕ) → list_any (is_moving n) (next_wants used Moved cs) ≡ is_one n cs
+moving-moved used [] n = refl
+moving-moved used (c ∷ cs) n = grind (arith, moving-moved used cs n)
+
+moving-seen : (used : ℕ → ℕ) (cs : List CompId) (n : ℕ) → list_any (is_moving n) (next_wants used Seen cs) ≡ false
+moving-seen used [] n = refl
+moving-seen used (c ∷ cs) n = grind (arith, moving-seen used cs n)
+
+seeing-moved : (used : ℕ → ℕ) (cs : List CompId) (n : ℕ) → list_any (is_seeing n) (next_wants used Moved cs) ≡ false
+seeing-moved used [] n = refl
+seeing-moved used (c ∷ cs) n = grind (arith, seeing-moved used cs n)
+
+seeing-seen : (used : ℕ → ℕ) (cs : List CompId) (n : ℕ) → list_any (is_seeing n) (next_wants used Seen cs) ≡ is_one n cs
+seeing-seen used [] n = refl
+seeing-seen used (c ∷ cs) n = grind (arith, seeing-seen used cs n)
+
+seen_role : (r : Role) → not (is_moved r) ≡ true → r ≡ Seen
+seen_role Moved is = absurd (false≢true is)
+seen_role Seen is = refl
+
+-- a component is wanted with a role where a want passes the test
+moving : (ws : List Want) (n : ℕ) → IsWanted Moved ws n ↔ (list_any (is_moving n) ws ≡ true)
+moving ws n = (
+  λ at. list_any-from_Any (is_moving n) ws (at.0, at.1, at.2, at.3, rw (eq-eqb at.1.comp.0 n at.4.0, at.4.1) refl),
+  λ test. let at = Any-from_list_any (is_moving n) ws test in
+      let both = and_parts (eqb at.1.comp.0 n) (is_moved at.1.role) at.4 in
+      (at.0, at.1, at.2, at.3, (eqb-true at.1.comp.0 n both.0, moved_role at.1.role both.1)),
+)
+
+seeing : (ws : List Want) (n : ℕ) → IsWanted Seen ws n ↔ (list_any (is_seeing n) ws ≡ true)
+seeing ws n = (
+  λ at. list_any-from_Any (is_seeing n) ws (at.0, at.1, at.2, at.3, rw (eq-eqb at.1.comp.0 n at.4.0, at.4.1) refl),
+  λ test. let at = Any-from_list_any (is_seeing n) ws test in
+      let both = and_parts (eqb at.1.comp.0 n) (not (is_moved at.1.role)) at.4 in
+      (at.0, at.1, at.2, at.3, (eqb-true at.1.comp.0 n both.0, seen_role at.1.role both.1)),
+)
+
+-- the words of next wants spell them
+next-spelled : (p : Standing) (role : Role) (cs : List CompId) → All (HasNextWord p) cs → AllZip (Spells p.model role) (map (next_word p) cs) (next_wants p.used role cs)
+next-spelled p role [] words = tt
+next-spelled p role (c ∷ cs) words =
+    let has = All-head (HasNextWord p) c cs words in (
+      record {
+        component = name_in p.model.component_names c.0;
+        numeral = decimal (p.used c.0 + 1);
+        parts = refl;
+        names = record { name = has.name; known = slice_get-get_or p.model.component_names c.0 [] has.known };
+        number = number_of-decimal (p.used c.0 + 1) (omega arith) (omega (arith, has.next));
+        by_place = refl;
+      },
+      next-spelled p role cs (All-tail (HasNextWord p) c cs words),
+    )
+
+-- they have the numbers of the next moves
+next-numbers : (p : Standing) (role : Role) (cs : List CompId) → All (HasNextWord p) cs → All (HasNextNumber p.used) (next_wants p.used role cs)
+next-numbers p role cs words =
+    All-map (HasNextNumber p.used) (next_want p.used role) cs (λ k d within. let has = words k d within in record { next = refl; fits = omega (arith, has.next) })
+
+-- they can stand in a line
+next-words : (p : Standing) (cs : List CompId) → All (HasNextWord p) cs → All IsWord (map (next_word p) cs)
+next-words p cs words =
+    All-map IsWord (next_word p) cs (λ k d within. let has = words k d within in pair-word (name_in p.model.component_names (get_or cs k d).0) (p.used (get_or cs k d).0 + 1) has.name (omega (arith, has.next)))
+
+-- so can they behind `see`
+seen-words : (ws : List (List ℕ)) → All IsWord ws → All IsWord (behind_see ws)
+seen-words [] all = all
+seen-words (w ∷ ws) all = All-cons IsWord (codes "see") (w ∷ ws) (refl, refl) all
+
+-- what holds of the participants of each interaction holds of those of a declared one
+of_interaction : (m : System) (a : ℕ) (P : List Participant → Type 0) → IsSystem m → a < length m.interactions → ((i : Interaction) → IsInteraction m.components i → P i.participants) → P (participants_of m a)
+of_interaction m a P valid declared tells = elim (slice_get_cases m.interactions a).1 [
+  | inl here ↦ rw here.2 (tells here.0 (All-slice_get (IsInteraction m.components) m.interactions a here.0 valid.so_far.interactions here.2))
+  | inr past ↦ absurd (omega (arith, past.0, declared))
+]
+
+-- where a line has the words of what is expected of an interaction, the grant that is
+module _ (p : Standing) (a : ℕ) (ds : List CompId) (valid : IsSystem p.model) (declared : a < length p.model.interactions) (listed : IsListLookedAt p.model a ds) (mine : All (HasNextWord p) (comps_of (participants_of p.model a))) (theirs : All (HasNextWord p) ds) where
+  abbrev moved_comps : List CompId
+  moved_comps = comps_of (participants_of p.model a)
+
+  abbrev moved_wants : List Want
+  moved_wants = next_wants p.used Moved moved_comps
+
+  abbrev seen_wants : List Want
+  seen_wants = next_wants p.used Seen ds
+
+  abbrev expected : Grant
+  expected = record { inter = record { 0 = a }; wants = by_number comp_of (moved_wants ++ seen_wants) }
+
+  apart : AreNumbered comp_of (moved_wants ++ seen_wants)
+  apart =
+      let moved_rise : IsStrictlyIncreasing (numbers_of moved_comps) = rw (map-map (λ (c : CompId). c.0) (λ (q : Participant). q.0) (participants_of p.model a)) (of_interaction p.model a (λ qs. IsStrictlyIncreasing (components_in qs)) valid declared (λ i is. is.rising)) in
+      rw (map-append comp_of moved_wants seen_wants, comps_wanted p.used Moved moved_comps, comps_wanted p.used Seen ds)
+      (distinct_beside (numbers_of moved_comps) (numbers_of ds) (apart_from_rises (numbers_of moved_comps) (rises_from_increasing (numbers_of moved_comps) moved_rise)) (apart_from_rises (numbers_of ds) (rises_from_increasing (numbers_of ds) listed.rising))
+      (All-weaker (λ n. is_one n moved_comps ≡ true) (λ n. list_any (eqb n) (numbers_of ds) ≡ false) other (numbers_of moved_comps) (is_one-from moved_comps)))
+    where
+      other : (n : ℕ) → is_one n moved_comps ≡ true → list_any (eqb n) (numbers_of ds) ≡ false
+      other n own = elim (cases_Bool (is_one n ds)) [
+        | inl look ↦ absurd (false≢true (sym ((in_looks p.model a ds listed n).1 look).other ∙ (sym (moved_by (participants_of p.model a) n) ∙ own)))
+        | inr none ↦ any_number n ds ∙ none
+      ]
+
+  permuted : IsPermutation (moved_wants ++ seen_wants) expected.wants
+  permuted = by_number-IsPermutation comp_of (moved_wants ++ seen_wants)
+
+  any_wanted : (test : Want → Bool) → list_any test expected.wants ≡ (list_any test moved_wants || list_any test seen_wants)
+  any_wanted test = sym (list_any-IsPermutation test (moved_wants ++ seen_wants) expected.wants permuted) ∙ list_any-append test moved_wants seen_wants
+
+  parties : AreParties p.model a expected.wants
+  parties = record {
+    moved = λ n. (
+      λ at. sym (moves_one n) ∙ (moving expected.wants n).0 at,
+      λ moves. (moving expected.wants n).1 (moves_one n ∙ moves),
+    );
+    seen = λ n. (
+      λ at. (in_looks p.model a ds listed n).1 (sym (sees_one n) ∙ (seeing expected.wants n).0 at),
+      λ looks. (seeing expected.wants n).1 (sees_one n ∙ (in_looks p.model a ds listed n).0 looks),
+    );
+  }
+    where
+      moves_one : (n : ℕ) → list_any (is_moving n) expected.wants ≡ moves p.model a n
+      moves_one n = let any = any_wanted (is_moving n) in grind (arith, moving-moved p.used moved_comps n, moving-seen p.used ds n, moved_by (participants_of p.model a) n)
+
+      sees_one : (n : ℕ) → list_any (is_seeing n) expected.wants ≡ is_one n ds
+      sees_one n = let any = any_wanted (is_seeing n) in grind (arith, seeing-moved p.used moved_comps n, seeing-seen p.used ds n)
+
+  numbers : All (HasNextNumber p.used) expected.wants
+  numbers =
+      All-permutation (HasNextNumber p.used) (moved_wants ++ seen_wants) expected.wants permuted
+      (All-append (HasNextNumber p.used) moved_wants seen_wants (next-numbers p Moved moved_comps mine) (next-numbers p Seen ds theirs))
+
+  -- such a line is that grant's
+  module _ (line name : List ℕ) (few : length (participants_of p.model a) + length ds ≤ 32) (is : IsNameAt p.model.interaction_names name a) (written : line ≡ codes "grant" ++ flat_map spaced (name ∷ (map (next_word p) moved_comps ++ behind_see (map (next_word p) ds)))) where
+    abbrev behind : List (List ℕ)
+    behind = name ∷ (map (next_word p) moved_comps ++ behind_see (map (next_word p) ds))
+
+    all : All IsWord behind
+    all =
+        All-cons IsWord name (map (next_word p) moved_comps ++ behind_see (map (next_word p) ds)) (name-word name is.name)
+        (All-append IsWord (map (next_word p) moved_comps) (behind_see (map (next_word p) ds)) (next-words p moved_comps mine) (seen-words (map (next_word p) ds) (next-words p ds theirs)))
+
+    line_is : IsGrantLine p.model line expected
+    line_is = record {
+      interaction = name;
+      moved_words = map (next_word p) moved_comps;
+      seen_words = map (next_word p) ds;
+      moved = moved_wants;
+      seen = seen_wants;
+      plain = rw written (plain_spaced (codes "grant") behind refl all);
+      says = rw written (words_spaced (codes "grant") behind (refl, refl) all);
+      named = record { name = is.name; known = slice_get-get_or p.model.interaction_names a [] is.known ∙ ap (λ (t : List ℕ). Some t) is.named };
+      moves = next-spelled p Moved moved_comps mine;
+      sees = next-spelled p Seen ds theirs;
+      some = rw (length-map moved_comps (next_want p.used Moved), length-map (participants_of p.model a) (λ (q : Participant). q.0)) (of_interaction p.model a (λ qs. 0 < length qs) valid declared (λ i is'. is'.some));
+      few = rw (length_permutation (moved_wants ++ seen_wants) expected.wants permuted, length-append moved_wants seen_wants, length-map moved_comps (next_want p.used Moved), length-map (participants_of p.model a) (λ (q : Participant). q.0), length-map ds (next_want p.used Seen)) few;
+      wants = permuted;
+      rising = increasing_from_rises (map comp_of expected.wants) (by_number-rises comp_of (moved_wants ++ seen_wants) apart);
+    }
+
+    expects : Expects p line a
+    expects = record { grant = expected; reads = line_reads p.model line expected valid line_is; is = record { inter = refl; numbers = numbers; parties = parties } }
+
+-- a line that is written as is expected of an interaction reads as it
+pub expects_as_written : (p : Standing) (line name rest : List ℕ) (a : ℕ) → IsInterName p.model name a → line ≡ codes "grant " ++ (name ++ rest) → BeginsWithWants p a rest [] → Expects p line a
+expects_as_written p line name rest a inter is wants =
+    expects p a wants.looks inter.valid (omega (arith, inter.at.known, inter.valid.so_far.interactions_named)) wants.listed wants.moved wants.seen line name wants.few inter.at
+    (is ∙ rw wants.begins (simp (flat_map-append, append_assoc, append-nil)))
+
+-- what says more where there is a value
+pub some_weaker : {X : Type 0} (P Q : X → Type 0) (r : Option X) → ((x : X) → P x → Q x) → IfSome r P → IfSome r Q
+some_weaker P Q None tells is = tt
+some_weaker P Q (Some x) tells is = tells x is
+
+-- one participant more, and one more that is looked at
+pub more_participants : (p : Standing) (qs : List Participant) (i : ℕ) (d : Participant) (text mid rest : List ℕ) → i < length qs → BeginsWith p (comps_of (take i qs)) text mid → BeginsWith p ((get_or qs i d).0 ∷ []) mid rest → BeginsWith p (comps_of (take (i + 1) qs)) text rest
+more_participants p qs i d text mid rest within so one =
+    begins_more p (comps_of (take i qs)) (comps_of (take (i + 1) qs)) (get_or qs i d).0 text mid rest so one
+    (rw (take_more qs i d within) (map-append (λ (q : Participant). q.0) (take i qs) (get_or qs i d ∷ [])))
+
+pub more_comps : (p : Standing) (cs : List CompId) (i : ℕ) (d : CompId) (text mid rest : List ℕ) → i < length cs → BeginsWith p (take i cs) text mid → BeginsWith p (get_or cs i d ∷ []) mid rest → BeginsWith p (take (i + 1) cs) text rest
+more_comps p cs i d text mid rest within so one = begins_more p (take i cs) (take (i + 1) cs) (get_or cs i d) text mid rest so one (take_more cs i d within)
+
+-- what is looked at is a component of the model
+pub looks_known : (m : System) (a : ℕ) (ds : List CompId) → IsSystem m → IsListLookedAt m a ds → All (λ (c : CompId). c.0 < length m.component_names) ds
+looks_known m a ds valid listed k d within =
+    let look = (listed.exact (get_or ds k d).0).0 (Contains-get_or ds k d within) in
+    omega (arith, looked_known m a (get_or ds k d).0 valid.so_far look, valid.components_named)
+
+-- what is moved, and behind `see` what is looked at
+pub begins_wants : (p : Standing) (a : ℕ) (ds : List CompId) (text mid after rest : List ℕ) → IsListLookedAt p.model a ds → length (participants_of p.model a) + length ds ≤ 32 → BeginsWith p (comps_of (participants_of p.model a)) text mid → mid ≡ codes " see" ++ after → BeginsWith p ds after rest → 0 < length ds
+    → BeginsWithWants p a text rest
+begins_wants p a [] text mid after rest listed few moved see looks some = absurd (omega arith)
+begins_wants p a (d ∷ ds) text mid after rest listed few moved see looks some =
+    record {
+      looks = d ∷ ds;
+      listed = listed;
+      few = few;
+      begins = rw (moved.begins, see, looks.begins) (simp append_assoc);
+      moved = moved.words;
+      seen = looks.words;
+    }
+
+-- of components that rise, one isn't among those before it
+new_part : (qs : List Participant) (i : ℕ) (d : Participant) → IsStrictlyIncreasing (components_in qs) → i < length qs → takes_part (take i qs) (get_or qs i d).0.0 ≡ false
+new_part qs i d rising within =
+    let shorter : length (take i qs) ≡ i = length-take-le i qs (omega arith) in
+    list_any_none (λ (q : Participant). eqb q.0.0 (get_or qs i d).0.0) (take i qs)
+    (All-from_get_or (λ (q : Participant). eqb q.0.0 (get_or qs i d).0.0 ≡ false) (take i qs) d (λ k below.
+    let less = below_later (λ (q : Participant). q.0.0) qs rising k i d (omega arith) within in
+    rw (get_or-take i qs k d (omega arith)) (ne_eqb _ _ (λ same. omega arith))))
+
+-- a component's used number is as it was until its participant comes
+pub unused_yet : (old now : List ℕ) (qs : List Participant) (i : ℕ) (d : Participant) (base : ℕ) → IsStrictlyIncreasing (components_in qs) → i < length qs
+    → ((b n : ℕ) → get_or now n b ≡ cond (takes_part (take i qs) n) (get_or old n b + 1) (get_or old n b))
+    → get_or now (get_or qs i d).0.0 base ≡ get_or old (get_or qs i d).0.0 base
+unused_yet old now qs i d base rising within before =
+    let new = new_part qs i d rising within in
+    let first = before base (get_or qs i d).0.0 in
+    grind arith
+
+-- a number is put at a place
+put_one : (u : List ℕ) (k c base n : ℕ) → k < length u → get_or (set u k n) c base ≡ cond (eqb k c) n (get_or u c base)
+put_one u k c base n within = grind (arith, common_steps)
+
+-- the used numbers after the next move of one participant more
+pub used_more : (old now : List ℕ) (qs : List Participant) (i : ℕ) (d : Participant) (base c : ℕ) → IsStrictlyIncreasing (components_in qs) → i < length qs → length now ≡ length old → (get_or qs i d).0.0 < length old
+    → ((b n : ℕ) → get_or now n b ≡ cond (takes_part (take i qs) n) (get_or old n b + 1) (get_or old n b))
+    → get_or (set now (get_or qs i d).0.0 (get_or now (get_or qs i d).0.0 0 + 1)) c base ≡ cond (takes_part (take (i + 1) qs) c) (get_or old c base + 1) (get_or old c base)
+used_more old now qs i d base c rising within long inside before =
+    rw (put_one now k c base (get_or now k 0 + 1) (omega arith), take_more qs i d within, list_any-append (λ (q : Participant). eqb q.0.0 c) (take i qs) (get_or qs i d ∷ []))
+    (by_test (eqb k c) refl)
+  where
+    k : ℕ
+    k = (get_or qs i d).0.0
+
+    by_test : (b : Bool) → eqb k c ≡ b → cond b (get_or now k 0 + 1) (get_or now c base) ≡ cond (takes_part (take i qs) c || (b || false)) (get_or old c base + 1) (get_or old c base)
+    by_test true e =
+        let same : k ≡ c = eqb-true k c e in
+        let new = new_part qs i d rising within in
+        let first = before 0 k in
+        let any = get_or_default old k 0 base inside in
+        grind arith
+    by_test false e = let first = before base c in grind arith
+
+-- what an expected grant moves
+moved_as : (used : ℕ → ℕ) (ws : List Want) (n : ℕ) → All (HasNextNumber used) ws → moved_in ws n ≡ cond (list_any (is_moving n) ws) (used n + 1) 0
+moved_as used [] n numbers = refl
+moved_as used (w ∷ ws) n numbers =
+    let later = moved_as used ws n (All-tail (HasNextNumber used) w ws numbers) in
+    let first = All-head (HasNextNumber used) w ws numbers in
+    grind arith
+
+same_tests : (x y : Bool) → (x ≡ true → y ≡ true) → (y ≡ true → x ≡ true) → x ≡ y
+same_tests true y there back = sym (there refl)
+same_tests false true there back = back refl
+same_tests false false there back = refl
+
+-- the used numbers after an expected grant
+pub raised_expected : (p : Standing) (a : ℕ) (g : Grant) (n : ℕ) → IsExpected p a g → raised p.used g.wants n ≡ cond (moves p.model a n) (p.used n + 1) (p.used n)
+raised_expected p a g n is =
+    let same = same_tests (list_any (is_moving n) g.wants) (moves p.model a n) (λ test. (is.parties.moved n).0 ((moving g.wants n).1 test)) (λ takes. (moving g.wants n).0 ((is.parties.moved n).1 takes)) in
+    let by = moved_as p.used g.wants n is.numbers in
+    grind arith
+
+-- what an expected grant moves has a next number
+pub expected_next : (p : Kept) (a : ℕ) (g : Grant) (qs : List Participant) → IsSystem p.model → length p.used ≡ length p.model.components → IsExpected (standing_of p) a g → qs ≡ participants_of p.model a → All (λ (q : Participant). HasNextIn p.used q.0) qs
+expected_next p a g qs valid long is same k d within =
+    let c : ℕ = (get_or qs k d).0.0 in
+    let takes : moves p.model a c ≡ true = rw (← same) (list_any_at (λ (q : Participant). eqb q.0.0 c) qs k d within (eq-eqb c c refl)) in
+    let at : IsWanted Moved g.wants c = (is.parties.moved c).1 takes in
+    let has = All-contains (HasNextNumber (standing_of p).used) g.wants at.1 is.numbers (at.0, at.2, at.3) in
+    let inside : c < length p.used = omega (arith, moves_known p.model a c valid.so_far takes) in
+    let next : get_or p.used c p.base < last_number = rw (← at.4.0) (omega (arith, has.next, has.fits)) in
+    record { known = inside; next = rw (get_or_default p.used c 0 p.base inside) next }
