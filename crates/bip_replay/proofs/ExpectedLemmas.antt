@@ -1,33 +1,31 @@
--- Grants that are expected: where there is one, a line that is written as it reads as it; and where
--- it leads.
-use Rattle.std.proofs.Common.{◌≡◌, ℕ, ◌+◌, ◌<◌, ◌≤◌, Bool, true, false, cond, not, ◌||◌, eqb, eqb-true, eq-eqb, List, [], ◌∷◌, ◌++◌, length, map, take, set, get_or, position, Option, None, Some, refl, sym, ap, ◌∙◌, inl, inr, arith}
+-- Lines that are written as is expected: such a line reads as a grant that is expected.
+use Rattle.std.proofs.Common.{◌≡◌, ℕ, ◌+◌, ◌<◌, ◌≤◌, Bool, true, false, not, ◌||◌, eqb, eqb-true, eq-eqb, List, [], ◌∷◌, ◌++◌, length, map, take, get_or, Option, None, Some, refl, sym, ◌∙◌, inl, inr, arith}
 use Rattle.std.specs.Prelude.{◌↔◌, All, codes, MatchOption, IfSome}
 use Rattle.std.specs.Fmt.{decimal}
 use Rattle.std.specs.List.{AllByRecursion, AllZip, IsDistinct, flat_map, list_any}
 use Rattle.std.specs.List.Sorted.{IsPermutation, IsStrictlyIncreasing}
-use Rattle.std.proofs.lemmas.Bool.{and_parts, cases_Bool, false≢true, ne_eqb}
+use Rattle.std.proofs.lemmas.Bool.{and_parts, cases_Bool, false≢true}
 use Rattle.std.proofs.lemmas.Cmp.{nat_eq_equiv}
-use Rattle.std.proofs.lemmas.Grind.{common_steps, flat_map-append}
-use Rattle.std.proofs.lemmas.List.{append_assoc, append-nil, get_or-take, get_or_default, length-append, length-map, length-take-le, map-append, take_more}
-use Rattle.std.proofs.lemmas.List.Elements.{All-append, All-contains, All-from_get_or, All-cons, All-from_recursion, All-head, All-map, All-nil, All-tail, All-weaker, Contains-get_or, recursion_from_All}
-use Rattle.std.proofs.lemmas.List.Folds.{Any-from_list_any, list_any-append, list_any-from_Any, list_any_at, list_any_none}
-use Rattle.std.proofs.lemmas.List.Quantifiers.{position-Some}
+use Rattle.std.proofs.lemmas.Grind.{flat_map-append}
+use Rattle.std.proofs.lemmas.List.{append_assoc, append-nil, get_or_default, length-append, length-map, map-append, take_more}
+use Rattle.std.proofs.lemmas.List.Elements.{All-append, All-cons, All-from_recursion, All-head, All-map, All-nil, All-tail, All-weaker, Contains-get_or, recursion_from_All}
+use Rattle.std.proofs.lemmas.List.Folds.{Any-from_list_any, list_any-append, list_any-from_Any}
 use Rattle.std.proofs.lemmas.List.Sorted.{All-permutation, length_permutation, list_any-IsPermutation}
 use Rattle.std.proofs.lemmas.Map.Keys.{IsDistinct-cons, IsDistinct-head, IsDistinct-tail}
-use Rattle.std.proofs.lemmas.Option.{slice_get-get_or, slice_get_cases}
+use Rattle.std.proofs.lemmas.Option.{slice_get-get_or, slice_get_cases, slice_get_within}
 use Rattle.std.proofs.lemmas.Simd.{map-map}
-use Rattle.bip_model.proofs.ListLemmas.{All-slice_get, below_later}
-use Rattle.bip_model.proofs.LookLemmas.{looked_known, moves_known}
+use Rattle.bip_model.proofs.ListLemmas.{All-slice_get}
+use Rattle.bip_model.proofs.LookLemmas.{looked_known}
 use Rattle.bip_model.proofs.NumberingLemmas.{AreNumbered, apart_from_rises, by_number-IsPermutation, by_number-rises, increasing_from_rises, rises_from_increasing}
 use Rattle.bip_model.proofs.PartyLemmas.{in_looks, moved_role}
 use Rattle.bip_model.proofs.WrittenLemmas.{IsWord, name-word, number_of-decimal, pair-word, plain_spaced, words_spaced}
-use Rattle.bip_model.specs.Naming.{IsName, name_in, same_text}
-use Rattle.bip_model.specs.Numbering.{by_number, last_number}
+use Rattle.bip_model.specs.Naming.{name_in}
+use Rattle.bip_model.specs.Numbering.{by_number}
 use Rattle.bip_model.specs.Parties.{AreParties, IsWanted, is_moving, is_seeing}
 use Rattle.bip_model.specs.Parts.{IsInteraction, IsSystem, Participant, components_in}
 use Rattle.bip_model.specs.Steps.{IsListLookedAt, moves, participants_of}
 use Rattle.bip_model.specs.Texts.{spaced}
-use Rattle.bip_model.specs.Wants.{is_moved, moved_in, raised}
+use Rattle.bip_model.specs.Wants.{is_moved}
 use Rattle.bip_model.specs.declared.grants.Grant.{Grant}
 use Rattle.bip_model.specs.declared.numbering.CompId.{CompId}
 use Rattle.bip_model.specs.declared.parts.Interaction.{Interaction}
@@ -36,10 +34,10 @@ use Rattle.bip_model.specs.declared.wants.Role.{Role}
 use Rattle.bip_model.specs.declared.wants.Role.TheVariants.{Moved, Seen}
 use Rattle.bip_model.specs.declared.wants.Want.{Want}
 use Rattle.bip_replay.proofs.GrantLemmas.{line_reads}
-use Rattle.bip_replay.proofs.NamedLemmas.{comp_of, name_at}
-use Rattle.bip_replay.specs.Expected.{BeginsWith, BeginsWithWants, Expects, HasNextIn, HasNextWord, IsExpected, IsInterName, IsNameAt, comps_of, next_word, takes_part}
-use Rattle.bip_replay.specs.Laws.{IsGrantLine, Spells}
-use Rattle.bip_replay.specs.Runs.{HasNextNumber, Kept, Standing, standing_of}
+use Rattle.bip_replay.proofs.NamedLemmas.{comp_of}
+use Rattle.bip_replay.specs.Expected.{BeginsWith, BeginsWithWants, Expects, HasNextWord, IsInterName, comps_of, next_word}
+use Rattle.bip_replay.specs.Laws.{IsGrantLine, IsNameOf, Spells}
+use Rattle.bip_replay.specs.Runs.{HasNextNumber, Standing}
 use Rattle.bip_replay.specs.Writing.{behind_see}
 
 -- what is said where there is a value
@@ -47,10 +45,10 @@ pub if_some : {X : Type 0} (A : Type 0) (P : X → Type 0) (r : Option X) → Ma
 if_some A P None is = tt
 if_some A P (Some x) is = is
 
--- a name that is found is the interaction's
-pub name_found : (names : List (List ℕ)) (text : List ℕ) (n : ℕ) → IsName text → position (same_text text) names ≡ Some n → IsNameAt names text n
-name_found names text n name at =
-    record { known = (position-Some (same_text text) names n [] at).0; named = sym (name_at names text n at); name = name }
+-- what says more where there is a value
+pub some_weaker : {X : Type 0} (P Q : X → Type 0) (r : Option X) → ((x : X) → P x → Q x) → IfSome r P → IfSome r Q
+some_weaker P Q None tells is = tt
+some_weaker P Q (Some x) tells is = tells x is
 
 -- a component by its number, piece by piece
 pub begins_one : (p : Standing) (c : CompId) (text first second third rest : List ℕ) → HasNextWord p c → text ≡ 32 ∷ first → first ≡ name_in p.model.component_names c.0 ++ second → second ≡ 58 ∷ third → third ≡ decimal (p.used c.0 + 1) ++ rest
@@ -139,7 +137,7 @@ seen_role Moved is = absurd (false≢true is)
 seen_role Seen is = refl
 
 -- a component is wanted with a role where a want passes the test
-moving : (ws : List Want) (n : ℕ) → IsWanted Moved ws n ↔ (list_any (is_moving n) ws ≡ true)
+pub moving : (ws : List Want) (n : ℕ) → IsWanted Moved ws n ↔ (list_any (is_moving n) ws ≡ true)
 moving ws n = (
   λ at. list_any-from_Any (is_moving n) ws (at.0, at.1, at.2, at.3, rw (eq-eqb at.1.comp.0 n at.4.0, at.4.1) refl),
   λ test. let at = Any-from_list_any (is_moving n) ws test in
@@ -250,7 +248,7 @@ module _ (p : Standing) (a : ℕ) (ds : List CompId) (valid : IsSystem p.model) 
       (All-append (HasNextNumber p.used) moved_wants seen_wants (next-numbers p Moved moved_comps mine) (next-numbers p Seen ds theirs))
 
   -- such a line is that grant's
-  module _ (line name : List ℕ) (few : length (participants_of p.model a) + length ds ≤ 32) (is : IsNameAt p.model.interaction_names name a) (written : line ≡ codes "grant" ++ flat_map spaced (name ∷ (map (next_word p) moved_comps ++ behind_see (map (next_word p) ds)))) where
+  module _ (line name : List ℕ) (few : length (participants_of p.model a) + length ds ≤ 32) (is : IsNameOf p.model.interaction_names name a) (written : line ≡ codes "grant" ++ flat_map spaced (name ∷ (map (next_word p) moved_comps ++ behind_see (map (next_word p) ds)))) where
     abbrev behind : List (List ℕ)
     behind = name ∷ (map (next_word p) moved_comps ++ behind_see (map (next_word p) ds))
 
@@ -268,7 +266,7 @@ module _ (p : Standing) (a : ℕ) (ds : List CompId) (valid : IsSystem p.model) 
       seen = seen_wants;
       plain = rw written (plain_spaced (codes "grant") behind refl all);
       says = rw written (words_spaced (codes "grant") behind (refl, refl) all);
-      named = record { name = is.name; known = slice_get-get_or p.model.interaction_names a [] is.known ∙ ap (λ (t : List ℕ). Some t) is.named };
+      named = is;
       moves = next-spelled p Moved moved_comps mine;
       sees = next-spelled p Seen ds theirs;
       some = rw (length-map moved_comps (next_want p.used Moved), length-map (participants_of p.model a) (λ (q : Participant). q.0)) (of_interaction p.model a (λ qs. 0 < length qs) valid declared (λ i is'. is'.some));
@@ -283,13 +281,8 @@ module _ (p : Standing) (a : ℕ) (ds : List CompId) (valid : IsSystem p.model) 
 -- a line that is written as is expected of an interaction reads as it
 pub expects_as_written : (p : Standing) (line name rest : List ℕ) (a : ℕ) → IsInterName p.model name a → line ≡ codes "grant " ++ (name ++ rest) → BeginsWithWants p a rest [] → Expects p line a
 expects_as_written p line name rest a inter is wants =
-    expects p a wants.looks inter.valid (omega (arith, inter.at.known, inter.valid.so_far.interactions_named)) wants.listed wants.moved wants.seen line name wants.few inter.at
+    expects p a wants.looks inter.valid (omega (arith, slice_get_within p.model.interaction_names a name inter.named.known, inter.valid.so_far.interactions_named)) wants.listed wants.moved wants.seen line name wants.few inter.named
     (is ∙ rw wants.begins (simp (flat_map-append, append_assoc, append-nil)))
-
--- what says more where there is a value
-pub some_weaker : {X : Type 0} (P Q : X → Type 0) (r : Option X) → ((x : X) → P x → Q x) → IfSome r P → IfSome r Q
-some_weaker P Q None tells is = tt
-some_weaker P Q (Some x) tells is = tells x is
 
 -- one participant more, and one more that is looked at
 pub more_participants : (p : Standing) (qs : List Participant) (i : ℕ) (d : Participant) (text mid rest : List ℕ) → i < length qs → BeginsWith p (comps_of (take i qs)) text mid → BeginsWith p ((get_or qs i d).0 ∷ []) mid rest → BeginsWith p (comps_of (take (i + 1) qs)) text rest
@@ -319,76 +312,3 @@ begins_wants p a (d ∷ ds) text mid after rest listed few moved see looks some 
       moved = moved.words;
       seen = looks.words;
     }
-
--- of components that rise, one isn't among those before it
-new_part : (qs : List Participant) (i : ℕ) (d : Participant) → IsStrictlyIncreasing (components_in qs) → i < length qs → takes_part (take i qs) (get_or qs i d).0.0 ≡ false
-new_part qs i d rising within =
-    let shorter : length (take i qs) ≡ i = length-take-le i qs (omega arith) in
-    list_any_none (λ (q : Participant). eqb q.0.0 (get_or qs i d).0.0) (take i qs)
-    (All-from_get_or (λ (q : Participant). eqb q.0.0 (get_or qs i d).0.0 ≡ false) (take i qs) d (λ k below.
-    let less = below_later (λ (q : Participant). q.0.0) qs rising k i d (omega arith) within in
-    rw (get_or-take i qs k d (omega arith)) (ne_eqb _ _ (λ same. omega arith))))
-
--- a component's used number is as it was until its participant comes
-pub unused_yet : (old now : List ℕ) (qs : List Participant) (i : ℕ) (d : Participant) (base : ℕ) → IsStrictlyIncreasing (components_in qs) → i < length qs
-    → ((b n : ℕ) → get_or now n b ≡ cond (takes_part (take i qs) n) (get_or old n b + 1) (get_or old n b))
-    → get_or now (get_or qs i d).0.0 base ≡ get_or old (get_or qs i d).0.0 base
-unused_yet old now qs i d base rising within before =
-    let new = new_part qs i d rising within in
-    let first = before base (get_or qs i d).0.0 in
-    grind arith
-
--- a number is put at a place
-put_one : (u : List ℕ) (k c base n : ℕ) → k < length u → get_or (set u k n) c base ≡ cond (eqb k c) n (get_or u c base)
-put_one u k c base n within = grind (arith, common_steps)
-
--- the used numbers after the next move of one participant more
-pub used_more : (old now : List ℕ) (qs : List Participant) (i : ℕ) (d : Participant) (base c : ℕ) → IsStrictlyIncreasing (components_in qs) → i < length qs → length now ≡ length old → (get_or qs i d).0.0 < length old
-    → ((b n : ℕ) → get_or now n b ≡ cond (takes_part (take i qs) n) (get_or old n b + 1) (get_or old n b))
-    → get_or (set now (get_or qs i d).0.0 (get_or now (get_or qs i d).0.0 0 + 1)) c base ≡ cond (takes_part (take (i + 1) qs) c) (get_or old c base + 1) (get_or old c base)
-used_more old now qs i d base c rising within long inside before =
-    rw (put_one now k c base (get_or now k 0 + 1) (omega arith), take_more qs i d within, list_any-append (λ (q : Participant). eqb q.0.0 c) (take i qs) (get_or qs i d ∷ []))
-    (by_test (eqb k c) refl)
-  where
-    k : ℕ
-    k = (get_or qs i d).0.0
-
-    by_test : (b : Bool) → eqb k c ≡ b → cond b (get_or now k 0 + 1) (get_or now c base) ≡ cond (takes_part (take i qs) c || (b || false)) (get_or old c base + 1) (get_or old c base)
-    by_test true e =
-        let same : k ≡ c = eqb-true k c e in
-        let new = new_part qs i d rising within in
-        let first = before 0 k in
-        let any = get_or_default old k 0 base inside in
-        grind arith
-    by_test false e = let first = before base c in grind arith
-
--- what an expected grant moves
-moved_as : (used : ℕ → ℕ) (ws : List Want) (n : ℕ) → All (HasNextNumber used) ws → moved_in ws n ≡ cond (list_any (is_moving n) ws) (used n + 1) 0
-moved_as used [] n numbers = refl
-moved_as used (w ∷ ws) n numbers =
-    let later = moved_as used ws n (All-tail (HasNextNumber used) w ws numbers) in
-    let first = All-head (HasNextNumber used) w ws numbers in
-    grind arith
-
-same_tests : (x y : Bool) → (x ≡ true → y ≡ true) → (y ≡ true → x ≡ true) → x ≡ y
-same_tests true y there back = sym (there refl)
-same_tests false true there back = back refl
-same_tests false false there back = refl
-
--- the used numbers after an expected grant
-pub raised_expected : (p : Standing) (a : ℕ) (g : Grant) (n : ℕ) → IsExpected p a g → raised p.used g.wants n ≡ cond (moves p.model a n) (p.used n + 1) (p.used n)
-raised_expected p a g n is =
-    let same = same_tests (list_any (is_moving n) g.wants) (moves p.model a n) (λ test. (is.parties.moved n).0 ((moving g.wants n).1 test)) (λ takes. (moving g.wants n).0 ((is.parties.moved n).1 takes)) in
-    let by = moved_as p.used g.wants n is.numbers in
-    grind arith
-
--- what an expected grant moves has a next number
-pub expected_next : (p : Kept) (a : ℕ) (g : Grant) (qs : List Participant) → IsSystem p.model → length p.used ≡ length p.model.components → IsExpected (standing_of p) a g → qs ≡ participants_of p.model a → All (λ (q : Participant). HasNextIn p.used q.0) qs
-expected_next p a g qs valid long is same k d within =
-    let c : ℕ = (get_or qs k d).0.0 in
-    let takes : moves p.model a c ≡ true = rw (← same) (list_any_at (λ (q : Participant). eqb q.0.0 c) qs k d within (eq-eqb c c refl)) in
-    let at : IsWanted Moved g.wants c = (is.parties.moved c).1 takes in
-    let has = All-contains (HasNextNumber (standing_of p).used) g.wants at.1 is.numbers (at.0, at.2, at.3) in
-    let inside : c < length p.used = omega (arith, moves_known p.model a c valid.so_far takes) in
-    let next : get_or p.used c p.base < last_number = rw (← at.4.0) (omega (arith, has.next, has.fits)) in
-    record { known = inside; next = rw (get_or_default p.used c 0 p.base inside) next }

@@ -36,7 +36,7 @@ parts_of word parts is =
     rw (← at.2) (sym (take-append-drop at.0 word) ∙ ap (λ (bs : List ℕ). take at.0 word ++ bs) behind)
 
 -- a name that is found, as the name with its number, and back
-name_of-place : (names : List (List ℕ)) (text : List ℕ) (c : ℕ) → is_name text ≡ true → position (same_text text) names ≡ Some c → IsNameOf names text c
+pub name_of-place : (names : List (List ℕ)) (text : List ℕ) (c : ℕ) → is_name text ≡ true → position (same_text text) names ≡ Some c → IsNameOf names text c
 name_of-place names text c named at =
     let here = slice_get-get_or names c [] (position-Some (same_text text) names c [] at).0 in
     record { name = grind arith; known = here ∙ ap (λ (t : List ℕ). Some t) (sym (name_at names text c at)) }

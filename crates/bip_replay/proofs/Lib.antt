@@ -5,6 +5,7 @@ pub mod GrantLemmas
 pub mod ItemLemmas
 pub mod LineByLineLemmas
 pub mod NamedLemmas
+pub mod NextLemmas
 pub mod ReadingLemmas
 pub mod RunLemmas
 pub mod TextLemmas

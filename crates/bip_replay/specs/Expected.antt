@@ -13,6 +13,7 @@ use Rattle.bip_model.specs.Texts.{spaced}
 use Rattle.bip_model.specs.declared.grants.Grant.{Grant}
 use Rattle.bip_model.specs.declared.numbering.CompId.{CompId}
 use Rattle.bip_model.specs.declared.parts.System.{System}
+use Rattle.bip_replay.specs.Laws.{IsNameOf}
 use Rattle.bip_replay.specs.Lines.{colon, grant_on}
 use Rattle.bip_replay.specs.Runs.{HasNextNumber, Standing}
 use Rattle.bip_replay.specs.Writing.{behind_see}
@@ -35,16 +36,10 @@ pub record Expects (p : Standing) (line : List ℕ) (a : ℕ) : Type 0 where
   pub reads : grant_on p.model line ≡ Ok (Some grant)
   pub is : IsExpected p a grant
 
--- a text is the name with this number
-pub record IsNameAt (names : List (List ℕ)) (text : List ℕ) (n : ℕ) : Type 0 where
-  pub known : n < length names
-  pub named : name_in names n ≡ text
-  pub name : IsName text
-
 -- a text is the name of the interaction with this number
 pub record IsInterName (m : System) (text : List ℕ) (a : ℕ) : Type 0 where
   pub valid : IsSystem m
-  pub at : IsNameAt m.interaction_names text a
+  pub named : IsNameOf m.interaction_names text a
 
 -- a component has a place among used numbers, and a next move
 pub record HasNextIn (used : List ℕ) (c : CompId) : Type 0 where

@@ -29,6 +29,7 @@ pub(crate) fn read_expected(
     Some(inter)
 }
 
+/// A text up to its first space, and the rest.
 fn split_name(text: &[u8]) -> Option<(&[u8], &[u8])>
     ensures { IfSome result (λ parts. text.now ≡ parts.0.now ++ parts.1.now) }
 {
@@ -55,6 +56,7 @@ fn strip_wants<'t>(position: &Position<'_>, inter: InterId, text: &'t [u8]) -> O
     strip_seen(position, looks, strip(rest, b" see")?)
 }
 
+/// What follows participants by the numbers of their next moves.
 fn strip_moved<'t>(
     position: &Position<'_>,
     participants: &[(CompId, PortId)],
@@ -72,6 +74,7 @@ fn strip_moved<'t>(
     Some(rest)
 }
 
+/// What follows components by the numbers of their next moves.
 fn strip_seen<'t>(position: &Position<'_>, looks: &[CompId], text: &'t [u8]) -> Option<&'t [u8]>
     requires { All (λ (c : CompId). c.0 < length position.now.model.component_names) looks.now }
     ensures { IfSome result (λ rest.

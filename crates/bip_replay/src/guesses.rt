@@ -1,17 +1,18 @@
 //! Guesses which interaction has a name.
 ghost use Rattle.std.specs.Prelude.{◌<◌, IfSome, IsTrue};
-ghost use Rattle.bip_replay.specs.Expected.{IsInterName, IsNameAt};
+ghost use Rattle.bip_replay.specs.Expected.{IsInterName};
+ghost use Rattle.bip_replay.specs.Laws.{IsNameOf};
 
 use bip_model::{InterId, Model, Name};
 
 /// How many guesses there are.
 const GUESSES: usize = 1024;
 
-/// By it names that differ in a digit or two get different guesses.
+/// Found by trial: names that differ in a letter and a number get guesses of their own.
 const SPREAD: u32 = 691;
 
-/// Guesses: for each hash of a name, the interaction that was last found by a name with it. A guess
-/// is taken only where it has the name, so what is found is right whatever stands here.
+/// For each hash of a name the interaction that was last found by such a name: a guess, which is
+/// taken only where that interaction has the name.
 #[derive(Drop)]
 pub(crate) struct Guesses {
     last: [InterId; GUESSES],
@@ -40,7 +41,7 @@ impl Guesses {
 }
 
 fn has_name(names: &[Name], inter: InterId, name: &[u8]) -> bool
-    ensures { IsTrue result → IsNameAt names.now name.now inter.0 }
+    ensures { IsTrue result → IsNameOf names.now name.now inter.0 }
 {
     match names.get(inter.0 as usize) {
         Some(own) => own.as_bytes() == name,

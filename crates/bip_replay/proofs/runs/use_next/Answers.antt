@@ -1,7 +1,7 @@
 use Rattle.std.proofs.Common.{arith}
 use Rattle.std.proofs.lemmas.List.{length-set}
 use Rattle.bip_model.specs.Parts.{Participant}
-use Rattle.bip_replay.proofs.ExpectedLemmas.{unused_yet, used_more}
+use Rattle.bip_replay.proofs.NextLemmas.{unused_yet, used_more}
 use Rattle.bip_replay.proofs.runs.use_next.Goals as goal
 
 pub overflow_add-number : goal.overflow_add-number

@@ -2,7 +2,7 @@ use Rattle.std.proofs.Common.{◌∙◌, sym}
 use Rattle.std.proofs.Math.Path.{fun_ext}
 use Rattle.std.specs.Prelude.{slice_index_or}
 use Rattle.bip_model.specs.States.{state_of}
-use Rattle.bip_replay.proofs.ExpectedLemmas.{expected_next, raised_expected}
+use Rattle.bip_replay.proofs.NextLemmas.{expected_next, raised_expected}
 use Rattle.bip_replay.proofs.RunLemmas.{stands_on}
 use Rattle.bip_replay.specs.Expected.{IsExpected}
 use Rattle.bip_replay.specs.Runs.{Kept, standing_of}
