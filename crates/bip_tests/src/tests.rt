@@ -7,6 +7,7 @@ mod appending;
 mod asking;
 mod banking;
 mod building;
+mod exploring;
 mod laws;
 mod listing;
 mod notifying;

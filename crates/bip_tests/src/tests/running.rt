@@ -58,7 +58,7 @@ struct Run {
     trace: &'static str,
 }
 
-fn report(events: u64, grants: u64, refusals: u64, idle: u64) -> Report {
+pub(super) fn report(events: u64, grants: u64, refusals: u64, idle: u64) -> Report {
     Report {
         lost: 0,
         events,
@@ -81,7 +81,7 @@ fn are_grants(grants: &[Grant], others: &[Grant]) -> bool {
             .all(|(grant, other)| is_grant(grant, other))
 }
 
-fn world<'p>(
+pub(super) fn world<'p>(
     rt: &impl Abort,
     alloc: Global,
     plan: &'p Plan,
