@@ -1,5 +1,5 @@
 -- What stops a command before it has an answer, and what is said of it.
-use Rattle.std.specs.Prelude.{ℕ, List, ◌++◌, codes}
+use Rattle.std.specs.Prelude.{ℕ, List, ◌++◌, ◌==◌, ◌||◌, codes, if◌then◌else◌, map, nat_lt}
 use Rattle.bipr.specs.Answers.{complaining}
 use Rattle.bipr.specs.Wording.{complaint_text}
 use Rattle.bipr.specs.declared.answers.Answer.{Answer}
@@ -9,9 +9,13 @@ use Rattle.bipr.specs.declared.inputs.InputFault.TheVariants as input_fault
 use Rattle.bipr.specs.declared.stops.Stop.{Stop}
 use Rattle.bipr.specs.declared.stops.Stop.TheVariants as stop
 
+-- a byte of a path as it is shown: `?` in place of a control byte
+abbrev pub shown : ℕ → ℕ
+shown byte = if nat_lt byte 32 || (byte == 127) then 63 else byte
+
 -- a text can't be read, or is too long, by its path
 abbrev pub unread_text : List ℕ → List ℕ
-unread_text path = complaint_text (codes "cannot read " ++ path)
+unread_text path = complaint_text (codes "cannot read " ++ map shown path)
 
 -- memory is out
 abbrev pub no_memory_text : List ℕ

@@ -1,6 +1,6 @@
 //! What stops a command before it has an answer.
 ghost use Rattle.std.specs.Prelude.{◌≡◌, IfOk};
-ghost use Rattle.bipr.specs.Stops.{answer_of_stop, unread};
+ghost use Rattle.bipr.specs.Stops.{answer_of_stop, shown, unread, unread_text};
 ghost use Rattle.bipr.specs.declared.stops.Stop.TheVariants.{OutOfMemory};
 
 use crate::answers::Status;
@@ -46,11 +46,35 @@ impl<'a> Stop<'a> {
         ensures { IfOk result (λ text. text.items ≡ (answer_of_stop self.now).complaint) }
     {
         match self {
-            Stop::CannotRead(path) => {
-                Ok(format!(in alloc; "bipr: cannot read {path}\n")?.into_bytes())
-            }
+            Stop::CannotRead(path) => unread_text(alloc, path),
             Stop::OutOfMemory => Vec::from_slice(alloc, NO_MEMORY),
         }
+    }
+}
+
+/// `bipr: cannot read PATH`, where `?` stands for each control byte of the path: a terminal would
+/// obey those.
+fn unread_text(alloc: Global, path: &str) -> Result<Vec<u8>, AllocError>
+    ensures { IfOk result (λ text. text.items ≡ unread_text path.now) }
+{
+    let shown: Vec<u8> = path
+        .as_bytes()
+        .iter()
+        .map(|byte| shown(*byte))
+        .collect(alloc)?;
+    let mut text = Vec::from_slice(alloc, b"bipr: cannot read ")?;
+    text.extend_from_slice(shown.as_slice())?;
+    text.push(b'\n')?;
+    Ok(text)
+}
+
+fn shown(byte: u8) -> u8
+    ensures { result ≡ shown byte }
+{
+    if byte < b' ' || byte == 127 {
+        b'?'
+    } else {
+        byte
     }
 }
 
