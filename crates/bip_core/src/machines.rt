@@ -6,6 +6,7 @@ ghost use Rattle.bip_model.specs.Numbering.{last_number};
 ghost use Rattle.bip_model.specs.Parts.{IsSystem};
 ghost use Rattle.bip_partition.specs.Plans.{IsFit, IsReserved};
 ghost use Rattle.bip_bank.specs.Banks.{content_of, with_request};
+ghost use Rattle.bip_ip.specs.Nodes.{CanBeAsked, KeptNode, node_of};
 ghost use Rattle.bip_core.specs.Events.{CanBeSkipped, IsCounted, IsTakenIn, TakesOut};
 ghost use Rattle.bip_core.specs.Events.{class_named, grant_acted, grant_tried, submitted};
 ghost use Rattle.bip_core.specs.Events.{trace_with};
@@ -169,8 +170,8 @@ impl<'p, B: bip_bank::Bank> Machine<'p, B> {
         outcome
     }
 
-    /// Lets a class try an interaction; a local grant joins the trace, for which room is made
-    /// first. Most tries ask for nothing, and cost no more than to see that.
+    /// Lets a class try an interaction. Most tries ask for nothing, and cost no more than to see
+    /// why.
     fn try_one<W: Witness>(
         &mut self,
         class: ClassId,
@@ -190,6 +191,27 @@ impl<'p, B: bip_bank::Bank> Machine<'p, B> {
             witness.see_why_not(why);
             return Ok(Outcome::of(Kind::Idle));
         }
+        self.ask_one(class, inter, witness)
+    }
+
+    /// Lets a class ask for an interaction that can be asked for; a local grant joins the trace, for
+    /// which room is made first. It is never inlined: what it keeps in place takes some 2,000 bytes,
+    /// which are cleared where it begins.
+    #[inline(never)]
+    fn ask_one<W: Witness>(
+        &mut self,
+        class: ClassId,
+        inter: InterId,
+        witness: &mut W,
+    ) -> Result<Outcome, AllocError>
+        requires within { class.0 < length self.old.classes }
+        requires asked { (node : KeptNode) → slice_get self.old.classes class.0 ≡ Some node
+            → CanBeAsked (node_of node) inter.0 }
+        ensures counted { IfOk result (λ outcome. IsCounted (λ what. W.saw what witness.new)
+            (world_of self.old) (Try class inter) outcome (world_of self.new)) }
+        ensures skipped { IfErr result (λ e. CanBeSkipped (world_of self.old) (Try class inter)) }
+        ensures err { OnErr result (self.new ≡ self.old) }
+    {
         make_room(self.plan, &mut self.trace, inter)?;
         let did = self.classes[class.0 as usize].ask(inter);
         join_tried(&mut self.trace, &did);

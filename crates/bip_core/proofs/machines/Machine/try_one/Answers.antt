@@ -1,11 +1,8 @@
-use Rattle.std.proofs.Common.{◌<◌, ◌≤◌, inl, inr, length, refl, rules, set, subst, sym}
-use Rattle.bip_partition.specs.Plans.{IsReserved, Planned}
-use Rattle.bip_ip.specs.Nodes.{node_of}
-use Rattle.bip_core.specs.Events.{SendsWhatFits, grant_tried, trace_with}
+use Rattle.std.proofs.Common.{◌<◌, ◌≤◌, length, refl, rules}
 use Rattle.bip_core.specs.Worlds.{world_of}
 use Rattle.bip_core.specs.declared.events.Event.TheVariants.{Try}
-use Rattle.bip_core.specs.declared.events.What.TheVariants.{Nothing, Tries}
-use Rattle.bip_core.proofs.WorldLemmas.{class_kept, counted_by, counted_idly, counted_quiet, kept_by, no_grant, no_try, read_here, sent_kept, trace_kept, tried_fits, tried_grant, tried_on, tried_same}
+use Rattle.bip_core.specs.declared.events.What.TheVariants.{Nothing}
+use Rattle.bip_core.proofs.WorldLemmas.{counted_idly, counted_quiet, kept_by, no_try, read_here}
 use Rattle.bip_core.proofs.machines.Machine.try_one.Goals as goal
 
 pub returns-then-class-len-clause-counted : goal.returns-then-class-len-clause-counted
@@ -21,40 +18,3 @@ returns-in-Some-clause-counted g c =
     let is = read_here w.classes c.args.class.0 c.index.result.now within c.index.ensures in
     rw (← c.self.view_is) (counted_idly _ w c.args.class c.args.inter c.in-Some.why c.index.result.now _ c.see_why_not.ensures is c.in-Some.ensures.some c.of-in-Some.ensures)
 
-pub join_tried-requires : goal.join_tried-requires
-join_tried-requires g c =
-    let w = kept_by c.self.inside.plan.now c.self.inside.components.items c.self.inside.classes.items c.self.inside.mail.items c.self.inside.trace.items (g.B.Bank.kept c.self.inside.bank) in
-    let old = c.index_mut.result.now in
-    let within : c.args.class.0 < length w.classes = search rules in
-    let is = read_here w.classes c.args.class.0 old within c.index_mut.ensures.value in
-    let plan = (c.self.invariant.classes c.args.class.0 old is).0 in
-    elim c.in_ok-make_room.ensures.room [
-      | inl reserved ↦ inl (no_grant (node_of old) c.args.inter.0 c.ask-did.result c.ask-did.ensures.tried (subst (λ (p : Planned). IsReserved p c.args.inter.0) (sym plan) reserved))
-      | inr room ↦ inr room
-    ]
-
-pub invariant_of-self-2 : goal.invariant_of-self-2
-invariant_of-self-2 g c =
-    let w = kept_by c.self.inside.plan.now c.self.inside.components.items c.self.inside.classes.items c.self.inside.mail.items c.self.inside.trace.items (g.B.Bank.kept c.self.inside.bank) in
-    let old = c.index_mut.result.now in
-    let within : c.args.class.0 < length w.classes = search rules in
-    let is = read_here w.classes c.args.class.0 old within c.index_mut.ensures.value in
-    let did = c.ask-did.result in
-    let n = c.ask-did.new.self in
-    let plan = (c.self.invariant.classes c.args.class.0 old is).0 in
-    let same = tried_same c.args.inter.0 did (node_of old) (node_of n) c.ask-did.ensures.left in
-    let granted = tried_grant (node_of old) c.args.inter.0 did (rw plan c.make_room.ensures.valid) c.ask-did.ensures.tried in
-    let fits = subst (λ (p : Planned). SendsWhatFits p (Tries did)) plan (tried_fits (node_of old) c.args.inter.0 did c.ask-did.ensures.tried) in
-    let kept = trace_kept (record w { classes = set w.classes c.args.class.0 n }) (grant_tried did) (rw plan at granted) (class_kept w c.args.class.0 n old within is same.0 same.1 c.self.invariant) in
-    rw (c.join_tried.ensures, c.make_room.ensures.same) (sent_kept (record w { classes = set w.classes c.args.class.0 n; trace = trace_with w.trace (grant_tried did) }) (Tries did) c.send_tried-outcome.result c.send_tried-outcome.new.mail.items fits c.send_tried-outcome.ensures kept)
-
-pub returns-clause-counted : goal.returns-clause-counted
-returns-clause-counted g c =
-    let w = kept_by c.self.inside.plan.now c.self.inside.components.items c.self.inside.classes.items c.self.inside.mail.items c.self.inside.trace.items (g.B.Bank.kept c.self.inside.bank) in
-    let old = c.index_mut.result.now in
-    let within : c.args.class.0 < length w.classes = search rules in
-    let is = read_here w.classes c.args.class.0 old within c.index_mut.ensures.value in
-    let did = c.ask-did.result in
-    let n = c.ask-did.new.self in
-    let traced = tried_on w c.args.class c.args.inter did old n is c.ask-did.ensures.tried c.ask-did.ensures.left in
-    rw (← c.self.view_is, c.join_tried.ensures, c.make_room.ensures.same) (counted_by _ (world_of w) (Try c.args.class c.args.inter) (Tries did) _ (world_of (record w { classes = set w.classes c.args.class.0 n; trace = trace_with w.trace (grant_tried did) })) _ c.see-2.ensures traced c.send_tried-outcome.ensures refl)
