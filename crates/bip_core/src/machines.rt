@@ -194,9 +194,9 @@ impl<'p, B: bip_bank::Bank> Machine<'p, B> {
         self.ask_one(class, inter, witness)
     }
 
-    /// Lets a class ask for an interaction that can be asked for; a local grant joins the trace, for
-    /// which room is made first. It is never inlined: what it keeps in place takes some 2,000 bytes,
-    /// which are cleared where it begins.
+    /// Lets a class ask for an interaction that can be asked for; a local grant joins the trace,
+    /// for which room is made first. It is never inlined: what it keeps in place is some 2,000
+    /// bytes, which are cleared where it begins.
     #[inline(never)]
     fn ask_one<W: Witness>(
         &mut self,

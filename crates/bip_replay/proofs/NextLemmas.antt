@@ -18,7 +18,7 @@ use Rattle.bip_model.specs.Wants.{moved_in, raised}
 use Rattle.bip_model.specs.declared.grants.Grant.{Grant}
 use Rattle.bip_model.specs.declared.wants.Role.TheVariants.{Moved}
 use Rattle.bip_model.specs.declared.wants.Want.{Want}
-use Rattle.bip_replay.specs.Expected.{HasNextIn, IsExpected, takes_part}
+use Rattle.bip_replay.specs.Expected.{HasNextIn, IsExpectedGrant, takes_part}
 use Rattle.bip_replay.specs.Runs.{HasNextNumber, Kept, Standing, standing_of}
 use Rattle.bip_replay.proofs.ExpectedLemmas.{moving}
 
@@ -78,14 +78,14 @@ same_tests false true there back = back refl
 same_tests false false there back = refl
 
 -- the used numbers after an expected grant
-pub raised_expected : (p : Standing) (a : ℕ) (g : Grant) (n : ℕ) → IsExpected p a g → raised p.used g.wants n ≡ cond (moves p.model a n) (p.used n + 1) (p.used n)
+pub raised_expected : (p : Standing) (a : ℕ) (g : Grant) (n : ℕ) → IsExpectedGrant p a g → raised p.used g.wants n ≡ cond (moves p.model a n) (p.used n + 1) (p.used n)
 raised_expected p a g n is =
     let same = same_tests (list_any (is_moving n) g.wants) (moves p.model a n) (λ test. (is.parties.moved n).0 ((moving g.wants n).1 test)) (λ takes. (moving g.wants n).0 ((is.parties.moved n).1 takes)) in
     let by = moved_as p.used g.wants n is.numbers in
     grind arith
 
 -- what an expected grant moves has a next number
-pub expected_next : (p : Kept) (a : ℕ) (g : Grant) (qs : List Participant) → IsSystem p.model → length p.used ≡ length p.model.components → IsExpected (standing_of p) a g → qs ≡ participants_of p.model a → All (λ (q : Participant). HasNextIn p.used q.0) qs
+pub expected_next : (p : Kept) (a : ℕ) (g : Grant) (qs : List Participant) → IsSystem p.model → length p.used ≡ length p.model.components → IsExpectedGrant (standing_of p) a g → qs ≡ participants_of p.model a → All (λ (q : Participant). HasNextIn p.used q.0) qs
 expected_next p a g qs valid long is same k d within =
     let c : ℕ = (get_or qs k d).0.0 in
     let takes : moves p.model a c ≡ true = rw (← same) (list_any_at (λ (q : Participant). eqb q.0.0 c) qs k d within (eq-eqb c c refl)) in

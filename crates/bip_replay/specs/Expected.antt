@@ -21,20 +21,20 @@ use Rattle.bip_replay.specs.Writing.{behind_see}
 -- What contracts of private functions say.
 
 -- a grant is expected of an interaction: it has its parties, each by the number of its next move
-pub record IsExpected (p : Standing) (a : ℕ) (g : Grant) : Type 0 where
+pub record IsExpectedGrant (p : Standing) (a : ℕ) (g : Grant) : Type 0 where
   pub inter : g.inter.0 ≡ a
   pub numbers : All (HasNextNumber p.used) g.wants
   pub parties : AreParties p.model a g.wants
 
 -- there is such a grant
 abbrev pub HasExpected : Standing → ℕ → Type 0
-HasExpected p a = (g : Grant) × IsExpected p a g
+HasExpected p a = (g : Grant) × IsExpectedGrant p a g
 
 -- a line reads as a grant that is expected of an interaction
 pub record Expects (p : Standing) (line : List ℕ) (a : ℕ) : Type 0 where
   pub grant : Grant
   pub reads : grant_on p.model line ≡ Ok (Some grant)
-  pub is : IsExpected p a grant
+  pub is : IsExpectedGrant p a grant
 
 -- a text is the name of the interaction with this number
 pub record IsInterName (m : System) (text : List ℕ) (a : ℕ) : Type 0 where

@@ -41,7 +41,7 @@ impl<'m> marker::Model for Position<'m> {
 impl<'m> Position<'m> {
     ghost use Rattle.bip_model.specs.Steps.{MayRun};
     ghost use Rattle.bip_model.specs.declared.grants.Grant.{Grant};
-    ghost use Rattle.bip_replay.specs.Expected.{HasExpected, IsExpected};
+    ghost use Rattle.bip_replay.specs.Expected.{HasExpected, IsExpectedGrant};
     ghost use Rattle.bip_replay.specs.Faults.{IsFaultAt};
     ghost use Rattle.bip_replay.specs.Runs.{IsNextAt, standing_on};
 
@@ -110,9 +110,9 @@ impl<'m> Position<'m> {
     /// refused with the grant's fault, and the position stays.
     pub(crate) fn step_expected(&mut self, inter: InterId) -> Result<(), StepFault>
         requires { HasExpected (standing_of self.old) inter.0 }
-        ensures next { OnOk result ((g : Grant) → IsExpected (standing_of self.old) inter.0 g
+        ensures next { OnOk result ((g : Grant) → IsExpectedGrant (standing_of self.old) inter.0 g
             → IsNextAt (standing_of self.old) g) }
-        ensures on { OnOk result ((g : Grant) → IsExpected (standing_of self.old) inter.0 g
+        ensures on { OnOk result ((g : Grant) → IsExpectedGrant (standing_of self.old) inter.0 g
             → standing_of self.new ≡ standing_on (standing_of self.old) g) }
         ensures fault { IfErr result (λ e. (g : Grant)
             → g.inter.0 ≡ inter.0 → IsFaultAt (standing_of self.old) g e) }
@@ -143,7 +143,7 @@ impl<'m> Position<'m> {
     fn go_on_expected(&mut self, inter: InterId)
         requires expected { HasExpected (standing_of self.old) inter.0 }
         requires may { MayRun self.old.model (standing_of self.old).state inter.0 }
-        ensures { (g : Grant) → IsExpected (standing_of self.old) inter.0 g
+        ensures { (g : Grant) → IsExpectedGrant (standing_of self.old) inter.0 g
             → standing_of self.new ≡ standing_on (standing_of self.old) g }
     {
         let participants = self.model.participants(inter);

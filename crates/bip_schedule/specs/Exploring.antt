@@ -83,7 +83,7 @@ text_of_explore Memory = codes "no memory"
 -- What contracts of private functions say.
 
 -- why the check of a seed's trace fails
-abbrev pub IsTraceFault : System → ℕ → ℕ → List Grant → ExploreFault → Type 0
-IsTraceFault m base seed trace (NotARun number fault) =
+abbrev pub IsCheckFault : System → ℕ → ℕ → List Grant → ExploreFault → Type 0
+IsCheckFault m base seed trace (NotARun number fault) =
     (number ≡ seed) × IsNoRun m base trace fault
-IsTraceFault m base seed trace Memory = ⊤
+IsCheckFault m base seed trace Memory = ⊤

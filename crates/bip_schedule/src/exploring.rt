@@ -5,8 +5,8 @@ ghost use Rattle.bip_replay.specs.Runs.{IsModelRun};
 ghost use Rattle.bip_bank.specs.Banks.{content_of};
 ghost use Rattle.bip_core.specs.Starting.{IsNewWorld, IsUnasked};
 ghost use Rattle.bip_core.specs.Worlds.{world_of};
-ghost use Rattle.bip_schedule.specs.Exploring.{AreExplored, IsExploreFault, IsSeedFault};
-ghost use Rattle.bip_schedule.specs.Exploring.{IsSeedRun, IsTraceFault, number_of_explore};
+ghost use Rattle.bip_schedule.specs.Exploring.{AreExplored, IsCheckFault, IsExploreFault};
+ghost use Rattle.bip_schedule.specs.Exploring.{IsSeedFault, IsSeedRun, number_of_explore};
 ghost use Rattle.bip_schedule.specs.Exploring.{text_of_explore};
 ghost use Rattle.bip_schedule.specs.Seeding.{IsFlightOf};
 ghost use Rattle.bip_schedule.specs.declared.exploring.ExploreFault.TheVariants.{Memory};
@@ -154,7 +154,7 @@ fn check_run(
 ) -> Result<(), ExploreFault>
     requires { base < last_number }
     ensures run { OnOk result (IsModelRun model.now base trace.now) }
-    ensures fault { IfErr result (IsTraceFault model.now base seed trace.now) }
+    ensures fault { IfErr result (IsCheckFault model.now base seed trace.now) }
 {
     let mut position = Position::start(alloc, model, base)?;
     for grant in trace {

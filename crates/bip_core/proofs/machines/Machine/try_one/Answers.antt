@@ -17,4 +17,3 @@ returns-in-Some-clause-counted g c =
     let within : c.args.class.0 < length w.classes = search rules in
     let is = read_here w.classes c.args.class.0 c.index.result.now within c.index.ensures in
     rw (← c.self.view_is) (counted_idly _ w c.args.class c.args.inter c.in-Some.why c.index.result.now _ c.see_why_not.ensures is c.in-Some.ensures.some c.of-in-Some.ensures)
-

@@ -4,7 +4,7 @@ use Rattle.std.specs.Prelude.{slice_index_or}
 use Rattle.bip_model.specs.States.{state_of}
 use Rattle.bip_replay.proofs.NextLemmas.{expected_next, raised_expected}
 use Rattle.bip_replay.proofs.RunLemmas.{stands_on}
-use Rattle.bip_replay.specs.Expected.{IsExpected}
+use Rattle.bip_replay.specs.Expected.{IsExpectedGrant}
 use Rattle.bip_replay.specs.Runs.{Kept, standing_of}
 use Rattle.bip_replay.proofs.runs.Position.go_on_expected.Goals as goal
 
@@ -17,7 +17,7 @@ use_next-requires-clause-next c =
 pub returns : goal.returns
 returns c = λ g is.
     let kept : Kept = record { model = c.self.inside.model.now; base = c.self.inside.base; locals = c.self.inside.state; used = c.self.inside.used } in
-    let here : IsExpected (standing_of kept) c.args.inter.0 g = rw (← c.self.view_is) at is in
+    let here : IsExpectedGrant (standing_of kept) c.args.inter.0 g = rw (← c.self.view_is) at is in
     rw (← c.self.view_is)
     (sym (stands_on (standing_of kept) (state_of c.run.new.state) (λ n. slice_index_or c.use_next.new.used n c.self.inside.base) g
     (rw (← here.inter) at c.run.ensures.fired)
