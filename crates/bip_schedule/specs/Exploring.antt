@@ -27,11 +27,17 @@ pub record IsSeedTrace (may_fly : BankContent → ℕ → Type 0) (p : Planned) 
   pub seeded : AreSeeded may_fly seed count events first last report
   pub is : trace ≡ last.trace
 
--- the trace of a seed is a run of the model, of so many grants
+-- no event of a run was skipped, and no message lost, for want of memory
+pub record IsWhole (report : Report) : Type 0 where
+  pub done : report.skipped ≡ 0
+  pub sent : report.lost ≡ 0
+
+-- the trace of a seed, all of whose events were done, is a run of the model, of so many grants
 pub record IsSeedRun (may_fly : BankContent → ℕ → Type 0) (p : Planned) (base count seed : ℕ)
     (grants : ℕ) : Type 0 where
   pub trace : List Grant
   pub of_seed : IsSeedTrace may_fly p base count seed trace
+  pub whole : IsWhole of_seed.report
   pub run : IsModelRun p.model base trace
   pub counted : grants ≡ length trace
 

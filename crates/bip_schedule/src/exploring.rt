@@ -1,19 +1,19 @@
 //! The explorer: many runs by chance, each checked to be a run of the model.
-ghost use Rattle.std.specs.Prelude.{◌≡◌, ◌<◌, ◌≤◌, IfErr, IfOk, Ok, OnOk, Some};
+ghost use Rattle.std.specs.Prelude.{◌≡◌, ◌<◌, ◌≤◌, IfErr, IfOk, IsTrue, Ok, OnOk, Some};
 ghost use Rattle.bip_model.specs.Numbering.{last_number};
 ghost use Rattle.bip_replay.specs.Runs.{IsModelRun};
 ghost use Rattle.bip_bank.specs.Banks.{content_of};
 ghost use Rattle.bip_core.specs.Starting.{IsNewWorld, IsUnasked};
 ghost use Rattle.bip_core.specs.Worlds.{world_of};
 ghost use Rattle.bip_schedule.specs.Exploring.{AreExplored, IsCheckFault, IsExploreFault};
-ghost use Rattle.bip_schedule.specs.Exploring.{IsSeedFault, IsSeedRun, number_of_explore};
+ghost use Rattle.bip_schedule.specs.Exploring.{IsSeedFault, IsSeedRun, IsWhole, number_of_explore};
 ghost use Rattle.bip_schedule.specs.Exploring.{text_of_explore};
 ghost use Rattle.bip_schedule.specs.Seeding.{IsFlightOf};
 ghost use Rattle.bip_schedule.specs.declared.exploring.ExploreFault.TheVariants.{Memory};
 
 use crate::seeding::run_seed;
 use bip_bank::Bank;
-use bip_core::World;
+use bip_core::{Report, World};
 use bip_model::{Grant, Model, Number};
 use bip_partition::Plan;
 use bip_replay::{GrantRef, Position, StepFault};
@@ -71,7 +71,8 @@ impl From<AllocError> for ExploreFault {
 
 /// Explores the seeds from 1 on, so many of them: each draws so many events in the new world of the
 /// plan above the base, and its trace is checked to be a run of the model. Ends at the first seed
-/// whose trace is none, or where memory is out. `make` gives a bank of that plan and base without
+/// whose trace is none, or where memory is out: also where an event was skipped or a message lost
+/// for want of it, so that a seed's grants are always the same. `make` gives a bank of that plan and base without
 /// grants or open requests. One seed's world is kept at a time (docs/DEFINITIONS.md, "Exploring").
 pub fn explore<'p, B: Bank + Drop, F: Fn() -> Result<B, AllocError>>(
     alloc: Global,
@@ -121,10 +122,20 @@ pub fn explore_seed<'p, B: Bank + Drop, F: Fn() -> Result<B, AllocError>>(
         seed) }
 {
     let mut world = new_world(alloc, plan, make, base)?;
-    run_seed(&mut world, u64::from(seed), count);
+    let report = run_seed(&mut world, u64::from(seed), count);
     let trace = world.trace();
     check_run(alloc, plan.model(), base, seed, trace)?;
+    if !is_whole(&report) {
+        return Err(ExploreFault::Memory);
+    }
     Ok(trace.len() as u64)
+}
+
+/// Whether no event was skipped, and no message lost, for want of memory.
+fn is_whole(report: &Report) -> bool
+    ensures { IsTrue result → IsWhole report.now }
+{
+    report.skipped == 0 && report.lost == 0
 }
 
 /// The new world of a plan above a base, with a new bank.
