@@ -28,7 +28,7 @@ pub record IsSeedTrace (may_fly : BankContent → ℕ → Type 0) (p : Planned) 
   pub is : trace ≡ last.trace
 
 -- no event of a run was skipped, and no message lost, for want of memory
-pub record IsWhole (report : Report) : Type 0 where
+pub record IsLossless (report : Report) : Type 0 where
   pub done : report.skipped ≡ 0
   pub sent : report.lost ≡ 0
 
@@ -37,7 +37,7 @@ pub record IsSeedRun (may_fly : BankContent → ℕ → Type 0) (p : Planned) (b
     (grants : ℕ) : Type 0 where
   pub trace : List Grant
   pub of_seed : IsSeedTrace may_fly p base count seed trace
-  pub whole : IsWhole of_seed.report
+  pub whole : IsLossless of_seed.report
   pub run : IsModelRun p.model base trace
   pub counted : grants ≡ length trace
 

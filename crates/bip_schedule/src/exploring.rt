@@ -6,8 +6,8 @@ ghost use Rattle.bip_bank.specs.Banks.{content_of};
 ghost use Rattle.bip_core.specs.Starting.{IsNewWorld, IsUnasked};
 ghost use Rattle.bip_core.specs.Worlds.{world_of};
 ghost use Rattle.bip_schedule.specs.Exploring.{AreExplored, IsCheckFault, IsExploreFault};
-ghost use Rattle.bip_schedule.specs.Exploring.{IsSeedFault, IsSeedRun, IsWhole, number_of_explore};
-ghost use Rattle.bip_schedule.specs.Exploring.{text_of_explore};
+ghost use Rattle.bip_schedule.specs.Exploring.{IsLossless, IsSeedFault, IsSeedRun};
+ghost use Rattle.bip_schedule.specs.Exploring.{number_of_explore, text_of_explore};
 ghost use Rattle.bip_schedule.specs.Seeding.{IsFlightOf};
 ghost use Rattle.bip_schedule.specs.declared.exploring.ExploreFault.TheVariants.{Memory};
 
@@ -72,8 +72,9 @@ impl From<AllocError> for ExploreFault {
 /// Explores the seeds from 1 on, so many of them: each draws so many events in the new world of the
 /// plan above the base, and its trace is checked to be a run of the model. Ends at the first seed
 /// whose trace is none, or where memory is out: also where an event was skipped or a message lost
-/// for want of it, so that a seed's grants are always the same. `make` gives a bank of that plan and base without
-/// grants or open requests. One seed's world is kept at a time (docs/DEFINITIONS.md, "Exploring").
+/// for want of it, so that a seed's grants are always the same. `make` gives a bank of that plan and
+/// base without grants or open requests. One seed's world is kept at a time (docs/DEFINITIONS.md,
+/// "Exploring").
 pub fn explore<'p, B: Bank + Drop, F: Fn() -> Result<B, AllocError>>(
     alloc: Global,
     plan: &'p Plan,
@@ -133,7 +134,7 @@ pub fn explore_seed<'p, B: Bank + Drop, F: Fn() -> Result<B, AllocError>>(
 
 /// Whether no event was skipped, and no message lost, for want of memory.
 fn is_whole(report: &Report) -> bool
-    ensures { IsTrue result → IsWhole report.now }
+    ensures { IsTrue result → IsLossless report.now }
 {
     report.skipped == 0 && report.lost == 0
 }
