@@ -1,78 +1,191 @@
-"""Writes a model of 64 components and 128 interactions, and a trace of nearly 16 MiB that is a run
-of it: `KIND MODEL TRACE`. The kinds: `written`, the one spelling in which traces are written;
-`mixed`, with the wants of each grant in another order and two blanks between words; `wide`, with
-256 transitions of each component, of which the last four are used."""
+"""Models with traces that are runs of them, for the benchmark of `replay`."""
 
-import sys
+from typing import NamedTuple
 
-KINDS = ("written", "mixed", "wide")
-COMPONENTS = 64
-BYTES = 16 * 1024 * 1024 - 4096
-
-
-def participants():
-    """The participants of each interaction: 1 to 8 components, of each its port."""
-    for first in range(COMPONENTS):
-        size = first % 8 + 1
-        yield sorted((first + 5 * k) % COMPONENTS for k in range(size)), "tick"
-        yield sorted((first + 11 * k) % COMPONENTS for k in range(9 - size)), "tock"
+# Each kind with what is said of it.
+KINDS = {
+    "written": "as traces are written",
+    "mixed": "wants in another order, two blanks",
+    "wide": "256 transitions of each component, of which the last four are used",
+    "data": "variables, guards, updates and transfers",
+    "priorities": "priorities, so grants see components",
+}
+MEBIBYTE = 1024 * 1024
+# of so many interactions, the first are granted by chance, and the others stand above them
+PLAIN, ABOVE = 96, 32
 
 
-def component(name, kind):
-    """A component with two locations and two ports that are used."""
-    lines = [f"component {name}", "loc low", "loc high", "port tick", "port tock"]
-    if kind == "wide":
-        rest = [f"rest{number}" for number in range(62)]
-        lines += [f"loc {place}" for place in rest] + ["port other", "port last"]
-        lines += [f"trans {port} {it} low" for it in rest for port in ("tick", "tock")]
+class Shape(NamedTuple):
+    """What is made: the kind, how many components, transitions of each and participants at most,
+    and the bytes of the trace, which is so long but for its last line."""
+
+    kind: str
+    components: int = 64
+    transitions: int = 4
+    participants: int = 8
+    size: int = 16 * MEBIBYTE - 4096
+
+
+def shape_of(kind):
+    return Shape(kind, transitions=256 if kind == "wide" else 4)
+
+
+def participants(shape):
+    """The participants of each interaction, each a component with one port of all."""
+    count, most = shape.components, shape.participants
+    for first in range(count):
+        size = first % most + 1
+        yield sorted((first + 5 * k) % count for k in range(size)), "tick"
+        yield sorted((first + 11 * k) % count for k in range(most + 1 - size)), "tock"
+
+
+def with_priorities(shape):
+    """The first interactions, and those of two components that stand above them."""
+    plain = list(participants(shape))[:PLAIN]
+    return plain + [([first, first + 32], "pull") for first in range(ABOVE)]
+
+
+def above(number):
+    """What stands above an interaction, lowest first: for a plain one the next two of those above
+    it, of which the second stands above the first."""
+    first = number % ABOVE
+    if number >= PLAIN:
+        return [number + 1] if first % 2 == 0 else []
+    first -= first % 2
+    return [PLAIN + first, PLAIN + first + 1]
+
+
+def rest_of(shape):
+    """The locations in which nobody ever is."""
+    return [f"rest{number}" for number in range((shape.transitions - 8) // 4)]
+
+
+def transitions(shape):
+    """The lines of a component's transitions: those that are never taken, then the others."""
+    rest = rest_of(shape)
+    if shape.transitions > 4:
+        for place in rest:
+            yield from (f"trans {port} {place} low" for port in ("tick", "tock"))
         for port in ("other", "last"):
-            lines += [f"trans {port} {it} low" for it in ("low", "high", *rest)]
-    lines += ["trans tick low high", "trans tick high low"]
-    return lines + ["trans tock low low", "trans tock high high", "end"]
+            yield from (f"trans {port} {place} low" for place in ("low", "high", *rest))
+    if shape.kind == "data":
+        yield "trans tick low high when phase = 0 do phase := phase + 1 ; total := total + 1"
+        yield "trans tick high low when phase >= 1 do phase := phase - 1 ; total := total + seen"
+        yield "trans tock low low when phase < 1 and total >= 0 do total := total + 2"
+        yield "trans tock high high when phase + 1 = 2 do total := total - seen + 3"
+        return
+    yield from ("trans tick low high", "trans tick high low")
+    yield from ("trans tock low low", "trans tock high high")
+    if shape.kind == "priorities":
+        yield "trans pull high low"
 
 
-def model(interactions, kind):
-    lines = ["bip 1"]
-    for comp in range(COMPONENTS):
-        lines += component(f"node{comp}", kind)
+def component(name, shape):
+    """A component with two locations and the ports that are used."""
+    yield f"component {name}"
+    if shape.kind == "data":
+        yield from ("var phase 0", "var total 0", "var seen 7")
+    yield from ("loc low", "loc high", "port tick", "port tock")
+    if shape.kind == "priorities":
+        yield "port pull"
+    if shape.transitions > 4:
+        yield from (f"loc {place}" for place in rest_of(shape))
+        yield from ("port other", "port last")
+    yield from transitions(shape)
+    yield "end"
+
+
+def interaction(number, comps, port, shape):
+    """The line of an interaction; with data the first and the last participant exchange values."""
+    parts = " ".join(f"node{comp}.{port}" for comp in comps)
+    line = f"interaction step{number} {parts}"
+    if shape.kind != "data":
+        return line
+    one, two = f"node{comps[0]}", f"node{comps[-1]}"
+    line += f" when {one}.phase < 2 and {two}.phase <= {one}.phase + 1"
+    if one == two:
+        return f"{line} do {one}.seen := {one}.total + 1"
+    return f"{line} do {one}.seen := {two}.total ; {two}.seen := {one}.total - {two}.seen"
+
+
+def model(interactions, shape):
+    """The lines of the model."""
+    yield "bip 1"
+    for comp in range(shape.components):
+        yield from component(f"node{comp}", shape)
     for number, (comps, port) in enumerate(interactions):
-        parts = " ".join(f"node{comp}.{port}" for comp in comps)
-        lines.append(f"interaction step{number} {parts}")
+        yield interaction(number, comps, port, shape)
+    if shape.kind == "priorities":
+        for number in range(len(interactions)):
+            yield from (f"priority step{number} < step{high}" for high in above(number)[:1])
     for number in range(0, len(interactions), 4):
         members = " ".join(f"step{number + k}" for k in range(4))
-        lines.append(f"class part{number // 4} {members}")
-    return "\n".join(lines) + "\n"
+        yield f"class part{number // 4} {members}"
 
 
-def trace(interactions, kind):
-    """Grants in an order that a generator of random numbers with a fixed seed gives."""
-    used = [0] * COMPONENTS
-    state, size = 1, 0
+def draw(count):
+    """Numbers below a count that a generator with a fixed seed gives."""
+    state = 1
     while True:
         state = (state * 6364136223846793005 + 1442695040888963407) % 2**64
-        number = (state >> 33) % len(interactions)
-        wants = []
-        for comp in interactions[number][0]:
+        yield (state >> 33) % count
+
+
+def granted(interactions, shape):
+    """The interactions of a run, in turn. With priorities, one that stands above the drawn one and
+    is enabled comes before it."""
+    if shape.kind != "priorities":
+        yield from draw(len(interactions))
+    is_high = [False] * shape.components
+    for number in draw(PLAIN):
+        for high in reversed(above(number)):
+            comps = interactions[high][0]
+            if all(is_high[comp] for comp in comps):
+                yield high
+                for comp in comps:
+                    is_high[comp] = False
+        yield number
+        comps, port = interactions[number]
+        for comp in comps:
+            is_high[comp] ^= port == "tick"
+
+
+def seen_by(number, interactions, shape):
+    """The components that an interaction looks at."""
+    if shape.kind != "priorities":
+        return []
+    moved = {comp for high in above(number) for comp in interactions[high][0]}
+    return sorted(moved - {*interactions[number][0]})
+
+
+def trace(interactions, shape):
+    """The lines of a run."""
+    used = [0] * shape.components
+    looks = [seen_by(number, interactions, shape) for number in range(len(interactions))]
+    left = shape.size
+    for number in granted(interactions, shape):
+        comps = interactions[number][0]
+        seen = [f"node{comp}:{used[comp] + 1}" for comp in looks[number]]
+        for comp in comps:
             used[comp] += 1
-            wants.append(f"node{comp}:{used[comp]}")
-        if kind == "mixed":
+        wants = [f"node{comp}:{used[comp]}" for comp in comps]
+        if shape.kind == "mixed":
             wants.reverse()
-        words = ["grant", f"step{number}", *wants]
-        line = ("  " if kind == "mixed" else " ").join(words)
-        size += len(line) + 1
-        if size > BYTES:
+        words = ["grant", f"step{number}", *wants, *(["see", *seen] if seen else [])]
+        line = ("  " if shape.kind == "mixed" else " ").join(words)
+        left -= len(line) + 1
+        if left < 0:
             return
-        yield line + "\n"
+        yield line
 
 
-def main():
-    kind, to_model, to_trace = sys.argv[1:]
-    interactions = list(participants())
-    with open(to_model, "w", encoding="ascii") as file:
-        file.write(model(interactions, kind))
-    with open(to_trace, "w", encoding="ascii") as file:
-        file.writelines(trace(interactions, kind))
-
-
-if __name__ == "__main__":
-    main()
+def write(shape, to_model, to_trace):
+    """Writes the model and the trace of a shape, and returns how many bytes both have."""
+    has_priorities = shape.kind == "priorities"
+    interactions = with_priorities(shape) if has_priorities else list(participants(shape))
+    size = 0
+    for path, lines in ((to_model, model), (to_trace, trace)):
+        with open(path, "w", encoding="ascii") as file:
+            file.writelines(f"{line}\n" for line in lines(interactions, shape))
+            size += file.tell()
+    return size

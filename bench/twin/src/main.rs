@@ -1,11 +1,17 @@
-//! A plain Rust twin of `bipr replay`, for the benchmark: the same texts, the same verdicts, std alone, and no proofs.
+//! A plain Rust twin of `bipr replay`, for the benchmark: the same texts, the same verdicts, std
+//! alone, and no proofs.
 
+mod answer;
+mod expressions;
 mod model;
 mod trace;
 
 use std::env;
 use std::fs;
 use std::process::ExitCode;
+
+use crate::model::Model;
+use crate::trace::{End, Position, Room};
 
 /// The longest text that is read.
 const MOST_BYTES: u64 = 16_777_216;
@@ -18,11 +24,22 @@ fn read(path: &str) -> Result<Vec<u8>, String> {
     fs::read(path).map_err(cannot)
 }
 
-fn replay(model_path: &str, trace_path: &str) -> Result<Result<u64, String>, String> {
+/// How many grants the trace has, if they are a run.
+fn count(model: &Model, text: &[u8]) -> Result<u64, End> {
+    let mut position = Position::start(model);
+    let mut room = Room::default();
+    let mut count = 0;
+    for (number, bytes) in model::lines(text) {
+        count += u64::from(trace::line(&mut position, number, bytes, &mut room)?);
+    }
+    Ok(count)
+}
+
+fn replay(model_path: &str, trace_path: &str) -> Result<Result<u64, End>, String> {
     let model_text = read(model_path)?;
     let model = model::parse(&model_text).map_err(|fault| format!("model {fault}"))?;
     let trace_text = read(trace_path)?;
-    trace::replay(&model, &trace_text).map_err(|fault| format!("trace {fault}"))
+    Ok(count(&model, &trace_text))
 }
 
 fn main() -> ExitCode {
@@ -31,18 +48,5 @@ fn main() -> ExitCode {
         eprintln!("twin: usage: twin MODEL TRACE");
         return ExitCode::from(2);
     };
-    match replay(model, trace) {
-        Ok(Ok(count)) => {
-            println!("run {count}");
-            ExitCode::SUCCESS
-        }
-        Ok(Err(verdict)) => {
-            println!("{verdict}");
-            ExitCode::from(4)
-        }
-        Err(refusal) => {
-            eprintln!("bipr: {refusal}");
-            ExitCode::from(1)
-        }
-    }
+    answer::say(replay(model, trace))
 }

@@ -1,7 +1,9 @@
 //! Models and their texts.
 
-use std::collections::{HashMap, HashSet};
+use std::collections::{BTreeSet, HashMap, HashSet};
 use std::fmt;
+
+use crate::expressions::{Clauses, Variable, clauses, name, pair, value};
 
 #[derive(Clone, Copy, Debug, PartialEq, Eq)]
 pub enum Why {
@@ -11,6 +13,7 @@ pub enum Why {
     TooMany,
     Missing,
     TwoTransitions,
+    PriorityCycle,
     NotAPartition,
 }
 
@@ -29,6 +32,7 @@ impl fmt::Display for Fault {
             Why::TooMany => "too many",
             Why::Missing => "missing",
             Why::TwoTransitions => "two transitions",
+            Why::PriorityCycle => "priority cycle",
             Why::NotAPartition => "not a partition",
         };
         write!(f, "line {}: {words}", self.line)
@@ -37,18 +41,47 @@ impl fmt::Display for Fault {
 
 const MOST_PORTS: usize = 16;
 
+#[derive(Debug)]
+pub struct Transition {
+    pub target: usize,
+    pub clauses: Clauses<Variable>,
+}
+
 #[derive(Debug, Default)]
 pub struct Component<'t> {
+    variables: Vec<&'t str>,
     locations: Vec<&'t str>,
     ports: Vec<&'t str>,
-    /// Of each location the target for each port.
-    targets: Vec<[Option<usize>; MOST_PORTS]>,
-    transitions: usize,
+    pub start: [u32; 8],
+    transitions: Vec<Transition>,
+    /// Of each location the transition for each port.
+    pub leaving: Vec<[Option<usize>; MOST_PORTS]>,
 }
 
 impl Component<'_> {
-    pub fn target(&self, location: usize, port: usize) -> Option<usize> {
-        self.targets[location][port]
+    pub fn transition(&self, location: usize, port: usize) -> Option<&Transition> {
+        self.leaving[location][port].map(|number| &self.transitions[number])
+    }
+
+    fn has(&self, name: &str) -> bool {
+        [&self.variables, &self.locations, &self.ports].iter().any(|it| it.contains(&name))
+    }
+}
+
+#[derive(Debug)]
+pub struct Interaction {
+    /// Each a component and its port, by component.
+    pub participants: Vec<(usize, usize)>,
+    pub clauses: Clauses<Variable>,
+    /// The interactions above it, lowest first.
+    pub above: Vec<usize>,
+    /// The components that those move and it doesn't, lowest first.
+    pub looks: Vec<usize>,
+}
+
+impl Interaction {
+    fn moves(&self, comp: usize) -> bool {
+        self.participants.iter().any(|it| it.0 == comp)
     }
 }
 
@@ -57,14 +90,27 @@ pub struct Model<'t> {
     pub components: Vec<Component<'t>>,
     pub component_names: Vec<&'t str>,
     pub component_numbers: HashMap<&'t str, usize>,
-    /// Of each interaction its participants, each a component and its port, by component.
-    pub interactions: Vec<Vec<(usize, usize)>>,
+    pub interactions: Vec<Interaction>,
+    pub interaction_names: Vec<&'t str>,
     pub interaction_numbers: HashMap<&'t str, usize>,
 }
 
 const RESERVED: [&str; 15] = [
-    "bip", "component", "var", "loc", "port", "trans", "end", "interaction", "priority", "class", "when", "do", "and",
-    "grant", "see",
+    "bip",
+    "component",
+    "var",
+    "loc",
+    "port",
+    "trans",
+    "end",
+    "interaction",
+    "priority",
+    "class",
+    "when",
+    "do",
+    "and",
+    "grant",
+    "see",
 ];
 
 pub fn is_name(word: &str) -> bool {
@@ -90,10 +136,6 @@ pub fn words(line: &str) -> impl Iterator<Item = &str> {
     said.split([' ', '\t']).filter(|word| !word.is_empty())
 }
 
-fn name(word: &str) -> Result<&str, Why> {
-    if is_name(word) { Ok(word) } else { Err(Why::Syntax) }
-}
-
 fn number_in(names: &[&str], name: &str) -> Result<usize, Why> {
     names.iter().position(|it| *it == name).ok_or(Why::Unknown)
 }
@@ -103,6 +145,7 @@ struct Reading<'t> {
     headed: bool,
     model: Model<'t>,
     begun: Option<(&'t str, Component<'t>)>,
+    priorities: Vec<(usize, usize)>,
     classes: Vec<(&'t str, Vec<usize>)>,
 }
 
@@ -114,14 +157,19 @@ impl<'t> Reading<'t> {
                 Ok(())
             }
             (["component", word], true, false) => self.component(name(word)?),
+            (["var", word, start], true, true) => self.variable(name(word)?, value(start)?),
             (["loc", word], true, true) => self.location(name(word)?),
             (["port", word], true, true) => self.port(name(word)?),
-            (["trans", port, from, to], true, true) => self.transition(name(port)?, name(from)?, name(to)?),
-            (["end"], true, true) => self.end(),
-            (["interaction", word, ports @ ..], true, false) if !ports.is_empty() => {
-                self.interaction(name(word)?, ports)
+            (["trans", port, from, to, rest @ ..], true, true) => {
+                let ends = [name(port)?, name(from)?, name(to)?];
+                self.transition(ends, clauses(rest, name)?)
             }
-            (["class", word, members @ ..], true, false) if !members.is_empty() => self.class(name(word)?, members),
+            (["end"], true, true) => self.end(),
+            (["interaction", word, rest @ ..], true, false) => self.interaction(name(word)?, rest),
+            (["priority", low, "<", high], true, false) => self.priority(name(low)?, name(high)?),
+            (["class", word, members @ ..], true, false) if !members.is_empty() => {
+                self.class(name(word)?, members)
+            }
             _ => Err(Why::Syntax),
         }
     }
@@ -141,22 +189,33 @@ impl<'t> Reading<'t> {
         Ok(())
     }
 
+    fn variable(&mut self, name: &'t str, start: u32) -> Result<(), Why> {
+        let component = self.inside()?;
+        if component.has(name) {
+            return Err(Why::Twice);
+        }
+        let number = component.variables.len();
+        *component.start.get_mut(number).ok_or(Why::TooMany)? = start;
+        component.variables.push(name);
+        Ok(())
+    }
+
     fn location(&mut self, name: &'t str) -> Result<(), Why> {
         let component = self.inside()?;
-        if component.locations.contains(&name) || component.ports.contains(&name) {
+        if component.has(name) {
             return Err(Why::Twice);
         }
         if component.locations.len() == 64 {
             return Err(Why::TooMany);
         }
         component.locations.push(name);
-        component.targets.push([None; MOST_PORTS]);
+        component.leaving.push([None; MOST_PORTS]);
         Ok(())
     }
 
     fn port(&mut self, name: &'t str) -> Result<(), Why> {
         let component = self.inside()?;
-        if component.locations.contains(&name) || component.ports.contains(&name) {
+        if component.has(name) {
             return Err(Why::Twice);
         }
         if component.ports.len() == MOST_PORTS {
@@ -166,16 +225,20 @@ impl<'t> Reading<'t> {
         Ok(())
     }
 
-    fn transition(&mut self, port: &str, from: &str, to: &str) -> Result<(), Why> {
+    fn transition(&mut self, ends: [&str; 3], said: Clauses<&str>) -> Result<(), Why> {
+        let comp = self.model.components.len();
         let component = self.inside()?;
-        let port = number_in(&component.ports, port)?;
-        let from = number_in(&component.locations, from)?;
-        let to = number_in(&component.locations, to)?;
-        if component.transitions == 256 {
+        let port = number_in(&component.ports, ends[0])?;
+        let from = number_in(&component.locations, ends[1])?;
+        let target = number_in(&component.locations, ends[2])?;
+        let variable = |name| Ok((comp, number_in(&component.variables, name)?));
+        let clauses = said.known(variable, false)?;
+        if clauses.is_too_long() || component.transitions.len() == 256 {
             return Err(Why::TooMany);
         }
-        component.transitions += 1;
-        match component.targets[from][port].replace(to) {
+        let number = component.transitions.len();
+        component.transitions.push(Transition { target, clauses });
+        match component.leaving[from][port].replace(number) {
             None => Ok(()),
             Some(_) => Err(Why::TwoTransitions),
         }
@@ -193,19 +256,35 @@ impl<'t> Reading<'t> {
         }
     }
 
-    fn interaction(&mut self, interaction: &'t str, ports: &[&str]) -> Result<(), Why> {
-        let pairs = ports
-            .iter()
-            .map(|word| {
-                let (component, port) = word.split_once('.').ok_or(Why::Syntax)?;
-                Ok((name(component)?, name(port)?))
-            })
-            .collect::<Result<Vec<_>, Why>>()?;
+    fn interaction(&mut self, interaction: &'t str, words: &[&str]) -> Result<(), Why> {
+        let is_end = |word: &&str| matches!(*word, "when" | "do");
+        let end = words.iter().position(is_end).unwrap_or(words.len());
+        let (ports, rest) = words.split_at(end);
+        let ports = ports.iter().map(|word| pair(word)).collect::<Result<Vec<_>, Why>>()?;
+        let said = clauses(rest, pair)?;
+        if ports.is_empty() {
+            return Err(Why::Syntax);
+        }
         if self.model.interaction_numbers.contains_key(interaction) {
             return Err(Why::Twice);
         }
+        let participants = self.participants(&ports)?;
+        let clauses = said.known(|word| self.variable_of(&participants, word), true)?;
+        if clauses.is_too_long() || participants.len() > 8 || self.model.interactions.len() == 128 {
+            return Err(Why::TooMany);
+        }
+        let number = self.model.interactions.len();
+        self.model.interaction_numbers.insert(interaction, number);
+        self.model.interaction_names.push(interaction);
+        let (above, looks) = (Vec::new(), Vec::new());
+        self.model.interactions.push(Interaction { participants, clauses, above, looks });
+        Ok(())
+    }
+
+    /// By component.
+    fn participants(&self, ports: &[(&str, &str)]) -> Result<Vec<(usize, usize)>, Why> {
         let mut participants: Vec<(usize, usize)> = Vec::new();
-        for (component, port) in pairs {
+        for (component, port) in ports {
             let comp = *self.model.component_numbers.get(component).ok_or(Why::Unknown)?;
             let port = number_in(&self.model.components[comp].ports, port)?;
             if participants.iter().any(|it| it.0 == comp) {
@@ -213,12 +292,29 @@ impl<'t> Reading<'t> {
             }
             participants.push((comp, port));
         }
-        if participants.len() > 8 || self.model.interactions.len() == 128 {
-            return Err(Why::TooMany);
-        }
         participants.sort_unstable();
-        self.model.interaction_numbers.insert(interaction, self.model.interactions.len());
-        self.model.interactions.push(participants);
+        Ok(participants)
+    }
+
+    /// A variable of a participant.
+    fn variable_of(
+        &self,
+        participants: &[(usize, usize)],
+        (component, variable): (&str, &str),
+    ) -> Result<Variable, Why> {
+        let comp = *self.model.component_numbers.get(component).ok_or(Why::Unknown)?;
+        let takes_part = participants.iter().any(|it| it.0 == comp);
+        let number = number_in(&self.model.components[comp].variables, variable)?;
+        if takes_part { Ok((comp, number)) } else { Err(Why::Unknown) }
+    }
+
+    fn priority(&mut self, low: &str, high: &str) -> Result<(), Why> {
+        let number = |name| self.model.interaction_numbers.get(name).copied().ok_or(Why::Unknown);
+        let pair = (number(low)?, number(high)?);
+        if self.priorities.contains(&pair) {
+            return Err(Why::Twice);
+        }
+        self.priorities.push(pair);
         Ok(())
     }
 
@@ -240,10 +336,11 @@ impl<'t> Reading<'t> {
         Ok(())
     }
 
-    fn finish(self) -> Result<Model<'t>, Why> {
+    fn finish(mut self) -> Result<Model<'t>, Why> {
         if !self.headed || self.begun.is_some() || self.model.components.is_empty() {
             return Err(Why::Missing);
         }
+        self.raise()?;
         let mut seen = HashSet::new();
         let apart = self.classes.iter().flat_map(|it| &it.1).all(|number| seen.insert(*number));
         if apart && seen.len() == self.model.interactions.len() {
@@ -251,6 +348,32 @@ impl<'t> Reading<'t> {
         } else {
             Err(Why::NotAPartition)
         }
+    }
+
+    /// Gives each interaction what stands above it, and what it looks at.
+    fn raise(&mut self) -> Result<(), Why> {
+        let count = self.model.interactions.len();
+        let mut above = vec![BTreeSet::new(); count];
+        let mut pairs = self.priorities.clone();
+        while let Some((low, high)) = pairs.pop() {
+            if above[low].insert(high) {
+                let next = self.priorities.iter().filter(|it| it.0 == high);
+                pairs.extend(next.map(|it| (low, it.1)));
+            }
+        }
+        if above.iter().enumerate().any(|(low, above)| above.contains(&low)) {
+            return Err(Why::PriorityCycle);
+        }
+        for (low, above) in above.into_iter().enumerate() {
+            let interactions = &self.model.interactions;
+            let moved = above.iter().flat_map(|high| &interactions[*high].participants);
+            let moved: BTreeSet<usize> = moved.map(|it| it.0).collect();
+            let looks = moved.into_iter().filter(|comp| !interactions[low].moves(*comp)).collect();
+            let interaction = &mut self.model.interactions[low];
+            interaction.above = above.into_iter().collect();
+            interaction.looks = looks;
+        }
+        Ok(())
     }
 }
 

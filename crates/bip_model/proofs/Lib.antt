@@ -17,7 +17,7 @@ pub mod NumberingLemmas
 pub mod ParticipantLemmas
 pub mod PartitionLemmas
 pub mod PartyLemmas
-pub mod PortLemmas
+pub mod PlaceLemmas
 pub mod PriorityLemmas
 pub mod PutLemmas
 pub mod RaiseLemmas

@@ -15,7 +15,7 @@ use Rattle.bip_model.specs.Drafts.{by_component, participant_named, participants
 use Rattle.bip_model.specs.Laws.{AreNamed, NamesInAnyOrder, NamesParticipants}
 use Rattle.bip_model.specs.Naming.{same_text}
 use Rattle.bip_model.specs.Faults.{◌>>=◌}
-use Rattle.bip_model.specs.Parts.{IsPortIn, Participant, components_in}
+use Rattle.bip_model.specs.Parts.{IsPortIn, IsSystemSoFar, Participant, components_in}
 use Rattle.bip_model.specs.declared.faults.BuildFault.{BuildFault}
 use Rattle.bip_model.specs.declared.faults.BuildFault.TheVariants.{Twice, Unknown}
 use Rattle.bip_model.specs.declared.parts.Component.{Component}
@@ -175,3 +175,24 @@ names_in_any_order m words others qs moved is =
       these = IsPermutation-trans (map named_by found') n.named qs (IsPermutation-sym n.named (map named_by found') named_moved) n.these;
       rising = n.rising;
     })
+
+named_count : (m : System) (before : List Participant) (words : List (List ℕ × List ℕ)) → IfOk (participants_named m before words) (λ found. length found ≡ length before + length words)
+named_count m before [] = omega (arith, length_permutation before (by_component before) (by_number-IsPermutation component_of before))
+named_count m before (word ∷ words) =
+    let P : List Participant → Type 0 = λ found. length found ≡ length before + length (word ∷ words) in
+    bound P (participant_named m word) _ (λ q is_q.
+    guarded P (list_any (λ (r : Participant). eqb r.0.0 q.0.0) before) Twice _ (λ new.
+    IfOk-weaker (participants_named m (before ++ q ∷ []) words) (λ found. length found ≡ length (before ++ q ∷ []) + length words) P (λ found as_many. omega (arith, as_many, length_push before q))
+    (named_count m (before ++ q ∷ []) words)))
+
+-- the participants that words name behind others are as many as both
+pub named_length : (m : System) (before : List Participant) (words : List (List ℕ × List ℕ)) (found : List Participant) → participants_named m before words ≡ Ok found → length found ≡ length before + length words
+named_length m before words found is =
+    IfOk-at_ok (λ (found : List Participant). length found ≡ length before + length words) is (named_count m before words)
+
+-- the participants that words name are at most 64
+pub named_few : (m : System) (words : List (List ℕ × List ℕ)) (found : List Participant) → IsSystemSoFar m → participants_named m [] words ≡ Ok found → length found ≤ 64
+named_few m words found so_far is =
+    let valid = named_valid m words found is in
+    let apart = apart_from_rises (components_in found) (rises_from_increasing (components_in found) valid.1) in
+    omega (arith, few_participants m.components found (record { apart = apart; ports = valid.2 }), so_far.enough_names, so_far.few_components)

@@ -1,6 +1,6 @@
 -- By offers an interaction has one list of wants.
-use Rattle.std.proofs.Common.{◌≡◌, ℕ, List, length, get_or, refl, sym, ap, ◌∙◌, subst}
-use Rattle.std.specs.Prelude.{Any, Contains}
+use Rattle.std.proofs.Common.{◌≡◌, ℕ, List, refl, sym, ap, ◌∙◌, subst}
+use Rattle.std.specs.Prelude.{Contains}
 use Rattle.std.proofs.lemmas.List.Elements.{All-contains}
 use Rattle.bip_model.specs.Laws.{OneWantsEach}
 use Rattle.bip_model.specs.Parties.{AreWantsBy, IsWanted}

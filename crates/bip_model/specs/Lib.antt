@@ -10,6 +10,7 @@ pub mod Numbering
 pub mod Partitions
 pub mod Parties
 pub mod Parts
+pub mod Places
 pub mod Priorities
 pub mod Scopes
 pub mod Sequence

@@ -20,6 +20,7 @@ use Rattle.bip_model.specs.declared.states.LocalState.{LocalState}
 use Rattle.bip_model.specs.Components.{offers_at, moved, transition_for}
 use Rattle.bip_model.specs.Expressions.{holds, transferred}
 use Rattle.bip_model.specs.Parts.{IsSystem, Participant}
+use Rattle.bip_model.specs.Places.{ArePlacesOfEach}
 use Rattle.bip_model.specs.Priorities.{AreListsAbove, IsAbove}
 use Rattle.bip_model.specs.States.{State, with_values}
 
@@ -108,12 +109,14 @@ pub record AreListsLookedAt (m : System) (count : ℕ) (lists : List (List CompI
   pub each : length lists ≡ count
   pub list : (a : ℕ) → a < count → IsListLookedAt m a (slice_index_or lists a [])
 
--- a valid model with its tables: for each interaction those above it, and what it looks at
+-- a valid model with its tables: for each interaction those above it, and what it looks at; for
+-- each component where its transitions stand
 pub record AreTables (m : System) (above : List (List InterId)) (looks : List (List CompId))
-    : Type 0 where
+    (places : List (List ℕ)) : Type 0 where
   pub valid : IsSystem m
   pub lists_above : AreListsAbove m.priorities (length m.interactions) above
   pub lists_looked_at : AreListsLookedAt m (length m.interactions) looks
+  pub lists_of_places : ArePlacesOfEach m.components places
 
 -- the place of a component among the participants of an interaction
 abbrev pub place_of : System → ℕ → ℕ → Option ℕ

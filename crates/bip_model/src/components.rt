@@ -1,14 +1,13 @@
 //! One component: what the lines inside it declare, and what it can do by itself in a local state.
 ghost use Rattle.std.specs.Prelude.{◌≡◌, ◌<◌, ◌==◌, ℕ, length, if◌then◌else◌, OnErr};
 ghost use Rattle.std.specs.Int.{bit_at};
-ghost use Rattle.std.specs.Option.{option_map};
 ghost use Rattle.std.specs.List.{list_any};
 ghost use Rattle.bip_model.specs.Components.{AreOffered, is_taken, leaves, loc_line, moved};
 ghost use Rattle.bip_model.specs.Components.{no_component, offers_at, port_line, trans_line};
-ghost use Rattle.bip_model.specs.Components.{transition_for, var_line, with_transition};
+ghost use Rattle.bip_model.specs.Components.{var_line, with_transition};
 ghost use Rattle.bip_model.specs.Faults.{Answers, new_or_fault};
 ghost use Rattle.bip_model.specs.Parts.{IsComponent, IsComponentSoFar};
-ghost use Rattle.bip_model.specs.States.{IsLocalStateOf};
+ghost use Rattle.bip_model.specs.Places.{ArePlaces};
 ghost use Rattle.bip_model.specs.declared.faults.BuildFault.TheVariants.{Memory};
 
 use crate::expressions::holds;
@@ -183,41 +182,33 @@ impl Component {
         )
     }
 
-    pub(crate) fn transition_for(&self, location: LocId, port: PortId) -> Option<&Transition>
-        ensures { option_map (λ t. t.now) result ≡ transition_for self.now location port }
-    {
-        self.transitions
-            .as_slice()
-            .iter()
-            .find(|t| t.source == location && t.port == port)
-    }
-
     /// Whether a transition with this port leaves the local state, and its guard holds there. A
     /// local state with another count of values offers nothing.
-    pub(crate) fn offers(&self, local: &LocalState, port: PortId) -> bool
-        requires { IsComponent self.now }
+    pub(crate) fn offers(&self, places: &[u16], local: &LocalState, port: PortId) -> bool
+        requires component { IsComponent self.now }
+        requires places { ArePlaces self.now places.now }
         ensures { result ≡ offers_at self.now local.now port }
     {
         if local.values.len() != self.variables.len() {
             return false;
         }
-        match self.transition_for(local.location, port) {
+        match self.transition_for(places, local.location, port) {
             None => false,
             Some(transition) => holds(transition.guard.as_slice(), &[local.values]),
         }
     }
 
     /// Bit p says whether port p is offered in the local state.
-    pub(crate) fn ports(&self, local: &LocalState) -> u16
+    pub(crate) fn ports(&self, places: &[u16], local: &LocalState) -> u16
         requires component { IsComponent self.now }
-        requires local { IsLocalStateOf self.now local.now }
+        requires places { ArePlaces self.now places.now }
         ensures { AreOffered self.now local.now result }
     {
-        let values = [local.values];
         let mut ports = 0;
-        for transition in self.transitions.as_slice() {
-            if transition.source == local.location && holds(transition.guard.as_slice(), &values) {
-                ports = with_port(ports, transition.port);
+        for number in 0..self.ports.len() {
+            let port = PortId(number as u8);
+            if self.offers(places, local, port) {
+                ports = with_port(ports, port);
             }
         }
         ports
@@ -225,12 +216,18 @@ impl Component {
 
     /// Where the transition with this port leads from the local state; none where there is none.
     /// Its guard isn't asked.
-    pub(crate) fn moved(&self, local: &LocalState, port: PortId) -> Option<LocalState>
+    pub(crate) fn moved(
+        &self,
+        places: &[u16],
+        local: &LocalState,
+        port: PortId,
+    ) -> Option<LocalState>
         requires component { IsComponent self.now }
+        requires places { ArePlaces self.now places.now }
         requires local { length local.now.values ≡ length self.now.variables }
         ensures { result ≡ moved self.now local.now port }
     {
-        let transition = self.transition_for(local.location, port)?;
+        let transition = self.transition_for(places, local.location, port)?;
         let mut target = *local;
         target.follow(transition);
         Some(target)

@@ -2,7 +2,6 @@
 ghost use Rattle.std.specs.Prelude.{◌≡◌, ◌≤◌, ◌==◌, [], false, length, position, IsSome, IsNone};
 ghost use Rattle.std.specs.Prelude.{IfOk, OnErr};
 ghost use Rattle.std.specs.List.{list_any, position_or_len};
-ghost use Rattle.std.specs.Result.{result_map_both};
 ghost use Rattle.bip_model.specs.Drafts.{component_line, empty_draft, end_line, interaction_line};
 ghost use Rattle.bip_model.specs.Drafts.{interaction_of, interaction_over, participant_named};
 ghost use Rattle.bip_model.specs.Drafts.{participants_named, priority_line, with_interaction};
@@ -23,6 +22,7 @@ use crate::{
 };
 use smallvec::SmallVec;
 use std::alloc::{AllocError, Global};
+use std::marker::Model;
 
 /// What the lines so far have said: all that is declared whole, and the component that is begun and
 /// not ended. The name of a begun component is the last of the components' names.
@@ -30,6 +30,30 @@ use std::alloc::{AllocError, Global};
 pub struct Draft {
     pub system: System,
     pub begun: Option<Component>,
+}
+
+/// The participants that a text names, by component, kept in place. Contracts see them as the list.
+#[derive(Drop)]
+pub struct Participants {
+    participants: SmallVec<(CompId, PortId), 64>,
+}
+
+impl Model for Participants {
+    ghost use Rattle.std.specs.Prelude.{List};
+    ghost use Rattle.bip_model.specs.Parts.{Participant};
+
+    ghost Value = { List Participant };
+
+    ghost view = { λ p. p.participants.items };
+}
+
+impl Participants {
+    /// The participants, by component.
+    pub fn as_slice(&self) -> &[(CompId, PortId)]
+        ensures { result.now ≡ self.now }
+    {
+        self.participants.as_slice()
+    }
 }
 
 impl System {
@@ -51,15 +75,14 @@ impl System {
     }
 
     /// The participants that a text names, by component. Takes no memory.
-    fn participants(
+    pub(crate) fn participants(
         &self,
         alloc: Global,
         words: &[(Name, Name)],
-    ) -> Result<SmallVec<(CompId, PortId), 64>, BuildFault>
+    ) -> Result<Participants, BuildFault>
         requires { IsSystemSoFar self.now }
-        ensures named { result_map_both (λ found. found.items) (λ e. e) result
-            ≡ participants_named self.now [] words.now }
-        ensures few { IfOk result (λ found. length found.items ≤ MOST_COMPONENTS) }
+        ensures named { result ≡ participants_named self.now [] words.now }
+        ensures few { IfOk result (λ found. length found ≤ MOST_COMPONENTS) }
     {
         let mut found = SmallVec::new(alloc);
         for word in words {
@@ -70,7 +93,9 @@ impl System {
             found.push_reserved(participant);
         }
         found.sort_unstable_by_key(|participant| participant.0.0);
-        Ok(found)
+        Ok(Participants {
+            participants: found,
+        })
     }
 
     fn interaction_of(

@@ -17,6 +17,7 @@ mod numbering;
 mod parties;
 mod partitions;
 mod parts;
+mod places;
 mod priorities;
 mod scopes;
 mod sequence;
@@ -27,7 +28,7 @@ mod texts;
 mod wants;
 
 pub use building::Builder;
-pub use drafts::Draft;
+pub use drafts::{Draft, Participants};
 pub use expressions::{Assignment, Comparison, Expr, Relation, Sign, Term, Variable};
 pub use faults::{BuildFault, ClassFault, NotNow};
 pub use grants::Grant;

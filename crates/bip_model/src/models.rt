@@ -1,10 +1,12 @@
 //! Models, and what can be read of them without memory.
-ghost use Rattle.std.specs.Prelude.{◌≡◌, ◌<◌, length, position, IfErr, IfOk, OnOk};
+ghost use Rattle.std.specs.Prelude.{◌≡◌, ◌<◌, length, position, slice_get, IfErr, IfOk};
+ghost use Rattle.std.specs.Prelude.{IfSome, OnOk};
 ghost use Rattle.std.specs.List.Sorted.{IsStrictlyIncreasing};
 ghost use Rattle.std.specs.Option.{option_map};
 ghost use Rattle.bip_model.specs.Naming.{same_text};
 
 use crate::parts::System;
+use crate::places::places_of_each;
 use crate::priorities::{is_cyclic, lists_above};
 use crate::{BuildFault, CompId, Component, InterId, Interaction, LocId, Name, Pair, PortId, Seq};
 use std::alloc::Global;
@@ -17,6 +19,7 @@ pub struct Model {
     system: System,
     above: Seq<Seq<InterId>>,
     looks: Seq<Seq<CompId>>,
+    places: Seq<Seq<u16>>,
 }
 
 impl marker::Model for Model {
@@ -27,12 +30,13 @@ impl marker::Model for Model {
 
     ghost view = { λ m. m.system };
 
-    ghost invariant = { λ m. AreTables m.system m.above m.looks };
+    ghost invariant = { λ m. AreTables m.system m.above m.looks m.places };
 }
 
 impl Model {
     ghost use Rattle.bip_model.specs.Drafts.{IsCycleFault};
     ghost use Rattle.bip_model.specs.Parts.{IsSystem, IsSystemSoFar, components_in};
+    ghost use Rattle.bip_model.specs.Places.{ArePlaces};
     ghost use Rattle.bip_model.specs.Priorities.{IsCyclic, IsListAbove};
     ghost use Rattle.bip_model.specs.Steps.{IsListLookedAt, moves, participants_of};
 
@@ -57,10 +61,14 @@ impl Model {
         let Ok(looks) = system.lists_looked_at(alloc, above.as_slice()) else {
             return Err(BuildFault::Memory);
         };
+        let Ok(places) = places_of_each(alloc, system.components.as_slice()) else {
+            return Err(BuildFault::Memory);
+        };
         Ok(Model {
             system,
             above,
             looks,
+            places,
         })
     }
 
@@ -81,6 +89,15 @@ impl Model {
         ensures valid { IsSystem self.now }
     {
         self.looks.as_slice()[inter.0 as usize].as_slice()
+    }
+
+    /// Where a component's transitions stand.
+    pub(crate) fn places(&self, comp: CompId) -> &[u16]
+        requires { comp.0 < length self.now.components }
+        ensures { IfSome (slice_get self.now.components comp.0)
+            (λ component. ArePlaces component result.now) }
+    {
+        self.places.as_slice()[comp.0 as usize].as_slice()
     }
 
     /// Whether an interaction moves a component; false for numbers that the model lacks.

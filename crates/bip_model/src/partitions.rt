@@ -1,6 +1,7 @@
 //! Partitions: the classes into which a model's interactions are parted.
-ghost use Rattle.std.specs.Prelude.{◌≡◌, ◌<◌, ◌≤◌, ◌-◌, ◌^◌, ◌==◌, ◌↔◌, ℕ, IfOk, IsTrue, OnOk, Err};
-ghost use Rattle.std.specs.Prelude.{All, length, map, position, slice_get, min, sum_by, Some};
+ghost use Rattle.std.specs.Prelude.{◌≡◌, ◌<◌, ◌≤◌, ◌+◌, ◌==◌, ◌↔◌, ℕ, IfOk, IsTrue, OnOk, Err};
+ghost use Rattle.std.specs.Prelude.{All, length, map, position, slice_get, slice_index, min};
+ghost use Rattle.std.specs.Prelude.{sum_by, Some};
 ghost use Rattle.std.specs.List.{list_any};
 ghost use Rattle.std.specs.Option.{option_map};
 ghost use Rattle.bip_model.specs.Naming.{AreApart, same_text};
@@ -8,7 +9,9 @@ ghost use Rattle.bip_model.specs.Partitions.{AreDifferent, IsPartition, in_order
 ghost use Rattle.bip_model.specs.Partitions.{times_in};
 ghost use Rattle.bip_model.specs.declared.numbering.InterId.{InterId};
 ghost use Rattle.bip_model.specs.declared.faults.ClassFault.TheVariants.{NotAPartition, Memory};
+ghost use Rattle.bip_model.specs.declared.parts.TheConstants.{MOST_INTERACTIONS};
 
+use crate::parts::MOST_INTERACTIONS;
 use crate::{ClassFault, ClassId, InterId, Model, Name, Names, Seq};
 use std::alloc::{AllocError, Global};
 use std::marker;
@@ -148,6 +151,7 @@ fn is_member(list: &[InterId], inter: InterId) -> bool
 }
 
 fn are_partition(classes: &[(Name, Vec<InterId>)], count: u16) -> bool
+    requires { count ≤ MOST_INTERACTIONS }
     ensures { IsTrue result ↔ IsPartition (λ c. c.0) (λ c. c.1.items) count classes.now }
 {
     if MOST_CLASSES < classes.len() {
@@ -201,32 +205,38 @@ fn are_below(class: &[InterId], count: u16) -> bool
 }
 
 fn stand_once(classes: &[(Name, Vec<InterId>)], count: u16) -> bool
+    requires few { count ≤ MOST_INTERACTIONS }
+    requires known { All (λ c. All (λ (a : InterId). a.0 < count) c.1.items) classes.now }
     ensures { IsTrue result ↔ ((a : ℕ) → a < count
         → sum_by (λ c. times_in c.1.items a) classes.now ≡ 1) }
 {
-    for number in 0..count {
-        if times(classes, InterId(number)) != 1 {
-            return false;
-        }
-    }
-    true
+    let times = times_of_each(classes);
+    times[..count as usize].iter().all(|n| *n == 1)
 }
 
-// How often an interaction stands in the classes, up to the greatest number of the result.
-fn times(classes: &[(Name, Vec<InterId>)], inter: InterId) -> usize
-    ensures { result ≡ min (sum_by (λ c. times_in c.1.items inter.0) classes.now) (2 ^ 64 - 1) }
+/// How often each interaction stands in the classes, up to 255 times.
+fn times_of_each(classes: &[(Name, Vec<InterId>)]) -> [u8; MOST_INTERACTIONS]
+    requires { All (λ c. All (λ (a : InterId). a.0 < MOST_INTERACTIONS) c.1.items) classes.now }
+    ensures { (a : ℕ) → a < MOST_INTERACTIONS → slice_index result a
+        ≡ min (sum_by (λ c. times_in c.1.items a) classes.now) 255 }
 {
-    let mut times = 0usize;
+    let mut times = [0; MOST_INTERACTIONS];
     for class in classes {
-        times = times.saturating_add(times_in(class.1.as_slice(), inter));
+        add_times(&mut times, class.1.as_slice());
     }
     times
 }
 
-fn times_in(class: &[InterId], inter: InterId) -> usize
-    ensures { result ≡ times_in class.now inter.0 }
+/// Adds how often each interaction stands in a class.
+fn add_times(times: &mut [u8], class: &[InterId])
+    requires { All (λ (a : InterId). a.0 < length times.old) class.now }
+    ensures { (a : ℕ) → a < length times.old → slice_index times.new a
+        ≡ min (slice_index times.old a + times_in class.now a) 255 }
 {
-    class.iter().filter(|other| **other == inter).count()
+    for inter in class {
+        let number = inter.0 as usize;
+        times[number] = times[number].saturating_add(1);
+    }
 }
 
 fn names_of(alloc: Global, classes: &[(Name, Vec<InterId>)]) -> Result<Names, AllocError>

@@ -1,14 +1,15 @@
 //! The variables for which the names in a text stand, and what a text says with them.
-ghost use Rattle.std.specs.Prelude.{◌≡◌, ◌≤◌, ◌==◌, ◌||◌, [], length, map, position, IfOk};
+ghost use Rattle.std.specs.Prelude.{◌≡◌, ◌≤◌, ◌==◌, ◌||◌, ◌<◌, [], length, map, position};
+ghost use Rattle.std.specs.Prelude.{IfOk, IfSome};
 ghost use Rattle.std.specs.List.{list_all, list_any};
 ghost use Rattle.bip_model.specs.Expressions.{is_same};
 ghost use Rattle.bip_model.specs.Scopes.{IsScope, are_long_assignments, assignment_said};
 ghost use Rattle.bip_model.specs.Scopes.{assignment_with, assignments_with, comparison_with};
-ghost use Rattle.bip_model.specs.Scopes.{guard_with};
-ghost use Rattle.bip_model.specs.Scopes.{is_long_guard, is_long_sum, knows_assignments};
-ghost use Rattle.bip_model.specs.Scopes.{knows_guard, knows_sum, knows_term, sum_with, term_with};
-ghost use Rattle.bip_model.specs.Scopes.{transfer_said, variable_among, variable_in};
-ghost use Rattle.bip_model.specs.Scopes.{variable_named, variable_of};
+ghost use Rattle.bip_model.specs.Scopes.{guard_with, is_long_guard, is_long_sum};
+ghost use Rattle.bip_model.specs.Scopes.{knows_assignments, knows_guard, knows_sum, knows_term};
+ghost use Rattle.bip_model.specs.Scopes.{shared};
+ghost use Rattle.bip_model.specs.Scopes.{sum_with, term_with, transfer_said, variable_among};
+ghost use Rattle.bip_model.specs.Scopes.{variable_in, variable_named, variable_of};
 ghost use Rattle.bip_model.specs.Parts.{IsSystemSoFar, Participant};
 ghost use Rattle.bip_model.specs.declared.parts.TheConstants.{MOST_COMPONENTS};
 
@@ -35,9 +36,11 @@ pub(crate) enum Scope<'a> {
     Shared(&'a System, &'a [(CompId, PortId)]),
 }
 
-fn variable_named(names: &Names, owner: u8, name: &Name) -> Option<Variable>
+/// The variable with a name among those of an owner.
+pub(crate) fn variable_named(names: &Names, owner: u8, name: &Name) -> Option<Variable>
     requires { length names.now ≤ 8 }
-    ensures { result ≡ variable_named names.now owner name.now }
+    ensures named { result ≡ variable_named names.now owner name.now }
+    ensures there { IfSome result (λ v. (v.owner ≡ owner) × (v.number.0 < 8)) }
 {
     let number = names.number_of(name)?;
     Some(Variable {
@@ -54,7 +57,9 @@ fn variable_among(
 ) -> Option<Variable>
     requires system { IsSystemSoFar system.now }
     requires few { length participants.now ≤ MOST_COMPONENTS }
-    ensures { result ≡ variable_among system.now participants.now owner.now name.now }
+    ensures named { result ≡ variable_among system.now participants.now owner.now name.now }
+    ensures there { IfSome result (λ v.
+        (v.owner < length participants.now) × (v.number.0 < 8)) }
 {
     let comp = system.component_names.number_of(owner)?;
     let place = place_among(participants, CompId(comp as u16))?;
@@ -68,6 +73,22 @@ fn place_among(participants: &[(CompId, PortId)], comp: CompId) -> Option<usize>
     participants.iter().position(|q| q.0 == comp)
 }
 
+/// The variable for which a name stands among those of participants.
+pub(crate) fn shared_variable(
+    system: &System,
+    participants: &[(CompId, PortId)],
+    name: &VariableName,
+) -> Option<Variable>
+    requires system { IsSystemSoFar system.now }
+    requires few { length participants.now ≤ MOST_COMPONENTS }
+    ensures named { result ≡ shared system.now participants.now name.now }
+    ensures there { IfSome result (λ v.
+        (v.owner < length participants.now) × (v.number.0 < 8)) }
+{
+    let owner = name.owner?;
+    variable_among(system, participants, &owner, &name.name)
+}
+
 impl<'a> Scope<'a> {
     /// The variable for which a name stands; none where it stands for none.
     fn variable(&self, name: &VariableName) -> Option<Variable>
@@ -76,10 +97,10 @@ impl<'a> Scope<'a> {
     {
         match (self, &name.owner) {
             (Scope::Own(names), None) => variable_named(names, 0, &name.name),
-            (Scope::Shared(system, participants), Some(owner)) => {
-                variable_among(system, participants, owner, &name.name)
+            (Scope::Own(_), Some(_)) => None,
+            (Scope::Shared(system, participants), _) => {
+                shared_variable(system, participants, name)
             }
-            _ => None,
         }
     }
 

@@ -184,10 +184,11 @@ impl Model {
         ensures { IfSome (slice_get self.now.components comp.0)
             (λ component. AreOffered component (local_of (location, values.now)) result) }
     {
-        self.components()[comp.0 as usize].ports(&LocalState {
+        let local = LocalState {
             location,
             values: *values,
-        })
+        };
+        self.components()[comp.0 as usize].ports(self.places(comp), &local)
     }
 
     /// What a component offers in a local state, as its move of this number
@@ -228,7 +229,7 @@ impl Model {
             location,
             values: *values,
         };
-        let target = self.components()[comp.0 as usize].moved(&local, port)?;
+        let target = self.components()[comp.0 as usize].moved(self.places(comp), &local, port)?;
         Some((target.location, target.values))
     }
 
@@ -259,7 +260,7 @@ impl Model {
         ensures { result ≡ offered self.now (state_of state.now) (comp, port) }
     {
         match (self.components().get(comp.0 as usize), state.at(comp)) {
-            (Some(component), Some(local)) => component.offers(local, port),
+            (Some(component), Some(local)) => component.offers(self.places(comp), local, port),
             _ => false,
         }
     }
@@ -298,7 +299,7 @@ impl Model {
     {
         let component = self.components().get(comp.0 as usize)?;
         let local = state.at(comp)?;
-        component.transition_for(local.location, port)
+        component.transition_for(self.places(comp), local.location, port)
     }
 }
 

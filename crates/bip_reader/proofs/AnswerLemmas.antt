@@ -1,5 +1,5 @@
 -- What calls answered, beside what is said.
-use Rattle.std.proofs.Common.{◌≡◌, ◌≢◌, ℕ, Bool, true, false, ◌||◌, List, [], ◌∷◌, length, map, Option, Some, Result, Ok, Err, refl, ap, arith}
+use Rattle.std.proofs.Common.{◌≡◌, ◌≢◌, ℕ, Bool, true, false, ◌||◌, List, [], ◌∷◌, length, map, Option, None, Some, Result, Ok, Err, refl, ap, arith}
 use Rattle.std.specs.Prelude.{◌≤◌, is_some}
 use Rattle.std.proofs.lemmas.Bool.Decides.{nat_tests}
 use Rattle.std.specs.List.{list_all, list_any}
@@ -11,12 +11,13 @@ use Rattle.bip_model.specs.declared.drafts.Draft.{Draft}
 use Rattle.bip_model.specs.declared.faults.BuildFault.{BuildFault}
 use Rattle.bip_model.specs.declared.faults.BuildFault.TheVariants as build_fault
 use Rattle.bip_reader.specs.declared.faults.Why.{Why}
-use Rattle.bip_reader.specs.declared.faults.Why.TheVariants.{Syntax, Unknown, TooMany, Memory}
+use Rattle.bip_reader.specs.declared.faults.Why.TheVariants.{Unknown, TooMany, Memory}
 use Rattle.bip_reader.specs.declared.reading.Reading.{Reading}
 use Rattle.bip_reader.specs.declared.statements.Statement.{Statement}
 use Rattle.bip_reader.specs.declared.statements.Statement.TheVariants as statement
 use Rattle.bip_reader.specs.Faults.{why_of_build}
 use Rattle.bip_reader.specs.Reading.{class_line, draft_of, draft_with, interaction_named, reading_with, with_draft}
+use Rattle.bip_reader.specs.Statements.{stores_words}
 use Rattle.bip_reader.proofs.WordLemmas.{all_are_each}
 
 -- whether an element's image passes a test
@@ -28,10 +29,10 @@ list_any-map p f (x ∷ xs) = ap (λ b. p (f x) || b) (list_any-map p f xs)
 pub want_told : {A : Type 0} (o : Option A) (fault why : Why) → is_some o ≡ true → why ≡ Memory → Answers Memory (ok_or o fault) (Err why)
 want_told o fault why e is = grind arith
 
--- a call that didn't want memory answered what is said
-pub said_unless : {A : Type 0} (said : Result A Why) (result : Result (Unit {0}) Why) (new : A) → Answers Memory said (new_or_fault result new)
-    → result ≢ Err Memory → said ≡ new_or_fault result new
-said_unless said result new h other = grind arith
+-- what was taken out is there
+pub ok_said : {A : Type 0} (o : Option A) (fault : Why) (x : A) → ok_or o fault ≡ Ok x → o ≡ Some x
+ok_said None fault x e = cc
+ok_said (Some y) fault x e = cc
 
 pub err_same : {A : Type 0} (x y : Why) → ◌≡◌ {A = Result A Why} (Err x) (Err y) → x ≡ y
 err_same x y e = cc
@@ -42,14 +43,26 @@ pub led_to : {A : Type 0} (said : Result A Why) (result : Result (Unit {0}) Why)
 led_to said (Ok u) new none h = h (λ e. none Memory e)
 led_to said (Err why) new none h = absurd (none why refl)
 
--- what was stated
-pub stated : (o : Option Statement) (s : Statement) → Answers Memory (ok_or o Syntax) (Ok s) → o ≡ Some s
-stated o s h = grind arith
+-- what the builder answered to a statement is what is said to the draft, or it wanted memory
+module _ (r : Reading) (s : Statement) (d : Draft) (fault : BuildFault) (is : r.builder ≡ Some d) where
+  pub answered : (◌≢◌ {A = Result (Unit {0}) BuildFault} (Err fault) (Err build_fault.Memory) → ◌≡◌ {A = Result Draft BuildFault} (Err fault) (draft_with s d))
+      → ◌≢◌ {A = Result (Unit {0}) Why} (Err (why_of_build fault)) (Err Memory) → ◌≡◌ {A = Result Reading Why} (Err (why_of_build fault)) (with_draft r (draft_with s (draft_of r)))
+  answered said other =
+      let no_memory : ◌≢◌ {A = Result (Unit {0}) BuildFault} (Err fault) (Err build_fault.Memory) = λ e. other (let same : fault ≡ build_fault.Memory = cc in rw same refl) in
+      rw (is, ← said no_memory) refl
 
--- what the builder answered to a statement is what is said to the draft
-pub answered : (r : Reading) (s : Statement) (d : Draft) (fault : BuildFault) → r.builder ≡ Some d → Answers {X = Draft} build_fault.Memory (draft_with s d) (Err fault)
-    → Answers {X = Reading} Memory (with_draft r (draft_with s (draft_of r))) (Err (why_of_build fault))
-answered r s d fault is h = grind arith
+  pub wanting : (◌≡◌ {A = Result (Unit {0}) BuildFault} (Err fault) (Err build_fault.Memory) → (f : BuildFault) → draft_with s d ≡ Err f → stores_words s ≡ true)
+      → ◌≡◌ {A = Result (Unit {0}) Why} (Err (why_of_build fault)) (Err Memory) → (why : Why) → with_draft r (draft_with s (draft_of r)) ≡ Err why → stores_words s ≡ true
+  wanting memory e why told = by_said (draft_with s d) refl (rw is at told)
+    where
+      by_fault : (f : BuildFault) → why_of_build f ≡ Memory → f ≡ build_fault.Memory
+      by_fault f e = grind arith
+
+      by_said : (said : Result Draft BuildFault) → draft_with s d ≡ said → with_draft r said ≡ Err why → stores_words s ≡ true
+      by_said (Ok new) at_said wrong = cc
+      by_said (Err f) at_said told' =
+          let same : fault ≡ build_fault.Memory = by_fault fault cc in
+          memory (rw same refl) f at_said
 
 -- a statement that is neither `bip 1` nor a class is said to the draft
 pub is_said_to_draft : (s : Statement) (r : Reading) → (s ≡ statement.Header → ⊥) → ((name : List ℕ) (interactions : List (List ℕ)) → s ≡ statement.Class name interactions → ⊥)

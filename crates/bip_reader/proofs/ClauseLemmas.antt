@@ -1,95 +1,16 @@
--- Lemmas on lists that are read item after item, and on the parts of words.
-use Rattle.std.proofs.Common.{◌≡◌, List, [], ◌∷◌, ◌++◌, ℕ, Option, None, Some, Result, Ok, Err, refl, ap, ◌∙◌, sym, append_assoc, append-nil}
-use Rattle.std.specs.Option.{ok_or, option_map, option_map_or, option_zip}
-use Rattle.bip_reader.specs.declared.faults.Why.{Why}
-use Rattle.bip_reader.specs.declared.faults.Why.TheVariants.{Syntax}
-use Rattle.bip_reader.specs.Clauses.{parts_at}
-use Rattle.bip_reader.specs.Words.{ReadAs, cut_at}
+-- Lemmas on the parts of words, and on lists that are lent as words.
+use Rattle.std.proofs.Common.{◌≡◌, ◌+◌, ◌/◌, true, false, length, arith, List, [], ◌∷◌, ℕ, Option, None, Some, refl}
+use Rattle.std.specs.Option.{option_map, option_map_or, option_zip}
+use Rattle.std.specs.Prelude.{is_some, unwrap_or, IsSome}
+use Rattle.bip_reader.specs.Clauses.{list_form, pairs_form, parts_at, words_after, words_before}
+use Rattle.bip_reader.specs.Words.{cut_at, each_of}
 
 abbrev Cut : Type 0 → Type 0
 Cut M = List (List ℕ) × M × List (List ℕ)
 
--- what is said of items, and of those behind them
-abbrev pub joined : {P : Type 0} → Option (List P) → Option (List P) → Option (List P)
-joined done rest = option_map (λ l. l.0 ++ l.1) (option_zip done rest)
-
-abbrev pub pushed : {P : Type 0} → Option (List P) → Option P → Option (List P)
-pushed done x = option_map (λ l. l.0 ++ l.1 ∷ []) (option_zip done x)
-
+-- an item, and those behind it
 abbrev pub first_of : {P : Type 0} → Option P → Option (List P) → Option (List P)
 first_of x rest = option_map (λ p. p.0 ∷ p.1) (option_zip x rest)
-
--- of all items those in front were read, or want of memory is told of them
-pub record IsReadSoFar {P : Type 0} (all rest : Option (List P)) (items : Result (List P) Why) : Type 0 where
-  pub done : Option (List P)
-  pub read : ReadAs done items
-  pub same : all ≡ joined done rest
-
-pub reads_said : {A : Type 0} (o : Option A) → ReadAs o (ok_or o Syntax)
-reads_said None = refl
-reads_said (Some x) = refl
-
-joined_nothing : {P : Type 0} (all : Option (List P)) → all ≡ joined (Some []) all
-joined_nothing None = refl
-joined_nothing (Some xs) = refl
-
-joined_more : {P : Type 0} (done : Option (List P)) (x : Option P) (rest : Option (List P)) → joined done (first_of x rest) ≡ joined (pushed done x) rest
-joined_more None x rest = refl
-joined_more (Some xs) None rest = refl
-joined_more (Some xs) (Some x) None = refl
-joined_more (Some xs) (Some x) (Some ys) = ap Some (sym (append_assoc xs (x ∷ []) ys))
-
-joined_end : {P : Type 0} (done : Option (List P)) → joined done (Some []) ≡ done
-joined_end None = refl
-joined_end (Some xs) = ap Some (append-nil xs)
-
-joined_last : {P : Type 0} (done : Option (List P)) (x : Option P) → joined done (first_of x (Some [])) ≡ pushed done x
-joined_last None x = refl
-joined_last (Some xs) None = refl
-joined_last (Some xs) (Some x) = refl
-
-joined_none : {P : Type 0} (done : Option (List P)) → joined done None ≡ None
-joined_none None = refl
-joined_none (Some xs) = refl
-
-pub none_read : {P : Type 0} (all : Option (List P)) → IsReadSoFar all all (Ok [])
-none_read all = record { done = Some []; read = refl; same = joined_nothing all }
-
-module _ {P : Type 0} (all rest : Option (List P)) (items : Result (List P) Why) (h : IsReadSoFar all rest items) where
-  -- one more item
-  pub more_read : (x : Option P) (behind : Option (List P)) (new : Result (List P) Why) → rest ≡ first_of x behind → ((done : Option (List P)) → ReadAs done items → ReadAs (pushed done x) new) → IsReadSoFar all behind new
-  more_read x behind new is reads = record { done = pushed h.done x; read = reads h.done h.read; same = h.same ∙ rw is (joined_more h.done x behind) }
-
-  -- the last item
-  pub last_read : (x : Option P) (new : Result (List P) Why) → rest ≡ first_of x (Some []) → ((done : Option (List P)) → ReadAs done items → ReadAs (pushed done x) new) → ReadAs all new
-  last_read x new is reads =
-      let same : all ≡ pushed h.done x = h.same ∙ rw is (joined_last h.done x) in
-      rw same (reads h.done h.read)
-
-  -- no more items
-  pub all_read : rest ≡ Some [] → ReadAs all items
-  all_read is = let same : all ≡ h.done = h.same ∙ rw is (joined_end h.done) in rw same h.read
-
-  -- one of them is none
-  pub nothing_read : rest ≡ None → all ≡ None
-  nothing_read is = h.same ∙ rw is (joined_none h.done)
-
--- what is made of what was read, alone or with something before it
-pub made_ok : {A B : Type 0} (f : A → B) (o : Option A) (y : A) → ReadAs o (Ok y) → ReadAs (option_map f o) (Ok (f y))
-made_ok f None y h = absurd h
-made_ok f (Some x) y h = ap f h
-
-pub made_err : {A B : Type 0} (f : A → B) (o : Option A) (why : Why) → ReadAs o (Err why) → ReadAs (option_map f o) (Err why)
-made_err f None why h = h
-made_err f (Some x) why h = h
-
-pub with_ok : {A B C : Type 0} (f : A × B → C) (x : A) (o : Option B) (y : B) → ReadAs o (Ok y) → ReadAs (option_map f (option_zip (Some x) o)) (Ok (f (x, y)))
-with_ok f x None y h = absurd h
-with_ok f x (Some z) y h = ap (λ b. f (x, b)) h
-
-pub with_err : {A B C : Type 0} (f : A × B → C) (x : A) (o : Option B) (why : Why) → ReadAs o (Err why) → ReadAs (option_map f (option_zip (Some x) o)) (Err why)
-with_err f x None why h = h
-with_err f x (Some z) why h = h
 
 some_same : {M : Type 0} (x y : Cut M) → Some x ≡ Some y → x ≡ y
 some_same x y e = cc
@@ -123,3 +44,70 @@ parts_uncut {M} f (word ∷ rest) is = by_mark (f word) refl is (cut_at f rest) 
     by_mark (Some m) some is' cut at more = cc
     by_mark None none' is' None at more = rw (none', more at) refl
     by_mark None none' is' (Some c) at more = let wrong = rw at at is' in cc
+
+-- parts are the part before the first mark, and those behind it
+pub list_cut : {P M : Type 0} (part : List (List ℕ) → Option P) (mark : List ℕ → Option M) (words : List (List ℕ)) → list_form part mark (Some words) ≡ first_of (part (words_before mark words)) (list_form part mark (words_after mark words))
+list_cut {P} {M} part mark words = by_cut (cut_at mark words) refl
+  where
+    by_cut : (cut : Option (Cut M)) → cut_at mark words ≡ cut → each_of part (parts_at mark words) ≡ first_of (part (option_map_or {U = List (List ℕ)} (λ (c : Cut M). c.0) cut words)) (list_form part mark (option_map (λ (c : Cut M). c.2) cut))
+    by_cut None is = rw (parts_uncut mark words is) refl
+    by_cut (Some c) is = rw (parts_cut mark words c.0 c.2 c.1 is) refl
+
+-- where the first is something, all are where the rest are
+pub first_read : {P : Type 0} (x : Option P) (rest : Option (List P)) → is_some x ≡ true → is_some (first_of x rest) ≡ is_some rest
+first_read None rest some = cc
+first_read (Some x) None some = refl
+first_read (Some x) (Some ys) some = refl
+
+-- where the first is nothing, so are all
+pub none_first : {P : Type 0} (x : Option P) (rest : Option (List P)) → is_some x ≡ false → is_some (first_of x rest) ≡ false
+none_first None rest none = refl
+none_first (Some x) rest none = cc
+
+-- whether a list is one, by its first part
+pub ruleset list_reads = (list_cut, first_read, none_first)
+
+-- what is lent is its first, and what is lent behind it
+module _ {P : Type 0} (x : Option P) (rest whole : Option (List P)) (is : whole ≡ first_of x rest) (lent : IsSome whole) where
+  -- the first is there
+  pub some_first : x ≡ None → ⊥
+  some_first none = let wrong = rw (is, none) at lent in cc
+
+  -- so are those behind it
+  pub rest_lent : IsSome rest
+  rest_lent = by_parts x rest refl refl
+    where
+      by_parts : (y : Option P) (more : Option (List P)) → x ≡ y → rest ≡ more → IsSome rest
+      by_parts None more e f = absurd (some_first e)
+      by_parts (Some y) None e f = let wrong = rw (is, e, f) at lent in cc
+      by_parts (Some y) (Some ys) e f = rw f refl
+
+  -- and they are the whole
+  pub first_lent : (y : P) → x ≡ Some y → unwrap_or whole [] ≡ y ∷ unwrap_or rest []
+  first_lent y e = by_rest rest refl
+    where
+      by_rest : (more : Option (List P)) → rest ≡ more → unwrap_or whole [] ≡ y ∷ unwrap_or rest []
+      by_rest None f = let wrong = rw (is, e, f) at lent in cc
+      by_rest (Some ys) f = rw (is, e, f) refl
+
+-- words are twice as many as the pairs that they are
+pub pairs_count : {P : Type 0} (f : List ℕ → List ℕ → Option P) (words : List (List ℕ)) (ps : List P) → pairs_form f words ≡ Some ps → length words ≡ length ps + length ps
+pairs_count f [] ps is = let none : [] ≡ ps = cc in rw (← none) refl
+pairs_count f (word ∷ []) ps is = cc
+pairs_count {P} f (first ∷ second ∷ rest) ps is = by_rest (f first second) (pairs_form f rest) refl (λ ys e. pairs_count f rest ys e) is
+  where
+    by_rest : (x : Option P) (more : Option (List P)) → pairs_form f rest ≡ more → ((ys : List P) → pairs_form f rest ≡ Some ys → length rest ≡ length ys + length ys) → option_map (λ (p : P × List P). p.0 ∷ p.1) (option_zip x more) ≡ Some ps → length (first ∷ second ∷ rest) ≡ length ps + length ps
+    by_rest None more e count is' = cc
+    by_rest (Some x) None e count is' = cc
+    by_rest (Some x) (Some ys) e count is' =
+        let same : x ∷ ys ≡ ps = cc in
+        let counted = count ys e in
+        rw (← same) (omega arith)
+
+-- pairs that are lent are half as many as their words
+pub lent_half : {P : Type 0} (f : List ℕ → List ℕ → Option P) (words : List (List ℕ)) → IsSome (pairs_form f words) → length words / 2 ≡ length (unwrap_or (pairs_form f words) [])
+lent_half {P} f words lent = by_read (pairs_form f words) refl lent
+  where
+    by_read : (o : Option (List P)) → pairs_form f words ≡ o → IsSome o → length words / 2 ≡ length (unwrap_or o [])
+    by_read None e some = cc
+    by_read (Some ps) e some = omega (arith, pairs_count f words ps e)

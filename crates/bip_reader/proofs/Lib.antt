@@ -1,4 +1,5 @@
 pub mod AnswerLemmas
+pub mod BuildLemmas
 pub mod ClauseLemmas
 pub mod CanonicalLemmas
 pub mod ComponentLeadLemmas
@@ -14,6 +15,7 @@ pub mod ReadBackLemmas
 pub mod SameMeaningLemmas
 pub mod SpelledLemmas
 pub mod TextLemmas
+pub mod TransferLemmas
 pub mod ValidLemmas
 pub mod WordLemmas
 pub mod WritingLemmas

@@ -2,10 +2,9 @@
 use Rattle.std.proofs.Common.{◌≡◌, ℕ, ◌+◌, ◌<◌, List, [], ◌∷◌, ◌++◌, length, take, Option, None, Some, refl, ◌∙◌, sym, append_assoc, append-nil, arith, length-append}
 use Rattle.std.specs.Option.{option_map}
 use Rattle.std.proofs.Math.Seq.{take-append_seam}
-use Rattle.std.proofs.lemmas.Bool.Decides.{nat_tests}
-use Rattle.std.specs.Prelude.{is_some, true}
+use Rattle.std.specs.Prelude.{is_some, IsSome, unwrap_or}
 use Rattle.std.specs.List.{list_all}
-use Rattle.bip_reader.specs.Words.{cut_at, each_of, one_or_more_of}
+use Rattle.bip_reader.specs.Words.{cut_at, each_of}
 
 -- a cut, with words in front
 abbrev pub after_words : {M : Type 0} → List (List ℕ) → Option (List (List ℕ) × M × List (List ℕ)) → Option (List (List ℕ) × M × List (List ℕ))
@@ -70,9 +69,18 @@ as_many f (x ∷ rest) ys e = grind (arith, as_many f rest)
 abbrev pub each_behind : {A B : Type 0} → (A → Option B) → List B → List A → Option (List B)
 each_behind f before xs = option_map (λ ys. before ++ ys) (each_of f xs)
 
--- where all are read, some are
-pub some_read : {A : Type 0} (f : List ℕ → Option A) (words rest : List (List ℕ)) (before : List A) → each_behind f before rest ≡ each_of f words → rest ≡ [] → is_some (one_or_more_of f words) ≡ true → 0 < length before
-some_read f words rest before read none some =
-    let all : Some (before ++ []) ≡ each_of f words = rw none at read in
-    let many : length (before ++ []) ≡ length words = as_many f words (before ++ []) (sym all) in
-    grind (arith, nat_tests, length-append before [])
+-- one more thing is something
+pub one_more_read : {A B : Type 0} (f : A → Option B) (before : List B) (x : A) (xs : List A) (y : B) (whole : Option (List B)) → each_behind f before (x ∷ xs) ≡ whole → f x ≡ Some y → each_behind f (before ++ y ∷ []) xs ≡ whole
+one_more_read {A} {B} f before x xs y whole is said = by_rest (each_of f xs) refl
+  where
+    by_rest : (rest : Option (List B)) → each_of f xs ≡ rest → each_behind f (before ++ y ∷ []) xs ≡ whole
+    by_rest None e = rw e (rw (said, e) at is)
+    by_rest (Some ys) e = rw (e, append_assoc before (y ∷ []) ys) (rw (said, e) at is)
+
+-- things that are lent are as many as their words
+pub lent_as_many : {A B : Type 0} (f : A → Option B) (xs : List A) → IsSome (each_of f xs) → length (unwrap_or (each_of f xs) []) ≡ length xs
+lent_as_many {A} {B} f xs some = by_read (each_of f xs) refl some
+  where
+    by_read : (o : Option (List B)) → each_of f xs ≡ o → IsSome o → length (unwrap_or o []) ≡ length xs
+    by_read None e some' = cc
+    by_read (Some ys) e some' = as_many f xs ys e

@@ -2,6 +2,7 @@ pub mod Clauses
 pub mod Faults
 pub mod Laws
 pub mod Reading
+pub mod Scopes
 pub mod Statements
 pub mod Texts
 pub mod Words

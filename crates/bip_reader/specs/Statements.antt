@@ -1,6 +1,6 @@
 -- The forms of the lines of a model's text: from the words of a line to what it states.
 use Rattle.std.specs.Prelude.{ℕ, Bool, false, true, List, [], ◌∷◌, Option, None, Some, codes}
-use Rattle.std.specs.Prelude.{if◌then◌else◌}
+use Rattle.std.specs.Prelude.{if◌then◌else◌, not, length, ◌==◌, ◌||◌}
 use Rattle.std.specs.Option.{option_map, option_map_or, option_zip}
 use Rattle.bip_model.specs.Naming.{same_text}
 use Rattle.bip_model.specs.Texts.{value_said}
@@ -53,6 +53,14 @@ is_of_list k rest = false
 abbrev pub lists_words : List (List ℕ) → Bool
 lists_words [] = false
 lists_words (word ∷ rest) = option_map_or (λ k. is_of_list k rest) (keyword_of word) false
+
+-- whether some of what a statement lists may be stored before it is looked up: an interaction's
+-- participants, its guard and its assignments, and a transition's guard and assignments
+abbrev pub stores_words : Statement → Bool
+stores_words (Trans port source target guard update) =
+    not (length guard == 0) || not (length update == 0)
+stores_words (Interaction name participants guard transfer) = true
+stores_words s = false
 
 -- `1`
 unfoldable pub header_form : List (List ℕ) → Option Statement

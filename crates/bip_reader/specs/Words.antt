@@ -1,12 +1,9 @@
 -- The words of a line: where they are cut, and what each can be by itself.
-use Rattle.std.specs.Prelude.{ℕ, ◌==◌, List, [], ◌∷◌, length, Option, None, Some, Result}
+use Rattle.std.specs.Prelude.{ℕ, ◌==◌, List, [], ◌∷◌, length, Option, None, Some}
 use Rattle.std.specs.Prelude.{option_and_then, codes, if◌then◌else◌}
-use Rattle.std.specs.Option.{ok_or, option_map, option_map_or, option_zip}
-use Rattle.bip_model.specs.Faults.{Answers}
+use Rattle.std.specs.Option.{option_map, option_map_or, option_zip}
 use Rattle.bip_model.specs.Naming.{is_name, same_text}
 use Rattle.bip_model.specs.Texts.{pair_of}
-use Rattle.bip_reader.specs.declared.faults.Why.{Why}
-use Rattle.bip_reader.specs.declared.faults.Why.TheVariants.{Memory, Syntax}
 use Rattle.bip_reader.specs.declared.words.And.{And}
 use Rattle.bip_reader.specs.declared.words.Do.{Do}
 use Rattle.bip_reader.specs.declared.words.Semicolon.{Semicolon}
@@ -57,8 +54,3 @@ each_of f (x ∷ rest) = option_map (λ y. y.0 ∷ y.1) (option_zip (f x) (each_
 -- what words are, each by itself, at least one
 abbrev pub one_or_more_of : {A : Type 0} → (List ℕ → Option A) → List (List ℕ) → Option (List A)
 one_or_more_of f words = if length words == 0 then None else each_of f words
-
--- what was read of words that are this: it, or want of memory; a fault of syntax where they are
--- nothing
-abbrev pub ReadAs : {A : Type 0} → Option A → Result A Why → Type 0
-ReadAs said result = Answers Memory (ok_or said Syntax) result

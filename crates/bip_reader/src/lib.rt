@@ -1,10 +1,12 @@
 //! The texts of models, read exactly: a text is a model with its classes, or it has a first fault.
 #![tactic(auto)]
 
+mod building;
 mod clauses;
 mod faults;
 mod laws;
 mod reading;
+mod scopes;
 mod statements;
 mod texts;
 mod words;

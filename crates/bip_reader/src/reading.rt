@@ -1,27 +1,27 @@
 //! Reading the text of a model, line after line.
 ghost use Rattle.std.specs.Prelude.{◌≡◌, ◌≢◌, ◌∷◌, ◌++◌, [], length, map, true};
-ghost use Rattle.std.specs.Prelude.{Err, IfErr, IfOk, OnOk, IsTrue, Some};
+ghost use Rattle.std.specs.Prelude.{Err, IfErr, IfOk, IfSome, OnOk, IsTrue, Some};
 ghost use Rattle.std.specs.List.{list_any};
 ghost use Rattle.std.specs.Option.{ok_or};
 ghost use Rattle.bip_model.specs.Naming.{same_text};
 ghost use Rattle.bip_model.specs.Faults.{Answers, new_or_fault};
 ghost use Rattle.bip_model.specs.Priorities.{IsCyclic};
 ghost use Rattle.bip_model.specs.Texts.{words};
-ghost use Rattle.bip_model.specs.declared.faults.BuildFault.TheVariants as build_fault;
 ghost use Rattle.bip_reader.specs.declared.faults.Why.{Why};
 ghost use Rattle.bip_reader.specs.declared.faults.Why.TheVariants.{Memory, Syntax};
 ghost use Rattle.bip_reader.specs.Reading.{MayBeHidden, are_interactions, can_follow, class_line};
-ghost use Rattle.bip_reader.specs.Reading.{draft_of, draft_with, empty_reading, has_place};
+ghost use Rattle.bip_reader.specs.Reading.{draft_of, empty_reading, has_place};
 ghost use Rattle.bip_reader.specs.Reading.{interaction_named, interactions_named, reading_after};
 ghost use Rattle.bip_reader.specs.Reading.{reading_after_words};
 ghost use Rattle.bip_reader.specs.Reading.{reading_with, statement_in};
-ghost use Rattle.bip_reader.specs.Statements.{keyword_in, lists_words};
+ghost use Rattle.bip_reader.specs.Statements.{keyword_in, lists_words, stores_words};
 ghost use Rattle.bip_reader.specs.Texts.{IsFaultAtEnd, IsWholeReading, system_of};
 
 use crate::Why;
+use crate::building::build;
 use crate::statements::{Keyword, Statement, keyword_of, read_statement};
-use crate::words::Words;
-use bip_model::{BuildFault, Builder, InterId, Line, MOST_CLASSES, Model, Name, Seq, read_words};
+use crate::words::{Each, OneOrMore, Words};
+use bip_model::{Builder, InterId, Line, MOST_CLASSES, Model, Name, Seq, read_words};
 use std::alloc::{AllocError, Global};
 use std::marker;
 
@@ -120,25 +120,25 @@ impl Reading {
             → reading_after_words (Some (word.now ∷ words rest.now)) self.old ≡ Err why
             → (why ≢ Syntax) × IsTrue (lists_words (word.now ∷ words rest.now)) }
     {
-        let statement = self.statement_in(alloc, word, rest)?;
+        let Some(statement) = self.statement_in(word, rest) else {
+            return Err(Why::Syntax);
+        };
         self.take(alloc, statement)
     }
 
-    /// What a line states in its place, by its first word and the rest. Syntax: it has no form, or
-    /// no place now; memory comes only where it has both, and lists words.
-    fn statement_in(&self, alloc: Global, word: &[u8], rest: &[u8]) -> Result<Statement, Why>
-        ensures said { let said = statement_in word.now (words rest.now) self.now
-            in Answers Memory (ok_or said Syntax) result }
-        ensures place { IfOk result (λ s. IsTrue (has_place (keyword_in s) self.now)) }
-        ensures memory { result ≡ Err Memory → IsTrue (lists_words (word.now ∷ words rest.now)) }
+    /// What a line states in its place, by its first word and the rest; none where it has no form,
+    /// or no place now.
+    fn statement_in<'a>(&self, word: &[u8], rest: &'a [u8]) -> Option<Statement<'a>>
+        ensures said { result ≡ statement_in word.now (words rest.now) self.now }
+        ensures place { IfSome result (λ s. IsTrue (has_place (keyword_in s) self.now)) }
+        ensures listing { IfSome result (λ s. IsTrue (stores_words s)
+            → IsTrue (lists_words (word.now ∷ words rest.now))) }
     {
-        let Some(keyword) = keyword_of(word) else {
-            return Err(Why::Syntax);
-        };
+        let keyword = keyword_of(word)?;
         if !self.has_place(keyword) {
-            return Err(Why::Syntax);
+            return None;
         }
-        read_statement(alloc, keyword, &Words::of(rest))
+        read_statement(keyword, &Words::of(rest))
     }
 
     /// Whether a line with this keyword can stand now.
@@ -152,60 +152,66 @@ impl Reading {
     }
 
     /// Takes a statement in its place.
-    fn take(&mut self, alloc: Global, statement: Statement) -> Result<(), Why>
+    fn take(&mut self, alloc: Global, statement: Statement<'_>) -> Result<(), Why>
         requires { IsTrue (has_place (keyword_in statement) self.old) }
-        ensures { Answers Memory (reading_with statement self.old) (new_or_fault result self.new) }
+        ensures said { result ≢ Err Memory
+            → new_or_fault result self.new ≡ reading_with statement.entry self.old }
+        ensures memory { result ≡ Err Memory → (why : Why)
+            → reading_with statement.entry self.old ≡ Err why
+            → IsTrue (stores_words statement.entry) }
     {
         match statement {
             Statement::Header => {
                 self.builder = Some(Builder::new(alloc)?);
                 Ok(())
             }
-            Statement::Class { name, interactions } => {
-                self.class(alloc, name, interactions.as_slice())
-            }
+            Statement::Class { name, interactions } => { self.class(alloc, name, &interactions) }
             statement => match &mut self.builder {
                 None => unreachable!(),
-                Some(builder) => Ok(build(builder, statement)?),
+                Some(builder) => Ok(build(alloc, builder, statement)?),
             },
         }
     }
 
     #[tactic(auto, unfolding(crate::specs::Reading::class_line))]
-    fn class(&mut self, alloc: Global, name: Name, interactions: &[Name]) -> Result<(), Why>
+    fn class(
+        &mut self,
+        alloc: Global,
+        name: Name,
+        interactions: &OneOrMore<'_, Name>,
+    ) -> Result<(), Why>
         ensures { let said = class_line name interactions.now self.old
             in Answers Memory said (new_or_fault result self.new) }
     {
         if self.classes.contains(&name) {
             return Err(Why::Twice);
         }
-        if !self.are_interactions(interactions) {
+        if !self.are_interactions(interactions.each()) {
             return Err(Why::Unknown);
         }
         if MOST_CLASSES <= self.classes.len() {
             return Err(Why::TooMany);
         }
-        let numbers = self.interaction_numbers(alloc, interactions)?;
+        let numbers = self.interaction_numbers(alloc, interactions.each())?;
         self.classes.push(name, numbers)?;
         Ok(())
     }
 
     /// Whether each name is that of an interaction, which takes no memory.
-    fn are_interactions(&self, names: &[Name]) -> bool
-        ensures { result ≡ are_interactions self.now names.now }
+    fn are_interactions(&self, mut names: Each<'_, Name>) -> bool
+        ensures { result ≡ are_interactions self.now names.entry }
     {
-        names
-            .iter()
-            .all(|name| self.interaction_number(name).is_some())
+        names.all(|name| self.interaction_number(&name).is_some())
     }
 
-    fn interaction_numbers(&self, alloc: Global, names: &[Name]) -> Result<Seq<InterId>, Why>
-        requires { are_interactions self.now names.now ≡ true }
-        ensures { Answers Memory (interactions_named self.now names.now) result }
+    /// Their numbers, in room that is taken once.
+    fn interaction_numbers(&self, alloc: Global, names: Each<'_, Name>) -> Result<Seq<InterId>, Why>
+        requires { are_interactions self.now names ≡ true }
+        ensures { Answers Memory (interactions_named self.now names.entry) result }
     {
-        let mut numbers = Vec::new(alloc);
+        let mut numbers = Vec::with_capacity(alloc, names.len())?;
         for name in names {
-            numbers.push(self.interaction_number(name).ok_or(Why::Unknown)?)?;
+            numbers.push(self.interaction_number(&name).ok_or(Why::Unknown)?)?;
         }
         Ok(Seq::of(numbers))
     }
@@ -250,41 +256,6 @@ fn can_follow(builder: &Builder, keyword: Keyword) -> bool
         Keyword::Component | Keyword::Interaction | Keyword::Priority | Keyword::Class => {
             !builder.is_inside()
         }
-    }
-}
-
-/// Gives the builder a statement in its place.
-fn build(builder: &mut Builder, statement: Statement) -> Result<(), BuildFault>
-    requires { IsTrue (can_follow (keyword_in statement) builder.old) }
-    ensures { let said = draft_with statement builder.old
-        in Answers build_fault.Memory said (new_or_fault result builder.new) }
-{
-    match statement {
-        Statement::Component(name) => builder.component(name),
-        Statement::Var { name, value } => builder.var(name, value),
-        Statement::Loc(name) => builder.loc(name),
-        Statement::Port(name) => builder.port(name),
-        Statement::Trans {
-            port,
-            source,
-            target,
-            guard,
-            update,
-        } => builder.trans(port, source, target, guard.as_slice(), update.as_slice()),
-        Statement::End => builder.end(),
-        Statement::Interaction {
-            name,
-            participants,
-            guard,
-            transfer,
-        } => builder.interaction(
-            name,
-            participants.as_slice(),
-            guard.as_slice(),
-            transfer.as_slice(),
-        ),
-        Statement::Priority { low, high } => builder.priority(low, high),
-        Statement::Header | Statement::Class { .. } => Ok(()),
     }
 }
 

@@ -1,20 +1,15 @@
 //! The forms of lines: from the words of a line to what it states.
-ghost use Rattle.std.specs.Prelude.{◌≡◌, Err, IfOk, IfSome, IsTrue};
+ghost use Rattle.std.specs.Prelude.{◌≡◌, IfSome};
 ghost use Rattle.bip_model.specs.Naming.{same_text};
-ghost use Rattle.bip_reader.specs.Clauses.{has_clauses};
-ghost use Rattle.bip_reader.specs.declared.faults.Why.TheVariants.{Memory};
 ghost use Rattle.bip_reader.specs.declared.statements.Keyword.TheVariants as keyword_is;
 ghost use Rattle.bip_reader.specs.Statements.{class_form, end_form, header_form, interaction_form};
-ghost use Rattle.bip_reader.specs.Statements.{is_of_list, keyword_in, keyword_of, name_and_words};
-ghost use Rattle.bip_reader.specs.Statements.{one_name, priority_form, statement_of, three_names};
-ghost use Rattle.bip_reader.specs.Statements.{trans_form, var_form};
-ghost use Rattle.bip_reader.specs.Words.{ReadAs};
+ghost use Rattle.bip_reader.specs.Statements.{keyword_in, keyword_of, name_and_words, one_name};
+ghost use Rattle.bip_reader.specs.Statements.{priority_form, statement_of, three_names, trans_form};
+ghost use Rattle.bip_reader.specs.Statements.{var_form};
 
-use crate::Why;
-use crate::clauses::{Spelling, both, head_of, read_clauses};
+use crate::clauses::{Assignments, Guard, Spelling, clauses_of, head_of};
 use crate::words::{OneOrMore, Word, Words, is_text};
-use bip_model::{Assignment, Comparison, Name, Seq, VariableName, parse_value};
-use std::alloc::Global;
+use bip_model::{Name, parse_value};
 
 /// The word that a line begins with.
 #[derive(Clone, Copy)]
@@ -31,9 +26,9 @@ pub(crate) enum Keyword {
     Class,
 }
 
-/// What a line states: a case for each form of a line.
+/// What a line states: a case for each form of a line. What it lists stays in the line, as words.
 #[derive(Drop)]
-pub(crate) enum Statement {
+pub(crate) enum Statement<'a> {
     Header,
     Component(Name),
     Var {
@@ -46,15 +41,15 @@ pub(crate) enum Statement {
         port: Name,
         source: Name,
         target: Name,
-        guard: Seq<Comparison<VariableName>>,
-        update: Seq<Assignment<VariableName>>,
+        guard: Guard<'a>,
+        update: Assignments<'a>,
     },
     End,
     Interaction {
         name: Name,
-        participants: OneOrMore<(Name, Name)>,
-        guard: Seq<Comparison<VariableName>>,
-        transfer: Seq<Assignment<VariableName>>,
+        participants: OneOrMore<'a, (Name, Name)>,
+        guard: Guard<'a>,
+        transfer: Assignments<'a>,
     },
     Priority {
         low: Name,
@@ -62,79 +57,65 @@ pub(crate) enum Statement {
     },
     Class {
         name: Name,
-        interactions: OneOrMore<Name>,
+        interactions: OneOrMore<'a, Name>,
     },
 }
 
-/// What a line with this keyword states, by the words that follow. Syntax: they lack its form;
-/// memory comes only where they have it, and the line lists words.
-pub(crate) fn read_statement(
-    alloc: Global,
-    keyword: Keyword,
-    words: &Words<'_>,
-) -> Result<Statement, Why>
-    ensures said { ReadAs (statement_of keyword words.now) result }
-    ensures keyword { IfOk result (λ statement. keyword_in statement ≡ keyword) }
-    ensures memory { result ≡ Err Memory → IsTrue (is_of_list keyword words.now) }
+/// What a line with this keyword states, by the words that follow; none where they lack its form.
+/// Nothing of them is stored.
+pub(crate) fn read_statement<'a>(keyword: Keyword, words: &Words<'a>) -> Option<Statement<'a>>
+    ensures said { result ≡ statement_of keyword words.now }
+    ensures keyword { IfSome result (λ statement. keyword_in statement ≡ keyword) }
 {
     match keyword {
-        Keyword::Bip => header(words).ok_or(Why::Syntax),
-        Keyword::Component => only_name(words)
-            .map(Statement::Component)
-            .ok_or(Why::Syntax),
-        Keyword::Var => variable(words).ok_or(Why::Syntax),
-        Keyword::Loc => only_name(words).map(Statement::Loc).ok_or(Why::Syntax),
-        Keyword::Port => only_name(words).map(Statement::Port).ok_or(Why::Syntax),
-        Keyword::Trans => transition(alloc, words),
-        Keyword::End => end(words).ok_or(Why::Syntax),
-        Keyword::Interaction => interaction(alloc, words),
-        Keyword::Priority => priority(words).ok_or(Why::Syntax),
-        Keyword::Class => class(alloc, words),
+        Keyword::Bip => header(words),
+        Keyword::Component => Some(Statement::Component(only_name(words)?)),
+        Keyword::Var => variable(words),
+        Keyword::Loc => Some(Statement::Loc(only_name(words)?)),
+        Keyword::Port => Some(Statement::Port(only_name(words)?)),
+        Keyword::Trans => transition(words),
+        Keyword::End => end(words),
+        Keyword::Interaction => interaction(words),
+        Keyword::Priority => priority(words),
+        Keyword::Class => class(words),
     }
 }
 
-fn interaction(alloc: Global, words: &Words<'_>) -> Result<Statement, Why>
-    ensures said { ReadAs (interaction_form words.now) result }
-    ensures keyword { IfOk result (λ statement. keyword_in statement ≡ keyword_is.Interaction) }
+#[tactic(auto, unfolding(crate::specs::Statements::interaction_form))]
+fn interaction<'a>(words: &Words<'a>) -> Option<Statement<'a>>
+    ensures form { result ≡ interaction_form words.now }
+    ensures keyword { IfSome result (λ statement. keyword_in statement ≡ keyword_is.Interaction) }
 {
-    let named = name_and_words(alloc, &head_of(words));
-    let clauses = read_clauses(alloc, Spelling::Shared, words);
-    match both(named, clauses) {
-        Ok((named, clauses)) => Ok(Statement::Interaction {
-            name: named.0,
-            participants: named.1,
-            guard: clauses.0,
-            transfer: clauses.1,
-        }),
-        Err(why) => Err(why),
-    }
+    let (name, participants) = name_and_words(&head_of(words))?;
+    let (guard, transfer) = clauses_of(Spelling::Shared, words)?;
+    Some(Statement::Interaction {
+        name,
+        participants,
+        guard,
+        transfer,
+    })
 }
 
 #[tactic(auto, unfolding(crate::specs::Statements::class_form))]
-fn class(alloc: Global, words: &Words<'_>) -> Result<Statement, Why>
-    ensures said { ReadAs (class_form words.now) result }
-    ensures keyword { IfOk result (λ statement. keyword_in statement ≡ keyword_is.Class) }
+fn class<'a>(words: &Words<'a>) -> Option<Statement<'a>>
+    ensures form { result ≡ class_form words.now }
+    ensures keyword { IfSome result (λ statement. keyword_in statement ≡ keyword_is.Class) }
 {
-    let (name, interactions) = name_and_words(alloc, words)?;
-    Ok(Statement::Class { name, interactions })
+    let (name, interactions) = name_and_words(words)?;
+    Some(Statement::Class { name, interactions })
 }
 
 /// A name, and what the words behind it are.
 #[tactic(auto, unfolding(crate::specs::Statements::name_and_words))]
-fn name_and_words<W: Word>(alloc: Global, words: &Words<'_>) -> Result<(Name, OneOrMore<W>), Why>
-    ensures { ReadAs (name_and_words W.read_as words.now) result }
+fn name_and_words<'a, W: Word>(words: &Words<'a>) -> Option<(Name, OneOrMore<'a, W>)>
+    ensures { result ≡ name_and_words W.read_as words.now }
 {
-    let Some((word, rest)) = words.split_first() else {
-        return Err(Why::Syntax);
-    };
-    let Some(name) = Name::read(word) else {
-        return Err(Why::Syntax);
-    };
-    Ok((name, OneOrMore::read(alloc, &rest)?))
+    let (word, rest) = words.split_first()?;
+    Some((Name::read(word)?, OneOrMore::of(&rest)?))
 }
 
 #[tactic(auto, unfolding(crate::specs::Statements::header_form))]
-fn header(words: &Words<'_>) -> Option<Statement>
+fn header<'a>(words: &Words<'a>) -> Option<Statement<'a>>
     ensures form { result ≡ header_form words.now }
     ensures keyword { IfSome result (λ statement. keyword_in statement ≡ keyword_is.Bip) }
 {
@@ -157,7 +138,7 @@ fn only_name(words: &Words<'_>) -> Option<Name>
 }
 
 #[tactic(auto, unfolding(crate::specs::Statements::var_form))]
-fn variable(words: &Words<'_>) -> Option<Statement>
+fn variable<'a>(words: &Words<'a>) -> Option<Statement<'a>>
     ensures form { result ≡ var_form words.now }
     ensures keyword { IfSome result (λ statement. keyword_in statement ≡ keyword_is.Var) }
 {
@@ -189,16 +170,13 @@ fn three_names(words: &Words<'_>) -> Option<(Name, (Name, Name))>
 }
 
 #[tactic(auto, unfolding(crate::specs::Statements::trans_form))]
-fn transition(alloc: Global, words: &Words<'_>) -> Result<Statement, Why>
-    ensures said { ReadAs (trans_form words.now) result }
-    ensures keyword { IfOk result (λ statement. keyword_in statement ≡ keyword_is.Trans) }
-    ensures memory { result ≡ Err Memory → IsTrue (has_clauses words.now) }
+fn transition<'a>(words: &Words<'a>) -> Option<Statement<'a>>
+    ensures form { result ≡ trans_form words.now }
+    ensures keyword { IfSome result (λ statement. keyword_in statement ≡ keyword_is.Trans) }
 {
-    let Some((port, (source, target))) = three_names(&head_of(words)) else {
-        return Err(Why::Syntax);
-    };
-    let (guard, update) = read_clauses(alloc, Spelling::Own, words)?;
-    Ok(Statement::Trans {
+    let (port, (source, target)) = three_names(&head_of(words))?;
+    let (guard, update) = clauses_of(Spelling::Own, words)?;
+    Some(Statement::Trans {
         port,
         source,
         target,
@@ -208,7 +186,7 @@ fn transition(alloc: Global, words: &Words<'_>) -> Result<Statement, Why>
 }
 
 #[tactic(auto, unfolding(crate::specs::Statements::priority_form))]
-fn priority(words: &Words<'_>) -> Option<Statement>
+fn priority<'a>(words: &Words<'a>) -> Option<Statement<'a>>
     ensures form { result ≡ priority_form words.now }
     ensures keyword { IfSome result (λ statement. keyword_in statement ≡ keyword_is.Priority) }
 {
@@ -228,7 +206,7 @@ fn priority(words: &Words<'_>) -> Option<Statement>
 }
 
 #[tactic(auto, unfolding(crate::specs::Statements::end_form))]
-fn end(words: &Words<'_>) -> Option<Statement>
+fn end<'a>(words: &Words<'a>) -> Option<Statement<'a>>
     ensures form { result ≡ end_form words.now }
     ensures keyword { IfSome result (λ statement. keyword_in statement ≡ keyword_is.End) }
 {

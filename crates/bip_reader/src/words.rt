@@ -3,13 +3,12 @@ ghost use Rattle.std.specs.Prelude.{◌≡◌, ◌<◌, ◌≤◌, ◌∷◌, []
 ghost use Rattle.std.specs.Prelude.{List, ℕ, Option};
 ghost use Rattle.bip_model.specs.Naming.{same_text};
 ghost use Rattle.bip_model.specs.Texts.{words};
-ghost use Rattle.bip_reader.specs.Words.{ReadAs, and_of, cut_at, do_of, name_of, one_or_more_of};
+ghost use Rattle.bip_reader.specs.Words.{and_of, cut_at, do_of, each_of, name_of, one_or_more_of};
 ghost use Rattle.bip_reader.specs.Words.{participant_of, semicolon_of, when_of};
 
-use crate::Why;
 use bip_model::{Name, split_pair, split_word};
-use std::alloc::Global;
 use std::marker;
+use std::marker::PhantomData;
 
 /// The byte between a component and its port or its variable.
 pub(crate) const PORT_MARK: u8 = b'.';
@@ -78,6 +77,13 @@ impl<'a> Words<'a> {
             rest = behind;
         }
         None
+    }
+
+    /// How many words there are.
+    pub(crate) fn len(&self) -> usize
+        ensures { result ≡ length self.now }
+    {
+        self.count
     }
 
     /// The same words.
@@ -187,54 +193,108 @@ impl Word for Semicolon {
     }
 }
 
-/// What some words of a line are, each by itself, at least one. Contracts see the list.
+/// What some words of a line are, each by itself. They are read when they are asked for, so none is
+/// stored. Contracts see the list.
 #[derive(Drop)]
-pub(crate) struct OneOrMore<W> {
-    items: Vec<W>,
+pub(crate) struct Each<'a, W: Word> {
+    words: Words<'a>,
+    kind: PhantomData<W>,
 }
 
-impl<W> marker::Model for OneOrMore<W> {
+impl<'a, W: Word> marker::Model for Each<'a, W> {
+    ghost use Rattle.std.specs.Prelude.{[], IsSome, List, unwrap_or};
+    ghost use Rattle.bip_reader.specs.Words.{each_of};
+
+    ghost Value = { List W };
+
+    ghost view = { λ l. unwrap_or (each_of W.read_as l.words) [] };
+
+    ghost invariant = { λ l. IsSome (each_of W.read_as l.words) };
+}
+
+impl<'a, W: Word> Each<'a, W> {
+    /// What words are, each by itself; none where one is nothing.
+    fn of(words: Words<'a>) -> Option<Each<'a, W>>
+        ensures { result ≡ each_of W.read_as words.entry }
+    {
+        if !are_all::<W>(&words) {
+            return None;
+        }
+        Some(Each {
+            words,
+            kind: PhantomData,
+        })
+    }
+
+    /// How many there are.
+    pub(crate) fn len(&self) -> usize
+        ensures { result ≡ length self.now }
+    {
+        self.words.len()
+    }
+}
+
+impl<'a, W: Word> Iterator for Each<'a, W> {
+    ghost use Rattle.std.specs.Iterator.{YieldsFirst, item_count};
+
+    type Item = W;
+
+    ghost next_gives = { YieldsFirst (λ left. left) };
+
+    ghost remaining = { item_count (λ left. left) };
+
+    fn next(&mut self) -> Option<W> {
+        let (word, rest) = self.words.split_first()?;
+        self.words = rest;
+        W::read(word)
+    }
+}
+
+/// The same, at least one.
+#[derive(Drop)]
+pub(crate) struct OneOrMore<'a, W: Word> {
+    items: Each<'a, W>,
+}
+
+impl<'a, W: Word> marker::Model for OneOrMore<'a, W> {
     ghost use Rattle.std.specs.Prelude.{List, length, ◌<◌};
 
     ghost Value = { List W };
 
-    ghost view = { λ l. l.items.items };
+    ghost view = { λ l. l.items };
 
-    ghost invariant = { λ l. 0 < length l.items.items };
+    ghost invariant = { λ l. 0 < length l.items };
 }
 
-impl<W> OneOrMore<W> {
-    pub(crate) fn as_slice(&self) -> &[W]
-        ensures items { result.now ≡ self.now }
-        ensures some { 0 < length result.now }
+impl<'a, W: Word> OneOrMore<'a, W> {
+    /// What words are, each by itself; none where there is no word, or one is nothing.
+    pub(crate) fn of(words: &Words<'a>) -> Option<OneOrMore<'a, W>>
+        ensures { result ≡ one_or_more_of W.read_as words.now }
     {
-        self.items.as_slice()
+        if words.len() == 0 {
+            return None;
+        }
+        Some(OneOrMore {
+            items: Each::of(words.all())?,
+        })
+    }
+
+    /// They, one after another.
+    pub(crate) fn each(&self) -> Each<'a, W>
+        ensures items { result ≡ self.now }
+        ensures some { 0 < length result }
+    {
+        Each {
+            words: self.items.words.all(),
+            kind: PhantomData,
+        }
     }
 }
 
-impl<W: Word> OneOrMore<W> {
-    /// What words are, each by itself. All are looked at before one is stored.
-    #[tactic(auto, using(crate::proofs::WordLemmas::some_read))]
-    pub(crate) fn read(alloc: Global, words: &Words<'_>) -> Result<OneOrMore<W>, Why>
-        ensures { ReadAs (one_or_more_of W.read_as words.now) result }
-    {
-        if !are_all::<W>(words) {
-            return Err(Why::Syntax);
-        }
-        let mut items = Vec::new(alloc);
-        let mut rest = words.all();
-        while let Some((word, behind)) = rest.split_first() {
-            items.push(W::read(word).ok_or(Why::Syntax)?)?;
-            rest = behind;
-        }
-        Ok(OneOrMore { items })
-    }
-}
-
-/// Whether there are words, and each of them can be read.
+/// Whether each word can be read.
 #[tactic(auto, using(crate::proofs::WordLemmas::all_are_each))]
 fn are_all<W: Word>(words: &Words<'_>) -> bool
-    ensures { result ≡ is_some (one_or_more_of W.read_as words.now) }
+    ensures { result ≡ is_some (each_of W.read_as words.now) }
 {
     let mut rest = words.all();
     while let Some((word, behind)) = rest.split_first() {
@@ -243,7 +303,7 @@ fn are_all<W: Word>(words: &Words<'_>) -> bool
         }
         rest = behind;
     }
-    words.split_first().is_some()
+    true
 }
 
 pub(crate) fn is_text(word: &[u8], text: &[u8]) -> bool

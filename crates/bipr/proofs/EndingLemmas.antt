@@ -1,9 +1,10 @@
 -- What is said of a command that has an answer, or was stopped.
-use Rattle.std.proofs.Common.{◌≡◌, ◌⊎◌, inl, inr, ℕ, Bool, List, [], Result, Ok, Err, sym, subst}
+use Rattle.std.proofs.Common.{◌≡◌, ◌⊎◌, inl, inr, ℕ, Bool, false, true, List, [], Result, Ok, Err, refl, sym, subst}
 use Rattle.std.specs.Result.{IsErrAnd}
-use Rattle.bipr.specs.Endings.{AllOutcomes, AllOutcomesTelling, Ends, EndsTelling, IsOutcome}
-use Rattle.bipr.specs.Streams.{Puts, none_put}
+use Rattle.bipr.specs.Endings.{AllOutcomes, AllOutcomesTelling, Ends, EndsExplaining, EndsTelling, IsOutcome, explaining}
+use Rattle.bipr.specs.Streams.{Puts, none_put, nothing}
 use Rattle.bipr.specs.declared.answers.Status.{Status}
+use Rattle.bipr.specs.declared.answers.Status.TheVariants.{Done, Refused, BadCommandLine, NoMemory, NotARun}
 use Rattle.bipr.specs.Stops.{answer_of_stop, out_of_memory}
 use Rattle.bipr.specs.declared.answers.Answer.{Answer}
 use Rattle.bipr.specs.declared.stops.Stop.{Stop}
@@ -48,3 +49,17 @@ pub ends_told : {S : Type 0} (may may_telling : List (List ℕ) → Answer → T
     → EndsTelling may_telling says writes before after status
 ends_told may may_telling says writes before after status all turn =
     record { told = all.told; middle = all.middle; on_the_way = all.on_the_way; ends = (all.ends.0, turn all.told all.ends.0 all.ends.1, all.ends.2) }
+
+-- nothing is put where nothing is said
+explaining-none : (status : Status) → explaining status [] ≡ []
+explaining-none Done = refl
+explaining-none Refused = refl
+explaining-none BadCommandLine = refl
+explaining-none NoMemory = refl
+explaining-none NotARun = refl
+
+-- a command that isn't asked to explain
+pub ends_unexplained : {S : Type 0} (may : Bool → List (List ℕ) → Answer → Type 0) (says : List ℕ → Bool → Type 0) (writes : S → List ℕ → Bool → S → Type 0) (before after : S) (status : Status)
+    → EndsTelling (may false) says writes before after status → EndsExplaining may says writes before after status
+ends_unexplained may says writes before after status ends =
+    record { is_asked = false; last = after; ends = ends; why = []; shown = refl; explained = (true, rw (explaining-none status) (nothing refl)); unasked = λ _. refl }

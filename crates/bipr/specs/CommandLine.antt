@@ -34,6 +34,18 @@ pub record IsFlagAsked (words : ArgMatches) (option : List ℕ) (is_set : Bool) 
   pub off : one_text (found_of words) option ≡ Some (codes "false") → is_set ≡ false
   pub absent : one_text (found_of words) option ≡ None → is_set ≡ false
 
+-- a command line names a command, with these words behind it
+pub record IsCommand (words : ArgMatches) (name : List ℕ) (behind : ArgMatches) : Type 0 where
+  pub command : subcommand_name_of words ≡ Some name
+  pub rows : option_map (λ p. p.1) (subcommand_rows (out-ArgMatches words).subcommand)
+      ≡ Some (rows_of (found_of behind))
+
+-- words ask to explain what is refused, or don't: those behind the command that they name
+pub data IsExplainAsked (words : ArgMatches) : Bool → Type 0 where
+  of_command : (name : List ℕ) (behind : ArgMatches) (is_set : Bool) → IsCommand words name behind
+      → IsFlagAsked behind (codes "explain") is_set → IsExplainAsked words is_set
+  of_none : subcommand_name_of words ≡ None → IsExplainAsked words false
+
 -- the words behind `replay` ask: the paths are the first values of their arguments
 pub record IsAsked (words : ArgMatches) (arguments : ReplayArguments) : Type 0 where
   pub model : first_value (found_of words) (codes "model") ≡ Some arguments.model.now
@@ -54,12 +66,6 @@ pub record IsExploreAsked (words : ArgMatches) (arguments : ExploreArguments) : 
   pub seeds : IsNumberAsked words (codes "seeds") arguments.seeds
   pub events : IsNumberAsked words (codes "events") arguments.events
   pub progress : IsFlagAsked words (codes "progress") arguments.is_told
-
--- a command line names a command, with these words behind it
-pub record IsCommand (words : ArgMatches) (name : List ℕ) (behind : ArgMatches) : Type 0 where
-  pub command : subcommand_name_of words ≡ Some name
-  pub rows : option_map (λ p. p.1) (subcommand_rows (out-ArgMatches words).subcommand)
-      ≡ Some (rows_of (found_of behind))
 
 -- a command line asks to check the model that a path names
 pub record AsksToCheck (words : ArgMatches) (path : List ℕ) : Type 0 where

@@ -3,10 +3,11 @@ pub mod Check
 pub mod Explore
 pub mod Replay
 pub mod Steps
-use Rattle.std.specs.Prelude.{List, [], ℕ, Result}
+use Rattle.std.specs.Prelude.{Bool, false, List, [], ℕ, Result}
 use Rattle.clap.specs.declared.error.Error.{Error}
 use Rattle.clap.specs.declared.parser.matches.ArgMatches.{ArgMatches}
 use Rattle.bipr.specs.CommandLine.{AsksForSteps, AsksToCheck, AsksToExplore, AsksToReplay}
+use Rattle.bipr.specs.CommandLine.{IsExplainAsked}
 use Rattle.bipr.specs.Commands.Check.{IsCheck}
 use Rattle.bipr.specs.Commands.Explore.{IsExplore}
 use Rattle.bipr.specs.Commands.Replay.{IsReplay}
@@ -34,11 +35,13 @@ pub data IsCarriedOutBy (words : ArgMatches)
       → IsCarriedOutBy words gives told answer
   unasked : IsCarriedOutBy words gives [] bad_base
 
--- what the program may tell on the way and answer, where reading a path may give these texts
+-- what the program may tell on the way and answer, where reading a path may give these texts; and
+-- whether it is asked to explain what it refuses
 pub data IsCarriedOut (gives : List ℕ → Result (List ℕ) InputFault → Type 0) :
-    List (List ℕ) → Answer → Type 0 where
-  parsed : (words : ArgMatches) (told : List (List ℕ)) (answer : Answer)
-      → IsCarriedOutBy words gives told answer → IsCarriedOut gives told answer
+    Bool → List (List ℕ) → Answer → Type 0 where
+  parsed : (words : ArgMatches) (is_asked : Bool) (told : List (List ℕ)) (answer : Answer)
+      → IsExplainAsked words is_asked → IsCarriedOutBy words gives told answer
+      → IsCarriedOut gives is_asked told answer
   unparsed : (error : Error) (answer : Answer) → IsErrorAnswer error answer
-      → IsCarriedOut gives [] answer
-  lacking : IsCarriedOut gives [] out_of_memory
+      → IsCarriedOut gives false [] answer
+  lacking : IsCarriedOut gives false [] out_of_memory

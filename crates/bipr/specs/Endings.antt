@@ -1,5 +1,8 @@
 -- How a command ends: what is written of its answer, and its status.
-use Rattle.std.specs.Prelude.{◌≡◌, ◌⊎◌, ℕ, Bool, false, true, List, Result, Ok, Err, codes}
+use Rattle.std.specs.Prelude.{◌≡◌, ◌⊎◌, ℕ, Bool, false, true, List, [], ◌∷◌, Result, Ok, Err}
+use Rattle.std.specs.Prelude.{codes}
+use Rattle.std.specs.List.{list_all}
+use Rattle.bip_explain.specs.Explanations.{is_shown}
 use Rattle.bipr.specs.Stops.{answer_of_stop, out_of_memory}
 use Rattle.bipr.specs.Streams.{Puts, PutsEach}
 use Rattle.bipr.specs.Wording.{complaint_text}
@@ -42,6 +45,34 @@ pub record EndsTelling {S : Type 0} (may_answer : List (List ℕ) → Answer →
   pub middle : S
   pub on_the_way : PutsEach writes before told middle
   pub ends : Ends (may_answer told) says (Puts writes middle after) status
+
+-- the line of what is said of a fault
+abbrev pub why_line : List ℕ → List ℕ
+why_line [] = []
+why_line (b ∷ why) = complaint_text (b ∷ why)
+
+-- what is put on standard error behind all else, to explain a fault: nothing where all is done
+abbrev pub explaining : Status → List ℕ → List ℕ
+explaining Done why = []
+explaining status why = why_line why
+
+abbrev pub Explains : {S : Type 0} → (S → List ℕ → Bool → S → Type 0) → S → S → Status → List ℕ
+    → Type 0
+Explains writes before after status why =
+    (is_out : Bool) × Puts writes before after (explaining status why) is_out
+
+-- the end of a command that may be asked to explain: it ended, and then a fault was explained, by
+-- bytes that a terminal shows as they are; where that isn't asked, nothing more was put
+pub record EndsExplaining {S : Type 0} (may_answer : Bool → List (List ℕ) → Answer → Type 0)
+    (says : List ℕ → Bool → Type 0) (writes : S → List ℕ → Bool → S → Type 0) (before after : S)
+    (status : Status) : Type 0 where
+  pub is_asked : Bool
+  pub last : S
+  pub ends : EndsTelling (may_answer is_asked) says writes before last status
+  pub why : List ℕ
+  pub shown : list_all is_shown why ≡ true
+  pub explained : Explains writes last after status why
+  pub unasked : is_asked ≡ false → why ≡ []
 
 -- what a command says that has an answer, or was stopped; what is complained of takes memory
 abbrev pub IsOutcome : Result Answer Stop → Answer → Type 0

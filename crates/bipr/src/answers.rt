@@ -14,10 +14,11 @@ ghost use Rattle.bipr.specs.Wording.{model_refusal};
 use crate::wording::{
     Counts, counts_text, model_refusal, plan_refusal, run_text, trace_refusal, verdict_text,
 };
+use bip_explain::{Explanation, explain_model, explain_plan, explain_step, explain_trace};
 use bip_model::{Classes, InterId, Model, Number, Seq};
 use bip_partition::{Plan, first_touching_too_many};
 use bip_reader::{ReadFault, Why, read_model};
-use bip_replay::{ReplayFault, replay};
+use bip_replay::{ReplayFault, TraceFault, replay};
 use std::alloc::{AllocError, Global};
 
 /// How a command ends.
@@ -65,6 +66,7 @@ pub struct Answer {
 /// (docs/DEFINITIONS.md, "Answers"). The only error is want of memory.
 pub fn answer_replay(
     alloc: Global,
+    explanation: &mut Explanation,
     model: &[u8],
     trace: &[u8],
     base: Number,
@@ -74,18 +76,22 @@ pub fn answer_replay(
 {
     let (system, _classes) = match read_model(alloc, model) {
         Ok(read) => read,
-        Err(fault) => return answer_fault(alloc, &fault),
+        Err(fault) => return answer_fault(alloc, explanation, model, &fault),
     };
-    answer_trace(alloc, &system, trace, base)
+    answer_trace(alloc, explanation, &system, trace, base)
 }
 
 /// The answer to the check of a model's text: the counts of its plan; else the lowest interaction
 /// that touches too many components, or the first fault of the text (docs/DEFINITIONS.md,
 /// "Answers"). The only error is want of memory.
-pub fn answer_check(alloc: Global, model: &[u8]) -> Result<Answer, AllocError>
+pub fn answer_check(
+    alloc: Global,
+    explanation: &mut Explanation,
+    model: &[u8],
+) -> Result<Answer, AllocError>
     ensures { IfOk result (IsCheckAnswer model.now) }
 {
-    let given = plan_text(alloc, model)?;
+    let given = plan_text(alloc, explanation, model)?;
     match given {
         PlanOrRefusal::Plan(plan) => answer_counts(alloc, &plan),
         PlanOrRefusal::Refusal(answer) => Ok(answer),
@@ -101,22 +107,32 @@ pub enum PlanOrRefusal {
 
 /// The plan of a model's text; else the answer that names the lowest interaction that touches too
 /// many components, or the first fault of the text. The only error is want of memory.
-pub fn plan_text(alloc: Global, text: &[u8]) -> Result<PlanOrRefusal, AllocError>
+pub fn plan_text(
+    alloc: Global,
+    explanation: &mut Explanation,
+    text: &[u8],
+) -> Result<PlanOrRefusal, AllocError>
     ensures { IfOk result (IsPlanOrRefusal text.now) }
 {
     match read_model(alloc, text) {
-        Ok((model, classes)) => plan_model(alloc, model, classes),
-        Err(fault) => Ok(PlanOrRefusal::Refusal(answer_fault(alloc, &fault)?)),
+        Ok((model, classes)) => plan_model(alloc, explanation, model, classes),
+        Err(fault) => Ok(PlanOrRefusal::Refusal(answer_fault(alloc, explanation, text, &fault)?)),
     }
 }
 
 /// The same, where the model's text is one.
-fn plan_model(alloc: Global, model: Model, classes: Classes) -> Result<PlanOrRefusal, AllocError>
+fn plan_model(
+    alloc: Global,
+    explanation: &mut Explanation,
+    model: Model,
+    classes: Classes,
+) -> Result<PlanOrRefusal, AllocError>
     requires { AreClassesOf model classes }
     ensures { IfOk result (λ given. (text : List ℕ)
         → Means text model classes → IsPlanOrRefusal text given) }
 {
     if let Some(inter) = first_touching_too_many(&model) {
+        explain_plan(explanation, &model, inter);
         let complaint = plan_refusal(alloc, &model, inter)?;
         return Ok(PlanOrRefusal::Refusal(complained(alloc, Status::Refused, complaint)));
     }
@@ -148,14 +164,20 @@ fn count_plan(plan: &Plan) -> Counts
     }
 }
 
-/// The answer to a model's text with a fault.
-pub fn answer_fault(alloc: Global, fault: &ReadFault) -> Result<Answer, AllocError>
+/// The answer to a model's text with a fault, which the explanation tells more of.
+pub fn answer_fault(
+    alloc: Global,
+    explanation: &mut Explanation,
+    text: &[u8],
+    fault: &ReadFault,
+) -> Result<Answer, AllocError>
     ensures { IfOk result (λ answer. (fault.now.why ≢ Memory)
         × (answer ≡ complaining Refused (model_refusal fault.now))) }
 {
     if fault.why == Why::Memory {
         return Err(AllocError);
     }
+    explain_model(alloc, explanation, text, fault);
     let complaint = model_refusal(alloc, fault)?;
     Ok(complained(alloc, Status::Refused, complaint))
 }
@@ -163,6 +185,7 @@ pub fn answer_fault(alloc: Global, fault: &ReadFault) -> Result<Answer, AllocErr
 /// The answer to a trace, where the model's text is one.
 pub fn answer_trace(
     alloc: Global,
+    explanation: &mut Explanation,
     model: &Model,
     trace: &[u8],
     base: Number,
@@ -174,21 +197,30 @@ pub fn answer_trace(
     match replay(alloc, model, base, trace) {
         Ok(count) => Ok(said(alloc, Status::Done, run_text(alloc, count)?)),
         Err((line, fault)) => match fault {
-            ReplayFault::Syntax => Ok(complained(
-                alloc,
-                Status::Refused,
-                trace_refusal(alloc, line, &ReplayFault::Syntax)?,
-            )),
-            ReplayFault::Unknown => Ok(complained(
-                alloc,
-                Status::Refused,
-                trace_refusal(alloc, line, &ReplayFault::Unknown)?,
-            )),
-            ReplayFault::NotARun(why) => Ok(said(
-                alloc,
-                Status::NotARun,
-                verdict_text(alloc, model, trace, line, &why)?,
-            )),
+            ReplayFault::Syntax => {
+                explain_trace(explanation, model, trace, line, &TraceFault::Syntax);
+                Ok(complained(
+                    alloc,
+                    Status::Refused,
+                    trace_refusal(alloc, line, &ReplayFault::Syntax)?,
+                ))
+            }
+            ReplayFault::Unknown => {
+                explain_trace(explanation, model, trace, line, &TraceFault::Unknown);
+                Ok(complained(
+                    alloc,
+                    Status::Refused,
+                    trace_refusal(alloc, line, &ReplayFault::Unknown)?,
+                ))
+            }
+            ReplayFault::NotARun(why) => {
+                explain_step(alloc, explanation, model, base, trace, line, &why);
+                Ok(said(
+                    alloc,
+                    Status::NotARun,
+                    verdict_text(alloc, model, trace, line, &why)?,
+                ))
+            }
             ReplayFault::Memory => Err(AllocError),
         },
     }

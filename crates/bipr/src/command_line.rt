@@ -2,7 +2,7 @@
 ghost use Rattle.std.specs.Prelude.{◌≡◌, IfSome, IsTrue, Some, codes};
 ghost use Rattle.clap.specs.Matches.{first_value, found_of};
 ghost use Rattle.bipr.specs.CommandLine.{AreStepsAsked, Asks, IsAsked, IsBaseAsked};
-ghost use Rattle.bipr.specs.CommandLine.{IsExploreAsked};
+ghost use Rattle.bipr.specs.CommandLine.{IsExplainAsked, IsExploreAsked};
 
 use bip_model::Number;
 use clap::{Arg, ArgAction, ArgMatches, Command, value_parser};
@@ -16,6 +16,7 @@ const ABOUT: &str = "Says of a trace of grants whether it is an execution of a B
 const HELP: &str = "\
 A model is a text of components and interactions:
 
+    # a component that moves once
     bip 1
     component A
     loc a0
@@ -32,7 +33,31 @@ number of its move, from 1:
     grant x A:1
 
 The verdict is `run N` where the trace's N grants are a run of the model from its start;
-else `line N: ..`, the first line that can't be next, and why.
+else `line N: ..`, the first line that can't be next, and why:
+
+    x not enabled    a participant doesn't offer its port, or a guard doesn't hold
+    x below y        y has the higher priority, and is enabled
+    A expected N     N is the number of A's next move; 0: A moves no more
+    x parties        x doesn't move just the components of the line, or doesn't look at
+                     just those behind `see`
+
+Comments (lines that begin with #), blank lines and tabs are allowed. A text is refused by
+its first line at fault:
+
+    syntax           no form of a line, or not in its place. Look for CR LF line ends, a
+                     byte order mark, paths in the wrong order, a number that is cut off
+    unknown name     no line before declares it
+    named twice      it is there already
+    too many         at most 64 components, 128 interactions and 32 classes; 8 variables,
+                     64 locations, 16 ports and 256 transitions of a component; 8
+                     participants; 16 comparisons, assignments, terms of a sum
+    missing          a location or the `end` of a component, `bip 1`, or any component
+    two transitions  with one port from one location
+    priority cycle   an interaction above itself
+    not a partition  an interaction in no class, in two, or twice in one
+    touches too many more than 32 components that it moves or looks at
+
+With `--explain` one more line says what is wrong, and in which column.
 
 Status: 0 done, 1 an input is refused or the answer can't be written, 2 bad command line,
 3 no memory, 4 the trace is no run.";
@@ -152,7 +177,8 @@ fn check<'a>(alloc: Global) -> Result<Command<'a>, AllocError> {
     Command::new(alloc, "check")
         .about(CHECK_ABOUT)
         .after_help(CHECK_HELP)
-        .arg(model(alloc))
+        .arg(model(alloc))?
+        .arg(explain(alloc))
 }
 
 fn replay<'a>(alloc: Global) -> Result<Command<'a>, AllocError> {
@@ -165,7 +191,8 @@ fn replay<'a>(alloc: Global) -> Result<Command<'a>, AllocError> {
         .after_help(REPLAY_HELP)
         .arg(model(alloc))?
         .arg(trace)?
-        .arg(base(alloc).help("the number that each component has used before the trace"))
+        .arg(base(alloc).help("the number that each component has used before the trace"))?
+        .arg(explain(alloc))
 }
 
 fn steps<'a>(alloc: Global) -> Result<Command<'a>, AllocError> {
@@ -179,7 +206,8 @@ fn steps<'a>(alloc: Global) -> Result<Command<'a>, AllocError> {
         .arg(model(alloc))?
         .arg(schedule)?
         .arg(resolver(alloc))?
-        .arg(base(alloc).help("the number that each component has used at first"))
+        .arg(base(alloc).help("the number that each component has used at first"))?
+        .arg(explain(alloc))
 }
 
 fn explore<'a>(alloc: Global) -> Result<Command<'a>, AllocError> {
@@ -206,7 +234,8 @@ fn explore<'a>(alloc: Global) -> Result<Command<'a>, AllocError> {
         .arg(resolver(alloc))?
         .arg(seeds)?
         .arg(events)?
-        .arg(progress)
+        .arg(progress)?
+        .arg(explain(alloc))
 }
 
 // The argument that all commands have.
@@ -227,6 +256,14 @@ fn resolver<'a>(alloc: Global) -> Arg<'a> {
         .help("who grants reserved interactions: one bank with one table")
 }
 
+// The option that all commands have.
+fn explain<'a>(alloc: Global) -> Arg<'a> {
+    Arg::new(alloc, "explain")
+        .long("explain")
+        .action(ArgAction::SetTrue)
+        .help("say in one more line on standard error what is wrong, and where")
+}
+
 // The option of a base.
 fn base<'a>(alloc: Global) -> Arg<'a> {
     Arg::new(alloc, "base")
@@ -234,6 +271,16 @@ fn base<'a>(alloc: Global) -> Arg<'a> {
         .value_name("N")
         .value_parser(value_parser!(u64))
         .default_value("0")
+}
+
+/// Whether a command line asks to explain what is refused (docs/DEFINITIONS.md, "Arguments").
+pub fn is_explained(matches: &ArgMatches<'_>) -> bool
+    ensures { IsExplainAsked matches.now result }
+{
+    match matches.subcommand() {
+        Some((_name, behind)) => behind.get_flag("explain"),
+        None => false,
+    }
 }
 
 /// What a command line asks; none where it asks for nothing, or its base is out of range

@@ -1,7 +1,7 @@
 //! The commands, and what they have in common.
 ghost use Rattle.std.specs.Prelude.{◌≡◌, Ok, Err, IfErr, IfOk};
 ghost use Rattle.bipr.specs.Commands.{IsCarriedOut, IsCarriedOutBy};
-ghost use Rattle.bipr.specs.Endings.{EndsTelling};
+ghost use Rattle.bipr.specs.Endings.{EndsExplaining, EndsTelling};
 ghost use Rattle.bipr.specs.Stops.{answer_of_stop, unread};
 ghost use Rattle.bipr.specs.Streams.{Puts};
 ghost use Rattle.bipr.specs.declared.inputs.InputFault.{InputFault};
@@ -12,12 +12,13 @@ pub mod replay;
 pub mod steps;
 
 use crate::answers::Status;
-use crate::command_line::{Asked, command, read_arguments};
-use crate::endings::complain;
+use crate::command_line::{Asked, command, is_explained, read_arguments};
+use crate::endings::{complain, explain};
 use crate::inputs::Inputs;
 use crate::refusals::{refuse_base, refuse_parse};
 use crate::stops::{NO_MEMORY, Stop};
 use crate::streams::Stream;
+use bip_explain::Explanation;
 use bip_model::Seq;
 use check::check;
 use clap::ArgMatches;
@@ -35,8 +36,8 @@ pub fn carry_out<'a, I: Inputs, O: Stream, E: Stream>(
     output: &mut O,
     errors: &mut E,
 ) -> Status
-    ensures { EndsTelling (IsCarriedOut (I.gives inputs.now)) (Puts O.writes output.old output.new)
-        E.writes errors.old errors.new result }
+    ensures { EndsExplaining (IsCarriedOut (I.gives inputs.now))
+        (Puts O.writes output.old output.new) E.writes errors.old errors.new result }
 {
     let Ok(command) = command(alloc) else {
         return complain(output, errors, Status::NoMemory, NO_MEMORY);
@@ -47,9 +48,31 @@ pub fn carry_out<'a, I: Inputs, O: Stream, E: Stream>(
     }
 }
 
-// Carries out what a parsed command line asks.
+// Carries out what a parsed command line asks, and explains what is refused if it asks that too.
 fn carry_out_matches<I: Inputs, O: Stream, E: Stream>(
     alloc: Global,
+    matches: &ArgMatches<'_>,
+    inputs: &I,
+    output: &mut O,
+    errors: &mut E,
+) -> Status
+    ensures { EndsExplaining (IsCarriedOut (I.gives inputs.now))
+        (Puts O.writes output.old output.new) E.writes errors.old errors.new result }
+{
+    if !is_explained(matches) {
+        let mut unasked = Explanation::new(false);
+        return carry_out_asked(alloc, &mut unasked, matches, inputs, output, errors);
+    }
+    let mut explanation = Explanation::new(true);
+    let status = carry_out_asked(alloc, &mut explanation, matches, inputs, output, errors);
+    explain(errors, status, &explanation);
+    status
+}
+
+// Carries out what a parsed command line asks.
+fn carry_out_asked<I: Inputs, O: Stream, E: Stream>(
+    alloc: Global,
+    explanation: &mut Explanation,
     matches: &ArgMatches<'_>,
     inputs: &I,
     output: &mut O,
@@ -59,22 +82,27 @@ fn carry_out_matches<I: Inputs, O: Stream, E: Stream>(
         (Puts O.writes output.old output.new) E.writes errors.old errors.new result }
 {
     match read_arguments(matches) {
-        Some(Asked::Check(path)) => check(alloc, inputs, path, output, errors),
-        Some(Asked::Replay(asked)) => replay(alloc, inputs, &asked, output, errors),
-        Some(Asked::Steps(asked)) => steps(alloc, inputs, &asked, output, errors),
-        Some(Asked::Explore(asked)) => explore(alloc, inputs, &asked, output, errors),
+        Some(Asked::Check(path)) => check(alloc, explanation, inputs, path, output, errors),
+        Some(Asked::Replay(asked)) => replay(alloc, explanation, inputs, &asked, output, errors),
+        Some(Asked::Steps(asked)) => steps(alloc, explanation, inputs, &asked, output, errors),
+        Some(Asked::Explore(asked)) => explore(alloc, explanation, inputs, &asked, output, errors),
         None => refuse_base(output, errors),
     }
 }
 
 /// The text that a path names, or why it isn't read.
-fn read_input<'a, I: Inputs>(alloc: Global, inputs: &I, path: &'a str) -> Result<Seq<u8>, Stop<'a>>
+fn read_input<'a, I: Inputs>(
+    alloc: Global,
+    explanation: &mut Explanation,
+    inputs: &I,
+    path: &'a str,
+) -> Result<Seq<u8>, Stop<'a>>
     ensures read { IfOk result (λ text. I.gives inputs.now path.now (Ok text)) }
     ensures unread { IfErr result (λ why. (fault : InputFault)
         × I.gives inputs.now path.now (Err fault)
         × (answer_of_stop why ≡ unread path.now fault)) }
 {
-    match inputs.read(alloc, path) {
+    match inputs.read(alloc, explanation, path) {
         Ok(text) => Ok(text),
         Err(fault) => Err(Stop::unread(path, fault)),
     }

@@ -1,13 +1,22 @@
 //! How a command ends: what it writes of its answer, and its status.
-ghost use Rattle.std.specs.Prelude.{◌≡◌, Err};
-ghost use Rattle.bipr.specs.Endings.{Ends, IsEnd, IsOutcome, told_status};
+ghost use Rattle.std.specs.Prelude.{◌≡◌, ◌≤◌, length, Err, true};
+ghost use Rattle.std.specs.List.{list_all};
+ghost use Rattle.bip_explain.specs.Explanations.{is_shown};
+ghost use Rattle.bipr.specs.Endings.{Ends, Explains, IsEnd, IsOutcome, told_status};
+ghost use Rattle.bipr.specs.Endings.{explaining, why_line};
+ghost use Rattle.bip_explain.specs.declared.explanations.TheConstants.{MOST_BYTES};
 ghost use Rattle.bipr.specs.Answers.{complaining};
 ghost use Rattle.bipr.specs.Streams.{Puts};
 
 use crate::answers::{Answer, Status};
 use crate::stops::{NO_MEMORY, Stop};
 use crate::streams::{Stream, put};
+use arrayvec::ArrayVec;
+use bip_explain::{Explanation, MOST_BYTES};
 use std::alloc::Global;
+
+/// How many bytes the line has at most that explains a fault.
+const MOST_OF_LINE: usize = 512;
 
 /// The complaint where an answer can't be written.
 const CANNOT_WRITE: &[u8] = b"bipr: cannot write\n";
@@ -16,6 +25,7 @@ const CANNOT_WRITE: &[u8] = b"bipr: cannot write\n";
 /// and then the complaint on standard error, each in one write (docs/DEFINITIONS.md, "Endings").
 pub fn end<O: Stream, E: Stream>(
     alloc: Global,
+    explanation: &mut Explanation,
     output: &mut O,
     errors: &mut E,
     answer: Result<Answer, Stop<'_>>,
@@ -24,16 +34,22 @@ pub fn end<O: Stream, E: Stream>(
         (Puts E.writes errors.old errors.new) result }
 {
     match answer {
-        Ok(answer) => end_answered(output, errors, &answer),
-        Err(why) => end_stopped(alloc, output, errors, &why),
+        Ok(answer) => end_answered(explanation, output, errors, &answer),
+        Err(why) => end_stopped(alloc, explanation, output, errors, &why),
     }
 }
 
-fn end_answered<O: Stream, E: Stream>(output: &mut O, errors: &mut E, answer: &Answer) -> Status
+fn end_answered<O: Stream, E: Stream>(
+    explanation: &mut Explanation,
+    output: &mut O,
+    errors: &mut E,
+    answer: &Answer,
+) -> Status
     ensures { IsEnd (Puts O.writes output.old output.new) (Puts E.writes errors.old errors.new)
         answer.now result }
 {
     if !put(output, answer.output.as_slice()) {
+        explanation.say_instead(b"standard output took not all of the answer");
         put(errors, CANNOT_WRITE);
         return Status::Refused;
     }
@@ -43,6 +59,7 @@ fn end_answered<O: Stream, E: Stream>(output: &mut O, errors: &mut E, answer: &A
 
 fn end_stopped<O: Stream, E: Stream>(
     alloc: Global,
+    explanation: &mut Explanation,
     output: &mut O,
     errors: &mut E,
     why: &Stop<'_>,
@@ -50,6 +67,9 @@ fn end_stopped<O: Stream, E: Stream>(
     ensures { Ends (IsOutcome (Err why.now)) (Puts O.writes output.old output.new)
         (Puts E.writes errors.old errors.new) result }
 {
+    if *why == Stop::OutOfMemory {
+        explanation.say_instead(b"the answer takes more memory than there is");
+    }
     match why.complaint(alloc) {
         Ok(complaint) => { complain(output, errors, why.status(), complaint.as_slice()) }
         Err(_) => complain(output, errors, Status::NoMemory, NO_MEMORY),
@@ -78,4 +98,39 @@ fn told_status(is_told: bool, status: Status) -> Status
         Status::Done if !is_told => Status::Refused,
         status => status,
     }
+}
+
+/// Explains a fault: puts what is said of it on standard error, in one write, behind all else.
+/// Nothing is put where nothing is said, or all is done (docs/DEFINITIONS.md, "Endings").
+pub fn explain<E: Stream>(errors: &mut E, status: Status, explanation: &Explanation)
+    ensures explained { Explains E.writes errors.old errors.new status explanation.now.said }
+    ensures shown { list_all is_shown explanation.now.said ≡ true }
+{
+    let line = explaining(status, explanation.as_bytes());
+    put(errors, line.as_slice());
+}
+
+/// What is put to explain a fault.
+fn explaining(status: Status, why: &[u8]) -> ArrayVec<u8, MOST_OF_LINE>
+    requires { length why.now ≤ MOST_BYTES }
+    ensures { result.items ≡ explaining status why.now }
+{
+    match status {
+        Status::Done => ArrayVec::new(),
+        _ => why_line(why),
+    }
+}
+
+/// The line of what is said of a fault.
+fn why_line(why: &[u8]) -> ArrayVec<u8, MOST_OF_LINE>
+    requires { length why.now ≤ MOST_BYTES }
+    ensures { result.items ≡ why_line why.now }
+{
+    let mut line = ArrayVec::new();
+    if !why.is_empty() {
+        let _begun = line.try_extend_from_slice(b"bipr: ");
+        let _said = line.try_extend_from_slice(why);
+        let _ended = line.try_push(b'\n');
+    }
+    line
 }

@@ -10,6 +10,7 @@ use crate::command_line::ExploreArguments;
 use crate::streams::{Stream, put};
 use crate::wording::{progress_text, seed_verdict, seeds_text};
 use bip_bank::Central;
+use bip_explain::{Explanation, explain_seed};
 use bip_partition::Plan;
 use bip_schedule::{ExploreFault, explore_seed};
 use std::alloc::{AllocError, Global};
@@ -20,6 +21,7 @@ use std::alloc::{AllocError, Global};
 /// nothing (docs/DEFINITIONS.md, "Answers"). The only error is want of memory.
 pub fn answer_explore<E: Stream>(
     alloc: Global,
+    explanation: &mut Explanation,
     plan: &Plan,
     asked: &ExploreArguments<'_>,
     errors: &mut E,
@@ -31,7 +33,8 @@ pub fn answer_explore<E: Stream>(
     for done in 0..asked.seeds {
         match explore_one(alloc, plan, done + 1, asked.events) {
             Ok(_) => {}
-            Err(ExploreFault::NotARun(seed, _)) => {
+            Err(ExploreFault::NotARun(seed, fault)) => {
+                explain_seed(explanation, plan.model(), &fault);
                 return Ok(said(alloc, Status::NotARun, seed_verdict(alloc, seed)?));
             }
             Err(ExploreFault::Memory) => return Err(AllocError),

@@ -3,6 +3,7 @@ ghost use Rattle.std.specs.Prelude.{ℕ, List, Result};
 ghost use Rattle.bipr.specs.Inputs.{IsAll, IsReading, Named, Opens, unknown};
 ghost use Rattle.bipr.specs.declared.inputs.InputFault.{InputFault};
 
+use bip_explain::Explanation;
 use bip_model::Seq;
 use std::alloc::Global;
 use std::io::{self, ErrorKind, Read};
@@ -30,8 +31,13 @@ pub trait Inputs {
     /// Reading the text that a path names may give this.
     ghost gives: { Self → List ℕ → Result (List ℕ) InputFault → Type 0 };
 
-    /// Reads the text that a path names.
-    fn read(&self, alloc: Global, path: &str) -> Result<Seq<u8>, InputFault>
+    /// Reads the text that a path names; where it isn't read, the explanation says why.
+    fn read(
+        &self,
+        alloc: Global,
+        explanation: &mut Explanation,
+        path: &str,
+    ) -> Result<Seq<u8>, InputFault>
         ensures { gives self.now path.now result };
 }
 
@@ -52,10 +58,18 @@ pub trait Open {
 impl<O: Open> Inputs for O {
     ghost gives = { λ inputs path. IsReading (O.named inputs path) };
 
-    fn read(&self, alloc: Global, path: &str) -> Result<Seq<u8>, InputFault> {
+    fn read(
+        &self,
+        alloc: Global,
+        explanation: &mut Explanation,
+        path: &str,
+    ) -> Result<Seq<u8>, InputFault> {
         match self.open(path) {
-            Ok(mut source) => read_text(alloc, &mut source, MOST_BYTES),
-            Err(_) => Err(InputFault::Failed),
+            Ok(mut source) => read_text(alloc, explanation, &mut source, MOST_BYTES),
+            Err(error) => {
+                explain_error(explanation, &error);
+                Err(InputFault::Failed)
+            }
         }
     }
 }
@@ -63,6 +77,7 @@ impl<O: Open> Inputs for O {
 /// All that a reader gives, at most so many bytes (docs/DEFINITIONS.md, "Inputs").
 pub fn read_text<R: Read>(
     alloc: Global,
+    explanation: &mut Explanation,
     reader: &mut R,
     limit: usize,
 ) -> Result<Seq<u8>, InputFault>
@@ -75,6 +90,7 @@ pub fn read_text<R: Read>(
             Ok(0) => return Ok(Seq::of(text)),
             Ok(count) => {
                 if count > limit - text.len() {
+                    explanation.say(b"it has more than 16777216 bytes");
                     return Err(InputFault::TooLong);
                 }
                 if text.extend_from_slice(&buffer[..count]).is_err() {
@@ -83,10 +99,25 @@ pub fn read_text<R: Read>(
             }
             Err(error) => {
                 if error.kind() != ErrorKind::Interrupted {
+                    explain_error(explanation, &error);
                     return Err(InputFault::Failed);
                 }
             }
         }
     }
+    explanation.say(b"it doesn't end");
     Err(InputFault::Failed)
+}
+
+// Says why a path can't be opened, or its text not be read.
+fn explain_error(explanation: &mut Explanation, error: &io::Error) {
+    explanation.say(match error.kind() {
+        ErrorKind::NotFound => b"there is no such file",
+        ErrorKind::PermissionDenied => b"reading it isn't permitted",
+        ErrorKind::IsADirectory => b"it is a folder",
+        ErrorKind::NotADirectory => b"a part of the path is no folder",
+        ErrorKind::FilesystemLoop => b"its links lead in a circle",
+        ErrorKind::InvalidFilename => b"a name in the path is too long",
+        _ => b"the system can't open or read it",
+    });
 }

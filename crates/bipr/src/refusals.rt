@@ -8,6 +8,7 @@ use crate::answers::{Answer, Status, complained, said};
 use crate::endings::{complain, end};
 use crate::stops::{NO_MEMORY, Stop};
 use crate::streams::Stream;
+use bip_explain::Explanation;
 use clap::Error;
 use clap::error::ErrorKind;
 use std::alloc::Global;
@@ -52,7 +53,14 @@ pub fn refuse_parse<O: Stream, E: Stream>(
     ensures { Ends (IsErrorAnswer error.now) (Puts O.writes output.old output.new)
         (Puts E.writes errors.old errors.new) result }
 {
-    end(alloc, output, errors, answer_error(alloc, error))
+    let mut unasked = Explanation::new(false);
+    end(
+        alloc,
+        &mut unasked,
+        output,
+        errors,
+        answer_error(alloc, error),
+    )
 }
 
 fn answer_error(alloc: Global, error: &Error) -> Result<Answer, Stop<'static>>

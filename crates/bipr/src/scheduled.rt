@@ -8,6 +8,7 @@ use crate::answers::{Answer, Status, complained};
 use crate::wording::{report_text, schedule_refusal};
 use bip_bank::Central;
 use bip_core::{Event, World, run_steps, world_laws};
+use bip_explain::{Explanation, explain_schedule};
 use bip_model::{Number, Seq};
 use bip_partition::Plan;
 use bip_replay::{TraceFault, write_trace};
@@ -19,6 +20,7 @@ use std::alloc::{AllocError, Global};
 /// (docs/DEFINITIONS.md, "Answers"). The only error is want of memory.
 pub fn answer_schedule(
     alloc: Global,
+    explanation: &mut Explanation,
     plan: &Plan,
     schedule: &[u8],
     base: Number,
@@ -30,6 +32,7 @@ pub fn answer_schedule(
         Ok(events) => answer_events(alloc, plan, events.as_slice(), base),
         Err((_, TraceFault::Memory)) => Err(AllocError),
         Err((line, fault)) => {
+            explain_schedule(explanation, plan, schedule, line, &fault);
             let complaint = schedule_refusal(alloc, line, &fault)?;
             Ok(complained(alloc, Status::Refused, complaint))
         }

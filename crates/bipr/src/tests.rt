@@ -6,6 +6,7 @@ use crate::command_line::ReplayArguments;
 use crate::commands::replay::replay;
 use crate::inputs::Open;
 use crate::laws::{answer_laws, replay_laws};
+use bip_explain::Explanation;
 use std::alloc::Global;
 use std::io::{self, Read, Write};
 use std::process::Abort;
@@ -113,7 +114,15 @@ fn ends(
         trace: paths.1,
         base: 0,
     };
-    let ended = replay(alloc, &inputs, &asked, &mut written, &mut told);
+    let mut unasked = Explanation::new(false);
+    let ended = replay(
+        alloc,
+        &mut unasked,
+        &inputs,
+        &asked,
+        &mut written,
+        &mut told,
+    );
     assert_eq!(rt; ended, status);
     assert_eq!(rt; written.as_slice(), output.as_bytes());
     assert_eq!(rt; told.as_slice(), complaint.as_bytes());
@@ -181,7 +190,8 @@ fn writes_fail_at_each_call(rt: HostRuntime) {
             calls_left: calls,
         };
         let mut told = Vec::new(alloc);
-        let status = replay(alloc, &inputs, &asked, &mut output, &mut told);
+        let mut unasked = Explanation::new(false);
+        let status = replay(alloc, &mut unasked, &inputs, &asked, &mut output, &mut told);
         if calls == 7 {
             assert_eq!(rt; status, Status::Done);
             assert!(rt; told.is_empty());

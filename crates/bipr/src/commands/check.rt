@@ -9,12 +9,14 @@ use crate::endings::end;
 use crate::inputs::Inputs;
 use crate::stops::Stop;
 use crate::streams::Stream;
+use bip_explain::Explanation;
 use std::alloc::Global;
 
 /// Counts what the plan has of the model that the path names, writes the answer, and says with
 /// which status the command ends (docs/DEFINITIONS.md, "The check that is asked for").
 pub fn check<I: Inputs, O: Stream, E: Stream>(
     alloc: Global,
+    explanation: &mut Explanation,
     inputs: &I,
     path: &str,
     output: &mut O,
@@ -23,13 +25,19 @@ pub fn check<I: Inputs, O: Stream, E: Stream>(
     ensures { Ends (IsCheck (I.gives inputs.now) path.now) (Puts O.writes output.old output.new)
         (Puts E.writes errors.old errors.new) result }
 {
-    end(alloc, output, errors, answer_path(alloc, inputs, path))
+    let answer = answer_path(alloc, explanation, inputs, path);
+    end(alloc, explanation, output, errors, answer)
 }
 
 // The answer to the check of the model that the path names.
-fn answer_path<'a, I: Inputs>(alloc: Global, inputs: &I, path: &'a str) -> Result<Answer, Stop<'a>>
+fn answer_path<'a, I: Inputs>(
+    alloc: Global,
+    explanation: &mut Explanation,
+    inputs: &I,
+    path: &'a str,
+) -> Result<Answer, Stop<'a>>
     ensures { AllOutcomes result (IsCheck (I.gives inputs.now) path.now) }
 {
-    let text = read_input(alloc, inputs, path)?;
-    Ok(answer_check(alloc, text.as_slice())?)
+    let text = read_input(alloc, explanation, inputs, path)?;
+    Ok(answer_check(alloc, explanation, text.as_slice())?)
 }

@@ -11,6 +11,7 @@ use crate::explored::answer_explore;
 use crate::inputs::Inputs;
 use crate::stops::Stop;
 use crate::streams::Stream;
+use bip_explain::Explanation;
 use std::alloc::Global;
 
 /// Explores the plan of the model that the path names by so many seeds, with the central bank:
@@ -18,6 +19,7 @@ use std::alloc::Global;
 /// status the command ends (docs/DEFINITIONS.md, "The exploring that is asked for").
 pub fn explore<I: Inputs, O: Stream, E: Stream>(
     alloc: Global,
+    explanation: &mut Explanation,
     inputs: &I,
     asked: &ExploreArguments<'_>,
     output: &mut O,
@@ -26,13 +28,14 @@ pub fn explore<I: Inputs, O: Stream, E: Stream>(
     ensures { EndsTelling (IsExplore (I.gives inputs.now) asked.now)
         (Puts O.writes output.old output.new) E.writes errors.old errors.new result }
 {
-    let answer = answer_asked(alloc, inputs, asked, errors);
-    end(alloc, output, errors, answer)
+    let answer = answer_asked(alloc, explanation, inputs, asked, errors);
+    end(alloc, explanation, output, errors, answer)
 }
 
 // The answer to what is asked, with what is told on the way.
 fn answer_asked<'a, I: Inputs, E: Stream>(
     alloc: Global,
+    explanation: &mut Explanation,
     inputs: &I,
     asked: &ExploreArguments<'a>,
     errors: &mut E,
@@ -40,10 +43,10 @@ fn answer_asked<'a, I: Inputs, E: Stream>(
     ensures { AllOutcomesTelling E.writes errors.old errors.new result
         (IsExplore (I.gives inputs.now) asked.now) }
 {
-    let text = read_input(alloc, inputs, asked.model)?;
-    let given = plan_text(alloc, text.as_slice())?;
+    let text = read_input(alloc, explanation, inputs, asked.model)?;
+    let given = plan_text(alloc, explanation, text.as_slice())?;
     match given {
-        PlanOrRefusal::Plan(plan) => Ok(answer_explore(alloc, &plan, asked, errors)?),
+        PlanOrRefusal::Plan(plan) => Ok(answer_explore(alloc, explanation, &plan, asked, errors)?),
         PlanOrRefusal::Refusal(answer) => Ok(answer),
     }
 }

@@ -16,6 +16,7 @@ use crate::inputs::Inputs;
 use crate::sources::is_standard_input;
 use crate::stops::Stop;
 use crate::streams::Stream;
+use bip_explain::Explanation;
 use bip_model::Model;
 use bip_reader::read_model;
 use std::alloc::Global;
@@ -26,6 +27,7 @@ use std::alloc::Global;
 /// replay that is asked for").
 pub fn replay<I: Inputs, O: Stream, E: Stream>(
     alloc: Global,
+    explanation: &mut Explanation,
     inputs: &I,
     asked: &ReplayArguments<'_>,
     output: &mut O,
@@ -35,12 +37,14 @@ pub fn replay<I: Inputs, O: Stream, E: Stream>(
     ensures { Ends (IsReplay (I.gives inputs.now) asked.now) (Puts O.writes output.old output.new)
         (Puts E.writes errors.old errors.new) result }
 {
-    end(alloc, output, errors, answer_asked(alloc, inputs, asked))
+    let answer = answer_asked(alloc, explanation, inputs, asked);
+    end(alloc, explanation, output, errors, answer)
 }
 
 // The answer to what is asked.
 fn answer_asked<'a, I: Inputs>(
     alloc: Global,
+    explanation: &mut Explanation,
     inputs: &I,
     asked: &ReplayArguments<'a>,
 ) -> Result<Answer, Stop<'a>>
@@ -48,15 +52,16 @@ fn answer_asked<'a, I: Inputs>(
     ensures { AllOutcomes result (IsReplay (I.gives inputs.now) asked.now) }
 {
     if is_standard_input(asked.model) && is_standard_input(asked.trace) {
-        answer_one(alloc, inputs, asked)
+        answer_one(alloc, explanation, inputs, asked)
     } else {
-        answer_two(alloc, inputs, asked)
+        answer_two(alloc, explanation, inputs, asked)
     }
 }
 
 // The answer where one input has both texts.
 fn answer_one<'a, I: Inputs>(
     alloc: Global,
+    explanation: &mut Explanation,
     inputs: &I,
     asked: &ReplayArguments<'a>,
 ) -> Result<Answer, Stop<'a>>
@@ -64,14 +69,15 @@ fn answer_one<'a, I: Inputs>(
     requires joined { is_joined asked.now ≡ true }
     ensures { AllOutcomes result (IsReplay (I.gives inputs.now) asked.now) }
 {
-    let both = read_input(alloc, inputs, asked.model)?;
+    let both = read_input(alloc, explanation, inputs, asked.model)?;
     let (model, trace) = divide(both.as_slice());
-    Ok(answer_replay(alloc, model, trace, asked.base)?)
+    Ok(answer_replay(alloc, explanation, model, trace, asked.base)?)
 }
 
 // The answer where each path names a text: the model's half.
 fn answer_two<'a, I: Inputs>(
     alloc: Global,
+    explanation: &mut Explanation,
     inputs: &I,
     asked: &ReplayArguments<'a>,
 ) -> Result<Answer, Stop<'a>>
@@ -79,16 +85,17 @@ fn answer_two<'a, I: Inputs>(
     requires apart { is_joined asked.now ≡ false }
     ensures { AllOutcomes result (IsReplay (I.gives inputs.now) asked.now) }
 {
-    let text = read_input(alloc, inputs, asked.model)?;
+    let text = read_input(alloc, explanation, inputs, asked.model)?;
     match read_model(alloc, text.as_slice()) {
-        Ok((model, _classes)) => answer_second(alloc, inputs, asked, &model),
-        Err(fault) => Ok(answer_fault(alloc, &fault)?),
+        Ok((model, _classes)) => answer_second(alloc, explanation, inputs, asked, &model),
+        Err(fault) => Ok(answer_fault(alloc, explanation, text.as_slice(), &fault)?),
     }
 }
 
 // The trace's half, where the model's text means a model.
 fn answer_second<'a, I: Inputs>(
     alloc: Global,
+    explanation: &mut Explanation,
     inputs: &I,
     asked: &ReplayArguments<'a>,
     model: &Model,
@@ -100,6 +107,6 @@ fn answer_second<'a, I: Inputs>(
         → Means text model.now classes
         → AllOutcomes result (IsReplay (I.gives inputs.now) asked.now) }
 {
-    let trace = read_input(alloc, inputs, asked.trace)?;
-    Ok(answer_trace(alloc, model, trace.as_slice(), asked.base)?)
+    let trace = read_input(alloc, explanation, inputs, asked.trace)?;
+    Ok(answer_trace(alloc, explanation, model, trace.as_slice(), asked.base)?)
 }

@@ -16,6 +16,7 @@ use crate::scheduled::answer_schedule;
 use crate::sources::is_standard_input;
 use crate::stops::Stop;
 use crate::streams::Stream;
+use bip_explain::Explanation;
 use bip_partition::Plan;
 use std::alloc::Global;
 
@@ -26,6 +27,7 @@ use std::alloc::Global;
 /// steps that are asked for").
 pub fn steps<I: Inputs, O: Stream, E: Stream>(
     alloc: Global,
+    explanation: &mut Explanation,
     inputs: &I,
     asked: &StepsArguments<'_>,
     output: &mut O,
@@ -35,12 +37,14 @@ pub fn steps<I: Inputs, O: Stream, E: Stream>(
     ensures { Ends (IsSteps (I.gives inputs.now) asked.now) (Puts O.writes output.old output.new)
         (Puts E.writes errors.old errors.new) result }
 {
-    end(alloc, output, errors, answer_asked(alloc, inputs, asked))
+    let answer = answer_asked(alloc, explanation, inputs, asked);
+    end(alloc, explanation, output, errors, answer)
 }
 
 // The answer to what is asked.
 fn answer_asked<'a, I: Inputs>(
     alloc: Global,
+    explanation: &mut Explanation,
     inputs: &I,
     asked: &StepsArguments<'a>,
 ) -> Result<Answer, Stop<'a>>
@@ -48,15 +52,16 @@ fn answer_asked<'a, I: Inputs>(
     ensures { AllOutcomes result (IsSteps (I.gives inputs.now) asked.now) }
 {
     if is_standard_input(asked.model) && is_standard_input(asked.schedule) {
-        answer_one(alloc, inputs, asked)
+        answer_one(alloc, explanation, inputs, asked)
     } else {
-        answer_two(alloc, inputs, asked)
+        answer_two(alloc, explanation, inputs, asked)
     }
 }
 
 // The answer where one input has both texts.
 fn answer_one<'a, I: Inputs>(
     alloc: Global,
+    explanation: &mut Explanation,
     inputs: &I,
     asked: &StepsArguments<'a>,
 ) -> Result<Answer, Stop<'a>>
@@ -64,11 +69,17 @@ fn answer_one<'a, I: Inputs>(
     requires joined { are_joined asked.now ≡ true }
     ensures { AllOutcomes result (IsSteps (I.gives inputs.now) asked.now) }
 {
-    let both = read_input(alloc, inputs, asked.model)?;
+    let both = read_input(alloc, explanation, inputs, asked.model)?;
     let (model, schedule) = divide(both.as_slice());
-    let given = plan_text(alloc, model)?;
+    let given = plan_text(alloc, explanation, model)?;
     match given {
-        PlanOrRefusal::Plan(plan) => Ok(answer_schedule(alloc, &plan, schedule, asked.base)?),
+        PlanOrRefusal::Plan(plan) => Ok(answer_schedule(
+            alloc,
+            explanation,
+            &plan,
+            schedule,
+            asked.base,
+        )?),
         PlanOrRefusal::Refusal(answer) => Ok(answer),
     }
 }
@@ -76,6 +87,7 @@ fn answer_one<'a, I: Inputs>(
 // The answer where each path names a text: the model's half.
 fn answer_two<'a, I: Inputs>(
     alloc: Global,
+    explanation: &mut Explanation,
     inputs: &I,
     asked: &StepsArguments<'a>,
 ) -> Result<Answer, Stop<'a>>
@@ -83,10 +95,10 @@ fn answer_two<'a, I: Inputs>(
     requires apart { are_joined asked.now ≡ false }
     ensures { AllOutcomes result (IsSteps (I.gives inputs.now) asked.now) }
 {
-    let text = read_input(alloc, inputs, asked.model)?;
-    let given = plan_text(alloc, text.as_slice())?;
+    let text = read_input(alloc, explanation, inputs, asked.model)?;
+    let given = plan_text(alloc, explanation, text.as_slice())?;
     match given {
-        PlanOrRefusal::Plan(plan) => answer_second(alloc, inputs, asked, &plan),
+        PlanOrRefusal::Plan(plan) => answer_second(alloc, explanation, inputs, asked, &plan),
         PlanOrRefusal::Refusal(answer) => Ok(answer),
     }
 }
@@ -94,6 +106,7 @@ fn answer_two<'a, I: Inputs>(
 // The schedule's half, where the model has a plan.
 fn answer_second<'a, I: Inputs>(
     alloc: Global,
+    explanation: &mut Explanation,
     inputs: &I,
     asked: &StepsArguments<'a>,
     plan: &Plan,
@@ -103,6 +116,6 @@ fn answer_second<'a, I: Inputs>(
     ensures { (text : List ℕ) → I.gives inputs.now asked.now.model.now (Ok text)
         → HasPlan text plan.now → AllOutcomes result (IsSteps (I.gives inputs.now) asked.now) }
 {
-    let schedule = read_input(alloc, inputs, asked.schedule)?;
-    Ok(answer_schedule(alloc, plan, schedule.as_slice(), asked.base)?)
+    let schedule = read_input(alloc, explanation, inputs, asked.schedule)?;
+    Ok(answer_schedule(alloc, explanation, plan, schedule.as_slice(), asked.base)?)
 }

@@ -5,6 +5,7 @@ use crate::commands::carry_out;
 use crate::commands::replay::replay;
 use crate::inputs::Open;
 use crate::tests::{OWN_WAYS, Paths};
+use bip_explain::Explanation;
 use std::alloc::Global;
 use std::cell::Cell;
 use std::io::{self, Read, Write};
@@ -73,7 +74,15 @@ fn opens(rt: &impl Abort, alloc: Global, model: &str, status: Status, count: u32
         trace: "t",
         base: 0,
     };
-    let ended = replay(alloc, &inputs, &asked, &mut written, &mut told);
+    let mut unasked = Explanation::new(false);
+    let ended = replay(
+        alloc,
+        &mut unasked,
+        &inputs,
+        &asked,
+        &mut written,
+        &mut told,
+    );
     assert_eq!(rt; ended, status);
     assert_eq!(rt; opened.get(), count);
     assert!(rt; !is_open.get());

@@ -1,35 +1,30 @@
-use Rattle.bipr.specs.Commands.{IsCarriedOutBy, asked, check_asked, explore_asked, steps_asked, unasked}
-use Rattle.bipr.specs.Commands.Check.{IsCheck}
-use Rattle.bipr.specs.Commands.Explore.{IsExplore}
-use Rattle.bipr.specs.Commands.Replay.{IsReplay}
-use Rattle.bipr.specs.Commands.Steps.{IsSteps}
-use Rattle.bipr.specs.Streams.{none_put}
-use Rattle.bipr.proofs.EndingLemmas.{ends_quietly, ends_told}
+use Rattle.std.proofs.Common.{false, true}
+use Rattle.bipr.specs.CommandLine.{IsExplainAsked}
+use Rattle.bipr.specs.Commands.{IsCarriedOut, IsCarriedOutBy, parsed}
+use Rattle.bipr.proofs.EndingLemmas.{ends_told, ends_unexplained}
 use Rattle.bipr.proofs.commands.carry_out_matches.Goals as goal
 
-pub returns-in-Some-Check : goal.returns-in-Some-Check
-returns-in-Some-Check g c =
+pub returns-then-not-is_explained : goal.returns-then-not-is_explained
+returns-then-not-is_explained g c =
     let gives = g.I.Inputs.gives c.args.inputs.now in
-    ends_quietly (IsCheck gives c.in-Some-Check.path.now) (IsCarriedOutBy c.args.matches.now gives) _ g.E.Stream.writes _ _ _ c.check.ensures
-    (λ answer is. check_asked c.in-Some-Check.path.now answer (rw c.in-Some-Check.field-0-is at c.in-Some-Check.ensures) is)
+    let words = c.args.matches.now in
+    let unasked : IsExplainAsked words false = rw c.if-not-is_explained.true at c.is_explained.ensures in
+    ends_unexplained (IsCarriedOut gives) _ g.E.Stream.writes _ _ _
+    (ends_told (IsCarriedOutBy words gives) (IsCarriedOut gives false) _ g.E.Stream.writes _ _ _ c.carry_out_asked.ensures
+    (λ told answer by. parsed words false told answer unasked by))
 
-pub returns-in-Some-Replay : goal.returns-in-Some-Replay
-returns-in-Some-Replay g c =
+pub returns : goal.returns
+returns g c =
     let gives = g.I.Inputs.gives c.args.inputs.now in
-    ends_quietly (IsReplay gives c.in-Some-Replay.asked) (IsCarriedOutBy c.args.matches.now gives) _ g.E.Stream.writes _ _ _ c.replay.ensures
-    (λ answer is. asked c.in-Some-Replay.asked answer (rw c.in-Some-Replay.field-0-is at c.in-Some-Replay.ensures) is)
-
-pub returns-in-Some-Steps : goal.returns-in-Some-Steps
-returns-in-Some-Steps g c =
-    let gives = g.I.Inputs.gives c.args.inputs.now in
-    ends_quietly (IsSteps gives c.in-Some-Steps.asked) (IsCarriedOutBy c.args.matches.now gives) _ g.E.Stream.writes _ _ _ c.steps.ensures
-    (λ answer is. steps_asked c.in-Some-Steps.asked answer (rw c.in-Some-Steps.field-0-is at c.in-Some-Steps.ensures) is)
-
-pub returns-in-Some-Explore : goal.returns-in-Some-Explore
-returns-in-Some-Explore g c =
-    let gives = g.I.Inputs.gives c.args.inputs.now in
-    ends_told (IsExplore gives c.in-Some-Explore.asked) (IsCarriedOutBy c.args.matches.now gives) _ g.E.Stream.writes _ _ _ c.explore.ensures
-    (λ told answer is. explore_asked c.in-Some-Explore.asked told answer (rw c.in-Some-Explore.field-0-is at c.in-Some-Explore.ensures) is)
-
-pub returns-in-None : goal.returns-in-None
-returns-in-None g c = record { told = _; middle = _; on_the_way = none_put; ends = (_, unasked, c.refuse_base.ensures) }
+    let words = c.args.matches.now in
+    let asked : IsExplainAsked words true = rw c.if-not-is_explained.false at c.is_explained.ensures in
+    record {
+      is_asked = true;
+      last = _;
+      ends = ends_told (IsCarriedOutBy words gives) (IsCarriedOut gives true) _ g.E.Stream.writes _ _ _ c.carry_out_asked-status.ensures
+          (λ told answer by. parsed words true told answer asked by);
+      why = _;
+      shown = c.explain.ensures.shown;
+      explained = c.explain.ensures.explained;
+      unasked = λ no. cc;
+    }

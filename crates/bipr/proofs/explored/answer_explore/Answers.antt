@@ -29,7 +29,7 @@ pub returns-in-Err-NotARun : goal.returns-in-Err-NotARun
 returns-in-Err-NotARun g c =
     let so = c.loop-done.invariant in
     let few : c.loop-done.done + 1 ≤ c.args.asked.now.seeds = omega (arith, c.loop-done-test.true) in
-    (_, so.2, no_run_said c.args.plan.now c.args.asked.now c.loop-done.done so.0 c.in-Err-NotARun.seed c.in-Err-NotARun.field-0-1 _ _ few so.1 (rw c.in-Err-NotARun.field-0-is at c.in-Err-NotARun.ensures.fault) c.said.ensures (let spelled = c.in_ok-seed_verdict-in-Err-NotARun.ensures in let seed = c.in-Err-NotARun.seed-is in cc))
+    (_, so.2, no_run_said c.args.plan.now c.args.asked.now c.loop-done.done so.0 c.in-Err-NotARun.seed c.in-Err-NotARun.fault _ _ few so.1 (rw c.in-Err-NotARun.field-0-is at c.in-Err-NotARun.ensures.fault) c.said.ensures (let spelled = c.in_ok-seed_verdict-in-Err-NotARun.ensures in let seed = c.in-Err-NotARun.seed-is in cc))
 
 pub returns-in-Err-Memory : goal.returns-in-Err-Memory
 returns-in-Err-Memory g c =

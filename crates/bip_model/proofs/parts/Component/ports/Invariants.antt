@@ -1,8 +1,9 @@
-use Rattle.std.proofs.Common.{◌≡◌, ℕ, take}
+use Rattle.std.proofs.Common.{◌≡◌, ℕ, ltb, ◌&&◌}
 use Rattle.std.specs.Int.{bit_at}
-use Rattle.bip_model.proofs.PortLemmas.{offered_bit}
+use Rattle.bip_model.specs.Components.{offers_at}
+use Rattle.bip_model.proofs.PlaceLemmas.{bit}
 use Rattle.bip_model.proofs.parts.Component.ports.Given as goal
 
-abbrev pub invariant-loop-transition : goal.invariant-loop-transition
-invariant-loop-transition l =
-    (port : ℕ) → bit_at l.ports port ≡ offered_bit l.local.location l.local.values port (take l.transition-index l.transition-items)
+abbrev pub invariant-loop-number : goal.invariant-loop-number
+invariant-loop-number l =
+    (k : ℕ) → bit_at l.ports k ≡ bit (ltb k l.number && offers_at l.self l.local (record { 0 = k }))

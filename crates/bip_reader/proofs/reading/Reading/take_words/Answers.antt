@@ -1,10 +1,8 @@
-use Rattle.std.proofs.Common.{sym}
-use Rattle.bip_reader.specs.Reading.{reading_with}
-use Rattle.bip_reader.proofs.AnswerLemmas.{said_unless}
-use Rattle.bip_reader.proofs.AnswerLemmas.{stated}
+use Rattle.std.proofs.Common.{◌∙◌, sym}
+use Rattle.bip_reader.proofs.FaultLemmas.{not_of_syntax}
 use Rattle.bip_reader.proofs.reading.Reading.take_words.Goals as goal
 
-pub returns-clause-said : goal.returns-clause-said
-returns-clause-said c = λ other.
-    rw (stated _ c.in_ok-statement.statement c.in_ok-statement.ensures.said)
-    (sym (said_unless (reading_with c.in_ok-statement.statement c.args.self.now) c.take.result c.take.new.self c.take.ensures other))
+pub returns-clause-memory : goal.returns-clause-memory
+returns-clause-memory c = λ wants why is.
+    let said = rw (sym c.statement_in.ensures.said ∙ c.in-Some.is) at is in
+    (not_of_syntax c.in-Some.statement c.args.self.now why said, c.in-Some.ensures.listing (c.take.ensures.memory wants why said))

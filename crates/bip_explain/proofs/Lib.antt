@@ -1,0 +1,2 @@
+pub mod SayLemmas
+pub mod StateLemmas
