@@ -1,7 +1,7 @@
 //! What the text of a model lacks as a whole.
 use crate::Explanation;
 use crate::declared::Declared;
-use crate::placed::{PlacedWords, line_at, words_of};
+use crate::placed::{Placed, PlacedWords, line_at, words_of};
 use crate::scopes::{Standing, standing_at};
 use crate::unknown::behind_first;
 use crate::words::is_text;
@@ -186,21 +186,29 @@ fn count_members(times: &mut [u8; MOST_INTERACTIONS], names: &Names, members: Pl
 fn explain_again(explanation: &mut Explanation, text: &[u8], name: &Name) {
     let mut is_seen = false;
     for (number, line) in NumberedLines::of(text) {
-        if let Some((keyword, words)) = words_of(line) {
-            if is_text(keyword.word, b"class") {
-                for member in behind_first(words) {
-                    if is_text(member.word, name.as_bytes()) {
-                        if is_seen {
-                            explanation.say(b"line ");
-                            explanation.say_number(number);
-                            explanation.say(b", ");
-                            explanation.say_placed(member);
-                            return explanation.say(b" stands in a class already");
-                        }
-                        is_seen = true;
-                    }
-                }
-            }
+        if let Some(member) = member_again(line, name, &mut is_seen) {
+            explanation.say(b"line ");
+            explanation.say_number(number);
+            explanation.say(b", ");
+            explanation.say_placed(member);
+            return explanation.say(b" stands in a class already");
         }
     }
+}
+
+// The member of a class line that is an interaction which was seen already.
+fn member_again<'t>(line: &'t [u8], name: &Name, is_seen: &mut bool) -> Option<Placed<'t>> {
+    let (keyword, words) = words_of(line)?;
+    if !is_text(keyword.word, b"class") {
+        return None;
+    }
+    for member in behind_first(words) {
+        if is_text(member.word, name.as_bytes()) {
+            if *is_seen {
+                return Some(member);
+            }
+            *is_seen = true;
+        }
+    }
+    None
 }
