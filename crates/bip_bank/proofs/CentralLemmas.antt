@@ -5,7 +5,7 @@ use Rattle.std.specs.declared.alloc.AllocError.{AllocError}
 use Rattle.std.proofs.lemmas.Bool.{cases_lt, false≢true}
 use Rattle.std.proofs.lemmas.Option.{get_or_from_slice_get, slice_get_within}
 use Rattle.std.proofs.lemmas.Bool.Decides.{eqb_tells}
-use Rattle.std.proofs.lemmas.List.{get_or-replicate, get_or_default, get_or_past, length-replicate, length-set}
+use Rattle.std.proofs.lemmas.List.{get_or-replicate, get_or_default, get_or_past, length-replicate, length-set, length_push}
 use Rattle.std.proofs.lemmas.List.Elements.{All-contains, All-head, All-nil, All-push, All-tail}
 use Rattle.std.proofs.Math.Path.{fun_ext}
 use Rattle.bip_model.proofs.ListLemmas.{Contains-cases, Contains-head, Contains-none, Contains-tail}
@@ -31,12 +31,13 @@ use Rattle.bip_table.specs.Reservations.{KeptRows, Reservations, grant_of}
 use Rattle.bip_table.specs.Rows.{has_row, rows_of, used_at}
 use Rattle.bip_table.specs.declared.reservations.Decision.TheVariants as decision
 use Rattle.bip_bank.proofs.UsedLemmas.{HaveRows, above_first, above_raised, decision_above, fresh_above}
-use Rattle.bip_bank.specs.Banks.{BankContent, IsActed, asked_nothing, content_of, with_request}
-use Rattle.bip_bank.specs.Central.{Applies, CannotKeep, IsCentral, IsCentralStep, IsEnded, IsFirstDecided, IsListTabled, IsOpen, IsUndecided, KeptCentral, WantsMemory, kept_central}
+use Rattle.bip_bank.specs.Banks.{BankContent, CanDecide, DoesStep, IsActed, IsEnded, asked_nothing, content_of, with_request}
+use Rattle.bip_bank.specs.Central.{Applies, CannotKeep, IsCentral, IsCentralStep, IsFirstDecided, IsListTabled, IsOpen, IsUndecided, KeptCentral, WantsMemory, kept_central}
 use Rattle.bip_bank.specs.declared.banks.Acted.TheVariants.{Answered, Nothing}
 use Rattle.bip_bank.specs.declared.banks.Acted.TheVariants as did
 use Rattle.bip_bank.specs.declared.banks.Acted.{Acted}
-use Rattle.bip_bank.specs.declared.banks.BankStep.TheVariants.{Serve}
+use Rattle.bip_bank.specs.declared.banks.BankStep.TheVariants.{Ask, Deliver, Pass, Serve}
+use Rattle.bip_bank.specs.declared.banks.BankStep.{BankStep}
 use Rattle.bip_bank.specs.declared.banks.StationId.{StationId}
 
 -- the wants of a request that fits are of components with rows
@@ -61,7 +62,7 @@ open_put : (p : Planned) (waiting : ℕ → List Request) (a : ℕ) (qs : List R
 open_put p waiting a qs all these k = elim (eqb_tells k a) [ inl same ↦ rw (same.0, same.1) these | inr other ↦ rw other.0 (all k) ]
 
 abbrev content : Planned → ℕ → (ℕ → ℕ) → List Grant → (ℕ → List Request) → BankContent
-content p base u gs w = record { plan = p; base = base; used = u; grants = gs; waiting = w }
+content p base u gs w = record { plan = p; base = base; used = u; grants = gs; waiting = w; turns = None }
 
 same_content : (p : Planned) (base : ℕ) (u v : ℕ → ℕ) (gs hs : List Grant) (w x : ℕ → List Request) → u ≡ v → gs ≡ hs → w ≡ x
     → content p base u gs w ≡ content p base v hs x
@@ -93,7 +94,7 @@ pub submits : (c : KeptCentral) (q : Request) (later : List (List Request)) → 
 submits c q later is fit within same =
     let both = open_later c c.table later q.inter.0 (get_or c.waiting q.inter.0 [] ++ q ∷ []) is within same (All-push (IsOpen c.plan q.inter.0) (get_or c.waiting q.inter.0 []) q (is.open_fit q.inter.0) (fit, refl)) in
     record {
-      valid = record { rows = is.rows; each = both.0; open_fit = both.1; explained = is.explained };
+      valid = record { rows = is.rows; each = both.0; open_fit = both.1; explained = is.explained; counted = is.counted };
       content = same_content c.plan c.base _ _ _ _ _ _ refl refl (read_put c.waiting later q.inter.0 (get_or c.waiting q.inter.0 [] ++ q ∷ []) within same);
     }
 
@@ -120,11 +121,13 @@ serves c a t later (Answered q (decision.Granted s)) is within (rest, oldest, an
         each = both.0;
         open_fit = both.1;
         explained = above ∙ (ap (λ (u : ℕ → ℕ). raised u q.wants) is.explained ∙ (sym (used_by-push (λ k. c.base) c.table.journal (grant_of q)) ∙ ap (λ (gs : List Grant). used_by (λ k. c.base) gs) (sym journal)));
+        counted = omega (arith, ap (λ (r : Reservations). r.serial) left.0, is.counted, ap length journal, length_push c.table.journal (grant_of q));
       };
       content = record {
         rest = rest;
         oldest = ap (λ k. get_or c.waiting k []) open'.0.1 ∙ oldest;
         decision = fresh_above c.base c.table.rows q.wants rows answer.0.fresh;
+        turns = refl;
         after = same_content c.plan c.base _ _ _ _ _ _ above journal (rw open'.0.1 (read_put c.waiting later a rest within same));
       };
     }
@@ -133,22 +136,23 @@ serves c a t later (Answered q (decision.Refused d n)) is within (rest, oldest, 
     let rows = have_rows c is q open'.0.0 in
     let both = open_later c t later a rest is within same open'.1 in
     rw left (record {
-      valid = record { rows = is.rows; each = both.0; open_fit = both.1; explained = is.explained };
+      valid = record { rows = is.rows; each = both.0; open_fit = both.1; explained = is.explained; counted = is.counted };
       content = record {
         rest = rest;
         oldest = ap (λ k. get_or c.waiting k []) open'.0.1 ∙ oldest;
         decision = decision_above c.base c.table.rows q.wants (decision.Refused d n) rows answer.1;
+        turns = refl;
         after = same_content c.plan c.base _ _ _ _ _ _ refl refl (rw open'.0.1 (read_put c.waiting later a rest within same));
       };
     })
 
 -- where the table doesn't decide, the step doesn't apply
-stays_undecided : (c : KeptCentral) (q : Request) (rest : List Request) → IsCentral c → IsFit c.plan q → (¬ IsEnded c q) → (open' : List Request) → open' ≡ q ∷ rest → IsUndecided c.table open' → ⊥
+stays_undecided : (c : KeptCentral) (q : Request) (rest : List Request) → IsCentral c → IsFit c.plan q → (¬ IsEnded (content_of (kept_central c)) q) → (open' : List Request) → open' ≡ q ∷ rest → IsUndecided c.table open' → ⊥
 stays_undecided c q rest is fit left [] same undecided = cc
 stays_undecided c q rest is fit left (r ∷ rs) same undecided =
     let first : r ≡ q = cc in
     elim undecided [
-      | inl ended ↦ left (fresh_above c.base c.table.rows q.wants (have_rows c is q fit) (rw first at ended.1), ended.2)
+      | inl ended ↦ left (fresh_above c.base c.table.rows q.wants (have_rows c is q fit) (rw first at ended.1), sym is.counted ∙ ended.2)
       | inr unknown ↦
           let lacks = rw first at unknown.1.here in
           let row : has_row c.table.rows lacks.0.1.comp.0 ≡ true = All-contains (λ (w : Want). IsTrue (has_row c.table.rows w.comp.0)) q.wants lacks.0.1 (have_rows c is q fit) (lacks.0.0, lacks.0.2, lacks.0.3) in
@@ -157,11 +161,11 @@ stays_undecided c q rest is fit left (r ∷ rs) same undecided =
 
 pub serves_station : (c : KeptCentral) (s : StationId) (stations : List InterId) (a : InterId) (t : KeptRows) (later : List (List Request)) (did : Acted) → IsCentral c → AreStations c.plan stations → slice_get stations s.0 ≡ Some a → IsFirstDecided a.0 c.table c.waiting t later did → IsCentralStep c (Serve s) did
 serves_station c s stations a t later Nothing is listed here served = λ applies.
-    let (b, q, rest, station, oldest, left) = applies in
-    let same : Some (inter b) ≡ Some a = sym station.here ∙ (ap (λ (xs : List InterId). slice_get xs s.0) (stations_same c.plan station.stations stations station.listed listed) ∙ here) in
-    let e : inter b ≡ a = cc in
-    let at : get_or c.waiting a.0 [] ≡ q ∷ rest = ap (λ (x : InterId). get_or c.waiting x.0 []) (sym e) ∙ oldest in
-    stays_undecided c q rest is (first_open c a.0 q rest is at).0.0 left (get_or c.waiting a.0 []) at served.2
+    let station = applies.station in
+    let same : Some (inter applies.number) ≡ Some a = sym station.here ∙ (ap (λ (xs : List InterId). slice_get xs s.0) (stations_same c.plan station.stations stations station.listed listed) ∙ here) in
+    let e : inter applies.number ≡ a = cc in
+    let at : get_or c.waiting a.0 [] ≡ applies.request ∷ applies.rest = ap (λ (x : InterId). get_or c.waiting x.0 []) (sym e) ∙ applies.oldest in
+    stays_undecided c applies.request applies.rest is (first_open c a.0 applies.request applies.rest is at).0.0 applies.left (get_or c.waiting a.0 []) at served.2
 serves_station c s stations a t later did.Moved is listed here served = absurd served
 serves_station c s stations a t later (Answered q d) is listed here served =
     let first = first_open c a.0 q served.0 is served.1 in
@@ -169,8 +173,8 @@ serves_station c s stations a t later (Answered q d) is listed here served =
 
 pub no_station : (c : KeptCentral) (s : StationId) (stations : List InterId) → AreStations c.plan stations → slice_get stations s.0 ≡ None → ¬ Applies c (Serve s)
 no_station c s stations listed none applies =
-    let (b, q, rest, station, oldest, left) = applies in
-    let same : Some (inter b) ≡ None = sym station.here ∙ (ap (λ (xs : List InterId). slice_get xs s.0) (stations_same c.plan station.stations stations station.listed listed) ∙ none) in
+    let station = applies.station in
+    let same : Some (inter applies.number) ≡ None = sym station.here ∙ (ap (λ (xs : List InterId). slice_get xs s.0) (stations_same c.plan station.stations stations station.listed listed) ∙ none) in
     cc
 
 -- a component is in a list where its number is among those of the list
@@ -203,17 +207,18 @@ entry_components base [] = refl
 entry_components base (d ∷ ds) = ap (λ (ks : List ℕ). d.0 ∷ ks) (entry_components base ds)
 
 -- a new one
-pub first_central : (p : Planned) (base : ℕ) (list : List CompId) (t : KeptRows) (waiting : List (List Request)) → IsListTabled p list → t.rows ≡ rows_of (map (λ (d : CompId). (d, base)) list) → t.journal ≡ [] → waiting ≡ replicate (length p.model.interactions) none_open
+pub first_central : (p : Planned) (base : ℕ) (list : List CompId) (t : KeptRows) (waiting : List (List Request)) → IsListTabled p list → t.rows ≡ rows_of (map (λ (d : CompId). (d, base)) list) → t.journal ≡ [] → t.serial ≡ 0 → waiting ≡ replicate (length p.model.interactions) none_open
     → IsCentral (record { plan = p; base = base; table = t; waiting = waiting })
-first_central p base list t waiting tabled rows none empty = record {
+first_central p base list t waiting tabled rows none zero' empty = record {
   rows = λ k. let e = listed_row base list k in let f = tabled.exact k in rw rows (λ row. f.0 (e.0 row), λ row. e.1 (f.1 row));
   each = ap length empty ∙ length-replicate (length p.model.interactions) none_open;
   open_fit = λ a. subst (λ (w : List (List Request)). All (IsOpen p a) (get_or w a [])) (sym empty) (subst (All (IsOpen p a)) (sym (none_waits (length p.model.interactions) a)) (All-nil (IsOpen p a)));
   explained = rw (rows, none) (above_first base list);
+  counted = zero' ∙ ap (λ (gs : List Grant). length gs) (sym none);
 }
 
 pub first_content : (p : Planned) (base : ℕ) (list : List CompId) (t : KeptRows) (waiting : List (List Request)) → t.rows ≡ rows_of (map (λ (d : CompId). (d, base)) list) → t.journal ≡ [] → waiting ≡ replicate (length p.model.interactions) none_open
-    → content_of (kept_central (record { plan = p; base = base; table = t; waiting = waiting })) ≡ asked_nothing p base
+    → content_of (kept_central (record { plan = p; base = base; table = t; waiting = waiting })) ≡ asked_nothing p base None
 first_content p base list t waiting rows none empty =
     same_content p base _ _ _ _ _ _ (rw rows (above_first base list)) none (ap (λ (w : List (List Request)). λ (k : ℕ). get_or w k []) empty ∙ fun_ext (λ a. none_waits (length p.model.interactions) a))
 
@@ -237,8 +242,37 @@ starves : (c : KeptCentral) (s : StationId) (stations : List InterId) (a : Inter
 starves c s stations a is listed here [] same wants = absurd wants
 starves c s stations a is listed here (q ∷ rest) same wants =
     let fit = (first_open c a.0 q rest is same).0.0 in
-    (a.0, q, rest, record { stations = stations; listed = listed; here = here }, same, fresh_above c.base c.table.rows q.wants (have_rows c is q fit) wants.0.fresh, wants.1)
+    let can : CanDecide (content_of (kept_central c)) s.0 = record {
+      turn = tt;
+      number = a.0;
+      request = q;
+      rest = rest;
+      station = record { stations = stations; listed = listed; here = here };
+      oldest = same;
+      left = λ ended. absurd (omega (arith, wants.0.left, is.counted, ended.1));
+    } in
+    (can, fresh_above c.base c.table.rows q.wants (have_rows c is q fit) wants.0.fresh, wants.1)
 
 pub turn_starves : (c : KeptCentral) (s : StationId) (stations : List InterId) (a : InterId) (r : Result Acted AllocError) → IsCentral c → AreStations c.plan stations → slice_get stations s.0 ≡ Some a → IfErr r (λ e. CannotKeep c.table (get_or c.waiting a.0 [])) → IfErr r (λ e. WantsMemory c (Serve s))
 turn_starves c s stations a (Ok did) is listed here wants = tt
 turn_starves c s stations a (Err e) is listed here wants = starves c s stations a is listed here (get_or c.waiting a.0 []) refl wants
+
+-- what the central bank does at a step is what any bank does
+pub does_step : (c : KeptCentral) (step : BankStep) (did : Acted) → IsCentralStep c step did → DoesStep (content_of (kept_central c)) step did
+does_step c (Serve s) Nothing is = is
+does_step c (Serve s) did.Moved is = absurd is
+does_step c (Serve s) (Answered q d) is = (tt, is)
+does_step c (Deliver k) Nothing is = tt
+does_step c (Deliver k) did.Moved is = absurd is
+does_step c (Deliver k) (Answered q d) is = absurd is
+does_step c (Pass s t) Nothing is = tt
+does_step c (Pass s t) did.Moved is = absurd is
+does_step c (Pass s t) (Answered q d) is = absurd is
+does_step c (Ask s t) Nothing is = tt
+does_step c (Ask s t) did.Moved is = absurd is
+does_step c (Ask s t) (Answered q d) is = absurd is
+
+-- the same of a result
+pub does_result : (c : KeptCentral) (step : BankStep) (r : Result Acted AllocError) → IfOk r (IsCentralStep c step) → IfOk r (DoesStep (content_of (kept_central c)) step)
+does_result c step (Ok did) is = does_step c step did is
+does_result c step (Err e) is = tt

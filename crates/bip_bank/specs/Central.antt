@@ -1,6 +1,6 @@
 -- The central bank: one table, and the open requests.
 use Rattle.std.specs.Prelude.{◌≡◌, ◌↔◌, ◌⊎◌, ℕ, ⊤, List, [], ◌∷◌, Some, Ok, Err, length, map}
-use Rattle.std.specs.Prelude.{slice_get, slice_index_or, slice_set, All, Contains, IsTrue}
+use Rattle.std.specs.Prelude.{slice_get,slice_index_or, slice_set, All, Contains, IsTrue, None}
 use Rattle.std.specs.List.Sorted.{IsStrictlyIncreasing}
 use Rattle.bip_model.specs.Grants.{used_by}
 use Rattle.bip_model.specs.Priorities.{inter}
@@ -12,7 +12,7 @@ use Rattle.bip_partition.specs.Plans.{AreStations, IsFit, IsTabled, Planned}
 use Rattle.bip_table.specs.Reservations.{IsTableAnswer, IsTableAfter, KeptRows, end_of_serials}
 use Rattle.bip_table.specs.Rows.{has_row}
 use Rattle.bip_table.specs.declared.faults.TableFault.TheVariants.{Ended, Memory, UnknownRow}
-use Rattle.bip_bank.specs.Banks.{KeptBank, content_of, used_above}
+use Rattle.bip_bank.specs.Banks.{CanDecide, IsStationOf, KeptBank, content_of, used_above}
 use Rattle.bip_bank.specs.declared.banks.Acted.TheVariants.{Answered, Moved, Nothing}
 use Rattle.bip_bank.specs.declared.banks.Acted.{Acted}
 use Rattle.bip_bank.specs.declared.banks.BankStep.TheVariants.{Ask, Deliver, Pass, Serve}
@@ -34,6 +34,7 @@ kept_central c =
       rows = c.table.rows;
       grants = c.table.journal;
       waiting = c.waiting;
+      turns = None;
     }
 
 -- an open request of an interaction, which fits the plan
@@ -41,30 +42,18 @@ abbrev pub IsOpen : Planned → ℕ → Request → Type 0
 IsOpen p a q = IsFit p q × (q.inter.0 ≡ a)
 
 -- what is kept of any central bank: a row of each component that has one in the plan, a list of
--- open requests of each interaction, which fit the plan; and the grants explain the used numbers
+-- open requests of each interaction, which fit the plan; the grants explain the used numbers, and
+-- the next serial is their count
 pub record IsCentral (c : KeptCentral) : Type 0 where
   pub rows : (k : ℕ) → IsTrue (has_row c.table.rows k) ↔ IsTabled c.plan k
   pub each : length c.waiting ≡ length c.plan.model.interactions
   pub open_fit : (a : ℕ) → All (IsOpen c.plan a) (slice_index_or c.waiting a [])
   pub explained : used_above c.base c.table.rows ≡ used_by (λ k. c.base) c.table.journal
+  pub counted : c.table.serial ≡ length c.table.journal
 
--- a station decides for an interaction
-pub record IsStationOf (p : Planned) (s a : ℕ) : Type 0 where
-  pub stations : List InterId
-  pub listed : AreStations p stations
-  pub here : slice_get stations s ≡ Some (inter a)
-
--- a decision on a request is ended: it would be granted, and no serial is left
-abbrev pub IsEnded : KeptCentral → Request → Type 0
-IsEnded c q =
-    IsFresh (content_of (kept_central c)).used q.wants × (c.table.serial ≡ end_of_serials)
-
--- a step applies at the central bank where it serves a station that has an open request, and the
--- decision on the oldest one isn't ended
+-- a step applies at the central bank where it serves a station that can decide
 abbrev pub Applies : KeptCentral → BankStep → Type 0
-Applies c (Serve s) =
-    (a : ℕ) × (q : Request) × (rest : List Request) × IsStationOf c.plan s.0 a
-    × (slice_index_or c.waiting a [] ≡ q ∷ rest) × ¬ IsEnded c q
+Applies c (Serve s) = CanDecide (content_of (kept_central c)) s.0
 Applies c (Deliver k) = ⊥
 Applies c (Pass s t) = ⊥
 Applies c (Ask s t) = ⊥
@@ -84,13 +73,12 @@ IsCentralAfter Moved c later = ⊥
 IsCentralAfter (Answered q d) c later =
     IsTableAnswer c.table q.wants (Ok d) × IsTableAfter q (Ok d) c.table later.table
 
--- a step wants memory at the central bank where it serves a station whose oldest open request would
--- be granted, and the table has no room for the grant
+-- a step wants memory at the central bank where it serves a station that can decide, whose oldest
+-- open request would be granted, and the table has no room for the grant
 abbrev pub WantsMemory : KeptCentral → BankStep → Type 0
 WantsMemory c (Serve s) =
-    (a : ℕ) × (q : Request) × (rest : List Request) × IsStationOf c.plan s.0 a
-    × (slice_index_or c.waiting a [] ≡ q ∷ rest)
-    × IsFresh (content_of (kept_central c)).used q.wants × (c.table.room ≡ 0)
+    (can : CanDecide (content_of (kept_central c)) s.0)
+    × IsFresh (content_of (kept_central c)).used can.request.wants × (c.table.room ≡ 0)
 WantsMemory c (Deliver k) = ⊥
 WantsMemory c (Pass s t) = ⊥
 WantsMemory c (Ask s t) = ⊥

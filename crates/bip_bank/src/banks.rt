@@ -42,7 +42,7 @@ pub enum Acted {
 /// kept of a bank's content. No call changes its plan or its base.
 pub trait Bank {
     ghost use Rattle.bip_partition.specs.Plans.{IsFit};
-    ghost use Rattle.bip_bank.specs.Banks.{IsActed, KeptBank, content_of, with_request};
+    ghost use Rattle.bip_bank.specs.Banks.{DoesStep, IsActed, KeptBank, content_of, with_request};
 
     ghost kept: { Self → KeptBank };
 
@@ -58,10 +58,12 @@ pub trait Bank {
         ensures err { OnErr result (content_of (kept self.new) ≡ content_of (kept self.old)) }
         ensures back { IfErr result (λ refused. refused.0 ≡ request) };
 
-    /// Does a step. Where it decides, this is on the oldest open request of some interaction: it
-    /// grants where the request is fresh, and else refuses with the lowest component that isn't.
-    /// Without memory the content stays as it was.
+    /// Does a step. A station that is served decides on the oldest open request of its
+    /// interaction, where it is its turn, it has one, and the decision isn't ended: it grants where
+    /// the request is fresh, and else refuses with the lowest component that isn't. No other step
+    /// decides. Without memory the content stays as it was.
     fn act(&mut self, step: BankStep) -> Result<Acted, AllocError>
+        ensures does { IfOk result (DoesStep (content_of (kept self.old)) step) }
         ensures acted { IfOk result (λ acted. IsActed acted (content_of (kept self.old))
             (content_of (kept self.new))) }
         ensures err { OnErr result (content_of (kept self.new) ≡ content_of (kept self.old)) };

@@ -2,7 +2,7 @@
 ghost use Rattle.std.specs.Prelude.{◌≡◌, ◌<◌, [], ◌∷◌, ◌++◌, IfErr, IfOk, OnErr, OnOk, length, map};
 ghost use Rattle.std.specs.Prelude.{replicate, slice_get, slice_index_or, slice_set};
 ghost use Rattle.bip_model.specs.Numbering.{last_number};
-ghost use Rattle.bip_bank.specs.Banks.{IsActed, asked_nothing, content_of, with_request};
+ghost use Rattle.bip_bank.specs.Banks.{DoesStep, IsActed, asked_nothing, content_of, with_request};
 ghost use Rattle.bip_bank.specs.Central.{CannotKeep, IsCentralAfter, IsCentralStep, IsFirstDecided};
 ghost use Rattle.bip_bank.specs.Central.{IsListTabled, WantsMemory, kept_central};
 ghost use Rattle.bip_bank.specs.declared.banks.BankStep.TheVariants.{Serve};
@@ -49,7 +49,7 @@ impl<'p> Central<'p> {
     pub fn new(alloc: Global, plan: &'p Plan, base: Number) -> Result<Central<'p>, AllocError>
         requires { base < last_number }
         ensures content { IfOk result (λ bank. content_of (kept_central bank)
-            ≡ asked_nothing plan.now base) }
+            ≡ asked_nothing plan.now base None) }
         ensures serial { IfOk result (λ bank. bank.table.serial ≡ 0) }
     {
         let tabled = list_tabled(alloc, plan)?;
@@ -105,7 +105,9 @@ impl<'p> Bank for Central<'p> {
         Ok(())
     }
 
+    #[tactic(auto, using(crate::proofs::CentralLemmas::does_result))]
     fn act(&mut self, step: BankStep) -> Result<Acted, AllocError>
+        ensures does { IfOk result (DoesStep (content_of (kept_central self.old)) step) }
         ensures acted { IfOk result (λ acted. IsActed acted (content_of (kept_central self.old))
             (content_of (kept_central self.new))) }
         ensures step { IfOk result (IsCentralStep self.old step) }

@@ -210,7 +210,7 @@ done_left w (Bank s) Submits v done = absurd done
 done_left w (Bank s) (Learns r) v done = absurd done
 done_left w (Bank s) (Moves r) v done = absurd done
 done_left w (Bank s) (Tries r) v done = absurd done
-done_left w (Bank s) (Acts r) v done = left_as w v (same_as v _ done.2)
+done_left w (Bank s) (Acts r) v done = left_as w v (same_as v _ done.3)
 
 -- the trace after an event has the grant that it gave, and no other
 pub step_trace : (w : WorldContent) (e : Event) (d : Did) (v : WorldContent) → IsStep w e d v → v.trace ≡ trace_with w.trace (grant_in d.what)

@@ -41,7 +41,7 @@ use Rattle.bip_ip.specs.declared.nodes.Tried.{Tried}
 use Rattle.bip_ip.specs.declared.nodes.Tried.TheVariants as tried
 use Rattle.bip_ip.specs.declared.nodes.WhyNot.{WhyNot}
 use Rattle.bip_ip.specs.declared.nodes.WhyNot.TheVariants as why_not
-use Rattle.bip_bank.specs.Banks.{BankContent, IsActed, KeptBank, content_of, with_request}
+use Rattle.bip_bank.specs.Banks.{BankContent, DoesStep, IsActed, KeptBank, content_of, with_request}
 use Rattle.bip_core.specs.Worlds.{FitsIfRequest, IsKnownGrant, IsKeptWorld, KeptWorld, WorldContent, with_class_node, with_component_node, world_of}
 use Rattle.bip_model.specs.declared.numbering.ClassId.{ClassId}
 use Rattle.bip_observe.specs.Offers.{IsReceipt, observed}
@@ -253,7 +253,7 @@ tried_on w k a did old n is tries left = record {
 -- what a step of a bank leaves of requests that fit
 pub acted_fit : (p : Planned) (did : Acted) (b later : BankContent) → IsActed did b later → ((a : ℕ) → All (λ (q : Request). IsFit p q) (b.waiting a)) → (a : ℕ) → All (λ (q : Request). IsFit p q) (later.waiting a)
 acted_fit p acted.Nothing b later is fit a = rw (ap (λ (c : BankContent). c.waiting a) is) (fit a)
-acted_fit p acted.Moved b later is fit a = rw (ap (λ (c : BankContent). c.waiting a) is) (fit a)
+acted_fit p acted.Moved b later is fit a = rw (ap (λ (c : BankContent). c.waiting a) is.1) (fit a)
 acted_fit p (acted.Answered q d) b later is fit a = rw (ap (λ (c : BankContent). c.waiting a) is.after) (elim (eqb_tells a q.inter.0) [
   | inl same ↦ rw same.0 (All-tail (λ (r : Request). IsFit p r) q is.rest (subst (λ (l : List Request). All (λ (r : Request). IsFit p r) l) is.oldest (fit q.inter.0)))
   | inr other ↦ rw other.0 (fit a)
@@ -262,7 +262,7 @@ acted_fit p (acted.Answered q d) b later is fit a = rw (ap (λ (c : BankContent)
 -- and of its plan
 pub acted_plan : (did : Acted) (b later : BankContent) → IsActed did b later → later.plan ≡ b.plan
 acted_plan acted.Nothing b later is = ap (λ (c : BankContent). c.plan) is
-acted_plan acted.Moved b later is = ap (λ (c : BankContent). c.plan) is
+acted_plan acted.Moved b later is = ap (λ (c : BankContent). c.plan) is.1
 acted_plan (acted.Answered q (decision.Granted serial)) b later is = ap (λ (c : BankContent). c.plan) is.after
 acted_plan (acted.Answered q (decision.Refused c n)) b later is = ap (λ (x : BankContent). x.plan) is.after
 
@@ -307,11 +307,11 @@ tried_idly w k a did old is tries left none =
     (tried_without w k a did old old is tries left none)
 
 -- a step of the bank, with the grant that it gives
-pub acted_on : (w : KeptWorld) (b : KeptBank) (step : BankStep) (did : Acted) (given : Option Grant) → IsActed did (content_of w.bank) (content_of b) → grant_acted did ≡ given
+pub acted_on : (w : KeptWorld) (b : KeptBank) (step : BankStep) (did : Acted) (given : Option Grant) → DoesStep (content_of w.bank) step did → IsActed did (content_of w.bank) (content_of b) → grant_acted did ≡ given
     → IsTraced (world_of w) (Bank step) (Acts did) (world_of (record w { bank = b; trace = trace_with w.trace given }))
-acted_on w b step did given is same = record {
+acted_on w b step did given does is same = record {
   middle = record (world_of w) { bank = content_of b };
-  done = (content_of b, is, refl);
+  done = (content_of b, does, is, refl);
   after = ap (λ (x : Option Grant). record (world_of w) { bank = content_of b; trace = trace_with w.trace x }) (sym same);
 }
 

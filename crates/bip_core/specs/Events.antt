@@ -19,7 +19,7 @@ use Rattle.bip_ip.specs.declared.nodes.Answered.TheVariants as answered
 use Rattle.bip_ip.specs.declared.nodes.Tried.{Tried}
 use Rattle.bip_ip.specs.declared.nodes.Tried.TheVariants as tried
 use Rattle.bip_observe.specs.Offers.{IsReceipt}
-use Rattle.bip_bank.specs.Banks.{BankContent, IsActed, with_request}
+use Rattle.bip_bank.specs.Banks.{BankContent, DoesStep, IsActed, with_request}
 use Rattle.bip_bank.specs.declared.banks.Acted.{Acted}
 use Rattle.bip_bank.specs.declared.banks.Acted.TheVariants as acted
 use Rattle.bip_core.specs.Worlds.{AreOffersOf, WorldContent, with_class_node, with_component_node}
@@ -92,7 +92,8 @@ IsDone w (Try k a) (Tries did) v =
     × (v ≡ with_class_node k.0 (after_try a.0 did node) w)
 IsDone w (Try k a) Nothing v = (w.classes k.0 ≡ None) × (v ≡ w)
 IsDone w (Bank step) (Acts did) v =
-    (later : BankContent) × IsActed did w.bank later × (v ≡ record w { bank = later })
+    (later : BankContent) × DoesStep w.bank step did × IsActed did w.bank later
+    × (v ≡ record w { bank = later })
 IsDone w event what v = ⊥
 
 -- the grant that an answer gives, if any: a local one, or the bank's

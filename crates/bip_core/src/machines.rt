@@ -81,7 +81,9 @@ impl<'p, B: bip_bank::Bank> Machine<'p, B> {
         B: Drop,
         requires base { base < last_number }
         requires unasked { IsUnasked plan.now base (content_of (B.kept bank)) }
-        ensures { IfOk result (λ machine. IsNewWorld plan.now base (world_of machine)) }
+        ensures new { IfOk result (λ machine. IsNewWorld plan.now base (world_of machine)) }
+        ensures turns { IfOk result (λ machine. (world_of machine).bank.turns
+            ≡ (B.kept bank).turns) }
     {
         let _granted = bank.grants();
         let components = first_components(alloc, plan, base)?;

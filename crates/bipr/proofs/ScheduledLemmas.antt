@@ -1,5 +1,5 @@
 -- Answers to schedules that were written out are those that the texts have.
-use Rattle.std.proofs.Common.{◌≡◌, ◌≢◌, ℕ, List, sym, ap, ◌∙◌, subst}
+use Rattle.std.proofs.Common.{◌≡◌, ◌≢◌, ℕ, List, None, sym, ap, ◌∙◌, subst}
 use Rattle.bip_core.specs.Runs.{IsRunOfEvents}
 use Rattle.bip_core.specs.Starting.{IsNewWorld}
 use Rattle.bip_core.specs.Worlds.{WorldContent}
@@ -24,7 +24,7 @@ has_answered-no_schedule p base schedule complaint answer number fault same writ
 
 pub has_answered-stepped : (p : Planned) (base : ℕ) (schedule trace told : List ℕ) (answer : Answer) (events : List Event) (w v : WorldContent) (report : Report)
     → answer ≡ reporting trace told → trace ≡ text_of p.model v.trace → told ≡ report_text report
-    → IsEventText p schedule events → IsNewWorld p base w → IsRunOfEvents events w v report → IsScheduleAnswer p base schedule answer
-has_answered-stepped p base schedule trace told answer events w v report same written reported is begins run =
+    → IsEventText p schedule events → IsNewWorld p base w → w.bank.turns ≡ None → IsRunOfEvents events w v report → IsScheduleAnswer p base schedule answer
+has_answered-stepped p base schedule trace told answer events w v report same written reported is begins turns run =
     subst (IsScheduleAnswer p base schedule) (sym (same ∙ (ap (λ (t : List ℕ). reporting t told) written ∙ ap (λ (r : List ℕ). reporting (text_of p.model v.trace) r) reported)))
-    (stepped events w v report is begins run)
+    (stepped events w v report is begins turns run)

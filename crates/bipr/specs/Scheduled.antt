@@ -1,5 +1,5 @@
 -- The answer to a schedule: the trace of the world to which its events lead, and their report.
-use Rattle.std.specs.Prelude.{List, ℕ, ◌≢◌}
+use Rattle.std.specs.Prelude.{List, None, ℕ, ◌≡◌, ◌≢◌}
 use Rattle.bip_core.specs.Runs.{IsRunOfEvents}
 use Rattle.bip_core.specs.Starting.{IsNewWorld}
 use Rattle.bip_core.specs.Worlds.{WorldContent}
@@ -21,9 +21,11 @@ reporting trace report = record { status = Done; output = trace; complaint = rep
 
 -- the answer to the text of a schedule for a plan, from a base
 pub data IsScheduleAnswer (p : Planned) (base : ℕ) (schedule : List ℕ) : Answer → Type 0 where
-  -- its events lead from the new world to one with this trace, and this is their report
+  -- its events lead from the new world, whose stations take no turns, to one with this trace, and
+  -- this is their report
   stepped : (events : List Event) (w v : WorldContent) (report : Report)
-      → IsEventText p schedule events → IsNewWorld p base w → IsRunOfEvents events w v report
+      → IsEventText p schedule events → IsNewWorld p base w → w.bank.turns ≡ None
+      → IsRunOfEvents events w v report
       → IsScheduleAnswer p base schedule (reporting (text_of p.model v.trace) (report_text report))
   -- the text is none
   no_schedule : (number : ℕ) (fault : TraceFault) → fault ≢ Memory

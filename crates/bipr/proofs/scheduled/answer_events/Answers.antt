@@ -9,5 +9,6 @@ returns c = λ text is.
     (rw (c.model-2.ensures, c.trace.ensures.trace) at c.in_ok-trace.ensures.text)
     c.in_ok-told.ensures
     is
-    c.in_ok-world.ensures
+    c.in_ok-world.ensures.new
+    c.in_ok-world.ensures.turns
     c.run_steps-report.ensures.run

@@ -28,4 +28,4 @@ returns-clause-counted g c =
     let w = kept_by c.self.inside.plan.now c.self.inside.components.items c.self.inside.classes.items c.self.inside.mail.items c.self.inside.trace.items (g.B.Bank.kept c.self.inside.bank) in
     let b = g.B.Bank.kept c.act.new.self in
     let did = c.in_ok-did.did in
-    rw (← c.self.view_is, c.join_acted.ensures, c.reserve.ensures.items) (counted_by _ (world_of w) (Bank c.args.step) (Acts did) _ (world_of (record w { bank = b; trace = trace_with w.trace (grant_acted did) })) _ c.see.ensures (acted_on w b c.args.step did (grant_acted did) c.in_ok-did.ensures.acted refl) c.send_acted-outcome.ensures refl)
+    rw (← c.self.view_is, c.join_acted.ensures, c.reserve.ensures.items) (counted_by _ (world_of w) (Bank c.args.step) (Acts did) _ (world_of (record w { bank = b; trace = trace_with w.trace (grant_acted did) })) _ c.see.ensures (acted_on w b c.args.step did (grant_acted did) c.in_ok-did.ensures.does c.in_ok-did.ensures.acted refl) c.send_acted-outcome.ensures refl)

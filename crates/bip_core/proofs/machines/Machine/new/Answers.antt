@@ -24,8 +24,8 @@ invariant_of-result g c = record {
   grants = rw c.new.ensures.items (All-nil (IsKnownGrant c.args.plan.now.model));
 }
 
-pub returns : goal.returns
-returns g c = record {
+pub returns-clause-new : goal.returns-clause-new
+returns-clause-new g c = record {
   plan = refl;
   components = λ k. component_at c.args.plan.now c.args.base c.in_ok-components.components.items k c.in_ok-components.ensures;
   classes = λ k. class_at c.args.plan.now c.args.base c.in_ok-classes.classes.items k c.in_ok-classes.ensures;
