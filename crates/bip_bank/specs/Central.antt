@@ -1,6 +1,6 @@
 -- The central bank: one table, and the open requests.
 use Rattle.std.specs.Prelude.{◌≡◌, ◌↔◌, ◌⊎◌, ℕ, ⊤, List, [], ◌∷◌, Some, Ok, Err, length, map}
-use Rattle.std.specs.Prelude.{slice_get,slice_index_or, slice_set, All, Contains, IsTrue, None}
+use Rattle.std.specs.Prelude.{slice_get, slice_index_or, slice_set, All, Contains, IsTrue, None}
 use Rattle.std.specs.List.Sorted.{IsStrictlyIncreasing}
 use Rattle.bip_model.specs.Grants.{used_by}
 use Rattle.bip_model.specs.Priorities.{inter}

@@ -7,7 +7,7 @@ use Rattle.std.proofs.lemmas.Bool.{cases_lt}
 use Rattle.std.proofs.lemmas.Bool.Decides.{eqb_tells}
 use Rattle.std.proofs.lemmas.List.{get_or-set_other, get_or-set_same, get_or_default, length-set, set-get_or, length-take-le}
 use Rattle.std.proofs.lemmas.List.Elements.{All-append, All-drop, All-head, All-push, All-tail, All-take}
-use Rattle.std.proofs.lemmas.Option.{get_or_from_slice_get, slice_get-get_or, slice_get_past, slice_get_within}
+use Rattle.std.proofs.lemmas.Option.{get_or_from_slice_get, slice_get-get_or, slice_get_cases, slice_get_past, slice_get_within}
 use Rattle.bip_model.specs.Numbering.{put}
 use Rattle.bip_model.specs.declared.grants.Grant.{Grant}
 use Rattle.bip_model.specs.declared.messages.Notify.{Notify}
@@ -34,7 +34,7 @@ use Rattle.bip_observe.specs.declared.offers.Receipt.TheVariants.{Held, Old, Str
 use Rattle.bip_component.specs.Components.{IsNodeAfter, Node}
 use Rattle.bip_component.specs.declared.components.Notified.{Notified}
 use Rattle.bip_component.specs.declared.components.Notified.TheVariants as notified
-use Rattle.bip_ip.specs.Nodes.{ClassNode, IsAnswered, IsLeftByReply, IsTried, KeptNode, after_offer, after_try, node_of, tried_of}
+use Rattle.bip_ip.specs.Nodes.{CanBeAsked, ClassNode, IsAnswered, IsLeftByReply, IsTried, KeptNode, after_offer, after_try, node_of, tried_of}
 use Rattle.bip_ip.specs.declared.nodes.Answered.{Answered}
 use Rattle.bip_ip.specs.declared.nodes.Answered.TheVariants as answered
 use Rattle.bip_ip.specs.declared.nodes.Tried.{Tried}
@@ -408,6 +408,13 @@ request_fits w place q kept is = All-slice_get (FitsIfRequest w.plan) w.mail pla
 -- and can be lost for want of memory
 pub request_skipped : (w : KeptWorld) (place : ℕ) (q : Request) → slice_get w.mail place ≡ Some (RequestToBank q) → CanBeSkipped (world_of w) (Mail place)
 request_skipped w place q is = (q, take place w.mail ++ drop (suc place) w.mail, taken_out w.mail place (RequestToBank q) is)
+
+-- a try that asks for a local interaction can be skipped
+pub try_skipped : (w : KeptWorld) (k : ClassId) (a : InterId) → k.0 < length w.classes → ((node : KeptNode) → slice_get w.classes k.0 ≡ Some node → CanBeAsked (node_of node) a.0) → (¬ IsReserved w.plan a.0) → CanBeSkipped (world_of w) (Try k a)
+try_skipped w k a within asked local = elim (slice_get_cases w.classes k.0).1 [
+  | inl here ↦ (node_of here.0, ap (option_map node_of) here.2, asked here.0 here.2, local)
+  | inr past ↦ absurd (omega (arith, within, past.0))
+]
 
 -- a request that was submitted and taken out
 pub handed_in : (w k l : KeptWorld) (place : ℕ) (q : Request) → world_of k ≡ record (world_of w) { bank = with_request q (content_of w.bank) } → TakesOut place (RequestToBank q) w.mail l.mail → l ≡ record k { mail = l.mail }

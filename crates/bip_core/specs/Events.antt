@@ -13,7 +13,8 @@ use Rattle.bip_table.specs.declared.reservations.Decision.TheVariants as decisio
 use Rattle.bip_partition.specs.Plans.{IsFit, IsReserved, Planned}
 use Rattle.bip_component.specs.Components.{IsNodeAfter, IsNotified, Node}
 use Rattle.bip_component.specs.declared.components.Notified.TheVariants as notified
-use Rattle.bip_ip.specs.Nodes.{ClassNode, IsAnswered, IsLeftByReply, IsTried, after_offer}
+use Rattle.bip_ip.specs.Nodes.{CanBeAsked, ClassNode, IsAnswered, IsLeftByReply, IsTried}
+use Rattle.bip_ip.specs.Nodes.{after_offer}
 use Rattle.bip_ip.specs.Nodes.{after_try}
 use Rattle.bip_ip.specs.declared.nodes.Answered.TheVariants as answered
 use Rattle.bip_ip.specs.declared.nodes.Tried.{Tried}
@@ -158,12 +159,14 @@ pub record IsStep (w : WorldContent) (event : Event) (did : Did) (v : WorldConte
   pub put : ArePut sent did.lost middle.mail v.mail
   pub others : v ≡ record middle { mail = v.mail }
 
--- the events that want of memory can skip: a submission, a try of a local interaction, a step of
--- the bank
+-- the events that want of memory can skip: a submission, a try that asks for a local interaction, a
+-- step of the bank
 abbrev pub CanBeSkipped : WorldContent → Event → Type 0
 CanBeSkipped w (Mail place) =
     (q : Request) × (rest : List Message) × TakesOut place (RequestToBank q) w.mail rest
-CanBeSkipped w (Try k a) = ¬ IsReserved w.plan a.0
+CanBeSkipped w (Try k a) =
+    (node : ClassNode) × (w.classes k.0 ≡ Some node) × CanBeAsked node a.0
+    × ¬ IsReserved w.plan a.0
 CanBeSkipped w (Bank step) = ⊤
 
 -- What contracts of private functions say.

@@ -1,11 +1,11 @@
 use Rattle.std.proofs.Common.{◌≡◌, ◌<◌, inl, inr, length, refl, rules, set, slice_get, Some, subst, sym}
 use Rattle.bip_partition.specs.Plans.{IsReserved, Planned}
 use Rattle.bip_ip.specs.Nodes.{CanBeAsked, KeptNode, node_of}
-use Rattle.bip_core.specs.Events.{SendsWhatFits, grant_tried, trace_with}
+use Rattle.bip_core.specs.Events.{CanBeSkipped, SendsWhatFits, grant_tried, trace_with}
 use Rattle.bip_core.specs.Worlds.{KeptWorld, world_of}
 use Rattle.bip_core.specs.declared.events.Event.TheVariants.{Try}
 use Rattle.bip_core.specs.declared.events.What.TheVariants.{Tries}
-use Rattle.bip_core.proofs.WorldLemmas.{class_kept, counted_by, kept_by, no_grant, read_here, sent_kept, trace_kept, tried_fits, tried_grant, tried_on, tried_same}
+use Rattle.bip_core.proofs.WorldLemmas.{class_kept, counted_by, if_err, kept_by, no_grant, read_here, sent_kept, trace_kept, tried_fits, tried_grant, tried_on, tried_same, try_skipped}
 use Rattle.bip_core.proofs.machines.Machine.ask_one.Goals as goal
 
 pub ask-did-requires : goal.ask-did-requires
@@ -52,3 +52,8 @@ returns-clause-counted g c =
     let n = c.ask-did.new.self in
     let traced = tried_on w c.args.class c.args.inter did old n is c.ask-did.ensures.tried c.ask-did.ensures.left in
     rw (← c.self.view_is, c.join_tried.ensures, c.make_room.ensures.same) (counted_by _ (world_of w) (Try c.args.class c.args.inter) (Tries did) _ (world_of (record w { classes = set w.classes c.args.class.0 n; trace = trace_with w.trace (grant_tried did) })) _ c.see.ensures traced c.send_tried-outcome.ensures refl)
+
+pub returns-in_err-make_room-clause-skipped : goal.returns-in_err-make_room-clause-skipped
+returns-in_err-make_room-clause-skipped g c =
+    let local = subst (λ (k : KeptWorld). ¬ IsReserved k.plan c.args.inter.0) c.self.view_is c.in_err-make_room.ensures.local in
+    if_err (CanBeSkipped (world_of c.args.self.now) (Try c.args.class c.args.inter)) c.from_residual.result (try_skipped c.args.self.now c.args.class c.args.inter c.requires.within c.requires.asked local)
