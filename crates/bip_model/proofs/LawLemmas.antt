@@ -11,7 +11,7 @@ use Rattle.bip_model.specs.declared.parts.Component.{Component}
 use Rattle.bip_model.specs.declared.parts.System.{System}
 use Rattle.bip_model.specs.declared.parts.Transition.{Transition}
 use Rattle.bip_model.specs.declared.states.LocalState.{LocalState}
-use Rattle.bip_model.specs.Laws.{AgreeOn, CanGo, Commute, EnabledWhereAllCanGo, EndsAfterItsLast, GoesOnByWhatMayRun, IsItsTransition, IsLocal, OneTransition, OthersStay, ParticipantsGo}
+use Rattle.bip_model.specs.Laws.{AgreeOn, CanGo, Commute, EnabledWhereAllCanGo, EndsAfterItsLast, GoesOnByWhatMayRun, IsItsTransition, IsLocal, OffersWhereItCanGo, OneTransition, OthersStay, ParticipantsGo}
 use Rattle.bip_model.specs.Components.{leaves, transition_for, offers_at}
 use Rattle.bip_model.specs.Expressions.{holds}
 use Rattle.bip_model.proofs.ListLemmas.{All-slice_get, below_later, find_first, found_at, position_first, position_none}
@@ -80,6 +80,10 @@ offered_where m s q valid own go =
     let its = go.2 in
     let local : IsLocalStateOf its.component go.0 = rw its.at at (own.components q.0.0 its.component its.declared) in
     rw (its.declared, its.at, transition_found m s q go.0 go.1 valid its, eq-eqb (length go.0.values) (length its.component.variables) local.values) go.3
+
+-- a participant's port is offered just where it can go
+pub offers_where : (m : System) → IsSystem m → OffersWhereItCanGo m
+offers_where m valid s q = (can_go m s q _ _ refl refl, offered_where m s q valid)
 
 pub enabled_where : (m : System) → IsSystem m → EnabledWhereAllCanGo m
 enabled_where m valid s a = (

@@ -17,8 +17,6 @@ use Rattle.bip_model.specs.declared.faults.BuildFault.TheVariants.{TwoTransition
 use Rattle.bip_model.specs.declared.numbering.LocId.{LocId}
 use Rattle.bip_model.specs.declared.numbering.PortId.{PortId}
 use Rattle.bip_model.specs.declared.parts.Component.{Component}
-use Rattle.bip_model.specs.declared.parts.TheConstants.{MOST_LOCATIONS, MOST_PORTS}
-use Rattle.bip_model.specs.declared.parts.TheConstants.{MOST_TRANSITIONS}
 use Rattle.bip_model.specs.declared.parts.Transition.{Transition}
 use Rattle.bip_model.specs.declared.scopes.VariableName.{VariableName}
 use Rattle.bip_model.specs.declared.states.LocalState.{LocalState}
@@ -49,14 +47,14 @@ var_line name value c =
 abbrev pub loc_line : List ℕ → Component → Result Component BuildFault
 loc_line name c =
     if is_taken name c then Err Twice
-    else if nat_le MOST_LOCATIONS (length c.locations) then Err TooMany
+    else if nat_le 64 (length c.locations) then Err TooMany
     else Ok (record c { locations = c.locations ++ name ∷ [] })
 
 -- `port NAME`
 abbrev pub port_line : List ℕ → Component → Result Component BuildFault
 port_line name c =
     if is_taken name c then Err Twice
-    else if nat_le MOST_PORTS (length c.ports) then Err TooMany
+    else if nat_le 16 (length c.ports) then Err TooMany
     else Ok (record c { ports = c.ports ++ name ∷ [] })
 
 -- whether a transition leaves a location with a port
@@ -68,7 +66,7 @@ leaves location port t = (t.source.0 == location.0) && (t.port.0 == port.0)
 abbrev pub with_transition : PortId → LocId → LocId → List (Comparison VariableName)
     → List (Assignment VariableName) → Component → Result Component BuildFault
 with_transition port source target guard update c =
-    if nat_le MOST_TRANSITIONS (length c.transitions)
+    if nat_le 256 (length c.transitions)
     || is_long_guard guard || are_long_assignments update then Err TooMany
     else if list_any (leaves source port) c.transitions then Err TwoTransitions
     else Ok (record c {

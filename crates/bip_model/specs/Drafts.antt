@@ -22,8 +22,6 @@ use Rattle.bip_model.specs.declared.parts.Component.{Component}
 use Rattle.bip_model.specs.declared.parts.Interaction.{Interaction}
 use Rattle.bip_model.specs.declared.parts.Pair.{Pair}
 use Rattle.bip_model.specs.declared.parts.System.{System}
-use Rattle.bip_model.specs.declared.parts.TheConstants.{MOST_COMPONENTS, MOST_INTERACTIONS}
-use Rattle.bip_model.specs.declared.parts.TheConstants.{MOST_PARTICIPANTS}
 use Rattle.bip_model.specs.declared.scopes.VariableName.{VariableName}
 
 abbrev pub no_system : System
@@ -48,7 +46,7 @@ begun_in d = unwrap_or d.begun no_component
 abbrev pub component_line : Draft → List ℕ → Result Draft BuildFault
 component_line d name =
     if is_known name d.system.component_names then Err Twice
-    else if nat_le MOST_COMPONENTS (length d.system.component_names) then Err TooMany
+    else if nat_le 64 (length d.system.component_names) then Err TooMany
     else Ok (record {
       system = record d.system { component_names = d.system.component_names ++ name ∷ [] };
       begun = Some no_component;
@@ -104,8 +102,8 @@ interaction_of m participants guard transfer =
 abbrev pub with_interaction : List ℕ → List Participant → List (Comparison VariableName)
     → List (Assignment VariableName) → System → Result System BuildFault
 with_interaction name participants guard transfer m =
-    if nat_le MOST_INTERACTIONS (length m.interactions)
-    || nat_lt MOST_PARTICIPANTS (length participants)
+    if nat_le 128 (length m.interactions)
+    || nat_lt 8 (length participants)
     || is_long_guard guard || are_long_assignments transfer then Err TooMany
     else Ok (record m {
       interaction_names = m.interaction_names ++ name ∷ [];

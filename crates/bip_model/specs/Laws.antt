@@ -20,7 +20,7 @@ use Rattle.bip_model.specs.Parties.{AreParties, AreWantsBy}
 use Rattle.bip_model.specs.declared.messages.Offer.{Offer}
 use Rattle.bip_model.specs.States.{IsStateOf, State, with_values}
 use Rattle.bip_model.specs.Steps.{IsEnabled, IsLookedAt, IsRun, MayRun, after, end_of, guard_of}
-use Rattle.bip_model.specs.Steps.{led, moves, participants_of, told, values_of}
+use Rattle.bip_model.specs.Steps.{led, moves, offered, participants_of, start_of, told, values_of}
 use Rattle.bip_model.specs.declared.drafts.Draft.{Draft}
 use Rattle.bip_model.specs.declared.expressions.Assignment.{Assignment}
 use Rattle.bip_model.specs.declared.expressions.Expr.{Expr}
@@ -32,7 +32,6 @@ use Rattle.bip_model.specs.declared.grants.Grant.{Grant}
 use Rattle.bip_model.specs.declared.wants.Role.TheVariants.{Moved}
 use Rattle.bip_model.specs.declared.wants.Want.{Want}
 use Rattle.bip_model.specs.declared.numbering.InterId.{InterId}
-use Rattle.bip_model.specs.declared.partitions.TheConstants.{MOST_CLASSES}
 use Rattle.bip_model.specs.declared.parts.Component.{Component}
 use Rattle.bip_model.specs.declared.parts.Pair.{Pair}
 use Rattle.bip_model.specs.declared.parts.System.{System}
@@ -120,6 +119,13 @@ CanGo m s q =
     (local : LocalState) × (t : Transition) × IsItsTransition m s q local t
     × IsTrue (holds t.guard (local.values ∷ []))
 
+-- where a participant's port is offered it can go, and in a state of the model it is offered where
+-- it can
+abbrev pub OffersWhereItCanGo : System → Type 0
+OffersWhereItCanGo m =
+    (s : State) (q : Participant)
+    → (offered m s q ≡ true → CanGo m s q) × (IsStateOf m s → CanGo m s q → offered m s q ≡ true)
+
 -- the model has an interaction, each of its participants can go, and its own guard holds
 pub record CanAllGo (m : System) (s : State) (a : ℕ) : Type 0 where
   pub declared : a < length m.interactions
@@ -154,6 +160,10 @@ abbrev pub OneTransition : System → Type 0
 OneTransition m =
     (s : State) (q : Participant) (local other : LocalState) (t u : Transition)
     → IsItsTransition m s q local t → IsItsTransition m s q other u → t ≡ u
+
+-- the first state is one of the model
+abbrev pub StartsInAState : System → Type 0
+StartsInAState m = IsStateOf m (start_of m)
 
 -- a joint step leads from states of the model to states of the model
 abbrev pub StatesLeadToStates : System → Type 0
@@ -309,7 +319,7 @@ pub record IsMisplaced {C : Type 0} (members : C → List InterId) (count : ℕ)
 -- a few named classes of known interactions are a partition, or an interaction is misplaced
 abbrev pub PartsOrMisplaces : Type 0
 PartsOrMisplaces =
-    (count : ℕ) (classes : List (List ℕ × List InterId)) → length classes ≤ MOST_CLASSES
+    (count : ℕ) (classes : List (List ℕ × List InterId)) → length classes ≤ 32
     → AreApart (map (λ c. c.0) classes) → All (λ c. 0 < length c.1) classes
     → All (λ c. All (λ (a : InterId). a.0 < count) c.1) classes
     → IsPartition (λ c. c.0) (λ c. c.1) count classes

@@ -8,7 +8,6 @@ use Rattle.bip_model.specs.Numbering.{by_number}
 use Rattle.bip_model.specs.declared.numbering.InterId.{InterId}
 use Rattle.bip_model.specs.declared.partitions.Partition.{Partition}
 use Rattle.bip_model.specs.declared.parts.System.{System}
-use Rattle.bip_model.specs.declared.partitions.TheConstants.{MOST_CLASSES}
 
 -- how often an interaction stands in a list
 abbrev pub times_in : List InterId → ℕ → ℕ
@@ -22,7 +21,7 @@ AreDifferent list = (a : ℕ) → times_in list a ≤ 1
 -- in exactly one of them, once
 pub record IsPartition {C : Type 0} (name : C → List ℕ) (members : C → List InterId)
     (count : ℕ) (classes : List C) : Type 0 where
-  pub few : length classes ≤ MOST_CLASSES
+  pub few : length classes ≤ 32
   pub apart : AreApart (map name classes)
   pub filled : All (λ c. 0 < length (members c)) classes
   pub known : All (λ c. All (λ (a : InterId). a.0 < count) (members c)) classes
@@ -35,7 +34,7 @@ numbers_in list = map (λ (a : InterId). a.0) list
 -- classes as they are kept: they part the interactions below a count, and stand with their members
 -- in order of number
 pub record IsClasses (kept : Partition) : Type 0 where
-  pub few : length kept.names ≤ MOST_CLASSES
+  pub few : length kept.names ≤ 32
   pub apart : AreApart kept.names
   pub paired : length kept.members ≡ length kept.names
   pub filled : All (λ (class : List InterId). 0 < length class) kept.members

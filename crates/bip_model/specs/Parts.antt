@@ -16,9 +16,6 @@ use Rattle.bip_model.specs.declared.parts.Component.{Component}
 use Rattle.bip_model.specs.declared.parts.Interaction.{Interaction}
 use Rattle.bip_model.specs.declared.parts.System.{System}
 use Rattle.bip_model.specs.declared.parts.Transition.{Transition}
-use Rattle.bip_model.specs.declared.parts.TheConstants.{MOST_COMPONENTS, MOST_LOCATIONS, MOST_PORTS}
-use Rattle.bip_model.specs.declared.parts.TheConstants.{MOST_TRANSITIONS, MOST_INTERACTIONS}
-use Rattle.bip_model.specs.declared.parts.TheConstants.{MOST_PARTICIPANTS}
 
 -- a participant of an interaction: a component and one of its ports
 abbrev pub Participant : Type 0
@@ -62,9 +59,9 @@ pub record IsTransitionOf (component : Component) (t : Transition) : Type 0 wher
 pub record IsComponentSoFar (component : Component) : Type 0 where
   pub few_variables : length component.variables ≤ 8
   pub started : length component.start ≡ length component.variables
-  pub few_locations : length component.locations ≤ MOST_LOCATIONS
-  pub few_ports : length component.ports ≤ MOST_PORTS
-  pub few_transitions : length component.transitions ≤ MOST_TRANSITIONS
+  pub few_locations : length component.locations ≤ 64
+  pub few_ports : length component.ports ≤ 16
+  pub few_transitions : length component.transitions ≤ 256
   pub apart : AreApart (component.variables ++ component.locations ++ component.ports)
   pub transitions : All (IsTransitionOf component) component.transitions
   pub one_each : AllPairs (λ t u. same_start t u ≡ false) component.transitions
@@ -91,7 +88,7 @@ counts_of components participants = map (count_of components) participants
 -- transfer over the participants' variables, no two assignments of which have one target
 pub record IsInteraction (components : List Component) (interaction : Interaction) : Type 0 where
   pub some : 0 < length interaction.participants
-  pub few : length interaction.participants ≤ MOST_PARTICIPANTS
+  pub few : length interaction.participants ≤ 8
   pub rising : IsStrictlyIncreasing (components_in interaction.participants)
   pub ports : All (IsPortIn components) interaction.participants
   pub guard : IsGuardOver (counts_of components interaction.participants) interaction.guard
@@ -101,11 +98,11 @@ pub record IsInteraction (components : List Component) (interaction : Interactio
 
 -- what a model may declare, and have declared so far
 pub record IsSystemSoFar (m : System) : Type 0 where
-  pub few_components : length m.component_names ≤ MOST_COMPONENTS
+  pub few_components : length m.component_names ≤ 64
   pub enough_names : length m.components ≤ length m.component_names
   pub components_apart : AreApart m.component_names
   pub components : All IsComponent m.components
-  pub few_interactions : length m.interactions ≤ MOST_INTERACTIONS
+  pub few_interactions : length m.interactions ≤ 128
   pub interactions_named : length m.interaction_names ≡ length m.interactions
   pub interactions_apart : AreApart m.interaction_names
   pub interactions : All (IsInteraction m.components) m.interactions

@@ -18,7 +18,6 @@ use Rattle.bip_model.specs.declared.expressions.Variable.{Variable}
 use Rattle.bip_model.specs.declared.faults.BuildFault.{BuildFault}
 use Rattle.bip_model.specs.declared.faults.BuildFault.TheVariants.{Unknown, Twice}
 use Rattle.bip_model.specs.declared.parts.System.{System}
-use Rattle.bip_model.specs.declared.parts.TheConstants.{MOST_COMPONENTS}
 use Rattle.bip_model.specs.declared.scopes.Scope.{Scope}
 use Rattle.bip_model.specs.declared.scopes.Scope.TheVariants.{Own, Shared}
 use Rattle.bip_model.specs.declared.scopes.VariableName.{VariableName}
@@ -56,7 +55,7 @@ variable_in (Shared m participants) v = shared m.now participants.now v
 abbrev pub IsScope : Scope → Type 0
 IsScope (Own names) = length names.now ≤ 8
 IsScope (Shared m participants) =
-    IsSystemSoFar m.now × (length participants.now ≤ MOST_COMPONENTS)
+    IsSystemSoFar m.now × (length participants.now ≤ 64)
 
 -- the same of names that are known
 abbrev pub variable_of : (VariableName → Option Variable) → VariableName → Variable

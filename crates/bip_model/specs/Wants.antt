@@ -5,7 +5,6 @@ use Rattle.std.specs.List.{list_any}
 use Rattle.std.specs.List.Sorted.{IsStrictlyIncreasing}
 use Rattle.bip_model.specs.declared.wants.Role.{Role}
 use Rattle.bip_model.specs.declared.wants.Role.TheVariants.{Moved, Seen}
-use Rattle.bip_model.specs.declared.wants.TheConstants.{MOST_WANTS}
 use Rattle.bip_model.specs.declared.wants.Want.{Want}
 
 abbrev pub is_moved : Role → Bool
@@ -18,7 +17,7 @@ components_of wants = map (λ w. w.comp.0) wants
 
 -- lists that can be the wants of one grant
 pub record IsWants (wants : List Want) : Type 0 where
-  pub few : length wants ≤ MOST_WANTS
+  pub few : length wants ≤ 32
   pub rising : IsStrictlyIncreasing (components_of wants)
   pub numbered : All (λ (w : Want). 1 ≤ w.number) wants
   pub moving : IsTrue (list_any (λ (w : Want). is_moved w.role) wants)

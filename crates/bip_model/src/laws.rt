@@ -7,6 +7,7 @@ ghost use Rattle.bip_model.specs.Components.{loc_line, port_line, trans_line, va
 ghost use Rattle.bip_model.specs.Laws.{KeepsDraft, Commute, EnabledWhereAllCanGo, EndsAfterItsLast};
 ghost use Rattle.bip_model.specs.Laws.{GoesOnByWhatMayRun, IsLocal, OneTransition, OthersStay};
 ghost use Rattle.bip_model.specs.Laws.{ParticipantsGo, StatesLeadToStates, HistoryGoesOn};
+ghost use Rattle.bip_model.specs.Laws.{OffersWhereItCanGo, StartsInAState};
 ghost use Rattle.bip_model.specs.Laws.{IsInOrder, MovedIsWanted, NamesInAnyOrder};
 ghost use Rattle.bip_model.specs.Laws.{SumsAreIntegers, TransfersAtOnce, TransfersInAnyOrder};
 ghost use Rattle.bip_model.specs.Laws.{AboveGoesOn, MayRunIsLocal, OneWantsEach};
@@ -39,11 +40,13 @@ pub fn expression_laws()
 
 /// What the joint step means (docs/DEFINITIONS.md, "The joint step").
 pub fn step_laws()
+    ensures offers { (m : System) → IsSystem m → OffersWhereItCanGo m }
     ensures enabled { (m : System) → IsSystem m → EnabledWhereAllCanGo m }
     ensures stay { (m : System) → OthersStay m }
     ensures go { (m : System) → IsSystem m → ParticipantsGo m }
     ensures led { (m : System) → IsSystem m → ParticipantsAreLed m }
     ensures one { (m : System) → IsSystem m → OneTransition m }
+    ensures starts { (m : System) → IsSystem m → StartsInAState m }
     ensures states { (m : System) → IsSystem m → StatesLeadToStates m }
     ensures local { (m : System) → IsLocal m }
     ensures commute { (m : System) → Commute m }

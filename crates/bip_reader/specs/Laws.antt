@@ -10,6 +10,7 @@ use Rattle.bip_reader.specs.declared.faults.ReadFault.{ReadFault}
 use Rattle.bip_reader.specs.declared.faults.Why.TheVariants.{Memory}
 use Rattle.bip_reader.specs.Texts.{HasFault, IsReached, Means, reading_of}
 use Rattle.bip_reader.specs.Words.{name_of}
+use Rattle.bip_reader.specs.Writing.{CanBeSpelled, text_of_model}
 
 -- a text has at most one meaning
 abbrev pub OneMeaning : Type 0
@@ -56,7 +57,7 @@ NothingPast =
     (a b : List ℕ) (fault : ReadFault) → reading_of a ≡ Err fault
     → take fault.line (lines a) ≡ take fault.line (lines b) → HasFault b fault
 
--- texts that say the same words in as many lines mean the same
+-- texts that say the same words, line by line, mean the same
 abbrev pub SameMeaning : Type 0
 SameMeaning =
     (a b : List ℕ) → said_in a ≡ said_in b
@@ -69,3 +70,9 @@ NoLastLineFeed = (text : List ℕ) → said_in (text ++ line_feed ∷ []) ≡ sa
 -- a word is taken as a name exactly where it is one
 abbrev pub NamesAreTaken : Type 0
 NamesAreTaken = (word : List ℕ) → IsSome (name_of word) ↔ IsName word
+
+-- the canonical text of a valid model, whose names are names, means that model with its classes
+abbrev pub CanonicalMeans : Type 0
+CanonicalMeans =
+    (m : System) (classes : Partition) → IsSystem m → IsClasses classes → AreClassesOf m classes
+    → CanBeSpelled m classes → Means (text_of_model m classes) m classes

@@ -13,7 +13,6 @@ use Rattle.bip_model.specs.Texts.{words_said}
 use Rattle.bip_model.specs.declared.drafts.Draft.{Draft}
 use Rattle.bip_model.specs.declared.faults.BuildFault.{BuildFault}
 use Rattle.bip_model.specs.declared.numbering.InterId.{InterId}
-use Rattle.bip_model.specs.declared.partitions.TheConstants.{MOST_CLASSES}
 use Rattle.bip_reader.specs.declared.faults.ReadFault.{ReadFault}
 use Rattle.bip_reader.specs.declared.faults.Why.{Why}
 use Rattle.bip_reader.specs.declared.faults.Why.TheVariants.{Syntax, Unknown, Twice, TooMany}
@@ -56,7 +55,7 @@ interactions_named r names = ok_or (each_of (interaction_named (draft_of r)) nam
 -- the class joins those of a reading
 abbrev pub with_class : List ℕ → List InterId → Reading → Result Reading Why
 with_class name numbers r =
-    if nat_le MOST_CLASSES (length r.classes) then Err TooMany
+    if nat_le 32 (length r.classes) then Err TooMany
     else Ok (record r { classes = r.classes ++ (name, numbers) ∷ [] })
 
 -- `class NAME INTER INTER ..`
@@ -142,7 +141,7 @@ reading_after_lines n (line ∷ rest) r =
     at_line n (reading_after line r) >>= reading_after_lines (n + 1) rest
 
 -- a fault that want of memory may hide at its line: none of syntax, so the line has its form and
--- its place; and it lists words, some of which may be stored before all are looked up
+-- its place; and it lists words that may be stored before all are looked up
 pub record MayBeHidden (line : List ℕ) (why : Why) : Type 0 where
   pub meaning : why ≢ Syntax
   pub listing : IsTrue (option_map_or lists_words (words_said line) false)

@@ -8,7 +8,6 @@ use Rattle.bip_model.specs.declared.expressions.Comparison.{Comparison}
 use Rattle.bip_model.specs.declared.expressions.Variable.{Variable}
 use Rattle.bip_model.specs.declared.faults.BuildFault.{BuildFault}
 use Rattle.bip_model.specs.declared.faults.BuildFault.TheVariants.{TooMany, Unknown}
-use Rattle.bip_model.specs.declared.parts.TheConstants.{MOST_COMPONENTS}
 use Rattle.bip_model.specs.declared.scopes.VariableName.{VariableName}
 use Rattle.bip_reader.specs.declared.scopes.Scope.{Scope}
 use Rattle.bip_reader.specs.declared.scopes.Scope.TheVariants.{Own, Shared}
@@ -28,4 +27,4 @@ fault_of_names find guard transfer =
 -- names can be looked up: participants are no more than components
 abbrev pub IsLookUp : Scope → Type 0
 IsLookUp (Own builder) = ⊤
-IsLookUp (Shared builder participants) = length participants.now ≤ MOST_COMPONENTS
+IsLookUp (Shared builder participants) = length participants.now ≤ 64

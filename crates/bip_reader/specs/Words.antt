@@ -8,7 +8,6 @@ use Rattle.bip_reader.specs.declared.words.And.{And}
 use Rattle.bip_reader.specs.declared.words.Do.{Do}
 use Rattle.bip_reader.specs.declared.words.Semicolon.{Semicolon}
 use Rattle.bip_reader.specs.declared.words.When.{When}
-use Rattle.bip_reader.specs.declared.words.TheConstants.{PORT_MARK}
 
 -- the words before the first one that is something, what that is, and the words behind it
 abbrev pub cut_at : {M : Type 0} → (List ℕ → Option M) → List (List ℕ)
@@ -26,9 +25,13 @@ name_of word = if is_name word then Some word else None
 abbrev pub two_names : List ℕ × List ℕ → Option (List ℕ × List ℕ)
 two_names pair = option_zip (name_of pair.0) (name_of pair.1)
 
+-- `.`
+abbrev pub dot : ℕ
+dot = 46
+
 -- `C.p`, a component and one of its ports or variables
 abbrev pub participant_of : List ℕ → Option (List ℕ × List ℕ)
-participant_of word = option_and_then two_names (pair_of PORT_MARK word)
+participant_of word = option_and_then two_names (pair_of dot word)
 
 -- `when`
 abbrev pub when_of : List ℕ → Option When

@@ -25,7 +25,7 @@ use Rattle.bip_model.specs.declared.parts.Interaction.{Interaction}
 use Rattle.bip_model.specs.declared.parts.Pair.{Pair}
 use Rattle.bip_model.specs.declared.parts.System.{System}
 use Rattle.bip_model.specs.declared.parts.Transition.{Transition}
-use Rattle.bip_reader.specs.declared.words.TheConstants.{PORT_MARK}
+use Rattle.bip_reader.specs.Words.{dot}
 use Rattle.bip_reader.specs.declared.writing.Speller.{Speller}
 use Rattle.bip_reader.specs.declared.writing.Speller.TheVariants.{Own, Shared}
 
@@ -39,7 +39,7 @@ component_in m c = slice_index_or m.components c no_component
 
 -- `C.p`
 abbrev pub pair_word : List ℕ → List ℕ → List ℕ
-pair_word component own = component ++ PORT_MARK ∷ own
+pair_word component own = component ++ dot ∷ own
 
 abbrev pub participant_word : System → Participant → List ℕ
 participant_word m q =

@@ -1,6 +1,7 @@
 //! The laws above the definitions: what a reviewer reads to know what they mean. The call does
 //! nothing, and has the laws for its contract.
-ghost use Rattle.bip_reader.specs.Laws.{FirstFault, MeaningOrFault, MeansValid, NamesAreTaken};
+ghost use Rattle.bip_reader.specs.Laws.{CanonicalMeans, FirstFault, MeaningOrFault, MeansValid};
+ghost use Rattle.bip_reader.specs.Laws.{NamesAreTaken};
 ghost use Rattle.bip_reader.specs.Laws.{NoFault, NoLastLineFeed, NothingPast, NoWantOfMemory};
 ghost use Rattle.bip_reader.specs.Laws.{OneFault, OneMeaning, SameMeaning};
 
@@ -8,7 +9,8 @@ ghost use Rattle.bip_reader.specs.Laws.{OneFault, OneMeaning, SameMeaning};
 /// partition of its interactions. Its fault is never want of memory, it is the first, and what
 /// stands behind a line at fault counts for nothing. Texts that differ only in skipped lines, in
 /// blanks between words or in a last line feed mean the same model and classes. A word is taken as
-/// a name exactly where it is one (docs/DEFINITIONS.md, "Model texts").
+/// a name exactly where it is one. The canonical text of a model means it (docs/DEFINITIONS.md,
+/// "Model texts").
 #[tactic(auto, unfolding(crate::specs::Words::name_of))]
 pub fn meaning_laws()
     ensures meaning { OneMeaning }
@@ -22,4 +24,5 @@ pub fn meaning_laws()
     ensures names { NamesAreTaken }
     ensures same { SameMeaning }
     ensures last { NoLastLineFeed }
+    ensures canonical { CanonicalMeans }
 {}

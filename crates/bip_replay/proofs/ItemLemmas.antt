@@ -2,7 +2,7 @@
 use Rattle.std.proofs.Common.{◌≡◌, ℕ, ◌+◌, ◌≤◌, ◌<◌, List, [], ◌∷◌, ◌++◌, length, Option, None, Some, Result, Ok, Err, refl, sym, ap, ◌∙◌, subst, arith, append_assoc}
 use Rattle.std.specs.Prelude.{All, IsOk, take}
 use Rattle.std.specs.List.{flat_map}
-use Rattle.std.proofs.lemmas.List.Elements.{All-head, All-tail}
+use Rattle.std.proofs.lemmas.List.Elements.{All-cons, All-head, All-nil, All-tail}
 use Rattle.std.proofs.Math.Seq.{take-append_seam}
 use Rattle.std.proofs.lemmas.List.{append-nil, length-append}
 use Rattle.bip_model.specs.Texts.{line_feed, lines, numbered_lines}
@@ -105,3 +105,51 @@ module _ {X : Type 0} (on : List ℕ → Result (Option X) LineFault) where
       let text = flat_map (λ y. line y ++ line_feed ∷ []) xs in
       ap (λ (bytes : List ℕ). items_from on n (lines bytes)) (append_assoc (line x) (line_feed ∷ []) text)
       ∙ rw (lines_front (line x) text first.plain, first.reads, items_from-written line (n + 1) xs (All-tail (ReadsBack on line) x xs all)) refl
+
+  -- lines that are numbered from a number on, the first of which at fault has this number
+  pub record HasFirstFault (n : ℕ) (text : List (List ℕ)) (number : ℕ) (fault : LineFault) : Type 0 where
+    pub before : List (List ℕ)
+    pub line : List ℕ
+    pub rest : List (List ℕ)
+    pub split : text ≡ before ++ line ∷ rest
+    pub counted : number ≡ length before + n
+    pub clear : All (λ (l : List ℕ). IsOk (on l)) before
+    pub at : on line ≡ Err fault
+
+  -- a line without a fault before them
+  behind_one : (n : ℕ) (line : List ℕ) (rest : List (List ℕ)) (number : ℕ) (fault : LineFault) → IsOk (on line) → HasFirstFault (n + 1) rest number fault → HasFirstFault n (line ∷ rest) number fault
+  behind_one n line rest number fault clear has = record {
+    before = line ∷ has.before;
+    line = has.line;
+    rest = has.rest;
+    split = ap (λ (ls : List (List ℕ)). line ∷ ls) has.split;
+    counted = omega (arith, has.counted);
+    clear = All-cons (λ (l : List ℕ). IsOk (on l)) line has.before clear has.clear;
+    at = has.at;
+  }
+
+  told_later : (n : ℕ) (x : X) (r : Result (List X) (ℕ × LineFault)) (e : ℕ × LineFault) → before_rest n (Ok (Some x)) r ≡ Err e → r ≡ Err e
+  told_later n x (Ok xs) e is = cc
+  told_later n x (Err f) e is = is
+
+  one_at_fault : (n : ℕ) (line : List ℕ) (rest : List (List ℕ)) (number : ℕ) (fault : LineFault) (o : Result (Option X) LineFault) → on line ≡ o
+      → (items_from on (n + 1) rest ≡ Err (number, fault) → HasFirstFault (n + 1) rest number fault) → before_rest n o (items_from on (n + 1) rest) ≡ Err (number, fault) → HasFirstFault n (line ∷ rest) number fault
+  one_at_fault n line rest number fault (Err f) says more is =
+      let same : (n, f) ≡ (number, fault) = cc in
+      record {
+        before = [];
+        line = line;
+        rest = rest;
+        split = refl;
+        counted = omega (arith, ap (λ (p : ℕ × LineFault). p.0) same);
+        clear = All-nil (λ (l : List ℕ). IsOk (on l));
+        at = says ∙ ap (λ (p : ℕ × LineFault). Err p.1) same;
+      }
+  one_at_fault n line rest number fault (Ok None) says more is = behind_one n line rest number fault (subst IsOk (sym says) refl) (more is)
+  one_at_fault n line rest number fault (Ok (Some x)) says more is =
+      behind_one n line rest number fault (subst IsOk (sym says) refl) (more (told_later n x (items_from on (n + 1) rest) (number, fault) is))
+
+  -- the first line at fault, and those before it, which have none
+  pub first_at_fault : (n : ℕ) (text : List (List ℕ)) (number : ℕ) (fault : LineFault) → items_from on n text ≡ Err (number, fault) → HasFirstFault n text number fault
+  first_at_fault n [] number fault is = cc
+  first_at_fault n (line ∷ rest) number fault is = one_at_fault n line rest number fault (on line) refl (first_at_fault (n + 1) rest number fault) is

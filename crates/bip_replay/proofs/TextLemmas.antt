@@ -8,11 +8,11 @@ use Rattle.std.proofs.lemmas.Option.{get_or_from_slice_get, slice_get-get_or}
 use Rattle.bip_model.specs.Texts.{lines, said_in, says_something, words_said, is_plain}
 use Rattle.bip_model.specs.declared.grants.Grant.{Grant}
 use Rattle.bip_model.specs.declared.parts.System.{System}
-use Rattle.bip_replay.specs.Laws.{AreOfModel, NamesItsInteraction, SameGrants, Spells}
+use Rattle.bip_replay.specs.Laws.{AreOfModel, CanBeWritten, NamesItsInteraction, SameGrants, Spells, TellsFirstLine, WrittenReadsBack}
 use Rattle.bip_replay.specs.Lines.{grant_on, looked_up, said}
 use Rattle.bip_replay.specs.Items.{ReadsBack, one_more}
 use Rattle.bip_replay.specs.Traces.{grants_from, grants_of}
-use Rattle.bip_replay.proofs.ItemLemmas.{first_read}
+use Rattle.bip_replay.proofs.ItemLemmas.{first_at_fault, first_read, items_from-written}
 use Rattle.bip_replay.specs.Writing.{IsGrantOf, IsSpelled, bare_line, behind_see, has_role, want_word, want_words, words_behind}
 use Rattle.bip_replay.specs.declared.faults.LineFault.{LineFault}
 use Rattle.bip_replay.specs.declared.faults.LineFault.TheVariants.{Syntax}
@@ -154,3 +154,15 @@ line-reads_back m g system grant name wants spelled =
     with_role : (role : Role) → AllZip (Spells m role) (want_words m role g.wants) (filter (has_role role) g.wants)
     with_role role =
         words-spell m role (filter (has_role role) g.wants) (All-filter (has_role role) (IsSpelled m) g.wants spelled) (All-filter (has_role role) HasNumber g.wants wants.numbered) (filter_passes (has_role role) g.wants)
+
+-- the text of grants is these grants
+pub written_reads_back : WrittenReadsBack
+written_reads_back m gs system all =
+    items_from-written (grant_on m) (bare_line m) 1 gs
+    (All-weaker (CanBeWritten m) (ReadsBack (grant_on m) (bare_line m)) (λ g can. line-reads_back m g system can.of_model can.interaction can.wants can.components) gs all)
+
+-- what is told of a text that isn't grants is its first line at fault
+pub tells_first_line : TellsFirstLine
+tells_first_line m text number fault is =
+    let first = first_at_fault (grant_on m) 1 (lines text) number fault is in
+    record { before = first.before; line = first.line; rest = first.rest; split = first.split; counted = first.counted; clear = first.clear; at = first.at }

@@ -1,6 +1,6 @@
 -- What runs, faults and texts of grants mean, in the subject's own words.
 use Rattle.std.specs.Prelude.{◌≡◌, ◌↔◌, ◌⊎◌, ℕ, ◌+◌, ◌<◌, ◌≤◌, nat_lt, List, [], ◌∷◌, ◌++◌, length}
-use Rattle.std.specs.Prelude.{filter, Ok, Some, All, IsTrue, codes, slice_get, slice_index_or}
+use Rattle.std.specs.Prelude.{filter, Err, IsOk, Ok, Some, All, IsTrue, codes, slice_get, slice_index_or}
 use Rattle.std.specs.List.{AllZip}
 use Rattle.std.specs.List.Sorted.{IsPermutation, IsStrictlyIncreasing}
 use Rattle.bip_model.specs.Grants.{IsHistory, MovesOnceEach}
@@ -9,11 +9,10 @@ use Rattle.bip_model.specs.Steps.{IsRun, after, start_of}
 use Rattle.bip_model.specs.Parts.{IsSystem}
 use Rattle.bip_model.specs.Naming.{IsName, name_in}
 use Rattle.bip_model.specs.Texts.{is_plain, lines, number_of, said_in, words, words_said}
-use Rattle.bip_model.specs.Wants.{components_of, moved_in}
+use Rattle.bip_model.specs.Wants.{IsWants, components_of, moved_in}
 use Rattle.bip_model.specs.declared.grants.Grant.{Grant}
 use Rattle.bip_model.specs.declared.wants.Role.TheVariants.{Moved, Seen}
 use Rattle.bip_model.specs.declared.wants.Role.{Role}
-use Rattle.bip_model.specs.declared.wants.TheConstants.{MOST_WANTS}
 use Rattle.bip_model.specs.declared.wants.Want.{Want}
 use Rattle.bip_model.specs.declared.parts.System.{System}
 use Rattle.bip_replay.specs.Faults.{IsFaultOf}
@@ -21,7 +20,8 @@ use Rattle.bip_replay.specs.Lines.{colon, grant_on}
 use Rattle.bip_replay.specs.Replays.{IsFirstFault, IsRunOf}
 use Rattle.bip_replay.specs.Runs.{IsModelRun, IsNext, interactions_of, state_after, used_after}
 use Rattle.bip_replay.specs.Traces.{grants_of}
-use Rattle.bip_replay.specs.Writing.{IsGrantOf, behind_see}
+use Rattle.bip_replay.specs.Writing.{IsGrantOf, IsSpelled, behind_see, text_of}
+use Rattle.bip_replay.specs.declared.faults.LineFault.{LineFault}
 use Rattle.bip_replay.specs.declared.faults.ReplayFault.{ReplayFault}
 use Rattle.bip_replay.specs.declared.faults.StepFault.{StepFault}
 
@@ -124,7 +124,7 @@ IsRunOrFaulty =
     → ((count : ℕ) × IsRunOf m base text count)
     ⊎ ((number : ℕ) × (fault : ReplayFault) × IsFirstFault m base text number fault)
 
--- texts that say the same words in as many lines are the same grants
+-- texts that say the same words, line by line, are the same grants
 abbrev pub SameGrants : Type 0
 SameGrants =
     (m : System) (a b : List ℕ) → said_in a ≡ said_in b
@@ -160,7 +160,7 @@ pub record IsGrantLine (m : System) (line : List ℕ) (g : Grant) : Type 0 where
   pub moves : AllZip (Spells m Moved) moved_words moved
   pub sees : AllZip (Spells m Seen) seen_words seen
   pub some : 0 < length moved
-  pub few : length g.wants ≤ MOST_WANTS
+  pub few : length g.wants ≤ 32
   pub wants : IsPermutation (moved ++ seen) g.wants
   pub rising : IsStrictlyIncreasing (components_of g.wants)
 
@@ -183,6 +183,37 @@ abbrev pub GrantsLineByLine : Type 0
 GrantsLineByLine =
     (m : System) (text : List ℕ) (gs : List Grant) → IsSystem m
     → (grants_of m text ≡ Ok gs) ↔ AreGrantLines m (lines text) gs
+
+-- lines the first of which at fault, with a number counted from 1, has a fault: those before it have
+-- none
+pub record IsFirstLineAtFault (m : System) (text : List (List ℕ)) (number : ℕ) (fault : LineFault)
+    : Type 0 where
+  pub before : List (List ℕ)
+  pub line : List ℕ
+  pub rest : List (List ℕ)
+  pub split : text ≡ before ++ line ∷ rest
+  pub counted : number ≡ length before + 1
+  pub clear : All (λ (l : List ℕ). IsOk (grant_on m l)) before
+  pub at : grant_on m line ≡ Err fault
+
+-- what is told of a text that isn't grants is its first line at fault, with that line's fault
+abbrev pub TellsFirstLine : Type 0
+TellsFirstLine =
+    (m : System) (text : List ℕ) (number : ℕ) (fault : LineFault)
+    → grants_of m text ≡ Err (number, fault) → IsFirstLineAtFault m (lines text) number fault
+
+-- a grant of a model that can be written: what it names has a name, and its wants are in order
+pub record CanBeWritten (m : System) (g : Grant) : Type 0 where
+  pub of_model : IsGrantOf m g
+  pub interaction : IsName (name_in m.interaction_names g.inter.0)
+  pub wants : IsWants g.wants
+  pub components : All (IsSpelled m) g.wants
+
+-- the text of such grants is these grants
+abbrev pub WrittenReadsBack : Type 0
+WrittenReadsBack =
+    (m : System) (gs : List Grant) → IsSystem m → All (CanBeWritten m) gs
+    → grants_of m (text_of m gs) ≡ Ok gs
 
 -- the second word of a grant's line is the name of its interaction
 abbrev pub NamesItsInteraction : Type 0

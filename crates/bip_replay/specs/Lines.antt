@@ -9,7 +9,6 @@ use Rattle.bip_model.specs.Numbering.{by_number}
 use Rattle.bip_model.specs.Texts.{number_of, pair_of, words_said}
 use Rattle.bip_model.specs.Wants.{is_moved}
 use Rattle.bip_model.specs.declared.grants.Grant.{Grant}
-use Rattle.bip_model.specs.declared.wants.TheConstants.{MOST_WANTS}
 use Rattle.bip_model.specs.declared.wants.Role.TheVariants.{Moved, Seen}
 use Rattle.bip_model.specs.declared.wants.Role.{Role}
 use Rattle.bip_model.specs.declared.wants.Want.{Want}
@@ -45,7 +44,7 @@ is_named name wants = list_any (λ (w : NamedWant). same_text name w.name) wants
 -- a want after others: no component stands twice, and they aren't too many
 abbrev pub with_want : List NamedWant → NamedWant → Option (List NamedWant)
 with_want before w =
-    if is_named w.name before || nat_le MOST_WANTS (length before) then None
+    if is_named w.name before || nat_le 32 (length before) then None
     else Some (before ++ w ∷ [])
 
 -- what stands behind the interaction, after the wants of the words before: `C:N C:N ..`, one at

@@ -8,7 +8,7 @@ ghost use Rattle.bip_replay.specs.Laws.{IsRunOrFaulty};
 ghost use Rattle.bip_replay.specs.Laws.{MovesAreNumbered, NamesItsInteraction, NumbersCountMoves};
 ghost use Rattle.bip_replay.specs.Laws.{ReadsGrantLines, RunsAreHistories, RunsMoveOnceEach};
 ghost use Rattle.bip_replay.specs.Laws.{RunsStepByStep, SameGrants, StatesFromTheBack};
-ghost use Rattle.bip_replay.specs.Laws.{StepsAreARun};
+ghost use Rattle.bip_replay.specs.Laws.{StepsAreARun, TellsFirstLine, WrittenReadsBack};
 
 use bip_model::{history_laws, step_laws};
 
@@ -52,11 +52,15 @@ pub fn fault_laws()
 /// in any order. A text is the grants of its lines, and only lines without words are passed over.
 /// Texts that say the same words, line by line, are the same grants, whatever blanks
 /// and skipped lines are between them; the second word of a grant's line is the name of its
-/// interaction; and what is read are grants of the model (docs/DEFINITIONS.md, "Traces").
+/// interaction; and what is read are grants of the model. The text of grants is these grants; and
+/// what is told of a text that isn't grants is its first line at fault (docs/DEFINITIONS.md,
+/// "Traces").
 pub fn trace_laws()
     ensures lines { ReadsGrantLines }
     ensures line_by_line { GrantsLineByLine }
     ensures same { SameGrants }
     ensures named { NamesItsInteraction }
     ensures of_model { AreOfModel }
+    ensures written { WrittenReadsBack }
+    ensures first { TellsFirstLine }
 {}

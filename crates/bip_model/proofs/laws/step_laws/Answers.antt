@@ -1,9 +1,13 @@
-use Rattle.bip_model.proofs.LawLemmas.{after-member, commute, enabled_where, ends_after, goes_on, is_local, one_transition, others_stay, participants_go}
-use Rattle.bip_model.proofs.StateLemmas.{states_lead_to_states}
+use Rattle.std.proofs.Common.{refl}
+use Rattle.bip_model.specs.Steps.{start_of}
+use Rattle.bip_model.proofs.LawLemmas.{after-member, commute, enabled_where, ends_after, goes_on, is_local, offers_where, one_transition, others_stay, participants_go}
+use Rattle.bip_model.proofs.StateLemmas.{start_is_state, states_lead_to_states}
 use Rattle.bip_model.proofs.laws.step_laws.Goals as goal
 
 pub returns : goal.returns
 returns c = record {
+  offers = offers_where;
+  starts = λ m valid. start_is_state m (start_of m) valid refl;
   enabled = enabled_where;
   stay = others_stay;
   go = participants_go;

@@ -1,3 +1,4 @@
+use Rattle.bip_reader.proofs.CanonicalLemmas.{canonical}
 use Rattle.bip_reader.proofs.DecisionLemmas.{meaning_or_fault}
 use Rattle.bip_reader.proofs.ValidLemmas.{means_valid, no_want_of_memory}
 use Rattle.bip_reader.proofs.FirstLemmas.{first_fault, nothing_past}
@@ -24,3 +25,6 @@ returns-clause-some c = meaning_or_fault
 
 pub returns-clause-valid : goal.returns-clause-valid
 returns-clause-valid c = means_valid
+
+pub returns-clause-canonical : goal.returns-clause-canonical
+returns-clause-canonical c = λ m classes valid are of_model spelled. canonical m classes valid are of_model spelled
