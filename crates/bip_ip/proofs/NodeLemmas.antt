@@ -190,14 +190,15 @@ pub learned_node : (n : KeptNode) (o : KeptOffers) (wants : List Want) → obser
 learned_node n o wants is = ap (λ (v : Observed). node_by v (node_of n).pending n.next) is
 
 -- what a refusal leaves
-pub refused_left : (n k : KeptNode) (a c used : ℕ) (o : KeptOffers) → node_of k ≡ without a (node_of n) → k.offers ≡ n.offers → o.plan ≡ k.offers.plan → o.class ≡ k.offers.class
+pub refused_left : (n k : KeptNode) (a c used : ℕ) (o : KeptOffers) → node_of k ≡ without a (node_of n) → k.offers ≡ n.offers → o.plan ≡ k.offers.plan → o.class ≡ k.offers.class → o.held ≡ k.offers.held
     → (ClassTouches k.offers.plan k.offers.class c → observed o ≡ with_known c used (observed k.offers)) → ((¬ ClassTouches k.offers.plan k.offers.class c) → o ≡ k.offers)
     → IsLeftByRefusal a c used (node_of n) (node_of (record k { offers = o }))
-refused_left n k a c used o is same plan class touched others = record {
+refused_left n k a c used o is same plan class held touched others = record {
   pending = ap (λ (v : ClassNode). v.pending) is;
   next = ap (λ (v : ClassNode). v.next) is;
   plan = plan ∙ ap (λ (x : KeptOffers). x.plan) same;
   class = class ∙ ap (λ (x : KeptOffers). x.class) same;
+  held = ap (λ (list : List (Option Offer)). λ (k : ℕ). get_or list k None) (held ∙ ap (λ (x : KeptOffers). x.held) same);
   touched = λ here. touched (subst (λ (x : KeptOffers). ClassTouches x.plan x.class c) (sym same) here) ∙ ap (λ (x : KeptOffers). with_known c used (observed x)) same;
   others = λ out. ap observed (others (λ there. out (subst (λ (x : KeptOffers). ClassTouches x.plan x.class c) same there)) ∙ same);
 }

@@ -174,6 +174,7 @@ pub record IsLeftByRefusal (a c used : ℕ) (v later : ClassNode) : Type 0 where
   pub next : later.next ≡ v.next
   pub plan : later.offers.plan ≡ v.offers.plan
   pub class : later.offers.class ≡ v.offers.class
+  pub held : later.offers.held ≡ v.offers.held
   pub touched : ClassTouches v.offers.plan v.offers.class c
       → later.offers ≡ with_known c used v.offers
   pub others : (¬ ClassTouches v.offers.plan v.offers.class c) → later.offers ≡ v.offers

@@ -10,7 +10,7 @@ use Rattle.bip_model.specs.Expressions.{is_same}
 use Rattle.bip_model.specs.Expressions.{holds, term_value, transferred, updated, value_in}
 use Rattle.bip_model.specs.Expressions.{value_of}
 use Rattle.bip_model.specs.Grants.{IsHistory, used_by}
-use Rattle.bip_model.specs.Wants.{IsWants, moved_in}
+use Rattle.bip_model.specs.Wants.{components_of, moved_in}
 use Rattle.bip_model.specs.Naming.{AreApart}
 use Rattle.bip_model.specs.Partitions.{IsPartition, numbers_in, times_in}
 use Rattle.bip_model.specs.Parts.{Participant, components_in}
@@ -278,16 +278,21 @@ abbrev pub MovesBy : List Want → ℕ → ℕ → Type 0
 MovesBy wants c n =
     Any (λ (w : Want). (w.comp.0 ≡ c) × (w.role ≡ Moved) × (w.number ≡ n)) wants
 
+-- wants by component, each once, with numbers from 1 on
+pub record AreByComponent (wants : List Want) : Type 0 where
+  pub rising : IsStrictlyIncreasing (components_of wants)
+  pub numbered : All (λ (w : Want). 1 ≤ w.number) wants
+
 -- wants move a component with a number exactly where one of them says so
 abbrev pub MovedIsWanted : Type 0
 MovedIsWanted =
-    (wants : List Want) (c n : ℕ) → IsWants wants → 0 < n
+    (wants : List Want) (c n : ℕ) → AreByComponent wants → 0 < n
     → (moved_in wants c ≡ n) ↔ MovesBy wants c n
 
 -- wants of just the parties of an interaction move just what it moves
 abbrev pub PartiesMove : Type 0
 PartiesMove =
-    (m : System) (a : ℕ) (wants : List Want) → IsWants wants → AreParties m a wants
+    (m : System) (a : ℕ) (wants : List Want) → AreByComponent wants → AreParties m a wants
     → (c : ℕ) → IsTrue (moves m a c) ↔ (0 < moved_in wants c)
 
 -- by offers an interaction has one list of wants, at most

@@ -13,7 +13,7 @@ use Rattle.bip_model.specs.declared.parts.System.{System}
 use Rattle.bip_model.specs.declared.states.LocalState.{LocalState}
 use Rattle.bip_partition.specs.Plans.{ClassTouches, Planned, Touches}
 use Rattle.bip_observe.specs.Offers.{AreOwn, IsExpected, IsReceipt, Observed, with_held, with_known}
-use Rattle.bip_observe.specs.Verdicts.{IsReady, IsVerdict, is_counted, offers_of}
+use Rattle.bip_observe.specs.Verdicts.{AllCount, IsReady, IsVerdict, is_counted, offers_of}
 use Rattle.bip_observe.specs.declared.offers.Receipt.{Receipt}
 use Rattle.bip_observe.specs.declared.offers.Receipt.TheVariants.{Held, Old}
 use Rattle.bip_observe.specs.declared.verdicts.Verdict.{Verdict}
@@ -75,6 +75,12 @@ UsedNumbersDontCount =
 -- the offers of all components that an interaction touches show a state
 abbrev pub AllShow : System → (ℕ → Offer) → State → ℕ → Type 0
 AllShow m o s a = (c : ℕ) → Touches m a c → ShowsState m s (o c)
+
+-- the verdict Ready says that all offers count, and that by them the interaction is ready
+abbrev pub ReadyIsReady : Type 0
+ReadyIsReady =
+    (v : Observed) (a : ℕ)
+    → IsVerdict v a Ready ↔ (AllCount v a × IsReady v.plan.model (offers_of v) a)
 
 -- by offers that show a state an interaction is ready only where it may run there
 abbrev pub ReadyMeansMayRun : Type 0

@@ -2,7 +2,8 @@
 //! nothing, and have the laws for their contracts.
 ghost use Rattle.bip_observe.specs.Laws.{CountedIsHeld, HeldOnce, MayRunMeansReady, OfferedValues};
 ghost use Rattle.bip_observe.specs.Laws.{OldStaysOld, OneOfferEach, OneReceipt, OneVerdict};
-ghost use Rattle.bip_observe.specs.Laws.{OwnOffersAreExpected, OwnOffersShow, ReadyMeansMayRun};
+ghost use Rattle.bip_observe.specs.Laws.{OwnOffersAreExpected, OwnOffersShow, ReadyIsReady};
+ghost use Rattle.bip_observe.specs.Laws.{ReadyMeansMayRun};
 ghost use Rattle.bip_observe.specs.Laws.{SomeVerdict, UsedNumbersDontCount, VerdictsAreTrue};
 
 /// What a component offers in its local state shows the state, there is one such offer of each
@@ -20,10 +21,11 @@ pub fn offer_laws()
     ensures used { UsedNumbersDontCount }
 {}
 
-/// By offers that show a state an interaction is ready just where it may run there, and each
-/// verdict is true of the state; of the verdicts one holds, and no two (docs/DEFINITIONS.md,
-/// "Verdicts").
+/// The verdict Ready says that all offers count, and that by them the interaction is ready. By
+/// offers that show a state an interaction is ready just where it may run there, and each verdict
+/// is true of the state; of the verdicts one holds, and no two (docs/DEFINITIONS.md, "Verdicts").
 pub fn verdict_laws()
+    ensures said { ReadyIsReady }
     ensures ready { ReadyMeansMayRun }
     ensures may { MayRunMeansReady }
     ensures values { OfferedValues }

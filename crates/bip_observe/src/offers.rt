@@ -159,6 +159,7 @@ impl<'p> Offers<'p> {
             → self.new ≡ self.old }
         ensures plan { self.new.plan ≡ self.old.plan }
         ensures class { self.new.class ≡ self.old.class }
+        ensures held { self.new.held ≡ self.old.held }
     {
         if self.plan.class_touches(self.class, comp) && self.known(comp) < number {
             self.known.set(comp.0 as usize, number);

@@ -44,4 +44,4 @@ returns-in-Refused-clause-left c =
     let n : KeptNode = record { offers = c.self-2.inside.offers; pending = c.self-2.inside.pending.items; next = c.self-2.inside.next } in
     let same : c.self-2.inside.offers ≡ c.args.self.now.offers = ap (λ (k : KeptNode). k.offers) c.self-2.view_is ∙ c.take_record.ensures.offers in
     subst (λ (r : Reply). IsLeftByReply r Dropped (node_of c.args.self.now) (node_of (record n { offers = c.spend.new.self }))) (sym c.in-Refused.is)
-    (refused_left c.args.self.now n c.in-Refused.inter.0 c.in-Refused.comp.0 c.in-Refused.used c.spend.new.self (rw c.in-Refused.is at (ap node_of c.self-2.view_is ∙ c.in-Some.ensures.taken)) same c.spend.ensures.plan c.spend.ensures.class c.spend.ensures.touched c.spend.ensures.others)
+    (refused_left c.args.self.now n c.in-Refused.inter.0 c.in-Refused.comp.0 c.in-Refused.used c.spend.new.self (rw c.in-Refused.is at (ap node_of c.self-2.view_is ∙ c.in-Some.ensures.taken)) same c.spend.ensures.plan c.spend.ensures.class c.spend.ensures.held c.spend.ensures.touched c.spend.ensures.others)
