@@ -23,8 +23,13 @@ ghost use Rattle.bip_model.specs.declared.expressions.Comparison.{Comparison};
 ghost use Rattle.bip_model.specs.Partitions.{AreDifferent, in_order};
 ghost use Rattle.bip_model.specs.declared.grants.Grant.{Grant};
 ghost use Rattle.bip_model.specs.declared.numbering.InterId.{InterId};
+ghost use Rattle.bip_model.specs.declared.partitions.TheConstants.{MOST_CLASSES};
 ghost use Rattle.bip_model.specs.declared.parts.System.{System};
+ghost use Rattle.bip_model.specs.declared.parts.TheConstants.{MOST_COMPONENTS, MOST_INTERACTIONS};
+ghost use Rattle.bip_model.specs.declared.parts.TheConstants.{MOST_LOCATIONS, MOST_PARTICIPANTS};
+ghost use Rattle.bip_model.specs.declared.parts.TheConstants.{MOST_PORTS, MOST_TRANSITIONS};
 ghost use Rattle.bip_model.specs.declared.scopes.VariableName.{VariableName};
+ghost use Rattle.bip_model.specs.declared.wants.TheConstants.{MOST_WANTS};
 
 /// What sums, transfers and updates mean: a sum is that of the integers modulo 2^32, a transfer's
 /// assignments are done at once, and those of an update in written order (docs/DEFINITIONS.md,
@@ -107,6 +112,19 @@ pub fn history_laws()
     ensures used_on { UsedGoesOn }
     ensures history_on { HistoryGoesOn }
     ensures once { (floor : ℕ → ℕ) (gs : List Grant) → IsHistory floor gs → MovesOnceEach gs }
+{}
+
+/// The limits of a model, of a partition and of a grant, as numbers (docs/DEFINITIONS.md, "Models",
+/// "Wants" and "Partitions").
+pub fn limit_laws()
+    ensures components { MOST_COMPONENTS ≡ 64 }
+    ensures locations { MOST_LOCATIONS ≡ 64 }
+    ensures ports { MOST_PORTS ≡ 16 }
+    ensures transitions { MOST_TRANSITIONS ≡ 256 }
+    ensures interactions { MOST_INTERACTIONS ≡ 128 }
+    ensures participants { MOST_PARTICIPANTS ≡ 8 }
+    ensures classes { MOST_CLASSES ≡ 32 }
+    ensures wants { MOST_WANTS ≡ 32 }
 {}
 
 /// What it means that lists are no partition, and what stands in a class

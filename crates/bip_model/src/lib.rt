@@ -33,7 +33,8 @@ pub use expressions::{Assignment, Comparison, Expr, Relation, Sign, Term, Variab
 pub use faults::{BuildFault, ClassFault, NotNow};
 pub use grants::Grant;
 pub use laws::{
-    builder_laws, expression_laws, history_laws, partition_laws, priority_laws, step_laws,
+    builder_laws, expression_laws, history_laws, limit_laws, partition_laws, priority_laws,
+    step_laws,
 };
 pub use messages::{MOST_NOTIFIES, Notifies, Notify, Offer, Reply, Request};
 pub use models::Model;

@@ -35,6 +35,10 @@ impl Model for Values {
 }
 
 impl Default for Values {
+    ghost use Rattle.std.specs.Prelude.{◌≡◌, []};
+
+    ghost is_default = { λ values. values ≡ [] };
+
     fn default() -> Values {
         Values::none()
     }

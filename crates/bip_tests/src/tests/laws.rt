@@ -2,7 +2,8 @@ use bip_bank::bank_laws;
 use bip_component::component_laws;
 use bip_ip::{node_laws, notify_laws};
 use bip_model::{
-    builder_laws, expression_laws, history_laws, partition_laws, priority_laws, step_laws,
+    builder_laws, expression_laws, history_laws, limit_laws, partition_laws, priority_laws,
+    step_laws,
 };
 use bip_observe::{offer_laws, verdict_laws};
 use bip_partition::plan_laws;
@@ -15,6 +16,7 @@ fn laws_can_be_called(_rt: HostRuntime) {
     builder_laws();
     expression_laws();
     history_laws();
+    limit_laws();
     partition_laws();
     priority_laws();
     step_laws();
