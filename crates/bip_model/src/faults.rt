@@ -10,7 +10,8 @@ use thiserror::Error;
 /// Why an interaction can't run now.
 #[derive(Debug, Drop, Error)]
 pub enum NotNow {
-    /// A participant's port is not offered, or the model has no such interaction.
+    /// A participant's port is not offered, the interaction's guard doesn't hold, or the model has
+    /// no such interaction.
     NotEnabled,
     /// This interaction, the lowest-numbered one, is above it and enabled.
     Below(InterId),
@@ -44,7 +45,8 @@ impl NotNow {
 pub enum BuildFault {
     /// A name that nothing of its kind has.
     Unknown,
-    /// A name that is there, or a component that takes part twice.
+    /// A name that is there, a component that takes part twice, a variable that a transfer assigns
+    /// to twice, or a priority that is declared already.
     Twice,
     /// A limit would be passed.
     TooMany,
