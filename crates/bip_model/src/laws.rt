@@ -93,9 +93,9 @@ pub fn builder_laws()
 {}
 
 /// What wants move, and that by its offers an interaction has one list of wants; what grants use
-/// up, all that they do and one more; that a used number is the greatest that was granted; and that
-/// a history moves no component twice with one number (docs/DEFINITIONS.md, "Used numbers and
-/// histories").
+/// up, all that they do and one more; that a used number is the greatest of the floor and of what
+/// was granted; and that a history moves no component twice with one number (docs/DEFINITIONS.md,
+/// "Used numbers and histories").
 pub fn history_laws()
     ensures moved { MovedIsWanted }
     ensures parties { PartiesMove }

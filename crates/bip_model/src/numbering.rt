@@ -24,5 +24,5 @@ pub struct InterId(pub u16);
 #[derive(Clone, Copy, Debug, Default, PartialEq, Eq, PartialOrd, Ord, Hash)]
 pub struct ClassId(pub u16);
 
-/// A participation number: the how manieth move of a component an offer is for.
+/// A participation number: for which move of a component an offer is, counted on from a base.
 pub type Number = u64;
