@@ -1,5 +1,5 @@
 -- What is said of a command that has an answer, or was stopped.
-use Rattle.std.proofs.Common.{◌≡◌, ◌⊎◌, inl, inr, ℕ, Bool, false, true, List, [], Result, Ok, Err, refl, sym, subst}
+use Rattle.std.proofs.Common.{◌≡◌, ◌⊎◌, arith, inl, inr, ℕ, Bool, false, true, List, [], Result, Ok, Err, refl, sym, subst}
 use Rattle.std.specs.Result.{IsErrAnd}
 use Rattle.bipr.specs.Endings.{AllOutcomes, AllOutcomesTelling, Ends, EndsExplaining, EndsTelling, IsOutcome, explaining}
 use Rattle.bipr.specs.Streams.{Puts, none_put, nothing}
@@ -62,4 +62,4 @@ explaining-none NotARun = refl
 pub ends_unexplained : {S : Type 0} (may : Bool → List (List ℕ) → Answer → Type 0) (says : List ℕ → Bool → Type 0) (writes : S → List ℕ → Bool → S → Type 0) (before after : S) (status : Status)
     → EndsTelling (may false) says writes before after status → EndsExplaining may says writes before after status
 ends_unexplained may says writes before after status ends =
-    record { is_asked = false; last = after; ends = ends; why = []; shown = refl; explained = (true, rw (explaining-none status) (nothing refl)); unasked = λ _. refl }
+    record { is_asked = false; last = after; ends = ends; why = []; shown = refl; short = omega arith; explained = (true, rw (explaining-none status) (nothing refl)); unasked = λ _. refl }

@@ -1,6 +1,6 @@
 -- How a command ends: what is written of its answer, and its status.
 use Rattle.std.specs.Prelude.{◌≡◌, ◌⊎◌, ℕ, Bool, false, true, List, [], ◌∷◌, Result, Ok, Err}
-use Rattle.std.specs.Prelude.{codes}
+use Rattle.std.specs.Prelude.{◌≤◌, codes, length}
 use Rattle.std.specs.List.{list_all}
 use Rattle.bip_explain.specs.Explanations.{is_shown}
 use Rattle.bipr.specs.Stops.{answer_of_stop, out_of_memory}
@@ -62,7 +62,7 @@ Explains writes before after status why =
     (is_out : Bool) × Puts writes before after (explaining status why) is_out
 
 -- the end of a command that may be asked to explain: it ended, and then a fault was explained, by
--- bytes that a terminal shows as they are; where that isn't asked, nothing more was put
+-- 480 bytes at most that a terminal shows as they are; where that isn't asked, nothing more was put
 pub record EndsExplaining {S : Type 0} (may_answer : Bool → List (List ℕ) → Answer → Type 0)
     (says : List ℕ → Bool → Type 0) (writes : S → List ℕ → Bool → S → Type 0) (before after : S)
     (status : Status) : Type 0 where
@@ -71,6 +71,7 @@ pub record EndsExplaining {S : Type 0} (may_answer : Bool → List (List ℕ) �
   pub ends : EndsTelling (may_answer is_asked) says writes before last status
   pub why : List ℕ
   pub shown : list_all is_shown why ≡ true
+  pub short : length why ≤ 480
   pub explained : Explains writes last after status why
   pub unasked : is_asked ≡ false → why ≡ []
 

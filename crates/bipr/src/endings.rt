@@ -105,6 +105,7 @@ fn told_status(is_told: bool, status: Status) -> Status
 pub fn explain<E: Stream>(errors: &mut E, status: Status, explanation: &Explanation)
     ensures explained { Explains E.writes errors.old errors.new status explanation.now.said }
     ensures shown { list_all is_shown explanation.now.said ≡ true }
+    ensures short { length explanation.now.said ≤ MOST_BYTES }
 {
     let line = explaining(status, explanation.as_bytes());
     put(errors, line.as_slice());

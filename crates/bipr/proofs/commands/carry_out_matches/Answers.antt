@@ -25,6 +25,7 @@ returns g c =
           (λ told answer by. parsed words true told answer asked by);
       why = _;
       shown = c.explain.ensures.shown;
+      short = c.explain.ensures.short;
       explained = c.explain.ensures.explained;
       unasked = λ no. cc;
     }
