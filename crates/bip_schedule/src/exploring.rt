@@ -1,5 +1,6 @@
 //! The explorer: many runs by chance, each checked to be a run of the model.
-ghost use Rattle.std.specs.Prelude.{◌≡◌, ◌<◌, ◌≤◌, IfErr, IfOk, IsTrue, Ok, OnOk, Some};
+ghost use Rattle.std.specs.Prelude.{◌≡◌, ◌↔◌, ◌<◌, ◌≤◌, IfErr, IfOk, IsTrue, Ok, OnOk};
+ghost use Rattle.std.specs.Prelude.{Some};
 ghost use Rattle.bip_model.specs.Numbering.{last_number};
 ghost use Rattle.bip_replay.specs.Runs.{IsModelRun};
 ghost use Rattle.bip_bank.specs.Banks.{content_of};
@@ -72,9 +73,9 @@ impl From<AllocError> for ExploreFault {
 /// Explores the seeds from 1 on, so many of them: each draws so many events in the new world of the
 /// plan above the base, and its trace is checked to be a run of the model. Ends at the first seed
 /// whose trace is none, or where memory is out: also where an event was skipped or a message lost
-/// for want of it, so that a seed's grants are always the same. `make` gives a bank of that plan and
-/// base without grants or open requests. One seed's world is kept at a time (docs/DEFINITIONS.md,
-/// "Exploring").
+/// for want of it, so that a seed's grants are always the same. `make` gives a bank of that plan
+/// and base without grants or open requests. One seed's world is kept at a time
+/// (docs/DEFINITIONS.md, "Exploring").
 pub fn explore<'p, B: Bank + Drop, F: Fn() -> Result<B, AllocError>>(
     alloc: Global,
     plan: &'p Plan,
@@ -134,7 +135,7 @@ pub fn explore_seed<'p, B: Bank + Drop, F: Fn() -> Result<B, AllocError>>(
 
 /// Whether no event was skipped, and no message lost, for want of memory.
 fn is_whole(report: &Report) -> bool
-    ensures { IsTrue result → IsLossless report.now }
+    ensures { IsTrue result ↔ IsLossless report.now }
 {
     report.skipped == 0 && report.lost == 0
 }
