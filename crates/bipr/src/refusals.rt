@@ -35,7 +35,7 @@ pub fn refuse_words<O: Stream, E: Stream>(
     complain(output, errors, Status::BadCommandLine, NO_TEXT)
 }
 
-/// The base is out of range, or no replay is asked for.
+/// The base is out of range, or nothing is asked for.
 pub fn refuse_base<O: Stream, E: Stream>(output: &mut O, errors: &mut E) -> Status
     ensures { IsEnd (Puts O.writes output.old output.new) (Puts E.writes errors.old errors.new)
         bad_base result }
