@@ -21,7 +21,7 @@ use Rattle.bip_reader.specs.declared.faults.Why.{Why}
 use Rattle.bip_reader.specs.declared.faults.Why.TheVariants.{Syntax, PriorityCycle, NotAPartition, Memory}
 use Rattle.bip_reader.specs.declared.reading.Reading.{Reading}
 use Rattle.bip_reader.specs.Clauses.{ClauseList, assignment_words, guard_words, has_clauses, head_of}
-use Rattle.bip_reader.specs.Statements.{end_form, header_form, priority_form, three_names, var_form, is_of_list, statement_of, stores_words, trans_form}
+use Rattle.bip_reader.specs.Statements.{class_form, end_form, header_form, priority_form, three_names, var_form, is_of_list, statement_of, stores_words, trans_form}
 use Rattle.bip_reader.specs.declared.statements.Keyword.{Keyword}
 use Rattle.bip_reader.specs.declared.statements.Keyword.TheVariants as keyword
 use Rattle.bip_reader.specs.declared.statements.Statement.{Statement}
@@ -98,9 +98,8 @@ fair_more why h = refl
 
 -- a statement that stores words is that of a line that lists them
 stores_listed : (k : Keyword) (rest : List (List ℕ)) (s : Statement) → statement_of k rest ≡ Some s → stores_words s ≡ true → is_of_list k rest ≡ true
-unfolding trans_form header_form var_form end_form priority_form
+unfolding trans_form header_form var_form end_form priority_form class_form
 stores_listed keyword.Interaction rest s is stores = refl
-stores_listed keyword.Class rest s is stores = refl
 stores_listed keyword.Trans rest s is stores = by_words (guard_words rest) (assignment_words rest) refl refl
   where
     by_names : (names : Option (List ℕ × (List ℕ × List ℕ))) → option_map {U = Statement} (λ (t : (List ℕ × (List ℕ × List ℕ)) × ClauseList). statement.Trans t.0.0 t.0.1.0 t.0.1.1 t.1.0 t.1.1) (option_zip names (Some ([], []))) ≡ Some s → has_clauses rest ≡ true

@@ -1,10 +1,10 @@
 -- Lemmas on what lines say one after another, and on how far reading has come.
-use Rattle.std.proofs.Common.{◌≡◌, ℕ, ◌+◌, ◌-◌, ◌≤◌, List, [], ◌∷◌, ◌++◌, length, take, drop, Result, Ok, Err, refl, ap, ◌∙◌, sym, append_assoc, arith, length-append}
-use Rattle.std.specs.Prelude.{IsOk, Some, max, slice_get}
+use Rattle.std.proofs.Common.{◌≡◌, ℕ, ◌+◌, ◌-◌, ◌≤◌, List, [], ◌∷◌, ◌++◌, length, take, drop, Result, Ok, Err, inl, inr, refl, ap, ◌∙◌, sym, append_assoc, arith, length-append}
+use Rattle.std.specs.Prelude.{IsOk, IsTrue, Some, max, slice_get}
 use Rattle.std.proofs.lemmas.List.{take-append-drop, take_all}
 use Rattle.std.proofs.Math.Seq.{take-append_seam}
 use Rattle.bip_model.specs.Faults.{◌>>=◌}
-use Rattle.bip_model.specs.Texts.{last_line, lines, numbered_lines}
+use Rattle.bip_model.specs.Texts.{last_line, lines, numbered_lines, says_something, words_said}
 use Rattle.bip_model.proofs.LineLemmas.{AreLeft, all_read, line_read, none_read}
 use Rattle.bip_reader.specs.declared.faults.ReadFault.{ReadFault}
 use Rattle.bip_reader.specs.declared.faults.Why.{Why}
@@ -89,6 +89,7 @@ lacks_last text r e =
     record {
       reached = last_reached text r e;
       hidden = λ fault f. absurd (let both = rw all at f in cc);
+      saying = inl refl;
     }
 
 -- the fault of lines with but one is that of the line
@@ -101,8 +102,8 @@ seam (x ∷ xs) ys y = seam xs ys y
 
 -- memory may be wanting for the next line
 pub lacks_next : (text : List ℕ) (last n : ℕ) (r : Reading) (line : List ℕ) (left after : List (ℕ × List ℕ)) → IsAt text last r left → left ≡ (n, line) ∷ after
-    → ((why : Why) → reading_after line r ≡ Err why → MayBeHidden line why) → MayLackMemory text n
-lacks_next text last n r line left after h next hides =
+    → ((why : Why) → reading_after line r ≡ Err why → MayBeHidden line why) → IsTrue (says_something (words_said line)) → MayLackMemory text n
+lacks_next text last n r line left after h next hides says =
     let is = line_read text h.front left after n line h.are_left next in
     let back : n - 1 ≡ length h.front = omega (arith, is.number) in
     let many : length (lines text) ≡ length h.front + length (line ∷ is.rest) = ap length is.split ∙ length-append h.front (line ∷ is.rest) in
@@ -117,4 +118,5 @@ lacks_next text last n r line left after h next hides =
     record {
       reached = record { first = omega (arith, is.number); last = omega (arith, is.number, many); clear = rw (front, h.said) refl };
       hidden = λ fault f. rw here (hides fault.why (only_fault (1 + length h.front) (reading_after line r) fault (sym said ∙ f)));
+      saying = inr (rw here says);
     }

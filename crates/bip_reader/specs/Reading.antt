@@ -142,7 +142,7 @@ reading_after_lines n (line ∷ rest) r =
     at_line n (reading_after line r) >>= reading_after_lines (n + 1) rest
 
 -- a fault that want of memory may hide at its line: none of syntax, so the line has its form and
--- its place; and it lists words, some of which may be stored before all are looked up
+-- its place; and it lists words that may be stored before all are looked up
 pub record MayBeHidden (line : List ℕ) (why : Why) : Type 0 where
   pub meaning : why ≢ Syntax
   pub listing : IsTrue (option_map_or lists_words (words_said line) false)

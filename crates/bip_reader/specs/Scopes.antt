@@ -3,6 +3,7 @@ use Rattle.std.specs.Prelude.{◌≤◌, ⊤, [], length, not, List, Option, Res
 use Rattle.bip_model.specs.Drafts.{begun_in}
 use Rattle.bip_model.specs.Faults.{◌>>=◌}
 use Rattle.bip_model.specs.Scopes.{knows_guard, own, shared, transfer_said}
+use Rattle.bip_model.specs.declared.drafts.Draft.{Draft}
 use Rattle.bip_model.specs.declared.expressions.Assignment.{Assignment}
 use Rattle.bip_model.specs.declared.expressions.Comparison.{Comparison}
 use Rattle.bip_model.specs.declared.expressions.Variable.{Variable}
@@ -13,9 +14,13 @@ use Rattle.bip_model.specs.declared.scopes.VariableName.{VariableName}
 use Rattle.bip_reader.specs.declared.scopes.Scope.{Scope}
 use Rattle.bip_reader.specs.declared.scopes.Scope.TheVariants.{Own, Shared}
 
+-- the variable of the component that is begun for which a name stands
+abbrev pub own_found : Draft → VariableName → Option Variable
+own_found d v = own (begun_in d).variables v
+
 -- the variable for which a name stands: one of the component that is begun, or of a participant
 abbrev pub variable_found : Scope → VariableName → Option Variable
-variable_found (Own builder) v = own (begun_in builder.now).variables v
+variable_found (Own builder) v = own_found builder.now v
 variable_found (Shared builder participants) v = shared builder.now.system participants.now v
 
 -- the fault of a guard and a transfer, one of which is too long

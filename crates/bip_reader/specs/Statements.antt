@@ -42,12 +42,11 @@ keyword_in (Interaction name participants guard transfer) = keyword.Interaction
 keyword_in (Priority low high) = keyword.Priority
 keyword_in (Class name interactions) = keyword.Class
 
--- whether a line lists words, by its keyword and the words that follow: an interaction's and a
--- class's do, and a transition's with a guard or assignments
+-- whether a line lists words that may be stored before all are looked up, by its keyword and the
+-- words that follow: an interaction's does, and a transition's with a guard or assignments
 abbrev pub is_of_list : Keyword → List (List ℕ) → Bool
 is_of_list keyword.Trans rest = has_clauses rest
 is_of_list keyword.Interaction rest = true
-is_of_list keyword.Class rest = true
 is_of_list k rest = false
 
 abbrev pub lists_words : List (List ℕ) → Bool

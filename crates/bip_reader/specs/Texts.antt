@@ -1,12 +1,12 @@
 -- What the text of a model means: a model with a partition of its interactions into classes, or the
 -- first fault.
 use Rattle.std.specs.Prelude.{◌≡◌, ◌⊎◌, ℕ, ◌-◌, ◌≤◌, List, length, map, take, slice_get, Result, Ok}
-use Rattle.std.specs.Prelude.{Err, IsOk}
+use Rattle.std.specs.Prelude.{Err, IsOk, IsTrue}
 use Rattle.std.specs.Option.{IsSomeAnd}
 use Rattle.bip_model.specs.Drafts.{IsWhole}
 use Rattle.bip_model.specs.Partitions.{IsPartition, in_order}
 use Rattle.bip_model.specs.Priorities.{IsCyclic}
-use Rattle.bip_model.specs.Texts.{last_line, lines}
+use Rattle.bip_model.specs.Texts.{last_line, lines, says_something, words_said}
 use Rattle.bip_model.specs.declared.numbering.InterId.{InterId}
 use Rattle.bip_model.specs.declared.partitions.Partition.{Partition}
 use Rattle.bip_model.specs.declared.parts.System.{System}
@@ -87,9 +87,11 @@ pub record IsReached (text : List ℕ) (line : ℕ) : Type 0 where
   pub last : line ≤ last_line text
   pub clear : IsOk (reading_down_to (line - 1) text)
 
--- memory may be wanting at a line: reading comes to it, and a fault of the line itself is one that
--- may be hidden
+-- memory may be wanting at a line: reading comes to it, a fault of the line itself is one that may
+-- be hidden, and the line says something or is the last
 pub record MayLackMemory (text : List ℕ) (line : ℕ) : Type 0 where
   pub reached : IsReached text line
   pub hidden : (fault : ReadFault) → reading_down_to line text ≡ Err fault
       → IsSomeAnd (slice_get (lines text) (line - 1)) (λ bytes. MayBeHidden bytes fault.why)
+  pub saying : (line ≡ last_line text) ⊎ IsSomeAnd (slice_get (lines text) (line - 1)) (λ bytes.
+      IsTrue (says_something (words_said bytes)))

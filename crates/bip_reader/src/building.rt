@@ -1,17 +1,19 @@
 //! Giving the builder what lines state. What can't be right isn't stored: it is looked up as the
 //! line spells it.
-ghost use Rattle.std.specs.Prelude.{◌≡◌, ◌≢◌, ◌==◌, ◌||◌, true, not, length, take, Option};
-ghost use Rattle.std.specs.Prelude.{All, Err, IfOk, IsNone, IsSome, IsTrue, Result};
+ghost use Rattle.std.specs.Prelude.{◌≡◌, ◌≢◌, ◌==◌, ◌&&◌, ◌||◌, true, not, length, take, Option};
+ghost use Rattle.std.specs.Prelude.{false, All, Err, IfOk, IsNone, IsSome, IsTrue, Result};
 ghost use Rattle.bip_model.specs.Components.{trans_line};
 ghost use Rattle.bip_model.specs.Drafts.{inside, interaction_line};
 ghost use Rattle.bip_model.specs.Faults.{new_or_fault};
-ghost use Rattle.bip_model.specs.Scopes.{are_long_assignments, is_long_guard, knows_guard};
+ghost use Rattle.bip_model.specs.Naming.{is_known};
+ghost use Rattle.bip_model.specs.Scopes.{are_long_assignments, is_long_guard, knows_assignments};
+ghost use Rattle.bip_model.specs.Scopes.{knows_guard};
 ghost use Rattle.bip_model.specs.declared.expressions.Variable.{Variable};
 ghost use Rattle.bip_model.specs.declared.faults.BuildFault.{BuildFault};
 ghost use Rattle.bip_model.specs.declared.faults.BuildFault.TheVariants.{Memory};
 ghost use Rattle.bip_model.specs.declared.scopes.VariableName.{VariableName};
 ghost use Rattle.bip_reader.specs.Reading.{can_follow, draft_with};
-ghost use Rattle.bip_reader.specs.Scopes.{IsLookUp, fault_of_names, variable_found};
+ghost use Rattle.bip_reader.specs.Scopes.{IsLookUp, fault_of_names, own_found, variable_found};
 ghost use Rattle.bip_reader.specs.Statements.{keyword_in, stores_words};
 
 use crate::clauses::{Assignments, Guard};
@@ -93,7 +95,7 @@ fn transition(
 }
 
 /// The fault of a transition whose guard or update is too long: a name that isn't known comes
-/// before that, and whatever else is refused comes behind it.
+/// before that, and whatever else is refused comes behind it. Want of memory hides no such name.
 fn long_transition(
     alloc: Global,
     builder: &mut Builder,
@@ -103,8 +105,10 @@ fn long_transition(
 ) -> Result<(), BuildFault>
     requires begun { IsSome builder.old.begun }
     requires long { (is_long_guard guard.now || are_long_assignments update.now) ≡ true }
-    ensures { result ≢ Err Memory → new_or_fault result builder.new
+    ensures said { result ≢ Err Memory → new_or_fault result builder.new
         ≡ inside (trans_line names.0 names.1 names.2 guard.now update.now) builder.old }
+    ensures memory { result ≡ Err Memory → (knows_guard (own_found builder.old) guard.now
+        && knows_assignments (own_found builder.old) update.now) ≡ true }
 {
     let scope = Scope::Own(builder);
     if !scope.knows_clauses(guard, update) {
@@ -152,6 +156,8 @@ fn repeated<T: Copy>(alloc: Global, item: T, count: usize) -> Result<Vec<T>, All
     Ok(items)
 }
 
+/// An interaction of this name. Want of memory doesn't hide that the name is there.
+#[tactic(auto, using(crate::proofs::BuildLemmas::numbered_known))]
 fn interaction(
     alloc: Global,
     builder: &mut Builder,
@@ -161,8 +167,10 @@ fn interaction(
     transfer: &Assignments<'_>,
 ) -> Result<(), BuildFault>
     requires { IsNone builder.old.begun }
-    ensures { result ≢ Err Memory → new_or_fault result builder.new
+    ensures said { result ≢ Err Memory → new_or_fault result builder.new
         ≡ interaction_line builder.old name participants.now guard.now transfer.now }
+    ensures memory { result ≡ Err Memory
+        → is_known name builder.old.system.interaction_names ≡ false }
 {
     if builder.interaction_number(&name).is_some() {
         return Err(BuildFault::Twice);
@@ -193,7 +201,7 @@ fn interaction(
 }
 
 /// The fault of an interaction whose guard or transfer is too long, where the names before them are
-/// right.
+/// right. Want of memory hides no unknown name of the guard.
 fn fault_of_long(
     alloc: Global,
     scope: Scope<'_>,
@@ -201,8 +209,10 @@ fn fault_of_long(
     transfer: &Assignments<'_>,
 ) -> BuildFault
     requires { IsLookUp scope }
-    ensures { result ≢ Memory
+    ensures said { result ≢ Memory
         → fault_of_names (variable_found scope.entry) guard.now transfer.now ≡ Err result }
+    ensures memory { result ≡ Memory
+        → knows_guard (variable_found scope.entry) guard.now ≡ true }
 {
     if !scope.knows_guard(guard.each()) {
         return BuildFault::Unknown;

@@ -16,7 +16,8 @@ pub enum Why {
     Syntax,
     /// A name that nothing of its kind has.
     Unknown,
-    /// A name that is there, or a component that takes part twice.
+    /// A name or a priority that is there, or a component that takes part twice, or a second
+    /// assignment of a transfer to one target.
     Twice,
     /// A limit would be passed.
     TooMany,

@@ -6,7 +6,7 @@ ghost use Rattle.std.specs.Option.{ok_or};
 ghost use Rattle.bip_model.specs.Naming.{same_text};
 ghost use Rattle.bip_model.specs.Faults.{Answers, new_or_fault};
 ghost use Rattle.bip_model.specs.Priorities.{IsCyclic};
-ghost use Rattle.bip_model.specs.Texts.{words};
+ghost use Rattle.bip_model.specs.Texts.{says_something, words, words_said};
 ghost use Rattle.bip_reader.specs.declared.faults.Why.{Why};
 ghost use Rattle.bip_reader.specs.declared.faults.Why.TheVariants.{Memory, Syntax};
 ghost use Rattle.bip_reader.specs.Reading.{MayBeHidden, are_interactions, can_follow, class_line};
@@ -96,13 +96,15 @@ impl Reading {
     }
 
     /// Reads one more line. Want of memory hides no fault of its syntax, which is told before
-    /// anything is stored, and another one only where it lists words.
+    /// anything is stored, and another one only where it lists words that are stored before all are
+    /// looked up. A line that says nothing wants none.
     #[tactic(auto, unfolding(crate::specs::Reading::reading_after))]
     pub(crate) fn read_line(&mut self, alloc: Global, line: &[u8]) -> Result<(), Why>
         ensures said { result ≢ Err Memory
             → reading_after line.now self.old ≡ new_or_fault result self.new }
         ensures memory { result ≡ Err Memory
             → (why : Why) → reading_after line.now self.old ≡ Err why → MayBeHidden line.now why }
+        ensures says { result ≡ Err Memory → IsTrue (says_something (words_said line.now)) }
     {
         match read_words(line) {
             Line::BadByte => Err(Why::Syntax),
@@ -225,13 +227,16 @@ impl Reading {
         }
     }
 
-    /// The lines end: the model that they declare, and their classes.
+    /// The lines end: the model that they declare, and their classes. Want of memory hides nothing
+    /// here.
     pub(crate) fn finish(self) -> Result<(Model, ClassLines), Why>
         ensures model { IfOk result (λ read. read.0 ≡ system_of self) }
         ensures classes { IfOk result (λ read. read.1 ≡ self.classes) }
         ensures whole { OnOk result (IsWholeReading self) }
         ensures acyclic { OnOk result (¬ IsCyclic (system_of self).priorities) }
         ensures fault { IfErr result (λ why. why ≢ Memory → IsFaultAtEnd self why) }
+        ensures memory { result ≡ Err Memory
+            → IsWholeReading self × ¬ IsCyclic (system_of self).priorities }
     {
         let Reading { builder, classes } = self;
         let Some(builder) = builder else {

@@ -1,12 +1,13 @@
 //! Model texts: a text is a model with its classes, or it has a first fault.
 ghost use Rattle.std.specs.Prelude.{◌≡◌, ◌≢◌, Err, IfErr, IfOk, MatchResult, OnOk, Ok};
 ghost use Rattle.bip_model.specs.Partitions.{AreClassesOf};
+ghost use Rattle.bip_model.specs.Priorities.{IsCyclic};
 ghost use Rattle.bip_model.specs.Texts.{last_line};
 ghost use Rattle.bip_model.specs.declared.partitions.Partition.{Partition};
 ghost use Rattle.bip_model.specs.declared.parts.System.{System};
 ghost use Rattle.bip_reader.specs.declared.faults.Why.TheVariants.{Memory, NotAPartition};
 ghost use Rattle.bip_reader.specs.Texts.{Declares, HasFault, IsFaultAtEnd, IsParted, MayLackMemory};
-ghost use Rattle.bip_reader.specs.Texts.{Means, classes_of, reading_of};
+ghost use Rattle.bip_reader.specs.Texts.{IsWholeReading, Means, classes_of, reading_of, system_of};
 
 use crate::reading::{ClassLines, Reading};
 use crate::{ReadFault, Why};
@@ -15,10 +16,10 @@ use std::alloc::Global;
 
 /// The model and the classes that a text means, or its first fault: the one of the lowest line, and
 /// of a line the first by the order of faults (docs/DEFINITIONS.md, "Model texts"). Nothing is read
-/// past a fault. Want of memory names the line that was being read, the last one for what is made
+/// past a fault. Want of memory names a line that says something, or the last one for what is made
 /// at the end, and comes only where no line before it has a fault. It hides no fault of syntax of
-/// its own line, and another one only where that lists words; and at the last line what the text
-/// lacks as a whole.
+/// its own line, and another one only where that is an `interaction` line, or a `trans` line with
+/// `when` or `do`; and at the last line what the text lacks as a whole.
 pub fn read_model(alloc: Global, text: &[u8]) -> Result<(Model, Classes), ReadFault>
     // What is read is meant.
     ensures model { IfOk result (λ read. Means text.now read.0 read.1) }
@@ -46,11 +47,13 @@ fn read_text(alloc: Global, text: &[u8]) -> Result<(Model, Classes), ReadFault>
     }
 }
 
-/// What the lines declare all in all.
+/// What the lines declare all in all. Want of memory hides only that the classes are no partition.
 fn declared_by(alloc: Global, reading: Reading) -> Result<(Model, Classes), Why>
     ensures declared { IfOk result (λ declared. Declares reading declared.0 declared.1) }
     ensures of_model { IfOk result (λ declared. AreClassesOf declared.0 declared.1) }
     ensures fault { IfErr result (λ why. why ≢ Memory → IsFaultAtEnd reading why) }
+    ensures memory { result ≡ Err Memory
+        → IsWholeReading reading × ¬ IsCyclic (system_of reading).priorities }
 {
     let (model, listed) = reading.finish()?;
     let classes = classes_of(alloc, &model, listed)?;

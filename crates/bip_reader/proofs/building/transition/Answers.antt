@@ -8,7 +8,7 @@ use Rattle.bip_reader.proofs.building.transition.Goals as goal
 
 pub returns-then-are_long : goal.returns-then-are_long
 returns-then-are_long c = record {
-  said = c.long_transition.ensures;
+  said = c.long_transition.ensures.said;
   memory = λ wants fault is. long_some c.args.guard.now c.args.update.now (sym c.are_long.ensures ∙ c.if-are_long.true);
 }
 

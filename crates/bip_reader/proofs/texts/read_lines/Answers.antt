@@ -12,7 +12,7 @@ returns-in-Err-clause-fault c = λ other.
 
 pub returns-in-Err-clause-memory : goal.returns-in-Err-clause-memory
 returns-in-Err-clause-memory c = λ is.
-    lacks_next _ _ _ _ _ _ _ c.loop-line.invariant c.in-Some.ensures.steps (c.in-Err.ensures.memory (ap Err is))
+    lacks_next _ _ _ _ _ _ _ c.loop-line.invariant c.in-Some.ensures.steps (c.in-Err.ensures.memory (ap Err is)) (c.in-Err.ensures.says (ap Err is))
 
 pub loop-line-preserved : goal.loop-line-preserved
 loop-line-preserved c =
