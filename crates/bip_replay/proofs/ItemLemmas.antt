@@ -12,6 +12,8 @@ use Rattle.bip_replay.specs.Items.{IsOutOfMemory, IsTextFault, Reads, ReadsBack,
 use Rattle.bip_replay.specs.declared.faults.LineFault.{LineFault}
 use Rattle.bip_replay.specs.declared.faults.TraceFault.{TraceFault}
 use Rattle.bip_replay.specs.declared.faults.TraceFault.TheVariants.{Syntax, Unknown, Memory}
+use Rattle.std.proofs.Common.{◌-◌}
+use Rattle.std.specs.Prelude.{slice_get}
 
 -- what a line and those behind it read as
 pub first_read : {X : Type 0} (n : ℕ) (line : Result (Option X) LineFault) (behind : Result (List X) (ℕ × LineFault)) (xs : List X) → before_rest n line behind ≡ Ok xs
@@ -24,6 +26,10 @@ first_read n line behind xs is = cc
 abbrev pub onto : {X : Type 0} → List X → Result (List X) (ℕ × LineFault) → Result (List X) (ℕ × LineFault)
 onto xs (Ok ys) = Ok (xs ++ ys)
 onto xs (Err e) = Err e
+
+seam : (xs ys : List (List ℕ)) (y : List ℕ) → slice_get (xs ++ y ∷ ys) (length xs) ≡ Some y
+seam [] ys y = refl
+seam (x ∷ xs) ys y = seam xs ys y
 
 -- by what a line says
 module _ {X : Type 0} (on : List ℕ → Result (Option X) LineFault) where
@@ -95,7 +101,11 @@ module _ {X : Type 0} (on : List ℕ → Result (Option X) LineFault) where
       by_fault : (f : TraceFault) → Reads on old line (Err f) new → IsTextFault on text n f
       by_fault Syntax says = at _ says
       by_fault Unknown says = at _ says
-      by_fault Memory says = memory_at text line n left after old says.0 so next says.1
+      by_fault Memory says =
+          let is = line_read text so.front left after n line so.are_left next in
+          let back : n - 1 ≡ length so.front = omega (arith, is.number) in
+          let here : slice_get (lines text) (n - 1) ≡ Some line = rw (back, is.split) (seam so.front is.rest line) in
+          (memory_at text line n left after old (Some says.0) so next says.1, rw here (says.0, says.1))
 
   -- the text of items whose lines read back reads as these items
   pub items_from-written : (line : X → List ℕ) (n : ℕ) (xs : List X) → All (ReadsBack on line) xs → items_from on n (lines (flat_map (λ x. line x ++ line_feed ∷ []) xs)) ≡ Ok xs

@@ -1,6 +1,7 @@
 -- Texts that are read line by line: each line says an item, or nothing, or is at fault.
+use Rattle.std.specs.Option.{IsSomeAnd}
 use Rattle.std.specs.Prelude.{Err, IsOk, IsTrue, List, None, Ok, Option, Result, Some, [], take, ℕ}
-use Rattle.std.specs.Prelude.{◌+◌, ◌++◌, ◌∷◌, ◌≡◌, ◌≤◌}
+use Rattle.std.specs.Prelude.{slice_get, ◌+◌, ◌++◌, ◌-◌, ◌∷◌, ◌≡◌, ◌≤◌}
 use Rattle.bip_model.specs.Texts.{is_plain, last_line, lines}
 use Rattle.bip_replay.specs.declared.faults.LineFault.TheVariants as line_fault
 use Rattle.bip_replay.specs.declared.faults.LineFault.{LineFault}
@@ -37,12 +38,18 @@ pub record IsOutOfMemory {X : Type 0} (says : List ℕ → Result (Option X) Lin
   pub last : number ≤ last_line text
   pub clear : IsOk (items_from says 1 (take number (lines text)))
 
--- why a text isn't read as items
+-- the line with this number says an item
+abbrev pub SaysItem : {X : Type 0} → (List ℕ → Result (Option X) LineFault) → List ℕ → ℕ → Type 0
+SaysItem {X} says text number =
+    IsSomeAnd (slice_get (lines text) (number - 1))
+    (λ line. (x : X) × (says line ≡ Ok (Some x)))
+
+-- why a text isn't read as items; memory can be wanting where a line says one
 abbrev pub IsTextFault :
     {X : Type 0} → (List ℕ → Result (Option X) LineFault) → List ℕ → ℕ → TraceFault → Type 0
 IsTextFault says text number Syntax = items_of says text ≡ Err (number, line_fault.Syntax)
 IsTextFault says text number Unknown = items_of says text ≡ Err (number, line_fault.Unknown)
-IsTextFault says text number Memory = IsOutOfMemory says text number
+IsTextFault says text number Memory = IsOutOfMemory says text number × SaysItem says text number
 
 -- What contracts of private functions say.
 
@@ -58,7 +65,7 @@ one_more xs None = xs
 one_more xs (Some x) = xs ++ x ∷ []
 
 -- what a reader of one line did to the items before it: it put the line's item last, or the line
--- is at fault, or there was no memory
+-- is at fault, or there was no memory for its item
 abbrev pub Reads :
     {X : Type 0} → (List ℕ → Result (Option X) LineFault) → List X → List ℕ
     → Result (Unit {0}) TraceFault → List X → Type 0
@@ -66,4 +73,4 @@ Reads {X} says old line (Ok u) new =
     (said : Option X) × (says line ≡ Ok said) × (new ≡ one_more old said)
 Reads says old line (Err Syntax) new = says line ≡ Err line_fault.Syntax
 Reads says old line (Err Unknown) new = says line ≡ Err line_fault.Unknown
-Reads {X} says old line (Err Memory) new = (said : Option X) × (says line ≡ Ok said)
+Reads {X} says old line (Err Memory) new = (x : X) × (says line ≡ Ok (Some x))

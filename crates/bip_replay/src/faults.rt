@@ -11,7 +11,8 @@ use thiserror::Error;
 /// Why a grant can't be the next step of a run: the first of these that applies.
 #[derive(Debug, Drop, Error)]
 pub enum StepFault {
-    /// A participant's port is not offered, or the model has no such interaction.
+    /// A participant's port is not offered, the interaction's guard doesn't hold, or the model has
+    /// no such interaction.
     NotEnabled,
     /// This interaction, the lowest-numbered one, is above it and enabled.
     Below(InterId),
@@ -55,7 +56,8 @@ impl StepFault {
 /// Why a book takes no grant: the first of these that applies.
 #[derive(Debug, Drop, Error)]
 pub enum BookFault {
-    /// A participant's port is not offered, or the model has no such interaction.
+    /// A participant's port is not offered, the interaction's guard doesn't hold, or the model has
+    /// no such interaction.
     NotEnabled,
     /// This interaction, the lowest-numbered one, is above it and enabled.
     Below(InterId),

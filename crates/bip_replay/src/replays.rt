@@ -1,8 +1,8 @@
 //! Replaying a trace: whether the grants of a text are a run of a model.
-ghost use Rattle.std.specs.Prelude.{◌<◌, ℕ, IfOk, IfErr};
+ghost use Rattle.std.specs.Prelude.{◌<◌, ℕ, [], IfOk, IfErr};
 ghost use Rattle.bip_model.specs.Numbering.{last_number};
-ghost use Rattle.bip_replay.specs.Runs.{standing_of};
-ghost use Rattle.bip_replay.specs.Replays.{IsReplayFault, IsRunOf, Takes};
+ghost use Rattle.bip_replay.specs.Runs.{StandsAfter, standing_of};
+ghost use Rattle.bip_replay.specs.Replays.{IsFirstFault, IsReplayFault, IsRunOf, Takes};
 
 use crate::expected::read_expected;
 use crate::guesses::Guesses;
@@ -27,13 +27,27 @@ pub fn replay(
     ensures fault { IfErr result (λ e. IsReplayFault model.now base text.now e.0 e.1) }
 {
     let mut room = Room::new();
-    let Ok(mut position) = Position::start(alloc, model, base) else {
-        return Err((1, told_without_memory(&mut room, model, text)));
-    };
+    match Position::start(alloc, model, base) {
+        Ok(position) => replay_from(position, &mut room, text),
+        Err(_) => Err((1, told_without_memory(&mut room, model, text))),
+    }
+}
+
+// The same from the start of a run, which takes no memory.
+fn replay_from(
+    mut position: Position<'_>,
+    room: &mut Room,
+    text: &[u8],
+) -> Result<u64, (u64, ReplayFault)>
+    requires { StandsAfter position.model position.base [] (standing_of position) }
+    ensures run { IfOk result (IsRunOf position.entry.model position.entry.base text.now) }
+    ensures fault { IfErr result (λ e.
+        IsFirstFault position.entry.model position.entry.base text.now e.0 e.1) }
+{
     let mut guesses = Guesses::new();
     let mut count = 0;
     for (number, line) in NumberedLines::of(text) {
-        match take_line(&mut position, &mut guesses, &mut room, line) {
+        match take_line(&mut position, &mut guesses, room, line) {
             Ok(found) => count += u64::from(found),
             Err(fault) => return Err((number, fault)),
         }

@@ -10,8 +10,8 @@ use bip_model::{Grant, Model, NumberedLines, Wants};
 use std::alloc::Global;
 
 /// The grants of a trace of a model, or the number of the first line at fault with its fault; what
-/// follows that line doesn't count. Want of memory names a line that isn't at fault, and none
-/// before it is (docs/DEFINITIONS.md, "Traces").
+/// follows that line doesn't count. Want of memory names the line of a grant, and no line before it
+/// is at fault (docs/DEFINITIONS.md, "Traces").
 pub fn read_trace(
     alloc: Global,
     model: &Model,

@@ -1,25 +1,14 @@
-use Rattle.std.proofs.Common.{arith}
-use Rattle.bip_replay.specs.Runs.{standing_of}
-use Rattle.bip_replay.proofs.ReadingLemmas.{so_far-below, so_far-end, so_far-fault, so_far-more, so_far-none}
+use Rattle.bip_replay.proofs.ReadingLemmas.{ran_from, starts_itself, told_from}
 use Rattle.bip_replay.proofs.replays.replay.Goals as goal
 
-pub loop-number-init : goal.loop-number-init
-loop-number-init c = rw c.into_iter-number-iterator.ensures.into_iter_gives (rw c.of-number-items.ensures (so_far-none c.args.model.now c.args.base c.args.text.now (standing_of c.in-Ok.position) c.in-Ok.ensures))
+pub replay_from-requires : goal.replay_from-requires
+replay_from-requires c = starts_itself c.args.model.now c.args.base c.in-Ok.position c.in-Ok.ensures
 
-pub overflow_add-count : goal.overflow_add-count
-overflow_add-count c =
-    let below = so_far-below _ _ _ _ _ _ _ _ _ c.loop-number.invariant c.in-Some.ensures.steps in
-    grind (arith, c.from-count.ensures)
+pub returns-in-Ok-clause-run : goal.returns-in-Ok-clause-run
+returns-in-Ok-clause-run c = ran_from c.args.model.now c.args.base c.in-Ok.position c.in-Ok.ensures c.args.text.now c.replay_from.result c.replay_from.ensures.run
 
-pub loop-number-preserved : goal.loop-number-preserved
-loop-number-preserved c =
-    rw c.from-count.ensures (so_far-more _ _ _ _ _ _ _ _ _ (standing_of c.take_line.new.position) _ c.loop-number.invariant c.in-Some.ensures.steps c.in-Ok-take_line.ensures)
-
-pub returns-in_default-clause-fault : goal.returns-in_default-clause-fault
-returns-in_default-clause-fault c = c.told_without_memory.ensures c.args.base
+pub returns-in-Ok-clause-fault : goal.returns-in-Ok-clause-fault
+returns-in-Ok-clause-fault c = told_from c.args.model.now c.args.base c.in-Ok.position c.in-Ok.ensures c.args.text.now c.replay_from.result c.replay_from.ensures.fault
 
 pub returns-in-Err-clause-fault : goal.returns-in-Err-clause-fault
-returns-in-Err-clause-fault c = so_far-fault _ _ _ _ _ _ _ _ (standing_of c.loop-number.position) (standing_of c.take_line.new.position) c.in-Err.fault c.loop-number.invariant c.in-Some.ensures.steps c.in-Err.ensures
-
-pub returns-clause-run : goal.returns-clause-run
-returns-clause-run c = so_far-end _ _ _ (standing_of c.loop-number.position) _ _ c.loop-number.invariant c.in-None.ensures.steps.0
+returns-in-Err-clause-fault c = c.told_without_memory.ensures c.args.base

@@ -1,6 +1,0 @@
-use Rattle.bip_replay.specs.Runs.{standing_of}
-use Rattle.bip_replay.proofs.ReadingLemmas.{SoFar}
-use Rattle.bip_replay.proofs.replays.replay.Given as goal
-
-abbrev pub invariant-loop-number : goal.invariant-loop-number
-invariant-loop-number l = SoFar l.model l.base l.text (standing_of l.position) l.count l.number-iterator
