@@ -20,7 +20,7 @@ returns-clause-run g c = record {
     seeded = rw c.from.ensures at c.run_seed-report.ensures.1;
     is = c.trace-trace.ensures.trace;
   };
-  whole = c.is_whole.ensures c.if-not-is_whole.false;
+  whole = c.is_whole.ensures.0 c.if-not-is_whole.false;
   run = search rules;
   counted = refl;
 }
