@@ -52,9 +52,9 @@ impl<'p, B: bip_bank::Bank> World<'p, B> {
     }
 
     /// Does one event: the node that it addresses acts, and its grant joins the trace; what it
-    /// sends is put last. Want of memory skips a submission, a try that asks for a local interaction
-    /// or a step of the bank, and then the world stays as it was; of what any event sends, messages
-    /// can be lost.
+    /// sends is put last. Want of memory skips a submission, a try that asks for a local
+    /// interaction or a step of the bank, and then the world stays as it was; of what any event
+    /// sends, messages can be lost.
     pub fn step(&mut self, event: Event) -> Result<Did, AllocError>
         ensures step { IfOk result (λ did. IsStep (world_of self.old) event did
             (world_of self.new)) }

@@ -1,6 +1,7 @@
 -- What runs, faults and texts of grants mean, in the subject's own words.
 use Rattle.std.specs.Prelude.{◌≡◌, ◌↔◌, ◌⊎◌, ℕ, ◌+◌, ◌<◌, ◌≤◌, nat_lt, List, [], ◌∷◌, ◌++◌, length}
-use Rattle.std.specs.Prelude.{filter, Err, IsOk, Ok, Some, All, IsTrue, codes, slice_get, slice_index_or}
+use Rattle.std.specs.Prelude.{filter, Err, IsOk, Ok, Some, All, IsTrue, codes, slice_get}
+use Rattle.std.specs.Prelude.{slice_index_or}
 use Rattle.std.specs.List.{AllZip}
 use Rattle.std.specs.List.Sorted.{IsPermutation, IsStrictlyIncreasing}
 use Rattle.bip_model.specs.Grants.{IsHistory, MovesOnceEach}
@@ -184,8 +185,8 @@ GrantsLineByLine =
     (m : System) (text : List ℕ) (gs : List Grant) → IsSystem m
     → (grants_of m text ≡ Ok gs) ↔ AreGrantLines m (lines text) gs
 
--- lines the first of which at fault, with a number counted from 1, has a fault: those before it have
--- none
+-- the first line of a text that is at fault, with its number, counted from 1, and its fault: those
+-- before it have none
 pub record IsFirstLineAtFault (m : System) (text : List (List ℕ)) (number : ℕ) (fault : LineFault)
     : Type 0 where
   pub before : List (List ℕ)
