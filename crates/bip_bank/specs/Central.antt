@@ -1,15 +1,13 @@
 -- The central bank: one table, and the open requests.
-use Rattle.std.specs.Prelude.{◌≡◌, ◌↔◌, ◌⊎◌, ℕ, ⊤, List, [], ◌∷◌, Some, Ok, Err, length, map}
-use Rattle.std.specs.Prelude.{slice_get, slice_index_or, slice_set, All, Contains, IsTrue, None}
+use Rattle.std.specs.Prelude.{◌≡◌, ◌↔◌, ◌⊎◌, ℕ, ⊤, List, [], ◌∷◌, Ok, Err, length, map}
+use Rattle.std.specs.Prelude.{slice_index_or, slice_set, All, Contains, IsTrue, None}
 use Rattle.std.specs.List.Sorted.{IsStrictlyIncreasing}
 use Rattle.bip_model.specs.Grants.{used_by}
-use Rattle.bip_model.specs.Priorities.{inter}
 use Rattle.bip_model.specs.Wants.{IsFresh}
 use Rattle.bip_model.specs.declared.messages.Request.{Request}
 use Rattle.bip_model.specs.declared.numbering.CompId.{CompId}
-use Rattle.bip_model.specs.declared.numbering.InterId.{InterId}
-use Rattle.bip_partition.specs.Plans.{AreStations, IsFit, IsTabled, Planned}
-use Rattle.bip_table.specs.Reservations.{IsTableAnswer, IsTableAfter, KeptRows, end_of_serials}
+use Rattle.bip_partition.specs.Plans.{IsFit, IsTabled, Planned}
+use Rattle.bip_table.specs.Reservations.{IsTableAnswer, IsTableAfter, KeptRows}
 use Rattle.bip_table.specs.Rows.{has_row}
 use Rattle.bip_table.specs.declared.faults.TableFault.TheVariants.{Ended, Memory, UnknownRow}
 use Rattle.bip_bank.specs.Banks.{CanDecide, IsStationOf, KeptBank, content_of, used_above}
