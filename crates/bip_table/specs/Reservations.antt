@@ -107,10 +107,11 @@ with_grant g t =
       serial = t.serial + 1;
     }
 
--- what an answer leaves: a grant joins the table, and takes room for one where there is any;
--- otherwise all stays as it was
+-- what an answer leaves: a grant joins the table, and takes exactly one place of its room where
+-- there is any; otherwise all stays as it was
 abbrev pub IsTableAfter : Request → Result Decision TableFault → KeptRows → KeptRows → Type 0
 IsTableAfter q (Ok (Granted serial)) t later =
-    (reservations later ≡ with_grant (grant_of q) (reservations t)) × (t.room ≤ later.room + 1)
+    (reservations later ≡ with_grant (grant_of q) (reservations t))
+    × (0 < t.room → later.room + 1 ≡ t.room)
 IsTableAfter q (Ok (Refused c n)) t later = later ≡ t
 IsTableAfter q (Err fault) t later = later ≡ t
