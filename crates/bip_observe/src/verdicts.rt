@@ -1,5 +1,6 @@
 //! The decision of a class on an interaction, by the offers that it holds.
-ghost use Rattle.std.specs.Prelude.{◌≡◌, ◌<◌, ◌≤◌, All, find, length, map, not, take};
+ghost use Rattle.std.specs.Prelude.{◌≡◌, ℕ, ◌<◌, ◌≤◌, [], All, find, length, map, not};
+ghost use Rattle.std.specs.Prelude.{slice_index_or, take};
 ghost use Rattle.std.specs.List.{list_all};
 ghost use Rattle.std.specs.Option.{option_map};
 ghost use Rattle.bip_model.specs.Parts.{Participant};
@@ -124,9 +125,10 @@ impl<'p> Offers<'p> {
     /// one of which no offer is held are empty.
     pub fn values_of(&self, participants: &[(CompId, PortId)]) -> [Values; MOST_PARTICIPANTS]
         requires { length participants.now ≤ MOST_PARTICIPANTS }
-        ensures { take (length participants.now) result
+        ensures values { take (length participants.now) result
             ≡ map (λ (q : Participant). (offers_of (observed self.now) q.0.0).values)
             participants.now }
+        ensures empty { (k : ℕ) → length participants.now ≤ k → slice_index_or result k [] ≡ [] }
     {
         let mut values = [Values::none(); MOST_PARTICIPANTS];
         for (place, participant) in participants.iter().enumerate() {
