@@ -24,17 +24,17 @@ pub record AreExplained (b : BankContent) : Type 0 where
   pub history : IsHistory (λ c. b.base) b.grants
   pub explained : b.used ≡ used_by (λ c. b.base) b.grants
 
-decided_explained : (b : BankContent) (q : Request) (d : Decision) (open' : ℕ → List Request) (turns : Option (List ℕ)) → IsDecision b.used q.wants d → AreExplained b → AreExplained (record (with_decision q d b) { waiting = open'; turns = turns })
-decided_explained b q (Granted serial) open' turns fresh are = record {
+decided_explained : (b : BankContent) (q : Request) (d : Decision) (open' : ℕ → List Request) (lacking : Option (List ℕ)) → IsDecision b.used q.wants d → AreExplained b → AreExplained (record (with_decision q d b) { waiting = open'; lacking = lacking })
+decided_explained b q (Granted serial) open' lacking fresh are = record {
   history = (IsHistory-append (λ c. b.base) b.grants (grant_of q ∷ [])).1 (are.history, (subst (λ (u : ℕ → ℕ). IsFresh u q.wants) are.explained fresh, tt));
   explained = ap (λ (u : ℕ → ℕ). raised u q.wants) are.explained ∙ sym (used_by-push (λ c. b.base) b.grants (grant_of q));
 }
-decided_explained b q (Refused c n) open' turns refused are = record { history = are.history; explained = are.explained }
+decided_explained b q (Refused c n) open' lacking refused are = record { history = are.history; explained = are.explained }
 
 acted_explained : (b next : BankContent) (did : Acted) → IsActed did b next → AreExplained b → AreExplained next
 acted_explained b next Nothing is are = subst AreExplained (sym is) are
 acted_explained b next Moved is are = subst AreExplained (sym is.1) (record { history = are.history; explained = are.explained })
-acted_explained b next (Answered q d) is are = subst AreExplained (sym is.after) (decided_explained b q d (put b.waiting q.inter.0 is.rest) next.turns is.decision are)
+acted_explained b next (Answered q d) is are = subst AreExplained (sym is.after) (decided_explained b q d (put b.waiting q.inter.0 is.rest) next.lacking is.decision are)
 
 stay_explained : (b later : BankContent) → AreExplained b → Lead b later → AreExplained later
 stay_explained b later are at_once = are
@@ -95,22 +95,22 @@ pub record AllFit (b : BankContent) : Type 0 where
 put_fit : (p : Planned) (open' : ℕ → List Request) (a : ℕ) (qs : List Request) → ((k : ℕ) → All (λ (q : Request). IsFit p q) (open' k)) → All (λ (q : Request). IsFit p q) qs → (k : ℕ) → All (λ (q : Request). IsFit p q) (put open' a qs k)
 put_fit p open' a qs all these k = elim (eqb_tells k a) [ inl same ↦ rw same.0 these | inr other ↦ rw other.0 (all k) ]
 
-decided_fit : (b : BankContent) (q : Request) (d : Decision) (rest : List Request) (turns : Option (List ℕ)) → b.waiting q.inter.0 ≡ q ∷ rest → AllFit b → AllFit (record (with_decision q d b) { waiting = put b.waiting q.inter.0 rest; turns = turns })
-decided_fit b q (Granted serial) rest turns oldest all =
+decided_fit : (b : BankContent) (q : Request) (d : Decision) (rest : List Request) (lacking : Option (List ℕ)) → b.waiting q.inter.0 ≡ q ∷ rest → AllFit b → AllFit (record (with_decision q d b) { waiting = put b.waiting q.inter.0 rest; lacking = lacking })
+decided_fit b q (Granted serial) rest lacking oldest all =
     let open' = subst (λ (qs : List Request). All (λ (r : Request). IsFit b.plan r) qs) oldest (all.waiting q.inter.0) in
     let fit : IsFit b.plan q = All-head (λ (r : Request). IsFit b.plan r) q rest open' in
     record {
       grants = All-push (IsAllowed b.plan) b.grants (grant_of q) all.grants (record { reserved = fit.reserved; parties = fit.parties });
       waiting = put_fit b.plan b.waiting q.inter.0 rest all.waiting (All-tail (λ (r : Request). IsFit b.plan r) q rest open');
     }
-decided_fit b q (Refused c n) rest turns oldest all =
+decided_fit b q (Refused c n) rest lacking oldest all =
     let open' = subst (λ (qs : List Request). All (λ (r : Request). IsFit b.plan r) qs) oldest (all.waiting q.inter.0) in
     record { grants = all.grants; waiting = put_fit b.plan b.waiting q.inter.0 rest all.waiting (All-tail (λ (r : Request). IsFit b.plan r) q rest open') }
 
 acted_fit : (b next : BankContent) (did : Acted) → IsActed did b next → AllFit b → AllFit next
 acted_fit b next Nothing is all = subst AllFit (sym is) all
 acted_fit b next Moved is all = subst AllFit (sym is.1) (record { grants = all.grants; waiting = all.waiting })
-acted_fit b next (Answered q d) is all = subst AllFit (sym is.after) (decided_fit b q d is.rest next.turns is.oldest all)
+acted_fit b next (Answered q d) is all = subst AllFit (sym is.after) (decided_fit b q d is.rest next.lacking is.oldest all)
 
 stay_fit : (b later : BankContent) → AllFit b → Lead b later → AllFit later
 stay_fit b later all at_once = all

@@ -1,4 +1,4 @@
--- The central bank: which requests have rows, what a station's turn leaves, and when it doesn't apply.
+-- The central bank: which requests have rows, what serving a station leaves, and when that doesn't apply.
 use Rattle.std.proofs.Common.{◌≡◌, ◌↔◌, ℕ, ◌<◌, Bool, true, List, [], ◌∷◌, ◌++◌, map, length, get_or, set, replicate, None, Some, slice_get, refl, sym, ap, ◌∙◌, subst, inl, inr, arith}
 use Rattle.std.specs.Prelude.{All, Contains, IfErr, IfOk, IsTrue, OnErr, Ok, Err, Result}
 use Rattle.std.specs.declared.alloc.AllocError.{AllocError}
@@ -62,7 +62,7 @@ open_put : (p : Planned) (waiting : ℕ → List Request) (a : ℕ) (qs : List R
 open_put p waiting a qs all these k = elim (eqb_tells k a) [ inl same ↦ rw (same.0, same.1) these | inr other ↦ rw other.0 (all k) ]
 
 abbrev content : Planned → ℕ → (ℕ → ℕ) → List Grant → (ℕ → List Request) → BankContent
-content p base u gs w = record { plan = p; base = base; used = u; grants = gs; waiting = w; turns = None }
+content p base u gs w = record { plan = p; base = base; used = u; grants = gs; waiting = w; lacking = None }
 
 same_content : (p : Planned) (base : ℕ) (u v : ℕ → ℕ) (gs hs : List Grant) (w x : ℕ → List Request) → u ≡ v → gs ≡ hs → w ≡ x
     → content p base u gs w ≡ content p base v hs x
@@ -127,7 +127,7 @@ serves c a t later (Answered q (decision.Granted s)) is within (rest, oldest, an
         rest = rest;
         oldest = ap (λ k. get_or c.waiting k []) open'.0.1 ∙ oldest;
         decision = fresh_above c.base c.table.rows q.wants rows answer.0.fresh;
-        turns = refl;
+        lacking = refl;
         after = same_content c.plan c.base _ _ _ _ _ _ above journal (rw open'.0.1 (read_put c.waiting later a rest within same));
       };
     }
@@ -141,7 +141,7 @@ serves c a t later (Answered q (decision.Refused d n)) is within (rest, oldest, 
         rest = rest;
         oldest = ap (λ k. get_or c.waiting k []) open'.0.1 ∙ oldest;
         decision = decision_above c.base c.table.rows q.wants (decision.Refused d n) rows answer.1;
-        turns = refl;
+        lacking = refl;
         after = same_content c.plan c.base _ _ _ _ _ _ refl refl (rw open'.0.1 (read_put c.waiting later a rest within same));
       };
     })
@@ -222,7 +222,7 @@ pub first_content : (p : Planned) (base : ℕ) (list : List CompId) (t : KeptRow
 first_content p base list t waiting rows none empty =
     same_content p base _ _ _ _ _ _ (rw rows (above_first base list)) none (ap (λ (w : List (List Request)). λ (k : ℕ). get_or w k []) empty ∙ fun_ext (λ a. none_waits (length p.model.interactions) a))
 
--- what a station's turn leaves, with or without memory
+-- what serving a station leaves, with or without memory
 pub turn_leaves : (c : KeptCentral) (a : ℕ) (t : KeptRows) (later : List (List Request)) (r : Result Acted AllocError) → IsCentral c → a < length c.waiting → IfOk r (IsFirstDecided a c.table c.waiting t later) → OnErr r (t ≡ c.table) → OnErr r (later ≡ c.waiting)
     → IsCentral (with_parts c t later) × IfOk r (λ did. IsActed did (content_of (kept_central c)) (content_of (kept_central (with_parts c t later))))
 turn_leaves c a t later (Ok did) is within served table queues = let all = serves c a t later did is within served in (all.valid, all.content)
@@ -243,7 +243,7 @@ starves c s stations a is listed here [] same wants = absurd wants
 starves c s stations a is listed here (q ∷ rest) same wants =
     let fit = (first_open c a.0 q rest is same).0.0 in
     let can : CanDecide (content_of (kept_central c)) s.0 = record {
-      turn = tt;
+      complete = tt;
       number = a.0;
       request = q;
       rest = rest;

@@ -20,14 +20,15 @@ use Rattle.bip_bank.specs.declared.banks.BankStep.{BankStep}
 
 -- the content of a bank: its plan and base, which stay; the used number of each component, the
 -- grants in order of decision, and the open requests of each interaction, the oldest first; and the
--- stations whose turn it isn't, or nothing where each can decide at any time
+-- stations that lack some of what stations share (a token, forks), or nothing where they share
+-- nothing
 pub record BankContent : Type 0 where
   pub plan : Planned
   pub base : ℕ
   pub used : ℕ → ℕ
   pub grants : List Grant
   pub waiting : ℕ → List Request
-  pub turns : Option (List ℕ)
+  pub lacking : Option (List ℕ)
 
 -- what is kept of it: used numbers as rows, and open requests interaction by interaction
 pub record KeptBank : Type 0 where
@@ -36,7 +37,7 @@ pub record KeptBank : Type 0 where
   pub rows : List Row
   pub grants : List Grant
   pub waiting : List (List Request)
-  pub turns : Option (List ℕ)
+  pub lacking : Option (List ℕ)
 
 -- the used numbers that rows give above a base, which is that of a component without a row
 abbrev pub used_above : ℕ → List Row → ℕ → ℕ
@@ -51,19 +52,19 @@ content_of b =
       used = used_above b.base b.rows;
       grants = b.grants;
       waiting = λ a. slice_index_or b.waiting a [];
-      turns = b.turns;
+      lacking = b.lacking;
     }
 
 -- the content of a bank that was asked nothing yet
 abbrev pub asked_nothing : Planned → ℕ → Option (List ℕ) → BankContent
-asked_nothing p base turns =
+asked_nothing p base lacking =
     record {
       plan = p;
       base = base;
       used = λ c. base;
       grants = [];
       waiting = λ a. [];
-      turns = turns;
+      lacking = lacking;
     }
 
 -- with one more open request, the newest of its interaction
@@ -78,26 +79,27 @@ with_decision q (Granted serial) b =
     record b { used = raised b.used q.wants; grants = b.grants ++ grant_of q ∷ [] }
 with_decision q (Refused c n) b = b
 
--- whose turn it is may change, but not whether stations take turns
-abbrev pub MayTurn : BankContent → BankContent → Type 0
-MayTurn b later = is_some later.turns ≡ is_some b.turns
+-- what stations share may be handed over, so that others lack some of it; whether they share
+-- anything stays
+abbrev pub MayHandOver : BankContent → BankContent → Type 0
+MayHandOver b later = is_some later.lacking ≡ is_some b.lacking
 
 -- the oldest open request of an interaction was decided by the used numbers, and is open no more
 pub record IsDecided (q : Request) (d : Decision) (b later : BankContent) : Type 0 where
   pub rest : List Request
   pub oldest : b.waiting q.inter.0 ≡ q ∷ rest
   pub decision : IsDecision b.used q.wants d
-  pub turns : MayTurn b later
+  pub lacking : MayHandOver b later
   pub after : later
       ≡ record (with_decision q d b) {
         waiting = put b.waiting q.inter.0 rest;
-        turns = later.turns;
+        lacking = later.lacking;
       }
 
 -- what a step leaves, by what it did: only a decision changes numbers, grants and open requests
 abbrev pub IsActed : Acted → BankContent → BankContent → Type 0
 IsActed Nothing b later = later ≡ b
-IsActed Moved b later = MayTurn b later × (later ≡ record b { turns = later.turns })
+IsActed Moved b later = MayHandOver b later × (later ≡ record b { lacking = later.lacking })
 IsActed (Answered q d) b later = IsDecided q d b later
 
 -- a station decides for an interaction
@@ -106,19 +108,19 @@ pub record IsStationOf (p : Planned) (s a : ℕ) : Type 0 where
   pub listed : AreStations p stations
   pub here : slice_get stations s ≡ Some (inter a)
 
--- it is a station's turn
-abbrev pub HasTurn : Option (List ℕ) → ℕ → Type 0
-HasTurn None s = ⊤
-HasTurn (Some others) s = ¬ Contains others s
+-- a station lacks nothing of what stations share
+abbrev pub LacksNothing : Option (List ℕ) → ℕ → Type 0
+LacksNothing None s = ⊤
+LacksNothing (Some lacking) s = ¬ Contains lacking s
 
 -- a decision on a request is ended: it would be granted, and no serial is left
 abbrev pub IsEnded : BankContent → Request → Type 0
 IsEnded b q = IsFresh b.used q.wants × (length b.grants ≡ end_of_serials)
 
--- a station can decide: it is its turn, its interaction has an open request, and the decision on
+-- a station can decide: it lacks nothing, its interaction has an open request, and the decision on
 -- the oldest one isn't ended
 pub record CanDecide (b : BankContent) (s : ℕ) : Type 0 where
-  pub turn : HasTurn b.turns s
+  pub complete : LacksNothing b.lacking s
   pub number : ℕ
   pub request : Request
   pub rest : List Request
@@ -127,11 +129,11 @@ pub record CanDecide (b : BankContent) (s : ℕ) : Type 0 where
   pub left : ¬ IsEnded b request
 
 -- what a step does: a station that can decide does, for its interaction, and one that can't does
--- nothing; no other step decides, and something moves only where stations take turns
+-- nothing; no other step decides, and something moves only where stations share something
 abbrev pub DoesStep : BankContent → BankStep → Acted → Type 0
 DoesStep b (Serve s) Nothing = ¬ CanDecide b s.0
 DoesStep b (Serve s) Moved = ⊥
-DoesStep b (Serve s) (Answered q d) = HasTurn b.turns s.0 × IsStationOf b.plan s.0 q.inter.0
+DoesStep b (Serve s) (Answered q d) = LacksNothing b.lacking s.0 × IsStationOf b.plan s.0 q.inter.0
 DoesStep b step Nothing = ⊤
-DoesStep b step Moved = IsSome b.turns
+DoesStep b step Moved = IsSome b.lacking
 DoesStep b step (Answered q d) = ⊥

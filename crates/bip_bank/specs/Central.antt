@@ -32,7 +32,7 @@ kept_central c =
       rows = c.table.rows;
       grants = c.table.journal;
       waiting = c.waiting;
-      turns = None;
+      lacking = None;
     }
 
 -- an open request of an interaction, which fits the plan

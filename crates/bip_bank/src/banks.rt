@@ -59,9 +59,9 @@ pub trait Bank {
         ensures back { IfErr result (λ refused. refused.0 ≡ request) };
 
     /// Does a step. A station that is served decides on the oldest open request of its
-    /// interaction, where it is its turn, it has one, and the decision isn't ended: it grants where
-    /// the request is fresh, and else refuses with the lowest component that isn't. No other step
-    /// decides. Without memory the content stays as it was.
+    /// interaction, where it lacks nothing of what stations share, there is one, and the decision
+    /// isn't ended: it grants where the request is fresh, and else refuses with the lowest
+    /// component that isn't. No other step decides. Without memory the content stays as it was.
     fn act(&mut self, step: BankStep) -> Result<Acted, AllocError>
         ensures does { IfOk result (DoesStep (content_of (kept self.old)) step) }
         ensures acted { IfOk result (λ acted. IsActed acted (content_of (kept self.old))

@@ -127,7 +127,9 @@ impl<'p> Bank for Central<'p> {
         self.table.journal()
     }
 
-    fn in_flight(&self) -> usize {
+    fn in_flight(&self) -> usize
+        ensures { result ≡ 0 }
+    {
         0
     }
 }

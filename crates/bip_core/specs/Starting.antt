@@ -41,14 +41,14 @@ AreOffersBelow (suc c) p nodes messages =
     × AreOffersBelow c p nodes before × (messages ≡ before ++ last)
 
 -- a world at the start: all nodes are as they begin, what each component offers is in flight, and
--- nothing else; nothing was granted, and the bank was asked nothing, whose turn ever it is
+-- nothing else; nothing was granted, and the bank was asked nothing, whatever its stations lack
 pub record IsNewWorld (p : Planned) (base : ℕ) (w : WorldContent) : Type 0 where
   pub plan : w.plan ≡ p
   pub components : (c : ℕ) → IsFirstComponent p base c (w.components c)
   pub classes : (k : ℕ) → IsFirstClass p base k (w.classes k)
   pub mail : AreOffersBelow (length p.model.components) p w.components w.mail
   pub trace : w.trace ≡ []
-  pub bank : w.bank ≡ asked_nothing p base w.bank.turns
+  pub bank : w.bank ≡ asked_nothing p base w.bank.lacking
 
 -- What contracts of private functions say.
 

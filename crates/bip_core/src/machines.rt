@@ -82,8 +82,8 @@ impl<'p, B: bip_bank::Bank> Machine<'p, B> {
         requires base { base < last_number }
         requires unasked { IsUnasked plan.now base (content_of (B.kept bank)) }
         ensures new { IfOk result (λ machine. IsNewWorld plan.now base (world_of machine)) }
-        ensures turns { IfOk result (λ machine. (world_of machine).bank.turns
-            ≡ (B.kept bank).turns) }
+        ensures lacking { IfOk result (λ machine. (world_of machine).bank.lacking
+            ≡ (B.kept bank).lacking) }
     {
         let _granted = bank.grants();
         let components = first_components(alloc, plan, base)?;

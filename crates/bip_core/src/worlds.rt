@@ -32,8 +32,8 @@ impl<'p, B: bip_bank::Bank> marker::Model for World<'p, B> {
 impl<'p, B: bip_bank::Bank> World<'p, B> {
     /// The world of a plan at the start: each component offers its first move, with the number
     /// above the base, to each class that touches it, and no other message is in flight. The bank
-    /// is one of that plan and base, without grants or open requests; the turns of its stations are
-    /// as they were.
+    /// is one of that plan and base, without grants or open requests; its stations lack what they
+    /// lacked.
     pub fn new(
         alloc: Global,
         plan: &'p Plan,
@@ -45,7 +45,8 @@ impl<'p, B: bip_bank::Bank> World<'p, B> {
         requires base { base < last_number }
         requires unasked { IsUnasked plan.now base (content_of (B.kept bank)) }
         ensures new { IfOk result (λ world. IsNewWorld plan.now base (world_of world)) }
-        ensures turns { IfOk result (λ world. (world_of world).bank.turns ≡ (B.kept bank).turns) }
+        ensures lacking { IfOk result (λ world. (world_of world).bank.lacking
+            ≡ (B.kept bank).lacking) }
     {
         let machine = Machine::new(alloc, plan, bank, base)?;
         Ok(World { machine })

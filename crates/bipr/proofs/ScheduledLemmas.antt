@@ -24,7 +24,7 @@ has_answered-no_schedule p base schedule complaint answer number fault same writ
 
 pub has_answered-stepped : (p : Planned) (base : ℕ) (schedule trace told : List ℕ) (answer : Answer) (events : List Event) (w v : WorldContent) (report : Report)
     → answer ≡ reporting trace told → trace ≡ text_of p.model v.trace → told ≡ report_text report
-    → IsEventText p schedule events → IsNewWorld p base w → w.bank.turns ≡ None → IsRunOfEvents events w v report → IsScheduleAnswer p base schedule answer
-has_answered-stepped p base schedule trace told answer events w v report same written reported is begins turns run =
+    → IsEventText p schedule events → IsNewWorld p base w → w.bank.lacking ≡ None → IsRunOfEvents events w v report → IsScheduleAnswer p base schedule answer
+has_answered-stepped p base schedule trace told answer events w v report same written reported is begins lacking run =
     subst (IsScheduleAnswer p base schedule) (sym (same ∙ (ap (λ (t : List ℕ). reporting t told) written ∙ ap (λ (r : List ℕ). reporting (text_of p.model v.trace) r) reported)))
-    (stepped events w v report is begins turns run)
+    (stepped events w v report is begins lacking run)

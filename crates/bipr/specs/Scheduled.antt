@@ -21,10 +21,10 @@ reporting trace report = record { status = Done; output = trace; complaint = rep
 
 -- the answer to the text of a schedule for a plan, from a base
 pub data IsScheduleAnswer (p : Planned) (base : ℕ) (schedule : List ℕ) : Answer → Type 0 where
-  -- its events lead from the new world, whose stations take no turns, to one with this trace, and
+  -- its events lead from the new world, whose stations share nothing, to one with this trace, and
   -- this is their report
   stepped : (events : List Event) (w v : WorldContent) (report : Report)
-      → IsEventText p schedule events → IsNewWorld p base w → w.bank.turns ≡ None
+      → IsEventText p schedule events → IsNewWorld p base w → w.bank.lacking ≡ None
       → IsRunOfEvents events w v report
       → IsScheduleAnswer p base schedule (reporting (text_of p.model v.trace) (report_text report))
   -- the text is none

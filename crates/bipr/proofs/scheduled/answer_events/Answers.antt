@@ -10,5 +10,5 @@ returns c = λ text is.
     c.in_ok-told.ensures
     is
     c.in_ok-world.ensures.new
-    c.in_ok-world.ensures.turns
+    c.in_ok-world.ensures.lacking
     c.run_steps-report.ensures.run
