@@ -95,7 +95,8 @@ fn transition(
 }
 
 /// The fault of a transition whose guard or update is too long: a name that isn't known comes
-/// before that, and whatever else is refused comes behind it. Want of memory hides no such name.
+/// before that, and whatever else is refused comes behind it. Want of memory hides no such name of
+/// the guard or the update.
 fn long_transition(
     alloc: Global,
     builder: &mut Builder,
