@@ -1,11 +1,13 @@
 pub mod AnswerLemmas
 pub mod CheckLemmas
+pub mod CommandLineLemmas
 pub mod EndingLemmas
 pub mod ExploredLemmas
 pub mod KnownLemmas
 pub mod MarkLemmas
 pub mod OneAnswerLemmas
 pub mod OneCheckLemmas
+pub mod ProgramLemmas
 pub mod ReplayLemmas
 pub mod ScheduledLemmas
 pub mod SomeAnswerLemmas

@@ -6,6 +6,7 @@ pub mod Endings
 pub mod Explored
 pub mod Inputs
 pub mod Laws
+pub mod Program
 pub mod Refusals
 pub mod Scheduled
 pub mod Sources

@@ -1,7 +1,10 @@
 //! The commands, and what they have in common.
-ghost use Rattle.std.specs.Prelude.{◌≡◌, Ok, Err, IfErr, IfOk};
+ghost use Rattle.std.specs.Prelude.{◌≡◌, Ok, Err, IfErr, IfOk, map};
+ghost use Rattle.std.specs.String.{string_bytes};
+ghost use Rattle.clap.specs.Words.{subcommand_rows_of};
 ghost use Rattle.bipr.specs.Commands.{IsCarriedOut, IsCarriedOutBy};
 ghost use Rattle.bipr.specs.Endings.{EndsExplaining, EndsTelling};
+ghost use Rattle.bipr.specs.Program.{IsParse};
 ghost use Rattle.bipr.specs.Stops.{answer_of_stop, unread};
 ghost use Rattle.bipr.specs.Streams.{Puts};
 ghost use Rattle.bipr.specs.declared.inputs.InputFault.{InputFault};
@@ -12,9 +15,10 @@ pub mod replay;
 pub mod steps;
 
 use crate::answers::Status;
-use crate::command_line::{Asked, command, is_explained, read_arguments};
+use crate::command_line::{Asked, is_explained, read_arguments};
 use crate::endings::{complain, explain};
 use crate::inputs::Inputs;
+use crate::program::{RESOLVERS, program};
 use crate::refusals::{refuse_base, refuse_parse};
 use crate::stops::{NO_MEMORY, Stop};
 use crate::streams::Stream;
@@ -36,13 +40,13 @@ pub fn carry_out<'a, I: Inputs, O: Stream, E: Stream>(
     output: &mut O,
     errors: &mut E,
 ) -> Status
-    ensures { EndsExplaining (IsCarriedOut (I.gives inputs.now))
+    ensures { EndsExplaining (IsCarriedOut (map string_bytes words.now) (I.gives inputs.now))
         (Puts O.writes output.old output.new) E.writes errors.old errors.new result }
 {
-    let Ok(command) = command(alloc) else {
+    let Ok(program) = program(alloc, RESOLVERS) else {
         return complain(output, errors, Status::NoMemory, NO_MEMORY);
     };
-    match command.try_get_matches_from(words) {
+    match program.try_get_matches_from(words) {
         Ok(matches) => carry_out_matches(alloc, &matches, inputs, output, errors),
         Err(error) => refuse_parse(alloc, output, errors, &error),
     }
@@ -56,7 +60,8 @@ fn carry_out_matches<I: Inputs, O: Stream, E: Stream>(
     output: &mut O,
     errors: &mut E,
 ) -> Status
-    ensures { EndsExplaining (IsCarriedOut (I.gives inputs.now))
+    ensures { (words : _) → IsParse words (subcommand_rows_of matches.now)
+        → EndsExplaining (IsCarriedOut words (I.gives inputs.now))
         (Puts O.writes output.old output.new) E.writes errors.old errors.new result }
 {
     if !is_explained(matches) {
@@ -78,7 +83,7 @@ fn carry_out_asked<I: Inputs, O: Stream, E: Stream>(
     output: &mut O,
     errors: &mut E,
 ) -> Status
-    ensures { EndsTelling (IsCarriedOutBy matches.now (I.gives inputs.now))
+    ensures { EndsTelling (IsCarriedOutBy (subcommand_rows_of matches.now) (I.gives inputs.now))
         (Puts O.writes output.old output.new) E.writes errors.old errors.new result }
 {
     match read_arguments(matches) {

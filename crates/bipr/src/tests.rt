@@ -16,7 +16,8 @@ const OWN_WAYS: &str = "bip 1\ncomponent A\nloc a0\nloc a1\nport s\ntrans s a0 a
     component B\nloc b0\nloc b1\nport s\ntrans s b0 b1\nend\n\
     interaction x A.s\ninteraction y B.s\nclass P x\nclass Q y\n";
 
-/// A reader that gives one byte a call, and fails at one of its calls.
+/// A reader that gives one byte at each other call, is interrupted at those between, and fails at
+/// one of its calls.
 #[derive(Drop)]
 struct Trickle<'a> {
     rest: &'a [u8],
@@ -29,6 +30,9 @@ impl Read for Trickle<'_> {
             return Err(io::Error::from(io::ErrorKind::BrokenPipe));
         }
         self.calls_left -= 1;
+        if self.calls_left % 2 == 1 {
+            return Err(io::Error::from(io::ErrorKind::Interrupted));
+        }
         match self.rest {
             [first, rest @ ..] if !buf.is_empty() => {
                 buf[0] = *first;

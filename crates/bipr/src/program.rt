@@ -1,0 +1,275 @@
+//! The program's commands, their arguments and their help, as the library takes them.
+ghost use Rattle.std.specs.Prelude.{◌≡◌, IfOk, codes, map};
+ghost use Rattle.clap.specs.Words.{app_of};
+ghost use Rattle.bipr.specs.Program.{HasRule, HasShape, base_option, check_command};
+ghost use Rattle.bipr.specs.Program.{explore_command, flag, needed, numbers, path, program};
+ghost use Rattle.bipr.specs.Program.{replay_command, resolver_option, steps_command};
+
+use clap::{Arg, ArgAction, Command, value_parser};
+use std::alloc::{AllocError, Global};
+
+const ABOUT: &str = "Says of a trace of grants whether it is an execution of a BIP model";
+
+const HELP: &str = "\
+A model is a text of components and interactions:
+
+    # a component that moves once
+    bip 1
+    component A
+    loc a0
+    loc a1
+    port s
+    trans s a0 a1
+    end
+    interaction x A.s
+    class P x
+
+A trace is a text of grants, each an interaction with its components, and of each the
+number of its move, from 1:
+
+    grant x A:1
+
+The verdict is `run N` where the trace's N grants are a run of the model from its start;
+else `line N: ..`, the first line that can't be next, and why:
+
+    x not enabled    a participant doesn't offer its port, or a guard doesn't hold
+    x below y        y has the higher priority, and is enabled
+    A expected N     N is the number of A's next move; 0: A moves no more
+    x parties        x doesn't move just the components of the line, or doesn't look at
+                     just those behind `see`
+
+Comments (lines that begin with #), blank lines and tabs are allowed. A text is refused by
+its first line at fault:
+
+    syntax           no form of a line, or not in its place. Look for CR LF line ends, a
+                     byte order mark, paths in the wrong order, a number that is cut off
+    unknown name     no line before declares it
+    named twice      it is there already
+    too many         at most 64 components, 128 interactions and 32 classes; 8 variables,
+                     64 locations, 16 ports and 256 transitions of a component; 8
+                     participants; 16 comparisons, assignments, terms of a sum
+    missing          a location or the `end` of a component, `bip 1`, or any component
+    two transitions  with one port from one location
+    priority cycle   an interaction above itself
+    not a partition  an interaction in no class, in two, or twice in one
+    touches too many more than 32 components that it moves or looks at
+
+With `--explain` one more line says what is wrong, and in which column.
+
+Status: 0 done, 1 an input is refused or the answer can't be written, 2 bad command line,
+3 no memory, 4 the trace is no run.";
+
+const CHECK_ABOUT: &str = "Counts what a model's partition costs";
+
+const CHECK_HELP: &str = "\
+The answer is one line:
+
+    components C interactions I classes K tabled T reserved R
+
+C, I and K are what the model declares. T of its components need a row in the third layer's
+table: those that some interaction looks at (a component of an interaction above it that it
+doesn't move), those that two classes touch, and with each one all that an interaction
+touches beside it. R of its interactions are reserved: they touch such components, and each
+grant of them is asked of the third layer. The other I - R are granted by their class alone.
+Fewer classes make T and R smaller; more classes let more grants go on side by side.";
+
+const REPLAY_ABOUT: &str = "Says whether a trace is a run of a model";
+
+const REPLAY_HELP: &str = "\
+A path `-` is standard input. Where both are, the model is what stands before the first
+line `---`, and the trace what stands behind it.";
+
+const STEPS_ABOUT: &str = "Runs the steps of a schedule, and says which grants they lead to";
+
+const STEPS_HELP: &str = "\
+A schedule is a text of protocol steps, one a line:
+
+    mail K          the K-th message in flight, from 0, is handed on
+    try CLASS INTER the class tries the interaction
+    serve S         the bank decides on the oldest open request of S
+    deliver K       what is K-th in flight inside the bank arrives
+    pass S T        the station of S hands over what it shares with that of T
+    ask S T         the station of S asks for it
+
+S and T are reserved interactions. At first each component's offer is in flight to each
+class that touches it, by component, then class. Of the model of `bipr --help`,
+
+    mail 0
+    try P x
+
+are steps that lead to the trace `grant x A:1`, which `bipr replay` takes. The report on
+standard error has one line: events, grants, refused requests, steps that did nothing, and
+what was skipped or lost for want of memory.";
+
+const EXPLORE_ABOUT: &str = "Runs steps by chance, and checks that each trace is a run";
+
+const EXPLORE_HELP: &str = "\
+For each seed from 1 to K, N protocol steps are drawn by chance and done, from the new
+world of the model on, as `bipr steps` does those of a schedule; and the trace to which
+they lead is checked as `bipr replay` does. Of the model of `bipr --help`,
+
+    bipr explore MODEL --resolver central --seeds 3 --events 200
+
+writes `seeds 3 runs 3`: the traces of all three seeds are runs of the model. Were one
+none, the answer would be `seed S: not a run`, of the lowest such seed. A seed draws the
+same steps each time.";
+
+/// The resolver that is one bank with one table.
+pub const CENTRAL: &str = "central";
+
+/// The resolvers, by their names.
+pub const RESOLVERS: &[&str] = &[CENTRAL];
+
+/// The program, whose bank is one of these resolvers, as the library takes it
+/// (docs/DEFINITIONS.md, "Words").
+pub fn program<'a>(alloc: Global, resolvers: &'a [&'a str]) -> Result<Command<'a>, AllocError>
+    ensures { IfOk result (λ command. app_of command ≡ program resolvers.entry) }
+{
+    Command::new(alloc, "bipr")
+        .version("0.1.0")
+        .about(ABOUT)
+        .after_help(HELP)
+        .disable_help_subcommand(true)
+        .subcommand_required(true)
+        .subcommand(check(alloc)?)?
+        .subcommand(replay(alloc)?)?
+        .subcommand(steps(alloc, resolvers)?)?
+        .subcommand(explore(alloc, resolvers)?)
+}
+
+fn check<'a>(alloc: Global) -> Result<Command<'a>, AllocError>
+    ensures { IfOk result (HasShape check_command) }
+{
+    Command::new(alloc, "check")
+        .about(CHECK_ABOUT)
+        .after_help(CHECK_HELP)
+        .arg(model(alloc))?
+        .arg(explain(alloc))
+}
+
+fn replay<'a>(alloc: Global) -> Result<Command<'a>, AllocError>
+    ensures { IfOk result (HasShape replay_command) }
+{
+    let trace = path(alloc, "trace", "TRACE").help("the path of the trace's text, or -");
+    Command::new(alloc, "replay")
+        .about(REPLAY_ABOUT)
+        .after_help(REPLAY_HELP)
+        .arg(model(alloc))?
+        .arg(trace)?
+        .arg(base(alloc).help("the number that each component has used before the trace"))?
+        .arg(explain(alloc))
+}
+
+fn steps<'a>(alloc: Global, resolvers: &'a [&'a str]) -> Result<Command<'a>, AllocError>
+    ensures { IfOk result (HasShape (steps_command resolvers.entry)) }
+{
+    let schedule = path(alloc, "schedule", "SCHEDULE").help(
+        "the path of the schedule's text, or -",
+    );
+    Command::new(alloc, "steps")
+        .about(STEPS_ABOUT)
+        .after_help(STEPS_HELP)
+        .arg(model(alloc))?
+        .arg(schedule)?
+        .arg(resolver(alloc, resolvers))?
+        .arg(base(alloc).help("the number that each component has used at first"))?
+        .arg(explain(alloc))
+}
+
+fn explore<'a>(alloc: Global, resolvers: &'a [&'a str]) -> Result<Command<'a>, AllocError>
+    ensures { IfOk result (HasShape (explore_command resolvers.entry)) }
+{
+    Command::new(alloc, "explore")
+        .about(EXPLORE_ABOUT)
+        .after_help(EXPLORE_HELP)
+        .arg(model(alloc))?
+        .arg(resolver(alloc, resolvers))?
+        .arg(seeds(alloc))?
+        .arg(events(alloc))?
+        .arg(progress(alloc))?
+        .arg(explain(alloc))
+}
+
+// The argument that all commands have.
+fn model<'a>(alloc: Global) -> Arg<'a>
+    ensures { HasRule (path (codes "model")) result }
+{
+    path(alloc, "model", "MODEL").help("the path of the model's text, or -")
+}
+
+// A path that has to be given.
+fn path<'a>(alloc: Global, name: &'a str, shown: &'a str) -> Arg<'a>
+    ensures { HasRule (path name.entry.now) result }
+{
+    Arg::new(alloc, name).value_name(shown).required(true)
+}
+
+// The option that names who grants.
+fn resolver<'a>(alloc: Global, resolvers: &'a [&'a str]) -> Arg<'a>
+    ensures { HasRule (resolver_option resolvers.entry) result }
+{
+    Arg::new(alloc, "resolver")
+        .long("resolver")
+        .value_name("R")
+        .required(true)
+        .value_parser(resolvers)
+        .help("who grants reserved interactions: one bank with one table")
+}
+
+// The option of how many seeds.
+fn seeds<'a>(alloc: Global) -> Arg<'a>
+    ensures { HasRule (needed (codes "seeds") (numbers 1 1000000)) result }
+{
+    Arg::new(alloc, "seeds")
+        .long("seeds")
+        .value_name("K")
+        .required(true)
+        .value_parser(value_parser!(u32).range(1..=1_000_000))
+        .help("how many seeds, from 1 on: 1 to 1000000")
+}
+
+// The option of how many events.
+fn events<'a>(alloc: Global) -> Arg<'a>
+    ensures { HasRule (needed (codes "events") (numbers 0 1000000)) result }
+{
+    Arg::new(alloc, "events")
+        .long("events")
+        .value_name("N")
+        .required(true)
+        .value_parser(value_parser!(u32).range(0..=1_000_000))
+        .help("how many steps of each seed: 0 to 1000000")
+}
+
+// The option that tells progress.
+fn progress<'a>(alloc: Global) -> Arg<'a>
+    ensures { HasRule (flag (codes "progress")) result }
+{
+    let help = "write `seeds D of K` on standard error with each hundredth that is done";
+    flag(alloc, "progress").help(help)
+}
+
+// The option that all commands have.
+fn explain<'a>(alloc: Global) -> Arg<'a>
+    ensures { HasRule (flag (codes "explain")) result }
+{
+    let help = "say in one more line on standard error what is wrong, and where";
+    flag(alloc, "explain").help(help)
+}
+
+// An option that takes no value.
+fn flag<'a>(alloc: Global, name: &'a str) -> Arg<'a>
+    ensures { HasRule (flag name.entry.now) result }
+{
+    Arg::new(alloc, name).long(name).action(ArgAction::SetTrue)
+}
+
+// The option of a base.
+fn base<'a>(alloc: Global) -> Arg<'a>
+    ensures { HasRule base_option result }
+{
+    Arg::new(alloc, "base")
+        .long("base")
+        .value_name("N")
+        .value_parser(value_parser!(u64))
+        .default_value("0")
+}
