@@ -223,14 +223,14 @@ first_content p base list t waiting rows none empty =
     same_content p base _ _ _ _ _ _ (rw rows (above_first base list)) none (ap (λ (w : List (List Request)). λ (k : ℕ). get_or w k []) empty ∙ fun_ext (λ a. none_waits (length p.model.interactions) a))
 
 -- what serving a station leaves, with or without memory
-pub turn_leaves : (c : KeptCentral) (a : ℕ) (t : KeptRows) (later : List (List Request)) (r : Result Acted AllocError) → IsCentral c → a < length c.waiting → IfOk r (IsFirstDecided a c.table c.waiting t later) → OnErr r (t ≡ c.table) → OnErr r (later ≡ c.waiting)
+pub served_leaves : (c : KeptCentral) (a : ℕ) (t : KeptRows) (later : List (List Request)) (r : Result Acted AllocError) → IsCentral c → a < length c.waiting → IfOk r (IsFirstDecided a c.table c.waiting t later) → OnErr r (t ≡ c.table) → OnErr r (later ≡ c.waiting)
     → IsCentral (with_parts c t later) × IfOk r (λ did. IsActed did (content_of (kept_central c)) (content_of (kept_central (with_parts c t later))))
-turn_leaves c a t later (Ok did) is within served table queues = let all = serves c a t later did is within served in (all.valid, all.content)
-turn_leaves c a t later (Err e) is within served table queues = (rw (table, queues) is, tt)
+served_leaves c a t later (Ok did) is within served table queues = let all = serves c a t later did is within served in (all.valid, all.content)
+served_leaves c a t later (Err e) is within served table queues = (rw (table, queues) is, tt)
 
-pub turn_steps : (c : KeptCentral) (s : StationId) (stations : List InterId) (a : InterId) (t : KeptRows) (later : List (List Request)) (r : Result Acted AllocError) → IsCentral c → AreStations c.plan stations → slice_get stations s.0 ≡ Some a → IfOk r (IsFirstDecided a.0 c.table c.waiting t later) → IfOk r (IsCentralStep c (Serve s))
-turn_steps c s stations a t later (Ok did) is listed here served = serves_station c s stations a t later did is listed here served
-turn_steps c s stations a t later (Err e) is listed here served = tt
+pub served_steps : (c : KeptCentral) (s : StationId) (stations : List InterId) (a : InterId) (t : KeptRows) (later : List (List Request)) (r : Result Acted AllocError) → IsCentral c → AreStations c.plan stations → slice_get stations s.0 ≡ Some a → IfOk r (IsFirstDecided a.0 c.table c.waiting t later) → IfOk r (IsCentralStep c (Serve s))
+served_steps c s stations a t later (Ok did) is listed here served = serves_station c s stations a t later did is listed here served
+served_steps c s stations a t later (Err e) is listed here served = tt
 
 -- the interaction of a station has a list of open requests
 pub station_known : (c : KeptCentral) (s : ℕ) (stations : List InterId) (a : InterId) → IsCentral c → IsSystem c.plan.model → AreStations c.plan stations → slice_get stations s ≡ Some a → a.0 < length c.waiting
@@ -253,9 +253,9 @@ starves c s stations a is listed here (q ∷ rest) same wants =
     } in
     (can, fresh_above c.base c.table.rows q.wants (have_rows c is q fit) wants.0.fresh, wants.1)
 
-pub turn_starves : (c : KeptCentral) (s : StationId) (stations : List InterId) (a : InterId) (r : Result Acted AllocError) → IsCentral c → AreStations c.plan stations → slice_get stations s.0 ≡ Some a → IfErr r (λ e. CannotKeep c.table (get_or c.waiting a.0 [])) → IfErr r (λ e. WantsMemory c (Serve s))
-turn_starves c s stations a (Ok did) is listed here wants = tt
-turn_starves c s stations a (Err e) is listed here wants = starves c s stations a is listed here (get_or c.waiting a.0 []) refl wants
+pub served_starves : (c : KeptCentral) (s : StationId) (stations : List InterId) (a : InterId) (r : Result Acted AllocError) → IsCentral c → AreStations c.plan stations → slice_get stations s.0 ≡ Some a → IfErr r (λ e. CannotKeep c.table (get_or c.waiting a.0 [])) → IfErr r (λ e. WantsMemory c (Serve s))
+served_starves c s stations a (Ok did) is listed here wants = tt
+served_starves c s stations a (Err e) is listed here wants = starves c s stations a is listed here (get_or c.waiting a.0 []) refl wants
 
 -- what the central bank does at a step is what any bank does
 pub does_step : (c : KeptCentral) (step : BankStep) (did : Acted) → IsCentralStep c step did → DoesStep (content_of (kept_central c)) step did

@@ -1,6 +1,6 @@
 use Rattle.std.proofs.Common.{◌≡◌, ◌<◌, Some, None, slice_get, length, sym, subst, ◌∙◌}
 use Rattle.std.specs.Prelude.{IfErr, IfOk}
-use Rattle.bip_bank.proofs.CentralLemmas.{no_station, station_known, turn_leaves, turn_starves, turn_steps}
+use Rattle.bip_bank.proofs.CentralLemmas.{no_station, station_known, served_leaves, served_starves, served_steps}
 use Rattle.bip_bank.specs.Banks.{IsActed, content_of}
 use Rattle.bip_bank.specs.Central.{Applies, IsCentralStep, KeptCentral, WantsMemory, kept_central}
 use Rattle.bip_bank.specs.declared.banks.BankStep.TheVariants.{Serve}
@@ -15,19 +15,19 @@ pub invariant_of-self : goal.invariant_of-self
 invariant_of-self c =
     let at : slice_get c.stations.result.now c.args.station.0 ≡ Some c.in-Some.inter = sym c.interaction_at.ensures ∙ c.in-Some.is in
     let within : c.in-Some.inter.0 < length c.self.inside.waiting.items = station_known _ c.args.station.0 c.stations.result.now c.in-Some.inter c.self.invariant c.classes-planned.ensures.planned.valid c.stations.ensures at in
-    (turn_leaves _ c.in-Some.inter.0 c.decide_first.new.table c.decide_first.new.queues.items c.decide_first.result c.self.invariant within c.decide_first.ensures.decided c.decide_first.ensures.table c.decide_first.ensures.queues).0
+    (served_leaves _ c.in-Some.inter.0 c.decide_first.new.table c.decide_first.new.queues.items c.decide_first.result c.self.invariant within c.decide_first.ensures.decided c.decide_first.ensures.table c.decide_first.ensures.queues).0
 
 pub returns-in-Some-clause-acted : goal.returns-in-Some-clause-acted
 returns-in-Some-clause-acted c =
     let at : slice_get c.stations.result.now c.args.station.0 ≡ Some c.in-Some.inter = sym c.interaction_at.ensures ∙ c.in-Some.is in
     let within : c.in-Some.inter.0 < length c.self.inside.waiting.items = station_known _ c.args.station.0 c.stations.result.now c.in-Some.inter c.self.invariant c.classes-planned.ensures.planned.valid c.stations.ensures at in
-    subst (λ (k : KeptCentral). IfOk c.decide_first.result (λ did. IsActed did (content_of (kept_central k)) (content_of (kept_central (record { plan = c.self.inside.plan.now; base = c.self.inside.base; table = c.decide_first.new.table; waiting = c.decide_first.new.queues.items }))))) c.self.view_is (turn_leaves _ c.in-Some.inter.0 c.decide_first.new.table c.decide_first.new.queues.items c.decide_first.result c.self.invariant within c.decide_first.ensures.decided c.decide_first.ensures.table c.decide_first.ensures.queues).1
+    subst (λ (k : KeptCentral). IfOk c.decide_first.result (λ did. IsActed did (content_of (kept_central k)) (content_of (kept_central (record { plan = c.self.inside.plan.now; base = c.self.inside.base; table = c.decide_first.new.table; waiting = c.decide_first.new.queues.items }))))) c.self.view_is (served_leaves _ c.in-Some.inter.0 c.decide_first.new.table c.decide_first.new.queues.items c.decide_first.result c.self.invariant within c.decide_first.ensures.decided c.decide_first.ensures.table c.decide_first.ensures.queues).1
 
 pub returns-in-Some-clause-step : goal.returns-in-Some-clause-step
 returns-in-Some-clause-step c =
     let at : slice_get c.stations.result.now c.args.station.0 ≡ Some c.in-Some.inter = sym c.interaction_at.ensures ∙ c.in-Some.is in
     subst (λ (k : KeptCentral). IfOk c.decide_first.result (IsCentralStep k (Serve c.args.station))) c.self.view_is
-    (turn_steps _ c.args.station c.stations.result.now c.in-Some.inter c.decide_first.new.table c.decide_first.new.queues.items c.decide_first.result c.self.invariant c.stations.ensures at c.decide_first.ensures.decided)
+    (served_steps _ c.args.station c.stations.result.now c.in-Some.inter c.decide_first.new.table c.decide_first.new.queues.items c.decide_first.result c.self.invariant c.stations.ensures at c.decide_first.ensures.decided)
 
 pub returns-in-None-clause-step : goal.returns-in-None-clause-step
 returns-in-None-clause-step c =
@@ -38,4 +38,4 @@ pub returns-in-Some-clause-memory : goal.returns-in-Some-clause-memory
 returns-in-Some-clause-memory c =
     let at : slice_get c.stations.result.now c.args.station.0 ≡ Some c.in-Some.inter = sym c.interaction_at.ensures ∙ c.in-Some.is in
     subst (λ (k : KeptCentral). IfErr c.decide_first.result (λ e. WantsMemory k (Serve c.args.station))) c.self.view_is
-    (turn_starves _ c.args.station c.stations.result.now c.in-Some.inter c.decide_first.result c.self.invariant c.stations.ensures at c.decide_first.ensures.memory)
+    (served_starves _ c.args.station c.stations.result.now c.in-Some.inter c.decide_first.result c.self.invariant c.stations.ensures at c.decide_first.ensures.memory)
