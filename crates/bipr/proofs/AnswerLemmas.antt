@@ -49,7 +49,6 @@ pub is_refused-no_text : (text : List ℕ) (answer : Answer) (fault : ReadFault)
     → IsRefusedModel text answer
 is_refused-no_text text answer fault other same has = subst (IsRefusedModel text) (sym same) (no_text fault other has)
 
-pub is_refused-no_plan : (text complaint : List ℕ) (answer : Answer) (m : System) (classes : Partition) (a : ℕ)
-    → answer ≡ complaining Refused complaint → complaint ≡ plan_refusal m a → Means text m classes → IsLowestTooMany m a → IsRefusedModel text answer
-is_refused-no_plan text complaint answer m classes a same written means lowest =
-    subst (IsRefusedModel text) (sym (same ∙ ap (complaining Refused) written)) (no_plan m classes a means lowest)
+pub is_refused-no_plan : (text : List ℕ) (answer : Answer) (m : System) (classes : Partition) (a : ℕ)
+    → answer ≡ complaining Refused (plan_refusal m a) → Means text m classes → IsLowestTooMany m a → IsRefusedModel text answer
+is_refused-no_plan text answer m classes a same means lowest = subst (IsRefusedModel text) (sym same) (no_plan m classes a means lowest)

@@ -4,10 +4,9 @@ use Rattle.std.specs.Option.{option_map_or}
 use Rattle.std.specs.Prelude.{IfNone, IfSome}
 use Rattle.std.specs.Str.Parse.{ParsesUnsigned, digits_value, without_leading_plus}
 use Rattle.clap.specs.Words.{ReadsOne, Row, Text, first_of, one_of}
-use Rattle.bipr.specs.CommandLine.{AreStepsAsked, AsksNothing, IsAsked, IsExploreAsked, IsNumberAsked}
+use Rattle.bipr.specs.CommandLine.{AreStepsAsked, AsksNothing, IsAsked, IsNumberAsked}
 use Rattle.bipr.specs.Program.{Parsed}
 use Rattle.bipr.specs.declared.command_line.Asked.TheVariants as asks
-use Rattle.bipr.specs.declared.command_line.ExploreArguments.{ExploreArguments}
 use Rattle.bipr.specs.declared.command_line.ReplayArguments.{ReplayArguments}
 use Rattle.bipr.specs.declared.command_line.StepsArguments.{StepsArguments}
 
@@ -118,26 +117,3 @@ steps_ask_nothing parsed values named none (asks.Steps arguments) asked =
 steps_ask_nothing parsed values named none (asks.Explore arguments) asked =
     let bad : initial_of_steps ≡ initial_of_explore = same_initial parsed (codes "steps") (codes "explore") values asked.values named asked.named in
     absurd (omega arith)
-
-pub explore_asks_nothing : (parsed : Parsed) (values : List Row) → parsed ≡ Some (codes "explore", values)
-    → ((arguments : ExploreArguments) → IsExploreAsked values arguments → ⊥) → AsksNothing parsed
-explore_asks_nothing parsed values named none (asks.Check path) asked =
-    let bad : initial_of_explore ≡ initial_of_check = same_initial parsed (codes "explore") (codes "check") values asked.values named asked.named in
-    absurd (omega arith)
-explore_asks_nothing parsed values named none (asks.Replay arguments) asked =
-    let bad : initial_of_explore ≡ initial_of_replay = same_initial parsed (codes "explore") (codes "replay") values asked.values named asked.named in
-    absurd (omega arith)
-explore_asks_nothing parsed values named none (asks.Steps arguments) asked =
-    let bad : initial_of_explore ≡ initial_of_steps = same_initial parsed (codes "explore") (codes "steps") values asked.values named asked.named in
-    absurd (omega arith)
-explore_asks_nothing parsed values named none (asks.Explore arguments) asked =
-    none arguments (subst (λ (v : List Row). IsExploreAsked v arguments) (same_values parsed _ values asked.values named asked.named) asked.asked)
-
--- words that name none of the four ask for nothing
-pub others_ask_nothing : (parsed : Parsed) → ((values : List Row) → parsed ≡ Some (codes "check", values) → ⊥)
-    → ((values : List Row) → parsed ≡ Some (codes "replay", values) → ⊥) → ((values : List Row) → parsed ≡ Some (codes "steps", values) → ⊥)
-    → ((values : List Row) → parsed ≡ Some (codes "explore", values) → ⊥) → AsksNothing parsed
-others_ask_nothing parsed check replay steps explore (asks.Check path) asked = check asked.values asked.named
-others_ask_nothing parsed check replay steps explore (asks.Replay arguments) asked = replay asked.values asked.named
-others_ask_nothing parsed check replay steps explore (asks.Steps arguments) asked = steps asked.values asked.named
-others_ask_nothing parsed check replay steps explore (asks.Explore arguments) asked = explore asked.values asked.named

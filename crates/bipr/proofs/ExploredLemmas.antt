@@ -6,10 +6,10 @@ use Rattle.bip_partition.specs.Plans.{Planned}
 use Rattle.bip_replay.specs.declared.faults.StepFault.{StepFault}
 use Rattle.bip_schedule.specs.Exploring.{AreExplored, IsSeedFault}
 use Rattle.bip_schedule.specs.declared.exploring.ExploreFault.TheVariants as explore_fault
-use Rattle.bipr.specs.Answers.{saying}
-use Rattle.bipr.specs.Commands.Explore.{IsExplore, of_no_text}
+use Rattle.bipr.specs.Answers.{HasPlan, saying}
+use Rattle.bipr.specs.Commands.Explore.{IsExplore, IsTextExplored, of_no_text, of_plan}
 use Rattle.bipr.specs.Explored.{IsCentralFlight, IsExploreAnswer, ends_hundredth, explored, no_run, told_at, told_until}
-use Rattle.bipr.specs.Stops.{answer_of_stop, unread}
+use Rattle.bipr.specs.Stops.{answer_of_stop, out_of_memory, unread}
 use Rattle.bipr.specs.Wording.{progress_text, seed_verdict, seeds_text}
 use Rattle.bipr.specs.declared.answers.Answer.{Answer}
 use Rattle.bipr.specs.declared.answers.Status.TheVariants.{Done, NotARun}
@@ -50,6 +50,13 @@ pub explored_said : (p : Planned) (asked : ExploreArguments) (grants : ℕ) (ans
     → answer ≡ saying Done text → text ≡ seeds_text asked.seeds → IsExploreAnswer p asked (told_until asked asked.seeds) answer
 explored_said p asked grants answer text so said spelled =
     subst (IsExploreAnswer p asked (told_until asked asked.seeds)) (sym (said ∙ ap (saying Done) spelled)) (explored grants so)
+
+-- what the exploring of a plan says, of the text that has it
+pub text_explored : (model : List ℕ) (asked : ExploreArguments) (p : Planned) (told : List (List ℕ)) (result : Result Answer AllocError) → HasPlan model p
+    → MatchResult result (IsExploreAnswer p asked told) (λ (e : AllocError). IsExploreAnswer p asked told out_of_memory)
+    → MatchResult result (IsTextExplored model asked told) (λ (e : AllocError). IsTextExplored model asked told out_of_memory)
+text_explored model asked p told (Ok answer) has is = of_plan p told answer has is
+text_explored model asked p told (Err e) has is = of_plan p told out_of_memory has is
 
 -- what is said where the text isn't read
 pub stopped_at_explored : (gives : List ℕ → Result (List ℕ) InputFault → Type 0) (asked : ExploreArguments) (why : Stop)

@@ -62,6 +62,7 @@ no_first m name text is asked =
     let bad : None ≡ Some text = first_read m name None is ∙ asked in
     cc
 
+-- the one value of an option, of the rows
 pub one_read : (m : ArgMatches) (name : Text) → one_text (found_of m) name ≡ one_of name (rows_of (found_of m))
 one_read m name = one_text-rows (found_of m) name
 
@@ -72,12 +73,6 @@ module _ {Z : Type 0} where
   name_and_rows None name values named rows = cc
   name_and_rows (Some b) name values named rows = cc
 
-  name_alone : (sub : Option (Box SubCommand Z)) (name : Text) (values : List Row) → subcommand_rows sub ≡ Some (name, values)
-      → option_map (λ b. (out-SubCommand (box_value b)).name.now) sub ≡ Some name
-  name_alone None name values is = cc
-  name_alone (Some b) name values is = ap (λ (p : Option (Text × List Row)). option_map (λ (q : Text × List Row). q.0) p) is
-
-module _ {Z : Type 0} where
   none_named : (sub : Option (Box SubCommand Z)) → option_map (λ b. (out-SubCommand (box_value b)).name.now) sub ≡ None → subcommand_rows sub ≡ None
   none_named None is = refl
   none_named (Some b) is = cc
@@ -90,6 +85,3 @@ names_none m is = none_named (out-ArgMatches m).subcommand is
 pub names_command : (m : ArgMatches) (name : Text) (values : List Row) → subcommand_name_of m ≡ Some name
     → option_map (λ (p : Text × List Row). p.1) (subcommand_rows (out-ArgMatches m).subcommand) ≡ Some values → subcommand_rows_of m ≡ Some (name, values)
 names_command m name values named rows = name_and_rows (out-ArgMatches m).subcommand name values named rows
-
-pub command_named : (m : ArgMatches) (name : Text) (values : List Row) → subcommand_rows_of m ≡ Some (name, values) → subcommand_name_of m ≡ Some name
-command_named m name values is = name_alone (out-ArgMatches m).subcommand name values is

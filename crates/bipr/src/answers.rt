@@ -9,7 +9,7 @@ ghost use Rattle.bipr.specs.Answers.{AreCountsOf, HasPlan, IsAnswer, IsCheckAnsw
 ghost use Rattle.bipr.specs.Answers.{IsPlanOrRefusal, code_of, complaining, saying};
 ghost use Rattle.bipr.specs.CommandLine.{greatest_base};
 ghost use Rattle.bipr.specs.declared.answers.Status.TheVariants.{Refused};
-ghost use Rattle.bipr.specs.Wording.{model_refusal};
+ghost use Rattle.bipr.specs.Wording.{model_refusal, plan_refusal};
 
 use crate::wording::{
     Counts, counts_text, model_refusal, plan_refusal, run_text, trace_refusal, verdict_text,
@@ -131,15 +131,32 @@ fn plan_model(
     ensures { IfOk result (λ given. (text : List ℕ)
         → Means text model classes → IsPlanOrRefusal text given) }
 {
-    if let Some(inter) = first_touching_too_many(&model) {
-        explain_plan(explanation, &model, inter);
-        let complaint = plan_refusal(alloc, &model, inter)?;
-        return Ok(PlanOrRefusal::Refusal(complained(alloc, Status::Refused, complaint)));
+    match first_touching_too_many(&model) {
+        Some(inter) => {
+            let answer = refuse_plan(alloc, explanation, &model, inter)?;
+            Ok(PlanOrRefusal::Refusal(answer))
+        }
+        None => match Plan::of(alloc, model, classes) {
+            Ok(plan) => Ok(PlanOrRefusal::Plan(plan)),
+            Err(_) => Err(AllocError),
+        },
     }
-    match Plan::of(alloc, model, classes) {
-        Ok(plan) => Ok(PlanOrRefusal::Plan(plan)),
-        Err(_) => Err(AllocError),
-    }
+}
+
+/// The answer that refuses a model: this interaction, which it names, touches too many components.
+/// The only error is want of memory.
+fn refuse_plan(
+    alloc: Global,
+    explanation: &mut Explanation,
+    model: &Model,
+    inter: InterId,
+) -> Result<Answer, AllocError>
+    ensures { IfOk result (λ answer.
+        answer ≡ complaining Refused (plan_refusal model.now inter.0)) }
+{
+    explain_plan(explanation, model, inter);
+    let complaint = plan_refusal(alloc, model, inter)?;
+    Ok(complained(alloc, Status::Refused, complaint))
 }
 
 /// The answer to a check where there is a plan.

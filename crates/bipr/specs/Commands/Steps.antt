@@ -14,6 +14,15 @@ use Rattle.bipr.specs.declared.inputs.InputFault.{InputFault}
 abbrev pub are_joined : StepsArguments → Bool
 are_joined asked = is_standard_input asked.model.now && is_standard_input asked.schedule.now
 
+-- what the steps of two texts, from a base, may answer
+pub data AreStepsOf (model : List ℕ) (base : ℕ) (schedule : List ℕ) : Answer → Type 0 where
+  -- the model has a plan
+  of_plan : (p : Planned) (answer : Answer) → HasPlan model p
+      → IsScheduleAnswer p base schedule answer → AreStepsOf model base schedule answer
+  -- it has none
+  of_no_plan : (answer : Answer) → IsRefusedModel model answer
+      → AreStepsOf model base schedule answer
+
 -- what the steps that are asked for may answer, where reading a path may give these texts
 pub data IsSteps (gives : List ℕ → Result (List ℕ) InputFault → Type 0)
     (asked : StepsArguments) : Answer → Type 0 where
@@ -25,12 +34,9 @@ pub data IsSteps (gives : List ℕ → Result (List ℕ) InputFault → Type 0)
   no_plan_of_two : (model : List ℕ) (answer : Answer) → are_joined asked ≡ false
       → gives asked.model.now (Ok model) → IsRefusedModel model answer → IsSteps gives asked answer
   -- one input has both texts
-  of_one : (text : List ℕ) (p : Planned) (answer : Answer) → are_joined asked ≡ true
-      → gives asked.model.now (Ok text) → HasPlan (before_mark text) p
-      → IsScheduleAnswer p asked.base (after_mark text) answer → IsSteps gives asked answer
-  -- and the first has no plan
-  no_plan_of_one : (text : List ℕ) (answer : Answer) → are_joined asked ≡ true
-      → gives asked.model.now (Ok text) → IsRefusedModel (before_mark text) answer
+  of_one : (text : List ℕ) (answer : Answer) → are_joined asked ≡ true
+      → gives asked.model.now (Ok text)
+      → AreStepsOf (before_mark text) asked.base (after_mark text) answer
       → IsSteps gives asked answer
   -- the text that the first path names isn't read
   model_unread : (fault : InputFault) → gives asked.model.now (Err fault)

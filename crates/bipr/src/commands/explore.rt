@@ -1,7 +1,9 @@
 //! The command `explore`.
-ghost use Rattle.bipr.specs.Commands.Explore.{IsExplore};
+ghost use Rattle.std.specs.Prelude.{ℕ, List, MatchResult};
+ghost use Rattle.bipr.specs.Commands.Explore.{IsExplore, IsTextExplored};
 ghost use Rattle.bipr.specs.Endings.{AllOutcomesTelling, EndsTelling};
-ghost use Rattle.bipr.specs.Streams.{Puts};
+ghost use Rattle.bipr.specs.Stops.{out_of_memory};
+ghost use Rattle.bipr.specs.Streams.{Puts, PutsEach};
 
 use crate::answers::{Answer, PlanOrRefusal, Status, plan_text};
 use crate::command_line::ExploreArguments;
@@ -12,7 +14,7 @@ use crate::inputs::Inputs;
 use crate::stops::Stop;
 use crate::streams::Stream;
 use bip_explain::Explanation;
-use std::alloc::Global;
+use std::alloc::{AllocError, Global};
 
 /// Explores the plan of the model that the path names by so many seeds, with the central bank:
 /// tells progress on standard error where that is asked for, writes the answer, and says with which
@@ -44,9 +46,24 @@ fn answer_asked<'a, I: Inputs, E: Stream>(
         (IsExplore (I.gives inputs.now) asked.now) }
 {
     let text = read_input(alloc, explanation, inputs, asked.model)?;
-    let given = plan_text(alloc, explanation, text.as_slice())?;
+    Ok(answer_text(alloc, explanation, text.as_slice(), asked, errors)?)
+}
+
+// The answer where the path names this text. The only error is want of memory.
+fn answer_text<E: Stream>(
+    alloc: Global,
+    explanation: &mut Explanation,
+    text: &[u8],
+    asked: &ExploreArguments<'_>,
+    errors: &mut E,
+) -> Result<Answer, AllocError>
+    ensures { (told : List (List ℕ)) × PutsEach E.writes errors.old told errors.new
+        × MatchResult result (IsTextExplored text.now asked.now told)
+        (λ e. IsTextExplored text.now asked.now told out_of_memory) }
+{
+    let given = plan_text(alloc, explanation, text)?;
     match given {
-        PlanOrRefusal::Plan(plan) => Ok(answer_explore(alloc, explanation, &plan, asked, errors)?),
+        PlanOrRefusal::Plan(plan) => answer_explore(alloc, explanation, &plan, asked, errors),
         PlanOrRefusal::Refusal(answer) => Ok(answer),
     }
 }

@@ -1,8 +1,8 @@
 //! The command `steps`.
-ghost use Rattle.std.specs.Prelude.{◌≡◌, ◌≤◌, ℕ, false, true, List, Ok};
+ghost use Rattle.std.specs.Prelude.{◌≡◌, ◌≤◌, ℕ, false, true, IfOk, List, Ok};
 ghost use Rattle.bipr.specs.Answers.{HasPlan};
 ghost use Rattle.bipr.specs.CommandLine.{greatest_base};
-ghost use Rattle.bipr.specs.Commands.Steps.{IsSteps, are_joined};
+ghost use Rattle.bipr.specs.Commands.Steps.{AreStepsOf, IsSteps, are_joined};
 ghost use Rattle.bipr.specs.Endings.{AllOutcomes, Ends};
 ghost use Rattle.bipr.specs.Streams.{Puts};
 
@@ -17,8 +17,9 @@ use crate::sources::is_standard_input;
 use crate::stops::Stop;
 use crate::streams::Stream;
 use bip_explain::Explanation;
+use bip_model::Number;
 use bip_partition::Plan;
-use std::alloc::Global;
+use std::alloc::{AllocError, Global};
 
 /// Runs the events of the schedule that the second path names from the new world of the model that
 /// the first path names, with the central bank: writes the trace, and their report on standard
@@ -71,15 +72,23 @@ fn answer_one<'a, I: Inputs>(
 {
     let both = read_input(alloc, explanation, inputs, asked.model)?;
     let (model, schedule) = divide(both.as_slice());
+    Ok(answer_texts(alloc, explanation, model, schedule, asked.base)?)
+}
+
+// The answer to two texts, from a base. The only error is want of memory.
+fn answer_texts(
+    alloc: Global,
+    explanation: &mut Explanation,
+    model: &[u8],
+    schedule: &[u8],
+    base: Number,
+) -> Result<Answer, AllocError>
+    requires { base ≤ greatest_base }
+    ensures { IfOk result (AreStepsOf model.now base schedule.now) }
+{
     let given = plan_text(alloc, explanation, model)?;
     match given {
-        PlanOrRefusal::Plan(plan) => Ok(answer_schedule(
-            alloc,
-            explanation,
-            &plan,
-            schedule,
-            asked.base,
-        )?),
+        PlanOrRefusal::Plan(plan) => answer_schedule(alloc, explanation, &plan, schedule, base),
         PlanOrRefusal::Refusal(answer) => Ok(answer),
     }
 }

@@ -4,9 +4,9 @@ use Rattle.bipr.specs.Answers.{HasPlan}
 use Rattle.bipr.proofs.AnswerLemmas.{is_refused-no_plan}
 use Rattle.bipr.proofs.answers.plan_model.Goals as goal
 
-pub returns-in-Some : goal.returns-in-Some
-returns-in-Some c = λ text means.
-    is_refused-no_plan text _ _ c.args.model c.args.classes c.in-Some.inter.0 c.complained.ensures c.in_ok-complaint.ensures means c.in-Some.ensures.some
+pub returns-in_ok-answer-in-Some : goal.returns-in_ok-answer-in-Some
+returns-in_ok-answer-in-Some c = λ text means.
+    is_refused-no_plan text _ c.args.model c.args.classes c.in-Some.inter.0 c.in_ok-answer-in-Some.ensures means c.in-Some.ensures.some
 
 pub returns-in-Ok : goal.returns-in-Ok
 returns-in-Ok c = λ text means.

@@ -1,4 +1,4 @@
-use Rattle.bipr.specs.Commands.Steps.{IsSteps, no_plan_of_one, no_room, of_one}
+use Rattle.bipr.specs.Commands.Steps.{IsSteps, no_room, of_one}
 use Rattle.bipr.proofs.EndingLemmas.{outcome_answered, outcome_lacking, outcome_stopped}
 use Rattle.bipr.proofs.StepsLemmas.{stopped_at_model}
 use Rattle.bipr.proofs.commands.steps.answer_one.Goals as goal
@@ -10,25 +10,13 @@ returns-in_err-both g c =
     (stopped_at_model gives c.args.asked.now c.in_err-both.field-0.0 c.in_err-both.ensures.unread)
     no_room
 
-pub returns-in_err-given : goal.returns-in_err-given
-returns-in_err-given g c =
-    outcome_lacking c.from_residual-in_err-given.result (IsSteps (g.I.Inputs.gives c.args.inputs.now) c.args.asked.now)
-    c.from_residual-in_err-given.ensures.1 no_room
-
-pub returns-in_err-answer_schedule-in-Plan : goal.returns-in_err-answer_schedule-in-Plan
-returns-in_err-answer_schedule-in-Plan g c =
-    outcome_lacking c.from_residual-in_err-answer_schedule-in-Plan.result (IsSteps (g.I.Inputs.gives c.args.inputs.now) c.args.asked.now)
-    c.from_residual-in_err-answer_schedule-in-Plan.ensures.1 no_room
-
-pub returns-in-Plan : goal.returns-in-Plan
-returns-in-Plan g c =
-    outcome_answered (IsSteps (g.I.Inputs.gives c.args.inputs.now) c.args.asked.now) c.in_ok-answer_schedule-in-Plan.field-0
-    (of_one c.in_ok-both.both c.in-Plan.plan c.in_ok-answer_schedule-in-Plan.field-0 c.requires.joined c.in_ok-both.ensures.read
-    (rw (← c.as_slice.ensures, ← c.divide.ensures.before) (rw c.in-Plan.is at c.in_ok-given.ensures))
-    (rw (← c.as_slice.ensures, ← c.divide.ensures.after) c.in_ok-answer_schedule-in-Plan.ensures))
+pub returns-in_err-answer_texts : goal.returns-in_err-answer_texts
+returns-in_err-answer_texts g c =
+    outcome_lacking c.from_residual-in_err-answer_texts.result (IsSteps (g.I.Inputs.gives c.args.inputs.now) c.args.asked.now)
+    c.from_residual-in_err-answer_texts.ensures.1 no_room
 
 pub returns : goal.returns
 returns g c =
-    outcome_answered (IsSteps (g.I.Inputs.gives c.args.inputs.now) c.args.asked.now) c.in-Refusal.answer
-    (no_plan_of_one c.in_ok-both.both c.in-Refusal.answer c.requires.joined c.in_ok-both.ensures.read
-    (rw (← c.as_slice.ensures, ← c.divide.ensures.before) (rw c.in-Refusal.is at c.in_ok-given.ensures)))
+    outcome_answered (IsSteps (g.I.Inputs.gives c.args.inputs.now) c.args.asked.now) c.in_ok-answer_texts.field-0
+    (of_one c.in_ok-both.both c.in_ok-answer_texts.field-0 c.requires.joined c.in_ok-both.ensures.read
+    (rw (← c.as_slice.ensures, ← c.divide.ensures.before, ← c.divide.ensures.after) c.in_ok-answer_texts.ensures))
