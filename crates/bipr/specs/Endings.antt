@@ -1,7 +1,8 @@
 -- How a command ends: what is written of its answer, and its status.
 use Rattle.std.specs.Prelude.{◌≡◌, ◌⊎◌, ℕ, Bool, false, true, List, [], ◌∷◌, Result, Ok, Err}
-use Rattle.std.specs.Prelude.{◌≤◌, codes, length}
+use Rattle.std.specs.Prelude.{◌≤◌, MatchResult, codes, length}
 use Rattle.std.specs.List.{list_all}
+use Rattle.std.specs.declared.alloc.AllocError.{AllocError}
 use Rattle.bip_explain.specs.Explanations.{is_shown}
 use Rattle.bipr.specs.Stops.{answer_of_stop, out_of_memory}
 use Rattle.bipr.specs.Streams.{Puts, PutsEach}
@@ -91,3 +92,10 @@ pub record AllOutcomesTelling {S : Type 0} (writes : S → List ℕ → Bool →
   pub told : List (List ℕ)
   pub on_the_way : PutsEach writes before told after
   pub outcomes : AllOutcomes given (holds told)
+
+-- the same, where it has an answer or wants memory, and is stopped by nothing else
+abbrev pub IsAnsweredTelling : {S : Type 0} → (S → List ℕ → Bool → S → Type 0) → S → S
+    → Result Answer AllocError → (List (List ℕ) → Answer → Type 0) → Type 0
+IsAnsweredTelling writes before after given holds =
+    (told : List (List ℕ)) × PutsEach writes before told after
+    × MatchResult given (holds told) (λ (e : AllocError). holds told out_of_memory)

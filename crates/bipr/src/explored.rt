@@ -1,8 +1,8 @@
 //! Answers to exploring: what the seeds come to, and what is told on the way.
-ghost use Rattle.std.specs.Prelude.{◌≡◌, ◌+◌, ℕ, List, IfErr, IfOk, MatchResult, OnErr, OnOk};
+ghost use Rattle.std.specs.Prelude.{◌≡◌, IfErr, IfOk, OnErr, OnOk};
 ghost use Rattle.bip_schedule.specs.Exploring.{IsSeedFault, IsSeedRun};
+ghost use Rattle.bipr.specs.Endings.{IsAnsweredTelling};
 ghost use Rattle.bipr.specs.Explored.{IsCentralFlight, IsExploreAnswer, ends_hundredth, told_at};
-ghost use Rattle.bipr.specs.Stops.{out_of_memory};
 ghost use Rattle.bipr.specs.Streams.{PutsEach};
 
 use crate::answers::{Answer, Status, said};
@@ -26,9 +26,8 @@ pub fn answer_explore<E: Stream>(
     asked: &ExploreArguments<'_>,
     errors: &mut E,
 ) -> Result<Answer, AllocError>
-    ensures { (told : List (List ℕ)) × PutsEach E.writes errors.old told errors.new
-        × MatchResult result (IsExploreAnswer plan.now asked.now told)
-        (λ e. IsExploreAnswer plan.now asked.now told out_of_memory) }
+    ensures { IsAnsweredTelling E.writes errors.old errors.new result
+        (IsExploreAnswer plan.now asked.now) }
 {
     for done in 0..asked.seeds {
         match explore_one(alloc, plan, done + 1, asked.events) {

@@ -1,9 +1,7 @@
 //! The command `explore`.
-ghost use Rattle.std.specs.Prelude.{ℕ, List, MatchResult};
 ghost use Rattle.bipr.specs.Commands.Explore.{IsExplore, IsTextExplored};
-ghost use Rattle.bipr.specs.Endings.{AllOutcomesTelling, EndsTelling};
-ghost use Rattle.bipr.specs.Stops.{out_of_memory};
-ghost use Rattle.bipr.specs.Streams.{Puts, PutsEach};
+ghost use Rattle.bipr.specs.Endings.{AllOutcomesTelling, EndsTelling, IsAnsweredTelling};
+ghost use Rattle.bipr.specs.Streams.{Puts};
 
 use crate::answers::{Answer, PlanOrRefusal, Status, plan_text};
 use crate::command_line::ExploreArguments;
@@ -57,9 +55,8 @@ fn answer_text<E: Stream>(
     asked: &ExploreArguments<'_>,
     errors: &mut E,
 ) -> Result<Answer, AllocError>
-    ensures { (told : List (List ℕ)) × PutsEach E.writes errors.old told errors.new
-        × MatchResult result (IsTextExplored text.now asked.now told)
-        (λ e. IsTextExplored text.now asked.now told out_of_memory) }
+    ensures { IsAnsweredTelling E.writes errors.old errors.new result
+        (IsTextExplored text.now asked.now) }
 {
     let given = plan_text(alloc, explanation, text)?;
     match given {
