@@ -1,5 +1,5 @@
 -- Parties: what the tests of wants say.
-use Rattle.std.proofs.Common.{◌≡◌, ℕ, ◌<◌, true, false, eqb, List, length, get_or, refl, sym, ◌∙◌, ◌⊎◌, inl, inr, ◌&&◌}
+use Rattle.std.proofs.Common.{◌≡◌, ℕ, ◌<◌, true, false, eqb, List, length, get_or, refl, sym, ap, ◌∙◌, ◌⊎◌, inl, inr, ◌&&◌}
 use Rattle.std.specs.Prelude.{◌↔◌, Contains}
 use Rattle.std.specs.List.{list_all, list_any}
 use Rattle.std.proofs.lemmas.List.Elements.{Contains-get_or}
@@ -21,6 +21,7 @@ use Rattle.bip_model.specs.Steps.{IsListLookedAt, IsLookedAt}
 use Rattle.bip_model.proofs.LookLemmas.{looked_known, moves_known}
 use Rattle.std.proofs.lemmas.Bool.{cases_Bool}
 use Rattle.bip_model.specs.Parts.{IsSystemSoFar}
+use Rattle.bip_model.specs.Laws.{HasItsRole, PartiesAreWanted, PartiesHaveRoles}
 use Rattle.bip_model.specs.Parties.{AreParties, IsWanted, are_parties, is_moving, is_party, is_seeing}
 use Rattle.bip_model.proofs.AboveLists.{looks_listed}
 
@@ -130,4 +131,23 @@ pub party_known : (m : System) (a : ℕ) (ws : List Want) (w : Want) → IsSyste
 party_known m a ws w valid has at = elim (moved_or_seen ws w at) [
   | inl moved ↦ moves_known m a w.comp.0 valid.so_far ((has.moved w.comp.0).0 (at.0, w, at.1, at.2, (refl, moved)))
   | inr seen ↦ looked_known m a w.comp.0 valid.so_far ((has.seen w.comp.0).0 seen)
+]
+
+-- each want of parties has its role
+pub parties_have_roles : PartiesHaveRoles
+parties_have_roles m a wants is w at = by_role w.role refl
+  where
+    by_role : (r : Role) → w.role ≡ r → HasItsRole m a w
+    by_role Moved role =
+        let moved = (is.moved w.comp.0).0 (at.0, w, at.1, at.2, (refl, role)) in
+        record { party = inl moved; role = ap is_moved role ∙ sym moved }
+    by_role Seen role =
+        let seen = (is.seen w.comp.0).0 (at.0, w, at.1, at.2, (refl, role)) in
+        record { party = inr seen; role = ap is_moved role ∙ sym seen.other }
+
+-- and each party has its want
+pub parties_are_wanted : PartiesAreWanted
+parties_are_wanted m a wants is c party = elim party [
+  | inl moved ↦ let at = (is.moved c).1 moved in (at.0, at.1, at.2, at.3, at.4.0)
+  | inr seen ↦ let at = (is.seen c).1 seen in (at.0, at.1, at.2, at.3, at.4.0)
 ]

@@ -10,7 +10,7 @@ use Rattle.bip_model.specs.Expressions.{is_same}
 use Rattle.bip_model.specs.Expressions.{holds, term_value, transferred, updated, value_in}
 use Rattle.bip_model.specs.Expressions.{value_of}
 use Rattle.bip_model.specs.Grants.{IsHistory, used_by}
-use Rattle.bip_model.specs.Wants.{components_of, moved_in}
+use Rattle.bip_model.specs.Wants.{components_of, is_moved, moved_in}
 use Rattle.bip_model.specs.Naming.{AreApart}
 use Rattle.bip_model.specs.Partitions.{IsPartition, numbers_in, times_in}
 use Rattle.bip_model.specs.Parts.{Participant, components_in}
@@ -294,6 +294,22 @@ abbrev pub PartiesMove : Type 0
 PartiesMove =
     (m : System) (a : ℕ) (wants : List Want) → AreByComponent wants → AreParties m a wants
     → (c : ℕ) → IsTrue (moves m a c) ↔ (0 < moved_in wants c)
+
+-- a want of an interaction's parties is of what that one moves or looks at, and has that role
+pub record HasItsRole (m : System) (a : ℕ) (w : Want) : Type 0 where
+  pub party : (moves m a w.comp.0 ≡ true) ⊎ IsLookedAt m a w.comp.0
+  pub role : is_moved w.role ≡ moves m a w.comp.0
+
+abbrev pub PartiesHaveRoles : Type 0
+PartiesHaveRoles =
+    (m : System) (a : ℕ) (wants : List Want) → AreParties m a wants → (w : Want)
+    → Contains wants w → HasItsRole m a w
+
+-- and all that the interaction moves or looks at is wanted
+abbrev pub PartiesAreWanted : Type 0
+PartiesAreWanted =
+    (m : System) (a : ℕ) (wants : List Want) → AreParties m a wants → (c : ℕ)
+    → (moves m a c ≡ true) ⊎ IsLookedAt m a c → Any (λ (w : Want). w.comp.0 ≡ c) wants
 
 -- by offers an interaction has one list of wants, at most
 abbrev pub OneWantsEach : Type 0

@@ -22,7 +22,7 @@ use crate::{
 use std::alloc::{AllocError, Global};
 use std::marker;
 
-/// A model that is being built, one line of its text after another (docs/DEFINITIONS.md, "Model
+/// A model that is being built, one line of its text after another (docs/ANSWERS.md, "Model
 /// lines"). Contracts see it as what the lines so far have said. A call that refuses leaves it as
 /// it was.
 #[derive(Drop)]

@@ -11,7 +11,8 @@ ghost use Rattle.bip_model.specs.Laws.{OffersWhereItCanGo, StartsInAState};
 ghost use Rattle.bip_model.specs.Laws.{IsInOrder, MovedIsWanted, NamesInAnyOrder};
 ghost use Rattle.bip_model.specs.Laws.{SumsAreIntegers, TransfersAtOnce, TransfersInAnyOrder};
 ghost use Rattle.bip_model.specs.Laws.{AboveGoesOn, MayRunIsLocal, OneWantsEach};
-ghost use Rattle.bip_model.specs.Laws.{ParticipantsAreLed, PartiesMove, SomethingMayRun};
+ghost use Rattle.bip_model.specs.Laws.{ParticipantsAreLed, PartiesAreWanted, PartiesHaveRoles};
+ghost use Rattle.bip_model.specs.Laws.{PartiesMove, SomethingMayRun};
 ghost use Rattle.bip_model.specs.Laws.{UpdatesInOrder, UpdatesOneByOne};
 ghost use Rattle.bip_model.specs.Laws.{FindsOfParticipants, NamesParticipants};
 ghost use Rattle.bip_model.specs.Laws.{PartsOrMisplaces, PutsOnePair, UsedGoesOn};
@@ -67,7 +68,7 @@ pub fn priority_laws()
 /// what the component that is begun has declared. The participants of an interaction are just what
 /// its words name, one each, by component, so the order of the words doesn't count; a name that is
 /// found there is a variable of a participant. A priority adds one pair, and nothing else
-/// (docs/DEFINITIONS.md, "Model lines").
+/// (docs/ANSWERS.md, "Model lines").
 pub fn builder_laws()
     ensures component { (d e : Draft) (name : List ℕ) → IsNone d.begun
         → component_line d name ≡ Ok e → KeepsDraft d e }
@@ -92,13 +93,15 @@ pub fn builder_laws()
     ensures pairs { PutsOnePair }
 {}
 
-/// What wants move, and that by its offers an interaction has one list of wants; what grants use
-/// up, all that they do and one more; that a used number is the greatest of the floor and of what
-/// was granted; and that a history moves no component twice with one number (docs/DEFINITIONS.md,
-/// "Used numbers and histories").
+/// What wants move; that those of an interaction's parties are just of what it moves and looks at,
+/// in these roles, and by its offers one list; what grants use up, all that they do and one more;
+/// that a used number is the greatest of the floor and of what was granted; and that a history
+/// moves no component twice with one number (docs/DEFINITIONS.md, "Used numbers and histories").
 pub fn history_laws()
     ensures moved { MovedIsWanted }
     ensures parties { PartiesMove }
+    ensures roles { PartiesHaveRoles }
+    ensures wanted { PartiesAreWanted }
     ensures wants { OneWantsEach }
     ensures used { (floor : ℕ → ℕ) (gs : List Grant) (g : Grant)
         → used_by floor (gs ++ g ∷ []) ≡ raised (used_by floor gs) g.wants }

@@ -115,6 +115,14 @@ impl Model {
         self.system.priorities.as_slice()
     }
 
+    /// Does nothing, and costs nothing: it reminds the prover of what holds of each model.
+    #[inline(always)]
+    pub fn recall(&self)
+        ensures valid { IsSystem self.now }
+    {
+        let _opened = &self.system;
+    }
+
     /// What the components declare, in order of their numbers.
     pub fn components(&self) -> &[Component]
         ensures components { result.now ≡ self.now.components }

@@ -15,7 +15,7 @@ use std::marker::Model;
 pub(crate) const MOST_NAME_BYTES: usize = 32;
 
 /// A name: a letter or `_`, then letters, digits and `_`, at most 32 bytes in all, and none of the
-/// languages' words (docs/DEFINITIONS.md, "Names"). Contracts see it as its bytes.
+/// languages' words (docs/ANSWERS.md, "Names"). Contracts see it as its bytes.
 #[derive(Clone, Copy, Debug)]
 pub struct Name {
     bytes: [u8; MOST_NAME_BYTES],

@@ -53,7 +53,7 @@ impl Model {
         ensures start { IfOk result (λ state. state_of state ≡ start_of self.now) }
         ensures of_model { IfOk result (λ state. IsStateOf self.now (state_of state)) }
     {
-        let _valid = self.components();
+        self.recall();
         self.first_state(alloc)
     }
 
@@ -191,8 +191,8 @@ impl Model {
         self.components()[comp.0 as usize].ports(self.places(comp), &local)
     }
 
-    /// What a component offers in a local state, as its move of this number
-    /// (docs/DEFINITIONS.md, "Offers").
+    /// What a component offers in a local state, as its move of this number (docs/PROTOCOL.md,
+    /// "Offers").
     pub fn offer(&self, comp: CompId, number: Number, location: LocId, values: &Values) -> Offer
         requires component { comp.0 < length self.now.components }
         requires local { IfSome (slice_get self.now.components comp.0)

@@ -1,4 +1,4 @@
-//! What all texts have in common: lines, words and numbers (docs/DEFINITIONS.md, "Texts").
+//! What all texts have in common: lines, words and numbers (docs/ANSWERS.md, "Texts").
 ghost use Rattle.std.specs.Prelude.{◌≡◌, ◌⊎◌, ◌<◌, ◌≤◌, ◌∷◌, ◌++◌, [], ◌==◌, not, position, true};
 ghost use Rattle.std.specs.Prelude.{false, length, slice_index, IfNone, IfSome, IsTrue, OnOk};
 ghost use Rattle.std.specs.Char.{is_ascii_digit};

@@ -9,4 +9,4 @@ pub returns-clause-of_model : goal.returns-clause-of_model
 returns-clause-of_model c =
     let m = c.args.self.now in
     IfOk-weaker c.first_state.result (λ s. state_of s ≡ start_of m) (λ s. IsStateOf m (state_of s))
-    (λ s is. start_is_state m (state_of s) c.components-valid.ensures.valid is) c.first_state.ensures
+    (λ s is. start_is_state m (state_of s) c.recall.ensures.valid is) c.first_state.ensures
