@@ -21,7 +21,7 @@ pub enum Notified {
 }
 
 /// The node of a component: where it is, with which values, the number of its next move, and
-/// whether it is spent (docs/DEFINITIONS.md, "Component nodes"). Its calls take no memory.
+/// whether it is spent (docs/PROTOCOL.md, "Component nodes"). Its calls take no memory.
 #[derive(Drop)]
 pub struct SrComponent<'p> {
     plan: &'p Plan,

@@ -3,7 +3,7 @@
 ghost use Rattle.bip_component.specs.Laws.{MovesOnce, SpentStays};
 
 /// A notification that is repeated is stale, and so is each one for a spent component
-/// (docs/DEFINITIONS.md, "Component nodes").
+/// (docs/PROTOCOL.md, "Component nodes").
 pub fn component_laws()
     ensures once { MovesOnce }
     ensures spent { SpentStays }

@@ -15,7 +15,7 @@ use bip_reader::{ReadFault, Why};
 use std::alloc::{AllocError, Global};
 
 /// Says why the text of a model has its first fault: the word of the line that is at fault, with
-/// its column, and what is wrong with it; or what the text lacks as a whole (docs/DEFINITIONS.md,
+/// its column, and what is wrong with it; or what the text lacks as a whole (docs/ANSWERS.md,
 /// "Explanations"). Nothing is said where none is wanted, or something is said already.
 pub fn explain_model(alloc: Global, explanation: &mut Explanation, text: &[u8], fault: &ReadFault)
     ensures { StaysClosed explanation.old explanation.new }

@@ -4,7 +4,7 @@ ghost use Rattle.bip_explain.specs.Explanations.{StaysClosed};
 use crate::Explanation;
 use bip_model::{InterId, MOST_WANTS, Model};
 
-/// Says how many components an interaction touches that touches too many (docs/DEFINITIONS.md,
+/// Says how many components an interaction touches that touches too many (docs/ANSWERS.md,
 /// "Explanations"). Nothing is said where none is wanted, or something is said already.
 pub fn explain_plan(explanation: &mut Explanation, model: &Model, inter: InterId)
     ensures { StaysClosed explanation.old explanation.new }

@@ -11,9 +11,8 @@ use bip_partition::Plan;
 use bip_replay::TraceFault;
 
 /// Says why a line of a schedule says no event of the plan: the word that can't stand where it
-/// stands, or the name that no class, interaction or station has, with its column
-/// (docs/DEFINITIONS.md, "Explanations"). Nothing is said where none is wanted, or something is
-/// said already.
+/// stands, or the name that no class, interaction or station has, with its column (docs/ANSWERS.md,
+/// "Explanations"). Nothing is said where none is wanted, or something is said already.
 pub fn explain_schedule(
     explanation: &mut Explanation,
     plan: &Plan,

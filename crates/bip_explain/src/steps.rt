@@ -15,8 +15,8 @@ use std::alloc::{AllocError, Global};
 
 /// Says why the grant of a line can't be next behind those of the lines before it: the participant
 /// that offers no port, with where it is; what is enabled above; the number that is wrong; the
-/// component that is missing or too many (docs/DEFINITIONS.md, "Explanations"). Nothing is said
-/// where none is wanted, or something is said already.
+/// component that is missing or too many (docs/ANSWERS.md, "Explanations"). Nothing is said where
+/// none is wanted, or something is said already.
 pub fn explain_step(
     alloc: Global,
     explanation: &mut Explanation,

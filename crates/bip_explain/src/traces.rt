@@ -10,8 +10,8 @@ use bip_model::{MOST_WANTS, Model, Name};
 use bip_replay::TraceFault;
 
 /// Says why a line of a trace says no grant of the model: the word that can't stand where it
-/// stands, or the name that the model lacks, with its column (docs/DEFINITIONS.md,
-/// "Explanations"). Nothing is said where none is wanted, or something is said already.
+/// stands, or the name that the model lacks, with its column (docs/ANSWERS.md, "Explanations").
+/// Nothing is said where none is wanted, or something is said already.
 pub fn explain_trace(
     explanation: &mut Explanation,
     model: &Model,

@@ -117,7 +117,8 @@ may_run_ready m valid o s a own show may = record {
 }
 
 pub offered_values : OfferedValues
-offered_values m o s a own show = same_values m o s (participants_of m a) (shown_own m o s a own show)
+offered_values m o s a own show =
+    same_values m o s (participants_of m a) (λ k d within. let on = moves_each m a k d within in record { own = own _ on; shows = show _ on })
 
 -- a port is off where it isn't offered, and the other way round
 pub off_there : (m : System) (o : ℕ → Offer) (s : State) (a c : ℕ) → AreShown m o s a → IsOff m o a c → IsNotOffered m s a c

@@ -6,7 +6,7 @@ use Rattle.bip_model.specs.Messages.{IsOfferIn, ShowsState}
 use Rattle.bip_model.specs.Numbering.{IsLowest}
 use Rattle.bip_model.specs.Parts.{IsSystem, Participant}
 use Rattle.bip_model.specs.States.{IsStateOf, State}
-use Rattle.bip_model.specs.Steps.{IsEnabled, IsLowestAbove, MayRun, guard_of, offered}
+use Rattle.bip_model.specs.Steps.{IsEnabled, IsLowestAbove, MayRun, guard_of, moves, offered}
 use Rattle.bip_model.specs.Steps.{participants_of, values_of}
 use Rattle.bip_model.specs.declared.messages.Offer.{Offer}
 use Rattle.bip_model.specs.declared.parts.System.{System}
@@ -95,11 +95,18 @@ MayRunMeansReady =
     → ((c : ℕ) → Touches m a c → (o c).comp.0 ≡ c) → AllShow m o s a → MayRun m s a
     → IsReady m o a
 
--- offers that show a state give the participants the values that they have there
+-- the offers of all components that an interaction moves are their own
+abbrev pub MovedAreOwn : System → (ℕ → Offer) → ℕ → Type 0
+MovedAreOwn m o a = (c : ℕ) → moves m a c ≡ true → (o c).comp.0 ≡ c
+
+-- and show a state
+abbrev pub MovedShow : System → (ℕ → Offer) → State → ℕ → Type 0
+MovedShow m o s a = (c : ℕ) → moves m a c ≡ true → ShowsState m s (o c)
+
+-- then they give the participants the values that they have there
 abbrev pub OfferedValues : Type 0
 OfferedValues =
-    (m : System) (o : ℕ → Offer) (s : State) (a : ℕ)
-    → ((c : ℕ) → Touches m a c → (o c).comp.0 ≡ c) → AllShow m o s a
+    (m : System) (o : ℕ → Offer) (s : State) (a : ℕ) → MovedAreOwn m o a → MovedShow m o s a
     → map (λ (q : Participant). (o q.0.0).values) (participants_of m a) ≡ values_of m s a
 
 -- a component whose port for an interaction isn't offered in a state

@@ -9,7 +9,7 @@ ghost use Rattle.bip_observe.specs.Laws.{SomeVerdict, UsedNumbersDontCount, Verd
 /// What a component offers in its local state shows the state, there is one such offer of each
 /// number, and no class that touches the component takes it for a stranger's. An offer has no two
 /// receipts; one that was held just now is old, and counts; what is old stays so; one whose number
-/// is used doesn't count (docs/DEFINITIONS.md, "Held offers").
+/// is used doesn't count (docs/PROTOCOL.md, "Held offers").
 pub fn offer_laws()
     ensures show { OwnOffersShow }
     ensures one { OneOfferEach }
@@ -23,7 +23,7 @@ pub fn offer_laws()
 
 /// The verdict Ready says that all offers count, and that by them the interaction is ready. By
 /// offers that show a state an interaction is ready just where it may run there, and each verdict
-/// is true of the state; of the verdicts one holds, and no two (docs/DEFINITIONS.md, "Verdicts").
+/// is true of the state; of the verdicts one holds, and no two (docs/PROTOCOL.md, "Verdicts").
 pub fn verdict_laws()
     ensures said { ReadyIsReady }
     ensures ready { ReadyMeansMayRun }

@@ -26,7 +26,7 @@ pub enum Receipt {
 }
 
 /// What a class has of the components that it touches: of each the greatest used number that it
-/// knows, and at most one offer (docs/DEFINITIONS.md, "Held offers"). Contracts see what is kept.
+/// knows, and at most one offer (docs/PROTOCOL.md, "Held offers"). Contracts see what is kept.
 #[derive(Drop)]
 pub struct Offers<'p> {
     plan: &'p Plan,
@@ -85,6 +85,15 @@ impl<'p> Offers<'p> {
             known: Seq::of(known),
             held: Seq::of(held),
         })
+    }
+
+    /// Does nothing, and costs nothing: it reminds the prover that each offer that is held is its
+    /// component's own.
+    #[inline(always)]
+    pub fn recall(&self)
+        ensures own { AreOwn (observed self.now) }
+    {
+        let _plan = self.plan();
     }
 
     /// The plan of which the class is one. Each offer that is held is its component's own.

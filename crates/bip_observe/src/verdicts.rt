@@ -32,13 +32,13 @@ pub enum Verdict {
 }
 
 /// The verdict of a class on an interaction of its plan, by the offers that it holds: the first
-/// that applies of NotReady, PortOff, GuardFalse, Below, Ready (docs/DEFINITIONS.md, "Verdicts").
+/// that applies of NotReady, PortOff, GuardFalse, Below, Ready (docs/PROTOCOL.md, "Verdicts").
 pub fn decide(plan: &Plan, offers: &Offers<'_>, inter: InterId) -> Verdict
     requires of_plan { offers.now.plan ≡ plan.now }
     requires declared { inter.0 < length plan.now.model.interactions }
     ensures { IsVerdict (observed offers.now) inter.0 result }
 {
-    let _own = offers.plan();
+    offers.recall();
     if let Some(comp) = offers.first_missing(plan.touches(inter)) {
         return Verdict::NotReady(comp);
     }

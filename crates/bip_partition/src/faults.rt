@@ -6,7 +6,7 @@ use bip_model::InterId;
 use std::fmt;
 use thiserror::Error;
 
-/// Why a model with classes has no plan (docs/DEFINITIONS.md, "Plans").
+/// Why a model with classes has no plan (docs/PROTOCOL.md, "Plans").
 #[derive(Clone, Copy, Debug, Error, PartialEq, Eq)]
 pub enum PlanFault {
     /// This interaction, the lowest-numbered one, touches more components than a grant can want.

@@ -11,7 +11,7 @@ ghost use Rattle.bip_partition.specs.Laws.{StandsInItsClass, TouchesWithItsClass
 /// beside one of them: a reserved interaction touches only these, a local one none, and what
 /// touches another component is of one class, so a local interaction shares nothing with another
 /// class. What an interaction touches its class touches. Interactions that may run and aren't in
-/// conflict run in either order, and lead to one state (docs/DEFINITIONS.md, "Plans").
+/// conflict run in either order, and lead to one state (docs/PROTOCOL.md, "Plans").
 pub fn plan_laws()
     ensures moves { EachMoves }
     ensures stands { StandsInItsClass }

@@ -25,7 +25,7 @@ use std::marker;
 
 /// The plan of a model whose interactions are parted into classes: what each interaction and each
 /// class touches, which components have a row in the table, which interactions are reserved, and
-/// which are in conflict (docs/DEFINITIONS.md, "Plans"). Contracts see it as the model with its
+/// which are in conflict (docs/PROTOCOL.md, "Plans"). Contracts see it as the model with its
 /// classes.
 #[derive(Drop)]
 pub struct Plan {
@@ -73,6 +73,15 @@ impl Plan {
         ensures { result.now ≡ self.now.model }
     {
         &self.model
+    }
+
+    /// Does nothing, and costs nothing: it reminds the prover of what holds of each plan.
+    #[inline(always)]
+    pub fn recall(&self)
+        ensures planned { IsPlanned self.now }
+        ensures valid { IsSystem self.now.model }
+    {
+        let _opened = &self.classes;
     }
 
     /// The classes of its interactions.

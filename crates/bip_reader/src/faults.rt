@@ -9,7 +9,7 @@ use std::alloc::{AllocError, AllocFailed};
 use std::fmt;
 use thiserror::Error;
 
-/// What is wrong with a line of a text (docs/DEFINITIONS.md, "Model texts").
+/// What is wrong with a line of a text (docs/ANSWERS.md, "Model texts").
 #[derive(Clone, Copy, Debug, Error, PartialEq, Eq)]
 pub enum Why {
     /// The line has no form of a line, or not one that can stand in its place.

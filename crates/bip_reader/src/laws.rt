@@ -9,8 +9,8 @@ ghost use Rattle.bip_reader.specs.Laws.{OneFault, OneMeaning, SameMeaning};
 /// partition of its interactions. Its fault is never want of memory, it is the first, and what
 /// stands behind a line at fault counts for nothing. Texts that differ only in skipped lines, in
 /// blanks between words or in a last line feed mean the same model and classes. A word is taken as
-/// a name exactly where it is one. The canonical text of a model means it (docs/DEFINITIONS.md,
-/// "Model texts").
+/// a name exactly where it is one. The canonical text of a model means it (docs/ANSWERS.md, "Model
+/// texts").
 #[tactic(auto, unfolding(crate::specs::Words::name_of))]
 pub fn meaning_laws()
     ensures meaning { OneMeaning }

@@ -15,7 +15,7 @@ use bip_model::{Classes, Model, NumberedLines};
 use std::alloc::Global;
 
 /// The model and the classes that a text means, or its first fault: the one of the lowest line, and
-/// of a line the first by the order of faults (docs/DEFINITIONS.md, "Model texts"). Nothing is read
+/// of a line the first by the order of faults (docs/ANSWERS.md, "Model texts"). Nothing is read
 /// past a fault. Want of memory names a line that says something, or the last one for what is made
 /// at the end, and comes only where no line before it has a fault. It hides no fault of syntax of
 /// its own line, and another one only where that is an `interaction` line, or a `trans` line with

@@ -499,7 +499,7 @@ fn write_classes(text: &mut Vec<u8>, model: &Model, classes: &Classes) -> Result
 /// The canonical text of a model and its classes: its components in order, each with its variables,
 /// locations, ports and transitions; then interactions, priorities and classes, each in order. It
 /// means just this model and these classes, so what is read of it is written as the same bytes
-/// (docs/DEFINITIONS.md, "Canonical texts").
+/// (docs/ANSWERS.md, "Canonical texts").
 pub fn write_model(alloc: Global, model: &Model, classes: &Classes) -> Result<Vec<u8>, AllocError>
     requires { AreClassesOf model.now classes.now }
     ensures text { IfOk result (λ text. text.items ≡ text_of_model model.now classes.now) }

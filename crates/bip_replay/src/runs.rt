@@ -156,7 +156,7 @@ impl<'m> Position<'m> {
         requires { IsNextAt (standing_of self.old) grant.now }
         ensures { standing_of self.new ≡ standing_on (standing_of self.old) grant.now }
     {
-        let _valid = self.model.components();
+        self.model.recall();
         self.model.run(&mut self.state, grant.inter());
         use_up(&mut self.used, grant.wants());
     }

@@ -58,4 +58,4 @@ returns-in-None c =
     let same : c.model-model.result.now ≡ v.plan.model = c.model-model.ensures ∙ ap (λ (p : Planned). p.model) (sym c.requires.of_plan) in
     let on : ArePortsOn v.plan.model (offers_of v) a = none_off v.plan.model (offers_of v) a (rw (c.participants.ensures.participants, same) at (sym c.in_default-first_off.is ∙ c.first_off.ensures)) in
     let enable : Enable v.plan.model (offers_of v) a = record { ports = on; guard = sym c.guard_holds.ensures ∙ c.if-not-guard_holds.false } in
-    ready_found v a c.above.result.now c.plan-own.ensures.own (rw c.requires.of_plan c.requires.declared) (rw same at c.above.ensures.above) all enable (sym c.in-None.is ∙ c.first_enabled.ensures)
+    ready_found v a c.above.result.now c.recall.ensures.own (rw c.requires.of_plan c.requires.declared) (rw same at c.above.ensures.above) all enable (sym c.in-None.is ∙ c.first_enabled.ensures)

@@ -13,7 +13,7 @@ pub use_up-requires-clause-known : goal.use_up-requires-clause-known
 use_up-requires-clause-known c =
     rw c.wants.ensures.wants (λ k d within moves.
     let next = rw (← c.self.view_is) at c.requires in
-    let known = moved_known c.self.inside.model.now c.args.grant.now _ c.components-valid.ensures.valid next.parties (Contains-get_or c.args.grant.now.wants k d within) (moved_role _ moves) in
+    let known = moved_known c.self.inside.model.now c.args.grant.now _ c.recall.ensures.valid next.parties (Contains-get_or c.args.grant.now.wants k d within) (moved_role _ moves) in
     omega (arith, known, c.self.invariant))
 
 pub returns : goal.returns
