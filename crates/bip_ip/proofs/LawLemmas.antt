@@ -1,5 +1,6 @@
 -- One answer to a try and to a reply; what is past stays past.
-use Rattle.std.proofs.Common.{◌≡◌, ◌⊎◌, ℕ, ◌+◌, ◌<◌, List, Option, Some, None, inl, inr, refl, sym, ap, ◌∙◌, subst, arith}
+use Rattle.std.proofs.Common.{◌≡◌, ◌⊎◌, ℕ, ◌+◌, ◌<◌, ◌≤◌, cond, max, List, Option, Some, None, inl, inr, refl, sym, ap, ◌∙◌, subst, arith}
+use Rattle.std.specs.Prelude.{◌==◌}
 use Rattle.std.proofs.lemmas.Bool.{eq-eqb}
 use Rattle.std.proofs.lemmas.Bool.Decides.{eqb_tells}
 use Rattle.bip_model.specs.Numbering.{IsLowest, put}
@@ -15,11 +16,12 @@ use Rattle.bip_model.proofs.FoundLemmas.{lowest_same}
 use Rattle.bip_model.proofs.WantLemmas.{one_wants_each}
 use Rattle.bip_partition.specs.Plans.{IsReserved}
 use Rattle.bip_observe.proofs.VerdictLemmas.{one_verdict}
+use Rattle.bip_observe.specs.Offers.{Observed}
 use Rattle.bip_observe.specs.Verdicts.{offers_of}
 use Rattle.bip_observe.specs.declared.verdicts.Verdict.{Verdict}
 use Rattle.bip_observe.specs.declared.verdicts.Verdict.TheVariants.{Ready}
 use Rattle.bip_observe.specs.declared.offers.Receipt.TheVariants.{Held, Old, Stranger}
-use Rattle.bip_ip.specs.Laws.{AskedFits, AskedStandsInTheWay, IsPast, OneAnswerToAReply, OneAnswerToATry, PastStays, TakenOnce, hears, request_in, takes, tries}
+use Rattle.bip_ip.specs.Laws.{AskedFits, AskedStandsInTheWay, IsPast, NextOnlyRises, OneAnswerToAReply, OneAnswerToATry, PastStays, RefusalsTeach, TakenOnce, hears, request_in, takes, tries}
 use Rattle.bip_ip.specs.Nodes.{Awaits, CanBeAsked, ClassNode, IsNextRequest, IsOwn, IsReplyTo, IsTried, StandsInTheWay, inter_in}
 use Rattle.bip_ip.specs.declared.nodes.Answered.TheVariants.{Told, Dropped, Stale}
 use Rattle.bip_ip.specs.declared.nodes.OpenRecord.{OpenRecord}
@@ -238,3 +240,30 @@ past_stays v later reply (takes (Refused class request a c used) (Told notifies)
 past_stays v later reply (takes (Refused class request a c used) Dropped answered left) past =
     past_fewer v later reply a.0 left.pending left.next past
 past_stays v later reply (takes (Refused class request a c used) Stale answered left) past = past_unchanged v later reply left past
+
+-- a refusal teaches one number
+pub refusals_teach : RefusalsTeach
+refusals_teach v later a c used e left pending wanted b =
+    subst (λ (o : Observed). (v.offers.known b ≤ o.known b) × (o.known b ≤ max (v.offers.known b) (cond (b == c) used 0))) (sym (left.wanted e pending wanted)) (elim (eqb_tells b c) [
+      | inl same ↦ let is : v.offers.known b ≡ v.offers.known c = ap v.offers.known same.1 in rw same.0 (omega arith, omega arith)
+      | inr other ↦ rw other.0 (omega arith, omega arith)
+    ])
+
+-- request numbers only rise
+pub next_only_rises : NextOnlyRises
+next_only_rises v later (hears offer Held is left) = omega (arith, ap (λ (u : ClassNode). u.next) left)
+next_only_rises v later (hears offer Old is left) = omega (arith, ap (λ (u : ClassNode). u.next) left)
+next_only_rises v later (hears offer Stranger is left) = omega (arith, ap (λ (u : ClassNode). u.next) left)
+next_only_rises v later (tries a Foreign tried left) = omega (arith, ap (λ (u : ClassNode). u.next) left)
+next_only_rises v later (tries a (Pending b) tried left) = omega (arith, ap (λ (u : ClassNode). u.next) left)
+next_only_rises v later (tries a (Not w) tried left) = omega (arith, ap (λ (u : ClassNode). u.next) left)
+next_only_rises v later (tries a (Local g notifies) tried left) = omega (arith, ap (λ (u : ClassNode). u.next) left)
+next_only_rises v later (tries a Ended tried left) = omega (arith, ap (λ (u : ClassNode). u.next) left)
+next_only_rises v later (tries a (Sent q) tried left) = omega (arith, ap (λ (u : ClassNode). u.next) left)
+next_only_rises v later (takes (Granted class request a serial) (Told notifies) answered left) =
+    omega (arith, ap (λ (u : ClassNode). u.next) (left answered.0 answered.1))
+next_only_rises v later (takes (Granted class request a serial) Dropped answered left) = absurd answered
+next_only_rises v later (takes (Granted class request a serial) Stale answered left) = omega (arith, ap (λ (u : ClassNode). u.next) left)
+next_only_rises v later (takes (Refused class request a c used) (Told notifies) answered left) = absurd answered
+next_only_rises v later (takes (Refused class request a c used) Dropped answered left) = omega (arith, left.next)
+next_only_rises v later (takes (Refused class request a c used) Stale answered left) = omega (arith, ap (λ (u : ClassNode). u.next) left)

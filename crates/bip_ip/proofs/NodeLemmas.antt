@@ -7,6 +7,7 @@ use Rattle.std.proofs.lemmas.Bool.{eq-eqb}
 use Rattle.std.proofs.lemmas.Bool.Decides.{eqb_tells}
 use Rattle.std.proofs.lemmas.Bool.{cases_lt}
 use Rattle.std.proofs.lemmas.List.{get_or_default, get_or_past, length-set}
+use Rattle.std.proofs.lemmas.List.Elements.{All-contains}
 use Rattle.std.proofs.lemmas.Nat.Bits.{bit_at-zero}
 use Rattle.bip_model.specs.Numbering.{put}
 use Rattle.bip_model.specs.Parties.{AreParties}
@@ -192,16 +193,21 @@ learned_node n o wants is = ap (λ (v : Observed). node_by v (node_of n).pending
 -- what a refusal leaves
 pub refused_left : (n k : KeptNode) (a c used : ℕ) (o : KeptOffers) → node_of k ≡ without a (node_of n) → k.offers ≡ n.offers → o.plan ≡ k.offers.plan → o.class ≡ k.offers.class → o.held ≡ k.offers.held
     → (ClassTouches k.offers.plan k.offers.class c → observed o ≡ with_known c used (observed k.offers)) → ((¬ ClassTouches k.offers.plan k.offers.class c) → o ≡ k.offers)
+    → ((e : OpenRecord) → (node_of n).pending a ≡ Some e → All (λ (w : Want). ClassTouches n.offers.plan n.offers.class w.comp.0) e.request.wants)
     → IsLeftByRefusal a c used (node_of n) (node_of (record k { offers = o }))
-refused_left n k a c used o is same plan class held touched others = record {
+refused_left n k a c used o is same plan class held touched others wants = record {
   pending = ap (λ (v : ClassNode). v.pending) is;
   next = ap (λ (v : ClassNode). v.next) is;
   plan = plan ∙ ap (λ (x : KeptOffers). x.plan) same;
   class = class ∙ ap (λ (x : KeptOffers). x.class) same;
   held = ap (λ (list : List (Option Offer)). λ (k : ℕ). get_or list k None) (held ∙ ap (λ (x : KeptOffers). x.held) same);
-  touched = λ here. touched (subst (λ (x : KeptOffers). ClassTouches x.plan x.class c) (sym same) here) ∙ ap (λ (x : KeptOffers). with_known c used (observed x)) same;
+  wanted = λ e pending at. learned (subst (ClassTouches n.offers.plan n.offers.class) at.4 (All-contains (λ (w : Want). ClassTouches n.offers.plan n.offers.class w.comp.0) e.request.wants at.1 (wants e pending) (at.0, at.2, at.3)));
+  touched = learned;
   others = λ out. ap observed (others (λ there. out (subst (λ (x : KeptOffers). ClassTouches x.plan x.class c) same there)) ∙ same);
 }
+  where
+    learned : ClassTouches n.offers.plan n.offers.class c → observed o ≡ with_known c used (observed n.offers)
+    learned here = touched (subst (λ (x : KeptOffers). ClassTouches x.plan x.class c) (sym same) here) ∙ ap (λ (x : KeptOffers). with_known c used (observed x)) same
 
 -- what an offer leaves
 pub heard_node : (n : KeptNode) (offer : Offer) (receipt : Receipt) (o : KeptOffers) → IsLeftBy offer receipt n.offers o → node_of (record n { offers = o }) ≡ after_offer offer receipt (node_of n)

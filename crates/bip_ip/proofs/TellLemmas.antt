@@ -1,5 +1,10 @@
 -- What is told, and where it leads.
-use Rattle.std.proofs.Common.{◌≡◌, ℕ, ◌<◌, true, eqb, eqb-true, List, [], length, map, get_or, refl, sym, ap, ◌∙◌, subst, Contains, zip, arith}
+use Rattle.std.proofs.Common.{◌≡◌, ℕ, suc, ◌<◌, ◌≤◌, Bool, true, cond, eqb, eqb-true, List, [], ◌∷◌, length, map, get_or, inl, inr, refl, sym, ap, ◌∙◌, subst, Contains, zip, arith}
+use Rattle.std.specs.Prelude.{◌==◌, count_by}
+use Rattle.std.proofs.lemmas.Bool.{cases_Bool, cond-false, cond-true, false_from_ne_true}
+use Rattle.std.proofs.lemmas.List.Sums.{sum_by-cons}
+use Rattle.bip_model.proofs.ListLemmas.{Contains-head, Contains-tail, below_later}
+use Rattle.bip_model.proofs.NumberingLemmas.{increasing_tail}
 use Rattle.std.specs.List.Sorted.{IsStrictlyIncreasing}
 use Rattle.std.specs.Option.{option_map}
 use Rattle.std.proofs.lemmas.List.{get_or-map, length-map}
@@ -18,10 +23,10 @@ use Rattle.bip_model.specs.declared.messages.Offer.{Offer}
 use Rattle.bip_model.specs.declared.parts.System.{System}
 use Rattle.bip_observe.proofs.ShowLemmas.{moves_each, offered_values}
 use Rattle.bip_ip.specs.Asking.{notify_of, told_by, values_offered}
-use Rattle.bip_ip.specs.Laws.{LeadsToTheStep, TellsByComponent, TellsOfferedNumbers, TellsParticipants, TellsWhatMoves}
+use Rattle.bip_ip.specs.Laws.{LeadsToTheStep, TellsByComponent, TellsOfferedNumbers, TellsOnce, TellsParticipants, TellsWhatMoves}
 
 -- the values that the participants are told
-abbrev values_told : System → (ℕ → Offer) → ℕ → List (List ℕ)
+abbrev pub values_told : System → (ℕ → Offer) → ℕ → List (List ℕ)
 values_told m o a = transferred (transfer_of m a) (values_offered m o a)
 
 -- as many as there are participants
@@ -85,6 +90,40 @@ tells_by_component m valid o a =
     ∙ (sym (map-map (λ (q : Participant). q.0.0) (λ (t : Participant × List ℕ). t.0) (pairs_told m o a))
     ∙ ap components_in firsts) in
     subst IsStrictlyIncreasing (sym same) (rising_of m a valid)
+
+-- a notification is for a component
+abbrev is_told : ℕ → Notify → Bool
+is_told c n = n.comp.0 == c
+
+count_none : (c : ℕ) (ns : List Notify) → ((n : Notify) → Contains ns n → ¬ (n.comp.0 ≡ c)) → count_by (is_told c) ns ≡ 0
+count_none c [] none = refl
+count_none c (n ∷ ns) none =
+    let each = sum_by-cons (λ (x : Notify). cond (is_told c x) 1 0) n ns in
+    let here : cond {A = ℕ} (n.comp.0 == c) 1 0 ≡ 0 = cond-false (n.comp.0 == c) 1 0 (false_from_ne_true (n.comp.0 == c) (λ is. none n (Contains-head n ns) (eqb-true n.comp.0 c is))) in
+    let rest = count_none c ns (λ x at. none x (Contains-tail n x ns at)) in
+    omega (arith, each, here, rest)
+
+count_rising : (c : ℕ) (ns : List Notify) → IsStrictlyIncreasing (map (λ (n : Notify). n.comp.0) ns) → count_by (is_told c) ns ≤ 1
+count_rising c [] rising = omega arith
+count_rising c (n ∷ ns) rising =
+    let each = sum_by-cons (λ (x : Notify). cond (is_told c x) 1 0) n ns in
+    elim (cases_Bool (n.comp.0 == c)) [
+      | inl is ↦
+          let here : cond {A = ℕ} (n.comp.0 == c) 1 0 ≡ 1 = cond-true (n.comp.0 == c) 1 0 is in
+          let rest = count_none c ns (λ x at same. let below = head_below n ns rising x at in absurd (omega (arith, below, same, eqb-true n.comp.0 c is))) in
+          omega (arith, each, here, rest)
+      | inr other ↦
+          let here : cond {A = ℕ} (n.comp.0 == c) 1 0 ≡ 0 = cond-false (n.comp.0 == c) 1 0 other in
+          let rest = count_rising c ns (increasing_tail n.comp.0 (map (λ (x : Notify). x.comp.0) ns) rising) in
+          omega (arith, each, here, rest)
+    ]
+  where
+    head_below : (n : Notify) (ns : List Notify) → IsStrictlyIncreasing (map (λ (x : Notify). x.comp.0) (n ∷ ns)) → (x : Notify) → Contains ns x → n.comp.0 < x.comp.0
+    head_below n ns rising x (k, within, is) =
+        subst (λ (y : Notify). n.comp.0 < y.comp.0) is (below_later (λ (y : Notify). y.comp.0) (n ∷ ns) rising 0 (suc k) x (omega arith) (omega (arith, within)))
+
+pub tells_once : TellsOnce
+tells_once m valid o a c = count_rising c (told_by m o a) (tells_by_component m valid o a)
 
 pub leads_to_the_step : LeadsToTheStep
 leads_to_the_step m valid o s a own show n at =

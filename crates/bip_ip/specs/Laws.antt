@@ -1,5 +1,6 @@
 -- What the definitions mean, in the subject's own words: laws that a reviewer reads.
-use Rattle.std.specs.Prelude.{◌≡◌, ◌⊎◌, ℕ, ◌<◌, true, map, Any, Contains}
+use Rattle.std.specs.Prelude.{◌≡◌, ◌⊎◌, ◌==◌, ℕ, ◌<◌, ◌≤◌, true, map, max, Any, Contains, Some}
+use Rattle.std.specs.Prelude.{count_by, if◌then◌else◌}
 use Rattle.std.specs.List.Sorted.{IsStrictlyIncreasing}
 use Rattle.std.specs.Option.{option_map}
 use Rattle.bip_model.specs.Parts.{IsSystem}
@@ -11,12 +12,14 @@ use Rattle.bip_model.specs.declared.messages.Reply.{Reply}
 use Rattle.bip_model.specs.declared.messages.Reply.TheVariants.{Granted, Refused}
 use Rattle.bip_model.specs.declared.messages.Request.{Request}
 use Rattle.bip_model.specs.declared.parts.System.{System}
-use Rattle.bip_partition.specs.Plans.{InConflict, IsFit, Touches}
-use Rattle.bip_observe.specs.Laws.{AllShow}
+use Rattle.bip_model.specs.declared.wants.Want.{Want}
+use Rattle.bip_partition.specs.Plans.{InConflict, IsFit}
+use Rattle.bip_observe.specs.Laws.{MovedAreOwn, MovedShow}
 use Rattle.bip_observe.specs.Offers.{IsReceipt}
 use Rattle.bip_observe.specs.declared.offers.Receipt.{Receipt}
 use Rattle.bip_ip.specs.Asking.{told_by}
-use Rattle.bip_ip.specs.Nodes.{Awaits, ClassNode, IsAnswered, IsLeftByReply, IsTried}
+use Rattle.bip_ip.specs.Nodes.{Awaits, ClassNode, IsAnswered, IsLeftByRefusal, IsLeftByReply}
+use Rattle.bip_ip.specs.Nodes.{IsTried}
 use Rattle.bip_ip.specs.Nodes.{StandsInTheWay, after_offer, after_try, with_record}
 use Rattle.bip_ip.specs.declared.nodes.Answered.{Answered}
 use Rattle.bip_ip.specs.declared.nodes.OpenRecord.{OpenRecord}
@@ -41,17 +44,24 @@ TellsParticipants =
     (m : System) (o : ℕ → Offer) (a c : ℕ) → moves m a c ≡ true
     → Any (λ (n : Notify). n.comp.0 ≡ c) (told_by m o a)
 
--- and once, by component
+-- by component
 abbrev pub TellsByComponent : Type 0
 TellsByComponent =
     (m : System) → IsSystem m → (o : ℕ → Offer) (a : ℕ)
     → IsStrictlyIncreasing (map (λ (n : Notify). n.comp.0) (told_by m o a))
 
--- by offers that show a state, what a component is told leads it to where the joint step does
+-- so no component is told twice
+abbrev pub TellsOnce : Type 0
+TellsOnce =
+    (m : System) → IsSystem m → (o : ℕ → Offer) (a c : ℕ)
+    → count_by (λ (n : Notify). n.comp.0 == c) (told_by m o a) ≤ 1
+
+-- where the offers of what an interaction moves show a state, what a component is told leads it to
+-- where the joint step does
 abbrev pub LeadsToTheStep : Type 0
 LeadsToTheStep =
     (m : System) → IsSystem m → (o : ℕ → Offer) (s : State) (a : ℕ)
-    → ((c : ℕ) → Touches m a c → (o c).comp.0 ≡ c) → AllShow m o s a
+    → MovedAreOwn m o a → MovedShow m o s a
     → (n : Notify) → Contains (told_by m o a) n
     → after m s a n.comp.0
     ≡ option_map (λ local. led m n.comp.0 n.port (with_values n.values local)) (s n.comp.0)
@@ -77,6 +87,15 @@ OneAnswerToAReply =
     (v : ClassNode) (reply : Reply) (did other : Answered) → IsAnswered v reply did
     → IsAnswered v reply other → did ≡ other
 
+-- a refusal of a wanted component teaches its used number: no known number falls, and none rises
+-- but that component's, to no more than that
+abbrev pub RefusalsTeach : Type 0
+RefusalsTeach =
+    (v later : ClassNode) (a c used : ℕ) (e : OpenRecord) → IsLeftByRefusal a c used v later
+    → v.pending a ≡ Some e → Any (λ (w : Want). w.comp.0 ≡ c) e.request.wants → (b : ℕ)
+    → (v.offers.known b ≤ later.offers.known b)
+    × (later.offers.known b ≤ max (v.offers.known b) (if b == c then used else 0))
+
 -- what a node does: it hears an offer, tries an interaction, or takes a reply
 pub data NodeStep (v later : ClassNode) : Type 0 where
   hears : (offer : Offer) (receipt : Receipt) → IsReceipt v.offers offer receipt
@@ -85,6 +104,10 @@ pub data NodeStep (v later : ClassNode) : Type 0 where
       → NodeStep v later
   takes : (reply : Reply) (did : Answered) → IsAnswered v reply did
       → IsLeftByReply reply did v later → NodeStep v later
+
+-- request numbers only rise
+abbrev pub NextOnlyRises : Type 0
+NextOnlyRises = (v later : ClassNode) → NodeStep v later → v.next ≤ later.next
 
 -- the number of the request that a reply is to
 abbrev pub request_in : Reply → ℕ

@@ -1,6 +1,6 @@
 -- Interaction protocol nodes: what the node of a class has, what it answers, and what that leaves.
 use Rattle.std.specs.Prelude.{◌≡◌, ◌≢◌, ◌⊎◌, ℕ, ◌+◌, ◌<◌, ◌≤◌, List, Option, None, Some, length}
-use Rattle.std.specs.Prelude.{slice_index_or, is_some, IsSome}
+use Rattle.std.specs.Prelude.{slice_index_or, is_some, Any, IsSome}
 use Rattle.bip_model.specs.Numbering.{IsLowest, last_number, put}
 use Rattle.bip_model.specs.Parties.{AreWantsBy}
 use Rattle.bip_model.specs.Partitions.{class_in}
@@ -167,14 +167,18 @@ IsAnswered v reply Stale = (e : OpenRecord) → ¬ Awaits v reply e
 abbrev pub without : ℕ → ClassNode → ClassNode
 without a v = record v { pending = put v.pending a None }
 
--- what a refusal leaves: the record is gone, and the used number that is named is known, where the
--- class touches that component; plan, class and request number stay
+-- what a refusal leaves: the record is gone, and the used number that is named is known where the
+-- class touches that component, as it does each one that the record's request wants; plan, class
+-- and request number stay
 pub record IsLeftByRefusal (a c used : ℕ) (v later : ClassNode) : Type 0 where
   pub pending : later.pending ≡ put v.pending a None
   pub next : later.next ≡ v.next
   pub plan : later.offers.plan ≡ v.offers.plan
   pub class : later.offers.class ≡ v.offers.class
   pub held : later.offers.held ≡ v.offers.held
+  pub wanted : (e : OpenRecord) → v.pending a ≡ Some e
+      → Any (λ (w : Want). w.comp.0 ≡ c) e.request.wants
+      → later.offers ≡ with_known c used v.offers
   pub touched : ClassTouches v.offers.plan v.offers.class c
       → later.offers ≡ with_known c used v.offers
   pub others : (¬ ClassTouches v.offers.plan v.offers.class c) → later.offers ≡ v.offers

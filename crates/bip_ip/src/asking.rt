@@ -19,7 +19,7 @@ pub(crate) fn wants_by(offers: &Offers<'_>, inter: InterId) -> Wants
     ensures { AreWantsBy offers.now.plan.model (offers_of (observed offers.now)) inter.0 result }
 {
     let plan = offers.plan();
-    let _planned = plan.classes();
+    plan.recall();
     let touched = plan.touches(inter);
     let mut wants = [Want::default(); MOST_WANTS];
     for (place, comp) in touched.iter().enumerate() {

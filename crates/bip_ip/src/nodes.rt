@@ -85,8 +85,8 @@ pub enum Answered {
 }
 
 /// The node of a class: what it has of the components that it touches, which of its requests are
-/// open, and the number of its next one (docs/DEFINITIONS.md, "Protocol nodes"). Contracts see what
-/// is kept.
+/// open, and the number of its next one (docs/PROTOCOL.md, "Protocol nodes"). Contracts see what is
+/// kept.
 #[derive(Drop)]
 pub struct IpNode<'p> {
     offers: Offers<'p>,
@@ -147,7 +147,7 @@ impl<'p> IpNode<'p> {
     /// recorded with what its grant will tell. Else all stays as it was: the interaction isn't of
     /// the class; the lowest that is open, and this one or in conflict with it, stands in its way;
     /// it isn't ready; or no request number is left. The first that applies is told
-    /// (docs/DEFINITIONS.md, "Protocol nodes").
+    /// (docs/PROTOCOL.md, "Protocol nodes").
     pub fn try_interaction(&mut self, inter: InterId) -> Tried
         ensures tried { IsTried (node_of self.old) inter.0 result }
         ensures left { node_of self.new ≡ after_try inter.0 result (node_of self.old) }
@@ -159,7 +159,7 @@ impl<'p> IpNode<'p> {
     }
 
     /// Why a try of an interaction asks for nothing, where it does: what `try_interaction` answers
-    /// then. Else the interaction can be asked for (docs/DEFINITIONS.md, "Protocol nodes").
+    /// then. Else the interaction can be asked for (docs/PROTOCOL.md, "Protocol nodes").
     pub fn why_not(&self, inter: InterId) -> Option<WhyNot>
         ensures some { IfSome result (λ why. IsTried (node_of self.now) inter.0 (tried_of why)) }
         ensures none { IfNone result (CanBeAsked (node_of self.now) inter.0) }
@@ -186,7 +186,7 @@ impl<'p> IpNode<'p> {
         let wants = wants_by(&self.offers, inter);
         let notifies = told_by(&self.offers, inter);
         let plan = self.offers.plan();
-        let _planned = plan.classes();
+        plan.recall();
         if !plan.reserved(inter) {
             let grant = Grant { inter, wants };
             learn(&mut self.offers, grant.wants.as_slice());
@@ -212,12 +212,12 @@ impl<'p> IpNode<'p> {
 
     /// Takes a reply. Where a record waits for it, that one goes: a grant is told, and its moved
     /// numbers are known then; of a refusal the used number that it names is. Else all stays as it
-    /// was (docs/DEFINITIONS.md, "Protocol nodes").
+    /// was (docs/PROTOCOL.md, "Protocol nodes").
     pub fn on_reply(&mut self, reply: &Reply) -> Answered
         ensures answered { IsAnswered (node_of self.old) reply.now result }
         ensures left { IsLeftByReply reply.now result (node_of self.old) (node_of self.new) }
     {
-        let _planned = self.offers.plan().classes();
+        self.offers.plan().recall();
         let Some(record) = self.take_record(reply) else {
             return Answered::Stale;
         };
@@ -287,7 +287,7 @@ impl<'p> IpNode<'p> {
         ensures none { IfNone result (self.new ≡ self.old) }
     {
         let inter = inter_in(reply);
-        let _planned = self.offers.plan().classes();
+        self.offers.plan().recall();
         match self.record(inter) {
             Some(record) if is_reply_to(reply, &record.request) => {}
             _ => return None,

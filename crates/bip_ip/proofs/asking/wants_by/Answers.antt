@@ -16,7 +16,7 @@ unreachable-requires c =
     let v = observed c.args.offers.now in
     let cs = c.touches-touched.result.now in
     let all = wants_put v.plan.model (offers_of v) c.args.inter.0 cs c.loop-place.wants c.loop-place.place c.loop-place-test.false c.loop-place.auto.place-end c.loop-place.invariant.1 in
-    let valid : IsSystem v.plan.model = rw c.plan-plan.ensures.plan at c.classes-planned.ensures.planned.valid in
+    let valid : IsSystem v.plan.model = rw c.plan-plan.ensures.plan at c.recall.ensures.planned.valid in
     let list : IsListTouched v.plan.model c.args.inter.0 cs = rw c.plan-plan.ensures.plan at c.touches-touched.ensures.touches in
     let are = wants_are v c.args.inter.0 cs valid c.requires.declared c.requires.counted list c.touches-touched.ensures.few in
     false≢true (c.in-None.ensures.exact.1 (subst IsWants (sym all) are))

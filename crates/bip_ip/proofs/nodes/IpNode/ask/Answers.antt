@@ -11,7 +11,7 @@ pub learn-requires-clause-touched : goal.learn-requires-clause-touched
 learn-requires-clause-touched c =
     let n : KeptNode = record { offers = c.self.inside.offers; pending = c.self.inside.pending.items; next = c.self.inside.next } in
     let own : IsOwn (node_of n) c.args.inter.0 = subst (λ (k : KeptNode). IsOwn (node_of k) c.args.inter.0) (sym c.self.view_is) c.requires.own in
-    let planned : IsPlanned n.offers.plan = rw c.plan-plan.ensures.plan at c.classes-planned.ensures.planned in
+    let planned : IsPlanned n.offers.plan = rw c.plan-plan.ensures.plan at c.recall.ensures.planned in
     rw c.as_slice.ensures.wants (class_touched n.offers.plan c.args.inter.0 n.offers.class c.wants_by-wants.result planned c.wants_by-wants.ensures.parties own.class)
 
 pub invariant_of-self : goal.invariant_of-self

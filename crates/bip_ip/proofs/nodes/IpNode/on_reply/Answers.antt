@@ -1,11 +1,11 @@
-use Rattle.std.proofs.Common.{◌≡◌, ◌∙◌, List, ap, subst, sym}
+use Rattle.std.proofs.Common.{◌≡◌, ◌∙◌, List, None, Some, ap, get_or, subst, sym}
 use Rattle.std.specs.Prelude.{All}
 use Rattle.bip_model.specs.declared.messages.Reply.{Reply}
 use Rattle.bip_model.specs.declared.wants.Want.{Want}
 use Rattle.bip_partition.specs.Laws.{IsPlanned}
 use Rattle.bip_partition.specs.Plans.{ClassTouches}
 use Rattle.bip_observe.specs.Offers.{KeptOffers, Observed}
-use Rattle.bip_ip.specs.Nodes.{IsLeftByReply, KeptNode, node_of, with_grant_known}
+use Rattle.bip_ip.specs.Nodes.{IsKeptNode, IsLeftByReply, KeptNode, node_of, with_grant_known}
 use Rattle.bip_ip.specs.declared.nodes.Answered.TheVariants.{Dropped}
 use Rattle.bip_ip.specs.declared.nodes.OpenRecord.{OpenRecord}
 use Rattle.bip_ip.proofs.LawLemmas.{one_record}
@@ -17,7 +17,7 @@ learn-requires-clause-touched c =
     let o = c.args.self.now.offers in
     let its = c.in-Some.ensures.its in
     let same : c.self-2.inside.offers ≡ o = ap (λ (k : KeptNode). k.offers) c.self-2.view_is ∙ c.take_record.ensures.offers in
-    let planned : IsPlanned o.plan = subst IsPlanned (c.plan.ensures.plan ∙ ap (λ (k : KeptNode). k.offers.plan) c.self.view_is) c.classes-planned.ensures.planned in
+    let planned : IsPlanned o.plan = subst IsPlanned (c.plan.ensures.plan ∙ ap (λ (k : KeptNode). k.offers.plan) c.self.view_is) c.recall.ensures.planned in
     let touched = class_touched o.plan c.in-Some.record.request.inter.0 o.class c.in-Some.record.request.wants planned its.fit.parties (sym its.fit.class ∙ its.class) in
     rw c.as_slice.ensures.wants (subst (λ (k : KeptOffers). All (λ (w : Want). ClassTouches k.plan k.class w.comp.0) c.in-Some.record.request.wants) (sym same) touched)
 
@@ -43,5 +43,11 @@ pub returns-in-Refused-clause-left : goal.returns-in-Refused-clause-left
 returns-in-Refused-clause-left c =
     let n : KeptNode = record { offers = c.self-2.inside.offers; pending = c.self-2.inside.pending.items; next = c.self-2.inside.next } in
     let same : c.self-2.inside.offers ≡ c.args.self.now.offers = ap (λ (k : KeptNode). k.offers) c.self-2.view_is ∙ c.take_record.ensures.offers in
+    let o = c.args.self.now.offers in
+    let planned : IsPlanned o.plan = subst IsPlanned (c.plan.ensures.plan ∙ ap (λ (k : KeptNode). k.offers.plan) c.self.view_is) c.recall.ensures.planned in
+    let kept : IsKeptNode c.args.self.now = subst IsKeptNode c.self.view_is c.self.invariant.0 in
+    let wants = λ (e : OpenRecord) (is : get_or c.args.self.now.pending c.in-Refused.inter.0 None ≡ Some e).
+    let its = kept.records c.in-Refused.inter.0 e is in
+    class_touched o.plan e.request.inter.0 o.class e.request.wants planned its.fit.parties (sym its.fit.class ∙ its.class) in
     subst (λ (r : Reply). IsLeftByReply r Dropped (node_of c.args.self.now) (node_of (record n { offers = c.spend.new.self }))) (sym c.in-Refused.is)
-    (refused_left c.args.self.now n c.in-Refused.inter.0 c.in-Refused.comp.0 c.in-Refused.used c.spend.new.self (rw c.in-Refused.is at (ap node_of c.self-2.view_is ∙ c.in-Some.ensures.taken)) same c.spend.ensures.plan c.spend.ensures.class c.spend.ensures.held c.spend.ensures.touched c.spend.ensures.others)
+    (refused_left c.args.self.now n c.in-Refused.inter.0 c.in-Refused.comp.0 c.in-Refused.used c.spend.new.self (rw c.in-Refused.is at (ap node_of c.self-2.view_is ∙ c.in-Some.ensures.taken)) same c.spend.ensures.plan c.spend.ensures.class c.spend.ensures.held c.spend.ensures.touched c.spend.ensures.others wants)
