@@ -1,5 +1,5 @@
 -- The laws of banks: what any calls make of the grants.
-use Rattle.std.proofs.Common.{◌≡◌, ℕ, List, [], ◌∷◌, ◌++◌, append_assoc, refl, sym, ap, ◌∙◌, subst, inl, inr, Option}
+use Rattle.std.proofs.Common.{◌≡◌, ℕ, List, [], ◌∷◌, ◌++◌, append_assoc, refl, sym, ap, ◌∙◌, subst, inl, inr}
 use Rattle.std.specs.Prelude.{All}
 use Rattle.std.proofs.lemmas.Bool.Decides.{eqb_tells}
 use Rattle.std.proofs.lemmas.List.{append-nil}
@@ -16,6 +16,7 @@ use Rattle.bip_table.specs.declared.reservations.Decision.TheVariants.{Granted, 
 use Rattle.bip_table.specs.declared.reservations.Decision.{Decision}
 use Rattle.bip_bank.specs.Banks.{BankContent, IsActed, with_decision, with_request}
 use Rattle.bip_bank.specs.Laws.{GrantsAreAllowed, GrantsAreHistories, GrantsGoOn, IsAllowed, Lead, PlanStays, acted, at_once, taken}
+use Rattle.bip_bank.specs.Sharing.{Sharing}
 use Rattle.bip_bank.specs.declared.banks.Acted.TheVariants.{Answered, Moved, Nothing}
 use Rattle.bip_bank.specs.declared.banks.Acted.{Acted}
 
@@ -24,17 +25,17 @@ pub record AreExplained (b : BankContent) : Type 0 where
   pub history : IsHistory (λ c. b.base) b.grants
   pub explained : b.used ≡ used_by (λ c. b.base) b.grants
 
-decided_explained : (b : BankContent) (q : Request) (d : Decision) (open' : ℕ → List Request) (lacking : Option (List ℕ)) → IsDecision b.used q.wants d → AreExplained b → AreExplained (record (with_decision q d b) { waiting = open'; lacking = lacking })
-decided_explained b q (Granted serial) open' lacking fresh are = record {
+decided_explained : (b : BankContent) (q : Request) (d : Decision) (open' : ℕ → List Request) (sharing : Sharing) → IsDecision b.used q.wants d → AreExplained b → AreExplained (record (with_decision q d b) { waiting = open'; sharing = sharing })
+decided_explained b q (Granted serial) open' sharing fresh are = record {
   history = (IsHistory-append (λ c. b.base) b.grants (grant_of q ∷ [])).1 (are.history, (subst (λ (u : ℕ → ℕ). IsFresh u q.wants) are.explained fresh, tt));
   explained = ap (λ (u : ℕ → ℕ). raised u q.wants) are.explained ∙ sym (used_by-push (λ c. b.base) b.grants (grant_of q));
 }
-decided_explained b q (Refused c n) open' lacking refused are = record { history = are.history; explained = are.explained }
+decided_explained b q (Refused c n) open' sharing refused are = record { history = are.history; explained = are.explained }
 
 acted_explained : (b next : BankContent) (did : Acted) → IsActed did b next → AreExplained b → AreExplained next
 acted_explained b next Nothing is are = subst AreExplained (sym is) are
-acted_explained b next Moved is are = subst AreExplained (sym is.1) (record { history = are.history; explained = are.explained })
-acted_explained b next (Answered q d) is are = subst AreExplained (sym is.after) (decided_explained b q d (put b.waiting q.inter.0 is.rest) next.lacking is.decision are)
+acted_explained b next Moved is are = subst AreExplained (sym is) (record { history = are.history; explained = are.explained })
+acted_explained b next (Answered q d) is are = subst AreExplained (sym is.after) (decided_explained b q d (put b.waiting q.inter.0 is.rest) next.sharing is.decision are)
 
 stay_explained : (b later : BankContent) → AreExplained b → Lead b later → AreExplained later
 stay_explained b later are at_once = are
@@ -56,7 +57,7 @@ decided_on b q (Refused c n) = ([], sym (append-nil b.grants))
 
 acted_on : (b next : BankContent) (did : Acted) → IsActed did b next → (gs : List Grant) × (next.grants ≡ b.grants ++ gs)
 acted_on b next Nothing is = ([], ap (λ (x : BankContent). x.grants) is ∙ sym (append-nil b.grants))
-acted_on b next Moved is = ([], ap (λ (x : BankContent). x.grants) is.1 ∙ sym (append-nil b.grants))
+acted_on b next Moved is = ([], ap (λ (x : BankContent). x.grants) is ∙ sym (append-nil b.grants))
 acted_on b next (Answered q d) is = let on = decided_on b q d in (on.0, ap (λ (x : BankContent). x.grants) is.after ∙ on.1)
 
 pub grants_go_on : GrantsGoOn
@@ -73,7 +74,7 @@ decided_plan b q (Refused c n) = (refl, refl)
 
 acted_plan : (b next : BankContent) (did : Acted) → IsActed did b next → (next.plan ≡ b.plan) × (next.base ≡ b.base)
 acted_plan b next Nothing is = (ap (λ (x : BankContent). x.plan) is, ap (λ (x : BankContent). x.base) is)
-acted_plan b next Moved is = (ap (λ (x : BankContent). x.plan) is.1, ap (λ (x : BankContent). x.base) is.1)
+acted_plan b next Moved is = (ap (λ (x : BankContent). x.plan) is, ap (λ (x : BankContent). x.base) is)
 acted_plan b next (Answered q d) is =
     let both = decided_plan b q d in
     (ap (λ (x : BankContent). x.plan) is.after ∙ both.0, ap (λ (x : BankContent). x.base) is.after ∙ both.1)
@@ -95,22 +96,22 @@ pub record AllFit (b : BankContent) : Type 0 where
 put_fit : (p : Planned) (open' : ℕ → List Request) (a : ℕ) (qs : List Request) → ((k : ℕ) → All (λ (q : Request). IsFit p q) (open' k)) → All (λ (q : Request). IsFit p q) qs → (k : ℕ) → All (λ (q : Request). IsFit p q) (put open' a qs k)
 put_fit p open' a qs all these k = elim (eqb_tells k a) [ inl same ↦ rw same.0 these | inr other ↦ rw other.0 (all k) ]
 
-decided_fit : (b : BankContent) (q : Request) (d : Decision) (rest : List Request) (lacking : Option (List ℕ)) → b.waiting q.inter.0 ≡ q ∷ rest → AllFit b → AllFit (record (with_decision q d b) { waiting = put b.waiting q.inter.0 rest; lacking = lacking })
-decided_fit b q (Granted serial) rest lacking oldest all =
+decided_fit : (b : BankContent) (q : Request) (d : Decision) (rest : List Request) (sharing : Sharing) → b.waiting q.inter.0 ≡ q ∷ rest → AllFit b → AllFit (record (with_decision q d b) { waiting = put b.waiting q.inter.0 rest; sharing = sharing })
+decided_fit b q (Granted serial) rest sharing oldest all =
     let open' = subst (λ (qs : List Request). All (λ (r : Request). IsFit b.plan r) qs) oldest (all.waiting q.inter.0) in
     let fit : IsFit b.plan q = All-head (λ (r : Request). IsFit b.plan r) q rest open' in
     record {
       grants = All-push (IsAllowed b.plan) b.grants (grant_of q) all.grants (record { reserved = fit.reserved; parties = fit.parties });
       waiting = put_fit b.plan b.waiting q.inter.0 rest all.waiting (All-tail (λ (r : Request). IsFit b.plan r) q rest open');
     }
-decided_fit b q (Refused c n) rest lacking oldest all =
+decided_fit b q (Refused c n) rest sharing oldest all =
     let open' = subst (λ (qs : List Request). All (λ (r : Request). IsFit b.plan r) qs) oldest (all.waiting q.inter.0) in
     record { grants = all.grants; waiting = put_fit b.plan b.waiting q.inter.0 rest all.waiting (All-tail (λ (r : Request). IsFit b.plan r) q rest open') }
 
 acted_fit : (b next : BankContent) (did : Acted) → IsActed did b next → AllFit b → AllFit next
 acted_fit b next Nothing is all = subst AllFit (sym is) all
-acted_fit b next Moved is all = subst AllFit (sym is.1) (record { grants = all.grants; waiting = all.waiting })
-acted_fit b next (Answered q d) is all = subst AllFit (sym is.after) (decided_fit b q d is.rest next.lacking is.oldest all)
+acted_fit b next Moved is all = subst AllFit (sym is) (record { grants = all.grants; waiting = all.waiting })
+acted_fit b next (Answered q d) is all = subst AllFit (sym is.after) (decided_fit b q d is.rest next.sharing is.oldest all)
 
 stay_fit : (b later : BankContent) → AllFit b → Lead b later → AllFit later
 stay_fit b later all at_once = all

@@ -30,9 +30,12 @@ use Rattle.bip_partition.specs.Plans.{AreStations, IsFit, IsTabled, Planned, Tou
 use Rattle.bip_table.specs.Reservations.{KeptRows, Reservations, grant_of}
 use Rattle.bip_table.specs.Rows.{has_row, rows_of, used_at}
 use Rattle.bip_table.specs.declared.reservations.Decision.TheVariants as decision
-use Rattle.bip_bank.proofs.UsedLemmas.{HaveRows, above_first, above_raised, decision_above, fresh_above}
-use Rattle.bip_bank.specs.Banks.{BankContent, CanDecide, DoesStep, IsActed, IsEnded, asked_nothing, content_of, with_request}
-use Rattle.bip_bank.specs.Central.{Applies, CannotKeep, IsCentral, IsCentralStep, IsFirstDecided, IsListTabled, IsOpen, IsUndecided, KeptCentral, WantsMemory, kept_central}
+use Rattle.bip_bank.proofs.UsedLemmas.{HaveRows, above_first, above_raised, decision_above, fresh_above, refused_stale}
+use Rattle.bip_bank.specs.Banks.{used_above}
+use Rattle.bip_bank.specs.Banks.{BankContent, CanDecide, CanWantMemory, DoesStep, HasNextSerial, IsActed, IsEnded, WantsMemory, asked_nothing, content_of, with_request}
+use Rattle.bip_bank.specs.Sharing.{alone}
+use Rattle.bip_bank.specs.Central.{CannotKeep, IsCentral, IsFirstDecided, IsOpen, IsUndecided, KeptCentral, kept_central}
+use Rattle.bip_bank.specs.Opening.{IsListTabled, IsOpening}
 use Rattle.bip_bank.specs.declared.banks.Acted.TheVariants.{Answered, Nothing}
 use Rattle.bip_bank.specs.declared.banks.Acted.TheVariants as did
 use Rattle.bip_bank.specs.declared.banks.Acted.{Acted}
@@ -62,7 +65,7 @@ open_put : (p : Planned) (waiting : ℕ → List Request) (a : ℕ) (qs : List R
 open_put p waiting a qs all these k = elim (eqb_tells k a) [ inl same ↦ rw (same.0, same.1) these | inr other ↦ rw other.0 (all k) ]
 
 abbrev content : Planned → ℕ → (ℕ → ℕ) → List Grant → (ℕ → List Request) → BankContent
-content p base u gs w = record { plan = p; base = base; used = u; grants = gs; waiting = w; lacking = None }
+content p base u gs w = record { plan = p; base = base; used = u; grants = gs; waiting = w; sharing = alone }
 
 same_content : (p : Planned) (base : ℕ) (u v : ℕ → ℕ) (gs hs : List Grant) (w x : ℕ → List Request) → u ≡ v → gs ≡ hs → w ≡ x
     → content p base u gs w ≡ content p base v hs x
@@ -127,7 +130,8 @@ serves c a t later (Answered q (decision.Granted s)) is within (rest, oldest, an
         rest = rest;
         oldest = ap (λ k. get_or c.waiting k []) open'.0.1 ∙ oldest;
         decision = fresh_above c.base c.table.rows q.wants rows answer.0.fresh;
-        lacking = refl;
+        left = λ ended. absurd (omega (arith, answer.0.left, is.counted, ended.1));
+        sharing = refl;
         after = same_content c.plan c.base _ _ _ _ _ _ above journal (rw open'.0.1 (read_put c.waiting later a rest within same));
       };
     }
@@ -141,7 +145,8 @@ serves c a t later (Answered q (decision.Refused d n)) is within (rest, oldest, 
         rest = rest;
         oldest = ap (λ k. get_or c.waiting k []) open'.0.1 ∙ oldest;
         decision = decision_above c.base c.table.rows q.wants (decision.Refused d n) rows answer.1;
-        lacking = refl;
+        left = λ ended. refused_stale (used_above c.base c.table.rows) q.wants d n (decision_above c.base c.table.rows q.wants (decision.Refused d n) rows answer.1) ended.0;
+        sharing = refl;
         after = same_content c.plan c.base _ _ _ _ _ _ refl refl (rw open'.0.1 (read_put c.waiting later a rest within same));
       };
     })
@@ -159,23 +164,30 @@ stays_undecided c q rest is fit left (r ∷ rs) same undecided =
           false≢true (sym lacks.1 ∙ (ap (has_row c.table.rows) (sym lacks.0.4) ∙ row))
     ]
 
-pub serves_station : (c : KeptCentral) (s : StationId) (stations : List InterId) (a : InterId) (t : KeptRows) (later : List (List Request)) (did : Acted) → IsCentral c → AreStations c.plan stations → slice_get stations s.0 ≡ Some a → IsFirstDecided a.0 c.table c.waiting t later did → IsCentralStep c (Serve s) did
-serves_station c s stations a t later Nothing is listed here served = λ applies.
-    let station = applies.station in
-    let same : Some (inter applies.number) ≡ Some a = sym station.here ∙ (ap (λ (xs : List InterId). slice_get xs s.0) (stations_same c.plan station.stations stations station.listed listed) ∙ here) in
-    let e : inter applies.number ≡ a = cc in
-    let at : get_or c.waiting a.0 [] ≡ applies.request ∷ applies.rest = ap (λ (x : InterId). get_or c.waiting x.0 []) (sym e) ∙ applies.oldest in
-    stays_undecided c applies.request applies.rest is (first_open c a.0 applies.request applies.rest is at).0.0 applies.left (get_or c.waiting a.0 []) at served.2
-serves_station c s stations a t later did.Moved is listed here served = absurd served
-serves_station c s stations a t later (Answered q d) is listed here served =
+pub serves_station : (c : KeptCentral) (s : StationId) (stations : List InterId) (a : InterId) (t : KeptRows) (later : List (List Request)) (did : Acted) (b : BankContent) → IsCentral c → AreStations c.plan stations → slice_get stations s.0 ≡ Some a → IsFirstDecided a.0 c.table c.waiting t later did → DoesStep (content_of (kept_central c)) (Serve s) did b
+serves_station c s stations a t later Nothing b is listed here served = λ can.
+    let oldest = can.oldest in
+    let same : Some (inter oldest.number) ≡ Some a = sym oldest.station.here ∙ (ap (λ (xs : List InterId). slice_get xs s.0) (stations_same c.plan oldest.station.stations stations oldest.station.listed listed) ∙ here) in
+    let e : inter oldest.number ≡ a = cc in
+    let at : get_or c.waiting a.0 [] ≡ oldest.request ∷ oldest.rest = ap (λ (x : InterId). get_or c.waiting x.0 []) (sym e) ∙ oldest.first in
+    stays_undecided c oldest.request oldest.rest is (first_open c a.0 oldest.request oldest.rest is at).0.0 can.left (get_or c.waiting a.0 []) at served.2
+serves_station c s stations a t later did.Moved b is listed here served = absurd served
+serves_station c s stations a t later (Answered q d) b is listed here served =
     let first = first_open c a.0 q served.0 is served.1 in
-    record { stations = stations; listed = listed; here = here ∙ ap (λ n. Some (inter n)) (sym first.0.1) }
+    (tt, record { stations = stations; listed = listed; here = here ∙ ap (λ n. Some (inter n)) (sym first.0.1) })
 
-pub no_station : (c : KeptCentral) (s : StationId) (stations : List InterId) → AreStations c.plan stations → slice_get stations s.0 ≡ None → ¬ Applies c (Serve s)
-no_station c s stations listed none applies =
-    let station = applies.station in
-    let same : Some (inter applies.number) ≡ None = sym station.here ∙ (ap (λ (xs : List InterId). slice_get xs s.0) (stations_same c.plan station.stations stations station.listed listed) ∙ none) in
+pub no_station : (c : KeptCentral) (s : StationId) (stations : List InterId) → AreStations c.plan stations → slice_get stations s.0 ≡ None → ¬ CanDecide (content_of (kept_central c)) s.0
+no_station c s stations listed none can =
+    let station = can.oldest.station in
+    let same : Some (inter can.oldest.number) ≡ None = sym station.here ∙ (ap (λ (xs : List InterId). slice_get xs s.0) (stations_same c.plan station.stations stations station.listed listed) ∙ none) in
     cc
+
+-- a grant has the next serial
+pub next_serial : (c : KeptCentral) (a : ℕ) (t : KeptRows) (later : List (List Request)) (did : Acted) → IsCentral c → IsFirstDecided a c.table c.waiting t later did → HasNextSerial (content_of (kept_central c)) did
+next_serial c a t later Nothing is served = tt
+next_serial c a t later did.Moved is served = tt
+next_serial c a t later (Answered q (decision.Granted n)) is (rest, oldest, answer, left, same) = answer.1 ∙ is.counted
+next_serial c a t later (Answered q (decision.Refused d n)) is served = tt
 
 -- a component is in a list where its number is among those of the list
 listed_row : (base : ℕ) (list : List CompId) (k : ℕ) → IsTrue (has_row (rows_of (map (λ (d : CompId). (d, base)) list)) k) ↔ Contains list (record { 0 = k })
@@ -218,9 +230,21 @@ first_central p base list t waiting tabled rows none zero' empty = record {
 }
 
 pub first_content : (p : Planned) (base : ℕ) (list : List CompId) (t : KeptRows) (waiting : List (List Request)) → t.rows ≡ rows_of (map (λ (d : CompId). (d, base)) list) → t.journal ≡ [] → waiting ≡ replicate (length p.model.interactions) none_open
-    → content_of (kept_central (record { plan = p; base = base; table = t; waiting = waiting })) ≡ asked_nothing p base None
+    → content_of (kept_central (record { plan = p; base = base; table = t; waiting = waiting })) ≡ asked_nothing p base alone
 first_content p base list t waiting rows none empty =
     same_content p base _ _ _ _ _ _ (rw rows (above_first base list)) none (ap (λ (w : List (List Request)). λ (k : ℕ). get_or w k []) empty ∙ fun_ext (λ a. none_waits (length p.model.interactions) a))
+
+-- a new table of the components with a row is the opening one
+pub opens : (p : Planned) (base : ℕ) (list : List CompId) (r : Result KeptRows AllocError) → IsListTabled p list → (entries : List (CompId × ℕ)) → entries ≡ map (λ (d : CompId). (d, base)) list
+    → IfOk r (λ t. t ≡ record { rows = rows_of entries; floor = rows_of entries; journal = []; serial = 0; room = t.room }) → IfOk r (IsOpening p base)
+opens p base list (Ok t) tabled entries are new = record {
+  list = list;
+  tabled = tabled;
+  rows = ap (λ (k : KeptRows). k.rows) new ∙ ap rows_of are;
+  journal = ap (λ (k : KeptRows). k.journal) new;
+  serial = ap (λ (k : KeptRows). k.serial) new;
+}
+opens p base list (Err e) tabled entries are new = tt
 
 -- what serving a station leaves, with or without memory
 pub served_leaves : (c : KeptCentral) (a : ℕ) (t : KeptRows) (later : List (List Request)) (r : Result Acted AllocError) → IsCentral c → a < length c.waiting → IfOk r (IsFirstDecided a c.table c.waiting t later) → OnErr r (t ≡ c.table) → OnErr r (later ≡ c.waiting)
@@ -228,9 +252,10 @@ pub served_leaves : (c : KeptCentral) (a : ℕ) (t : KeptRows) (later : List (Li
 served_leaves c a t later (Ok did) is within served table queues = let all = serves c a t later did is within served in (all.valid, all.content)
 served_leaves c a t later (Err e) is within served table queues = (rw (table, queues) is, tt)
 
-pub served_steps : (c : KeptCentral) (s : StationId) (stations : List InterId) (a : InterId) (t : KeptRows) (later : List (List Request)) (r : Result Acted AllocError) → IsCentral c → AreStations c.plan stations → slice_get stations s.0 ≡ Some a → IfOk r (IsFirstDecided a.0 c.table c.waiting t later) → IfOk r (IsCentralStep c (Serve s))
-served_steps c s stations a t later (Ok did) is listed here served = serves_station c s stations a t later did is listed here served
-served_steps c s stations a t later (Err e) is listed here served = tt
+pub served_steps : (c : KeptCentral) (s : StationId) (stations : List InterId) (a : InterId) (t : KeptRows) (later : List (List Request)) (r : Result Acted AllocError) (b : BankContent) → IsCentral c → AreStations c.plan stations → slice_get stations s.0 ≡ Some a → IfOk r (IsFirstDecided a.0 c.table c.waiting t later)
+    → IfOk r (λ did. DoesStep (content_of (kept_central c)) (Serve s) did b) × IfOk r (HasNextSerial (content_of (kept_central c)))
+served_steps c s stations a t later (Ok did) b is listed here served = (serves_station c s stations a t later did b is listed here served, next_serial c a.0 t later did is served)
+served_steps c s stations a t later (Err e) b is listed here served = (tt, tt)
 
 -- the interaction of a station has a list of open requests
 pub station_known : (c : KeptCentral) (s : ℕ) (stations : List InterId) (a : InterId) → IsCentral c → IsSystem c.plan.model → AreStations c.plan stations → slice_get stations s ≡ Some a → a.0 < length c.waiting
@@ -238,41 +263,30 @@ station_known c s stations a is valid listed here =
     omega (arith, is.each, reserved_known c.plan a.0 valid ((listed.exact a.0).0 (s, slice_get_within stations s a here, get_or_from_slice_get stations s a a here)))
 
 -- memory is wanted only in place of a grant
-starves : (c : KeptCentral) (s : StationId) (stations : List InterId) (a : InterId) → IsCentral c → AreStations c.plan stations → slice_get stations s.0 ≡ Some a → (open' : List Request) → get_or c.waiting a.0 [] ≡ open' → CannotKeep c.table open' → WantsMemory c (Serve s)
+starves : (c : KeptCentral) (s : StationId) (stations : List InterId) (a : InterId) → IsCentral c → AreStations c.plan stations → slice_get stations s.0 ≡ Some a → (open' : List Request) → get_or c.waiting a.0 [] ≡ open' → CannotKeep c.table open' → WantsMemory (content_of (kept_central c)) (Serve s)
 starves c s stations a is listed here [] same wants = absurd wants
 starves c s stations a is listed here (q ∷ rest) same wants =
     let fit = (first_open c a.0 q rest is same).0.0 in
     let can : CanDecide (content_of (kept_central c)) s.0 = record {
       complete = tt;
-      number = a.0;
-      request = q;
-      rest = rest;
-      station = record { stations = stations; listed = listed; here = here };
-      oldest = same;
+      oldest = record {
+        number = a.0;
+        request = q;
+        rest = rest;
+        station = record { stations = stations; listed = listed; here = here };
+        first = same;
+      };
       left = λ ended. absurd (omega (arith, wants.0.left, is.counted, ended.1));
     } in
-    (can, fresh_above c.base c.table.rows q.wants (have_rows c is q fit) wants.0.fresh, wants.1)
+    (can, fresh_above c.base c.table.rows q.wants (have_rows c is q fit) wants.0.fresh)
 
-pub served_starves : (c : KeptCentral) (s : StationId) (stations : List InterId) (a : InterId) (r : Result Acted AllocError) → IsCentral c → AreStations c.plan stations → slice_get stations s.0 ≡ Some a → IfErr r (λ e. CannotKeep c.table (get_or c.waiting a.0 [])) → IfErr r (λ e. WantsMemory c (Serve s))
+pub served_starves : (c : KeptCentral) (s : StationId) (stations : List InterId) (a : InterId) (r : Result Acted AllocError) → IsCentral c → AreStations c.plan stations → slice_get stations s.0 ≡ Some a → IfErr r (λ e. CannotKeep c.table (get_or c.waiting a.0 [])) → IfErr r (λ e. WantsMemory (content_of (kept_central c)) (Serve s))
 served_starves c s stations a (Ok did) is listed here wants = tt
 served_starves c s stations a (Err e) is listed here wants = starves c s stations a is listed here (get_or c.waiting a.0 []) refl wants
 
--- what the central bank does at a step is what any bank does
-pub does_step : (c : KeptCentral) (step : BankStep) (did : Acted) → IsCentralStep c step did → DoesStep (content_of (kept_central c)) step did
-does_step c (Serve s) Nothing is = is
-does_step c (Serve s) did.Moved is = absurd is
-does_step c (Serve s) (Answered q d) is = (tt, is)
-does_step c (Deliver k) Nothing is = tt
-does_step c (Deliver k) did.Moved is = absurd is
-does_step c (Deliver k) (Answered q d) is = absurd is
-does_step c (Pass s t) Nothing is = tt
-does_step c (Pass s t) did.Moved is = absurd is
-does_step c (Pass s t) (Answered q d) is = absurd is
-does_step c (Ask s t) Nothing is = tt
-does_step c (Ask s t) did.Moved is = absurd is
-does_step c (Ask s t) (Answered q d) is = absurd is
-
--- the same of a result
-pub does_result : (c : KeptCentral) (step : BankStep) (r : Result Acted AllocError) → IfOk r (IsCentralStep c step) → IfOk r (DoesStep (content_of (kept_central c)) step)
-does_result c step (Ok did) is = does_step c step did is
-does_result c step (Err e) is = tt
+-- what wants memory at a bank with one list of grants can want it at any
+pub wants_as_any : (b : BankContent) (step : BankStep) → WantsMemory b step → CanWantMemory b step
+wants_as_any b (Serve s) (can, fresh) = (can.complete, can.oldest)
+wants_as_any b (Deliver k) wants = absurd wants
+wants_as_any b (Pass s t) wants = absurd wants
+wants_as_any b (Ask s t) wants = absurd wants

@@ -1,6 +1,6 @@
 -- Used numbers above a base: what rows say of them, what a decision by rows is above the base, and what
 -- a grant leaves.
-use Rattle.std.proofs.Common.{◌≡◌, ℕ, Bool, true, false, cond, max, List, [], ◌∷◌, map, get_or, refl, sym, ap, ◌∙◌, inl, inr, arith}
+use Rattle.std.proofs.Common.{◌≡◌, ◌<◌, ℕ, Bool, true, false, cond, max, List, [], ◌∷◌, map, get_or, refl, sym, ap, ◌∙◌, inl, inr, arith}
 use Rattle.std.proofs.Math.Path.{fun_ext}
 use Rattle.std.specs.Prelude.{All, IsTrue}
 use Rattle.std.proofs.lemmas.Bool.{false≢true, ne_eqb}
@@ -68,6 +68,14 @@ decision_above base rows wants (Refused c n) all refused = (
     back k used =
         let row : has_row rows used.1.comp.0 ≡ true = All-contains (λ (w : Want). IsTrue (has_row rows w.comp.0)) wants used.1 all (used.0, used.2, used.3) in
         (used.0, used.1, used.2, used.3, (used.4.0, omega (arith, used.4.1, at_row base rows k (ap (has_row rows) (sym used.4.0) ∙ row))))
+
+-- what is refused isn't fresh
+pub refused_stale : (used : ℕ → ℕ) (wants : List Want) (c : CompId) (n : ℕ) → IsDecision used wants (Refused c n) → ¬ IsFresh used wants
+refused_stale used wants c n refused fresh =
+    let at = refused.0.here in
+    let above = All-contains (λ (w : Want). used w.comp.0 < w.number) wants at.1 fresh (at.0, at.2, at.3) in
+    let same : used at.1.comp.0 ≡ used c.0 = ap used at.4.0 in
+    omega (arith, above, at.4.1, same)
 
 -- rows with the base say nothing else
 used_first : (base : ℕ) (list : List CompId) (c : ℕ) → has_row (rows_of (map (λ (d : CompId). (d, base)) list)) c ≡ true → used_at (rows_of (map (λ (d : CompId). (d, base)) list)) c ≡ base

@@ -1,6 +1,6 @@
 -- The content of a bank, and what its calls make of it.
 use Rattle.std.specs.Prelude.{◌≡◌, ℕ, ⊤, List, [], ◌∷◌, ◌++◌, slice_index_or, if◌then◌else◌}
-use Rattle.std.specs.Prelude.{Contains, IsSome, None, Option, Some, is_some, length, slice_get}
+use Rattle.std.specs.Prelude.{Some, length, slice_get}
 use Rattle.bip_model.specs.Numbering.{put}
 use Rattle.bip_model.specs.Priorities.{inter}
 use Rattle.bip_model.specs.Wants.{IsFresh, raised}
@@ -17,18 +17,19 @@ use Rattle.bip_bank.specs.declared.banks.Acted.TheVariants.{Answered, Moved, Not
 use Rattle.bip_bank.specs.declared.banks.Acted.{Acted}
 use Rattle.bip_bank.specs.declared.banks.BankStep.TheVariants.{Serve}
 use Rattle.bip_bank.specs.declared.banks.BankStep.{BankStep}
+use Rattle.bip_bank.specs.Sharing.{LacksNothing, MovesNothingShared, MovesShared, Sharing}
+use Rattle.bip_bank.specs.Sharing.{StaysShared}
 
 -- the content of a bank: its plan and base, which stay; the used number of each component, the
--- grants in order of decision, and the open requests of each interaction, the oldest first; and the
--- stations that lack some of what stations share (a token, forks), or nothing where they share
--- nothing
+-- grants in order of decision, and the open requests of each interaction, the oldest first; and
+-- what its stations share
 pub record BankContent : Type 0 where
   pub plan : Planned
   pub base : ℕ
   pub used : ℕ → ℕ
   pub grants : List Grant
   pub waiting : ℕ → List Request
-  pub lacking : Option (List ℕ)
+  pub sharing : Sharing
 
 -- what is kept of it: used numbers as rows, and open requests interaction by interaction
 pub record KeptBank : Type 0 where
@@ -37,7 +38,7 @@ pub record KeptBank : Type 0 where
   pub rows : List Row
   pub grants : List Grant
   pub waiting : List (List Request)
-  pub lacking : Option (List ℕ)
+  pub sharing : Sharing
 
 -- the used numbers that rows give above a base, which is that of a component without a row
 abbrev pub used_above : ℕ → List Row → ℕ → ℕ
@@ -52,19 +53,19 @@ content_of b =
       used = used_above b.base b.rows;
       grants = b.grants;
       waiting = λ a. slice_index_or b.waiting a [];
-      lacking = b.lacking;
+      sharing = b.sharing;
     }
 
 -- the content of a bank that was asked nothing yet
-abbrev pub asked_nothing : Planned → ℕ → Option (List ℕ) → BankContent
-asked_nothing p base lacking =
+abbrev pub asked_nothing : Planned → ℕ → Sharing → BankContent
+asked_nothing p base sharing =
     record {
       plan = p;
       base = base;
       used = λ c. base;
       grants = [];
       waiting = λ a. [];
-      lacking = lacking;
+      sharing = sharing;
     }
 
 -- with one more open request, the newest of its interaction
@@ -79,27 +80,28 @@ with_decision q (Granted serial) b =
     record b { used = raised b.used q.wants; grants = b.grants ++ grant_of q ∷ [] }
 with_decision q (Refused c n) b = b
 
--- what stations share may be handed over, so that others lack some of it; whether they share
--- anything stays
-abbrev pub MayHandOver : BankContent → BankContent → Type 0
-MayHandOver b later = is_some later.lacking ≡ is_some b.lacking
+-- a decision on a request is ended: it would be granted, and no serial is left
+abbrev pub IsEnded : BankContent → Request → Type 0
+IsEnded b q = IsFresh b.used q.wants × (length b.grants ≡ end_of_serials)
 
 -- the oldest open request of an interaction was decided by the used numbers, and is open no more
 pub record IsDecided (q : Request) (d : Decision) (b later : BankContent) : Type 0 where
   pub rest : List Request
   pub oldest : b.waiting q.inter.0 ≡ q ∷ rest
   pub decision : IsDecision b.used q.wants d
-  pub lacking : MayHandOver b later
+  pub left : ¬ IsEnded b q
+  pub sharing : StaysShared b.sharing later.sharing
   pub after : later
       ≡ record (with_decision q d b) {
         waiting = put b.waiting q.inter.0 rest;
-        lacking = later.lacking;
+        sharing = later.sharing;
       }
 
--- what a step leaves, by what it did: only a decision changes numbers, grants and open requests
+-- what a step leaves, by what it did: only a decision changes numbers, grants and open requests,
+-- and what does nothing changes nothing at all
 abbrev pub IsActed : Acted → BankContent → BankContent → Type 0
 IsActed Nothing b later = later ≡ b
-IsActed Moved b later = MayHandOver b later × (later ≡ record b { lacking = later.lacking })
+IsActed Moved b later = later ≡ record b { sharing = later.sharing }
 IsActed (Answered q d) b later = IsDecided q d b later
 
 -- a station decides for an interaction
@@ -108,32 +110,52 @@ pub record IsStationOf (p : Planned) (s a : ℕ) : Type 0 where
   pub listed : AreStations p stations
   pub here : slice_get stations s ≡ Some (inter a)
 
--- a station lacks nothing of what stations share
-abbrev pub LacksNothing : Option (List ℕ) → ℕ → Type 0
-LacksNothing None s = ⊤
-LacksNothing (Some lacking) s = ¬ Contains lacking s
-
--- a decision on a request is ended: it would be granted, and no serial is left
-abbrev pub IsEnded : BankContent → Request → Type 0
-IsEnded b q = IsFresh b.used q.wants × (length b.grants ≡ end_of_serials)
-
--- a station can decide: it lacks nothing, its interaction has an open request, and the decision on
--- the oldest one isn't ended
-pub record CanDecide (b : BankContent) (s : ℕ) : Type 0 where
-  pub complete : LacksNothing b.lacking s
+-- the interaction of a station has an open request, of which this is the oldest
+pub record HasOldest (b : BankContent) (s : ℕ) : Type 0 where
   pub number : ℕ
   pub request : Request
   pub rest : List Request
   pub station : IsStationOf b.plan s number
-  pub oldest : b.waiting number ≡ request ∷ rest
-  pub left : ¬ IsEnded b request
+  pub first : b.waiting number ≡ request ∷ rest
 
--- what a step does: a station that can decide does, for its interaction, and one that can't does
--- nothing; no other step decides, and something moves only where stations share something
-abbrev pub DoesStep : BankContent → BankStep → Acted → Type 0
-DoesStep b (Serve s) Nothing = ¬ CanDecide b s.0
-DoesStep b (Serve s) Moved = ⊥
-DoesStep b (Serve s) (Answered q d) = LacksNothing b.lacking s.0 × IsStationOf b.plan s.0 q.inter.0
-DoesStep b step Nothing = ⊤
-DoesStep b step Moved = IsSome b.lacking
-DoesStep b step (Answered q d) = ⊥
+-- a station can decide: it lacks nothing, its interaction has an open request, and the decision on
+-- the oldest one isn't ended
+pub record CanDecide (b : BankContent) (s : ℕ) : Type 0 where
+  pub complete : LacksNothing b.sharing s
+  pub oldest : HasOldest b s
+  pub left : ¬ IsEnded b oldest.request
+
+-- what a step, not one that serves, moves of what stations share; and that it moves nothing
+abbrev pub Moves : BankContent → BankStep → Sharing → Type 0
+Moves b step later = MovesShared b.sharing step later
+
+abbrev pub MovesNothing : BankContent → BankStep → Type 0
+MovesNothing b step = MovesNothingShared b.sharing step
+
+-- what a step does, and leaves of what stations share: a station that can decide does, for its
+-- interaction, and one that can't does nothing; no other step decides, and it does nothing just
+-- where it moves nothing of what stations share
+abbrev pub DoesStep : BankContent → BankStep → Acted → BankContent → Type 0
+DoesStep b (Serve s) Nothing later = ¬ CanDecide b s.0
+DoesStep b (Serve s) Moved later = ⊥
+DoesStep b (Serve s) (Answered q d) later =
+    LacksNothing b.sharing s.0 × IsStationOf b.plan s.0 q.inter.0
+DoesStep b step Nothing later = MovesNothing b step
+DoesStep b step Moved later = Moves b step later.sharing
+DoesStep b step (Answered q d) later = ⊥
+
+-- want of memory can stand in place of what a step does: of a decision, where the station that is
+-- served lacks nothing and has an open request; of another step, where it moves something
+abbrev pub CanWantMemory : BankContent → BankStep → Type 0
+CanWantMemory b (Serve s) = LacksNothing b.sharing s.0 × HasOldest b s.0
+CanWantMemory b step = (later : Sharing) × Moves b step later
+
+-- at a bank with one list of grants, want of memory stands only in place of a grant
+abbrev pub WantsMemory : BankContent → BankStep → Type 0
+WantsMemory b (Serve s) = (can : CanDecide b s.0) × IsFresh b.used can.oldest.request.wants
+WantsMemory b step = ⊥
+
+-- and a grant's serial is the number of the grants before it
+abbrev pub HasNextSerial : BankContent → Acted → Type 0
+HasNextSerial b (Answered q (Granted serial)) = serial ≡ length b.grants
+HasNextSerial b did = ⊤

@@ -1,3 +1,6 @@
 pub mod Banks
 pub mod Central
+pub mod Decisions
 pub mod Laws
+pub mod Opening
+pub mod Sharing

@@ -1,7 +1,7 @@
 //! What the third layer is to those who ask it: a bank of requests and grants.
-ghost use Rattle.std.specs.Prelude.{◌≡◌, ℕ, IfErr, IfOk, OnErr, OnOk, []};
+ghost use Rattle.std.specs.Prelude.{◌≡◌, IfErr, IfOk, OnErr, OnOk, [], slice_get};
 
-use bip_model::{Grant, Request};
+use bip_model::{Grant, InterId, Request};
 use bip_table::Decision;
 use std::alloc::AllocError;
 
@@ -38,16 +38,15 @@ pub enum Acted {
 }
 
 /// The third layer of a plan, whatever its form: it takes requests, and grants or refuses each by
-/// used numbers, which the grants explain (docs/DEFINITIONS.md, "Banks"). Contracts see what is
-/// kept of a bank's content. No call changes its plan or its base.
+/// used numbers, which the grants explain (docs/PROTOCOL.md, "Banks"). Contracts see what is kept
+/// of a bank's content. No call changes its plan or its base.
 pub trait Bank {
     ghost use Rattle.bip_partition.specs.Plans.{IsFit};
-    ghost use Rattle.bip_bank.specs.Banks.{DoesStep, IsActed, KeptBank, content_of, with_request};
+    ghost use Rattle.bip_bank.specs.Banks.{CanWantMemory, DoesStep, IsActed, KeptBank, content_of};
+    ghost use Rattle.bip_bank.specs.Banks.{with_request};
+    ghost use Rattle.bip_bank.specs.Sharing.{in_flight};
 
     ghost kept: { Self → KeptBank };
-
-    /// How many things are in flight inside the bank.
-    ghost flight: { Self → ℕ };
 
     /// Takes a request that fits the plan: it is open from now on, the newest of its interaction.
     /// Without memory it comes back, and the content stays as it was.
@@ -61,11 +60,15 @@ pub trait Bank {
     /// Does a step. A station that is served decides on the oldest open request of its
     /// interaction, where it lacks nothing of what stations share, there is one, and the decision
     /// isn't ended: it grants where the request is fresh, and else refuses with the lowest
-    /// component that isn't. No other step decides. Without memory the content stays as it was.
+    /// component that isn't. No other step decides: it moves what stations share, as their form
+    /// says, or does nothing. Where nothing is done nothing changes, and so it is without memory,
+    /// which a step can want only in place of a decision or a move.
     fn act(&mut self, step: BankStep) -> Result<Acted, AllocError>
-        ensures does { IfOk result (DoesStep (content_of (kept self.old)) step) }
+        ensures does { IfOk result (λ acted. DoesStep (content_of (kept self.old)) step acted
+            (content_of (kept self.new))) }
         ensures acted { IfOk result (λ acted. IsActed acted (content_of (kept self.old))
             (content_of (kept self.new))) }
+        ensures memory { IfErr result (λ e. CanWantMemory (content_of (kept self.old)) step) }
         ensures err { OnErr result (content_of (kept self.new) ≡ content_of (kept self.old)) };
 
     /// The grants, in order of decision. While there are none, all used numbers are the base.
@@ -76,5 +79,12 @@ pub trait Bank {
 
     /// How many things are in flight inside the bank: so far steps that deliver may count.
     fn in_flight(&self) -> usize
-        ensures { result ≡ flight self.now };
+        ensures { result ≡ in_flight (kept self.now).sharing };
+}
+
+/// The interaction that a station decides for, if there is such a station.
+pub fn interaction_at(stations: &[InterId], station: StationId) -> Option<InterId>
+    ensures { result ≡ slice_get stations.now station.0 }
+{
+    stations.get(station.0 as usize).copied()
 }

@@ -1,20 +1,22 @@
 //! The central bank: one table decides all.
-ghost use Rattle.std.specs.Prelude.{◌≡◌, ◌<◌, [], ◌∷◌, ◌++◌, IfErr, IfOk, OnErr, OnOk, length, map};
-ghost use Rattle.std.specs.Prelude.{replicate, slice_get, slice_index_or, slice_set};
+ghost use Rattle.std.specs.Prelude.{◌≡◌, ◌<◌, [], IfErr, IfOk, OnErr, OnOk, length, slice_index_or};
 ghost use Rattle.bip_model.specs.Numbering.{last_number};
-ghost use Rattle.bip_bank.specs.Banks.{DoesStep, IsActed, asked_nothing, content_of, with_request};
-ghost use Rattle.bip_bank.specs.Central.{CannotKeep, IsCentralAfter, IsCentralStep, IsFirstDecided};
-ghost use Rattle.bip_bank.specs.Central.{IsListTabled, WantsMemory, kept_central};
+ghost use Rattle.bip_bank.specs.Banks.{CanWantMemory, DoesStep, HasNextSerial, IsActed};
+ghost use Rattle.bip_bank.specs.Banks.{WantsMemory, asked_nothing, content_of, with_request};
+ghost use Rattle.bip_bank.specs.Central.{CannotKeep, IsFirstDecided, kept_central};
+ghost use Rattle.bip_bank.specs.Sharing.{alone};
 ghost use Rattle.bip_bank.specs.declared.banks.BankStep.TheVariants.{Serve};
 
-use crate::{Acted, Bank, BankStep, Queue, StationId};
-use bip_model::{CompId, Grant, InterId, Number, Request, Seq};
+use crate::{
+    Acted, Bank, BankStep, Queue, StationId, first_table, interaction_at, no_requests, put_last,
+};
+use bip_model::{Grant, Number, Request};
 use bip_partition::Plan;
-use bip_table::{Decision, Table, TableFault};
+use bip_table::{Table, TableFault};
 use std::alloc::{AllocError, Global};
 use std::marker;
 
-/// The bank with one table, which decides on the requests of all stations (docs/DEFINITIONS.md,
+/// The bank with one table, which decides on the requests of all stations (docs/PROTOCOL.md,
 /// "Banks"). Contracts see what is kept.
 #[derive(Drop)]
 pub struct Central<'p> {
@@ -49,12 +51,9 @@ impl<'p> Central<'p> {
     pub fn new(alloc: Global, plan: &'p Plan, base: Number) -> Result<Central<'p>, AllocError>
         requires { base < last_number }
         ensures content { IfOk result (λ bank. content_of (kept_central bank)
-            ≡ asked_nothing plan.now base None) }
-        ensures serial { IfOk result (λ bank. bank.table.serial ≡ 0) }
+            ≡ asked_nothing plan.now base alone) }
     {
-        let tabled = list_tabled(alloc, plan)?;
-        let entries = numbered(alloc, tabled.as_slice(), base)?;
-        let table = Table::new(alloc, &entries, 0)?;
+        let table = first_table(alloc, plan, base)?;
         let waiting = no_requests(alloc, plan.model().interactions().len())?;
         Ok(Central {
             plan,
@@ -68,12 +67,14 @@ impl<'p> Central<'p> {
     fn serve(&mut self, station: StationId) -> Result<Acted, AllocError>
         ensures acted { IfOk result (λ acted. IsActed acted (content_of (kept_central self.old))
             (content_of (kept_central self.new))) }
-        ensures step { IfOk result (IsCentralStep self.old (Serve station)) }
-        ensures after { IfOk result (λ acted. IsCentralAfter acted self.old self.new) }
-        ensures memory { IfErr result (λ e. WantsMemory self.old (Serve station)) }
+        ensures does { IfOk result (λ acted. DoesStep (content_of (kept_central self.old))
+            (Serve station) acted (content_of (kept_central self.new))) }
+        ensures serial { IfOk result (HasNextSerial (content_of (kept_central self.old))) }
+        ensures wants { IfErr result (λ e. WantsMemory (content_of (kept_central self.old))
+            (Serve station)) }
         ensures err { OnErr result (self.new ≡ self.old) }
     {
-        let _planned = self.plan.classes();
+        self.plan.recall();
         match interaction_at(self.plan.stations(), station) {
             Some(inter) => decide_first(&mut self.table, &mut self.waiting, inter.0 as usize),
             None => Ok(Acted::Nothing),
@@ -87,8 +88,6 @@ impl<'p> Bank for Central<'p> {
 
     ghost kept = { kept_central };
 
-    ghost flight = { λ c. 0 };
-
     fn submit(&mut self, request: Request) -> Result<(), (Request, AllocError)>
         requires { IsFit (content_of (kept_central self.old)).plan request }
         ensures ok { OnOk result (content_of (kept_central self.new)
@@ -96,24 +95,25 @@ impl<'p> Bank for Central<'p> {
         ensures err { OnErr result (content_of (kept_central self.new)
             ≡ content_of (kept_central self.old)) }
         ensures back { IfErr result (λ refused. refused.0 ≡ request) }
-        ensures table { self.new.table ≡ self.old.table }
     {
-        let _planned = self.plan.classes();
+        self.plan.recall();
         if let Err(request) = put_last(&mut self.waiting, request.inter.0 as usize, request) {
             return Err((request, AllocError));
         }
         Ok(())
     }
 
-    #[tactic(auto, using(crate::proofs::CentralLemmas::does_result))]
+    /// Does a step, as any bank does. A grant's serial is the number of the grants before it, and
+    /// memory is wanted only in place of a grant.
     fn act(&mut self, step: BankStep) -> Result<Acted, AllocError>
-        ensures does { IfOk result (DoesStep (content_of (kept_central self.old)) step) }
+        ensures does { IfOk result (λ acted. DoesStep (content_of (kept_central self.old)) step
+            acted (content_of (kept_central self.new))) }
         ensures acted { IfOk result (λ acted. IsActed acted (content_of (kept_central self.old))
             (content_of (kept_central self.new))) }
-        ensures step { IfOk result (IsCentralStep self.old step) }
-        ensures after { IfOk result (λ acted. IsCentralAfter acted self.old self.new) }
-        ensures unchanged { OnErr result (self.new ≡ self.old) }
-        ensures memory { IfErr result (λ e. WantsMemory self.old step) }
+        ensures serial { IfOk result (HasNextSerial (content_of (kept_central self.old))) }
+        ensures wants { IfErr result (λ e. WantsMemory (content_of (kept_central self.old)) step) }
+        ensures memory { IfErr result (λ e. CanWantMemory (content_of (kept_central self.old))
+            step) }
         ensures err { OnErr result (content_of (kept_central self.new)
             ≡ content_of (kept_central self.old)) }
     {
@@ -127,67 +127,8 @@ impl<'p> Bank for Central<'p> {
         self.table.journal()
     }
 
-    fn in_flight(&self) -> usize
-        ensures { result ≡ 0 }
-    {
+    fn in_flight(&self) -> usize {
         0
-    }
-}
-
-/// The interaction that a station decides for, if there is such a station.
-fn interaction_at(stations: &[InterId], station: StationId) -> Option<InterId>
-    ensures { result ≡ slice_get stations.now station.0 }
-{
-    stations.get(station.0 as usize).copied()
-}
-
-/// The components with a row in the table, by number.
-fn list_tabled(alloc: Global, plan: &Plan) -> Result<Seq<CompId>, AllocError>
-    ensures { IfOk result (IsListTabled plan.now) }
-{
-    let mut list = Seq::of(Vec::new(alloc));
-    for number in 0..plan.model().components().len() {
-        let comp = CompId(number as u16);
-        if plan.tabled(comp) {
-            list.push(comp)?;
-        }
-    }
-    Ok(list)
-}
-
-/// Each of these components with a number.
-fn numbered(
-    alloc: Global,
-    comps: &[CompId],
-    number: Number,
-) -> Result<Vec<(CompId, Number)>, AllocError>
-    ensures { IfOk result (λ entries. entries.items ≡ map (λ c. (c, number)) comps.now) }
-{
-    comps.iter().map(|comp| (*comp, number)).collect(alloc)
-}
-
-/// So many queues without requests.
-fn no_requests(alloc: Global, count: usize) -> Result<Vec<Queue<Request>>, AllocError>
-    ensures { IfOk result (λ queues. queues.items ≡ replicate count []) }
-{
-    let mut queues = Vec::new(alloc);
-    for _ in 0..count {
-        queues.push(Queue::new(alloc))?;
-    }
-    Ok(queues)
-}
-
-/// Puts a request last in one of the queues. Without memory it comes back, and they stay.
-fn put_last(queues: &mut Vec<Queue<Request>>, place: usize, request: Request) -> Result<(), Request>
-    requires { place < length queues.old.items }
-    ensures ok { OnOk result (queues.new.items ≡ slice_set queues.old.items place
-        (slice_index_or queues.old.items place [] ++ request ∷ [])) }
-    ensures err { OnErr result (queues.new.items ≡ queues.old.items) }
-    ensures back { IfErr result (λ refused. refused ≡ request) }
-{
-    match queues[place].put_last(request) {
-        Ok(()) => Ok(()),
-        Err(refused) => Err(refused.value),
     }
 }
 

@@ -5,7 +5,7 @@ ghost use Rattle.bip_bank.specs.Laws.{GrantsAreAllowed, GrantsAreHistories, Gran
 /// Whatever is asked of a bank that had no grants, its grants are a history above its base, move no
 /// component twice with one number, and explain the used numbers. The grants after any calls begin
 /// with those before; plan and base stay; and where no request was open at first, the plan allows
-/// each grant (docs/DEFINITIONS.md, "Banks").
+/// each grant (docs/PROTOCOL.md, "Banks").
 pub fn bank_laws()
     ensures history { GrantsAreHistories }
     ensures go_on { GrantsGoOn }

@@ -3,10 +3,15 @@
 
 mod banks;
 mod central;
+mod decisions;
 mod laws;
+mod opening;
 mod queues;
 
-pub use banks::{Acted, Bank, BankStep, StationId};
+pub use banks::{Acted, Bank, BankStep, StationId, interaction_at};
+pub use bip_table::Decision;
 pub use central::Central;
+pub use decisions::reply_to;
 pub use laws::bank_laws;
-pub use queues::Queue;
+pub use opening::{first_table, no_requests};
+pub use queues::{Queue, put_last};

@@ -1,8 +1,9 @@
 //! Queues: what came first is taken first.
-ghost use Rattle.std.specs.Prelude.{◌≡◌, [], ◌∷◌, ◌++◌, slice_get, IfErr, IfNone, IfSome, OnErr};
-ghost use Rattle.std.specs.Prelude.{OnOk};
+ghost use Rattle.std.specs.Prelude.{◌≡◌, ◌<◌, [], ◌∷◌, ◌++◌, slice_get, IfErr, IfNone, IfSome};
+ghost use Rattle.std.specs.Prelude.{OnErr, OnOk, length, slice_index_or, slice_set};
 ghost use Rattle.std.specs.Option.{option_map};
 
+use bip_model::Request;
 use std::alloc::{AllocFailed, Global};
 use std::collections::VecDeque;
 use std::marker::Model;
@@ -53,5 +54,23 @@ impl<T> Queue<T> {
         ensures none { IfNone result ((self.old ≡ []) × (self.new ≡ [])) }
     {
         self.items.pop_front()
+    }
+}
+
+/// Puts a request last in one of the queues. Without memory it comes back, and they stay.
+pub fn put_last(
+    queues: &mut Vec<Queue<Request>>,
+    place: usize,
+    request: Request,
+) -> Result<(), Request>
+    requires { place < length queues.old.items }
+    ensures ok { OnOk result (queues.new.items ≡ slice_set queues.old.items place
+        (slice_index_or queues.old.items place [] ++ request ∷ [])) }
+    ensures err { OnErr result (queues.new.items ≡ queues.old.items) }
+    ensures back { IfErr result (λ refused. refused ≡ request) }
+{
+    match queues[place].put_last(request) {
+        Ok(()) => Ok(()),
+        Err(refused) => Err(refused.value),
     }
 }

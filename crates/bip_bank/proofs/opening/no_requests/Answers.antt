@@ -1,7 +1,7 @@
 use Rattle.std.proofs.Common.{◌≡◌, [], ◌∷◌, ◌++◌, List, ◌∙◌, ap, rules}
 use Rattle.std.proofs.lemmas.List.{replicate_more}
 use Rattle.bip_model.specs.declared.messages.Request.{Request}
-use Rattle.bip_bank.proofs.central.no_requests.Goals as goal
+use Rattle.bip_bank.proofs.opening.no_requests.Goals as goal
 
 abbrev none : List Request
 none = []

@@ -7,8 +7,8 @@ use Rattle.bip_partition.specs.Plans.{IsTabled}
 use Rattle.bip_partition.specs.Tables.{comp}
 use Rattle.bip_partition.proofs.ListedLemmas.{exact_in_all, none_below, one_has, one_lacks}
 use Rattle.bip_partition.proofs.TableLemmas.{tabled_known}
-use Rattle.bip_bank.proofs.central.list_tabled.Goals as goal
-use Rattle.bip_bank.proofs.central.list_tabled.Goals.{then-tabled+in_ok-push, else-tabled}
+use Rattle.bip_bank.proofs.opening.list_tabled.Goals as goal
+use Rattle.bip_bank.proofs.opening.list_tabled.Goals.{then-tabled+in_ok-push, else-tabled}
 
 pub loop-number-init : goal.loop-number-init
 loop-number-init c = rw (c.of-list.ensures, c.new.ensures.items) (none_below (λ (d : CompId). d.0) comp (λ n. refl) (λ x. refl) (IsTabled c.args.plan.now))
