@@ -16,7 +16,7 @@ use Rattle.bip_core.specs.declared.messages.Message.{Message}
 use Rattle.bip_core.specs.declared.messages.Message.TheVariants.{NotifyComponent, OfferTo, ReplyToClass, RequestToBank}
 use Rattle.bip_core.specs.declared.outcomes.Outcome.{Outcome}
 use Rattle.bip_core.specs.declared.runs.Report.{Report}
-use Rattle.bip_table.specs.declared.reservations.Decision.TheVariants as decision
+use Rattle.bip_bank.specs.Decisions.Decision.TheVariants as decision
 use Rattle.bip_ip.specs.declared.nodes.Tried.TheVariants as tried
 use Rattle.bip_bank.specs.declared.banks.Acted.TheVariants as acted
 
@@ -218,11 +218,6 @@ step_trace w e d v step =
     let left = done_left w e d.what step.acted.middle step.acted.done in
     ap (λ (u : WorldContent). u.trace) step.others ∙ (ap (λ (u : WorldContent). u.trace) step.acted.after ∙ ap (λ (t : List Grant). trace_with t (grant_in d.what)) left.trace)
 
-pub step_plan : (w : WorldContent) (e : Event) (d : Did) (v : WorldContent) → IsStep w e d v → v.plan ≡ w.plan
-step_plan w e d v step =
-    let left = done_left w e d.what step.acted.middle step.acted.done in
-    ap (λ (u : WorldContent). u.plan) step.others ∙ (ap (λ (u : WorldContent). u.plan) step.acted.after ∙ left.plan)
-
 -- what a trace grows by with a grant, if there is one
 grown_by : (trace : List Grant) (given : Option Grant) → (gs : List Grant) × (trace_with trace given ≡ trace ++ gs) × (length gs ≡ cond (is_some given) 1 0)
 grown_by trace None = ([], sym (append-nil trace), refl)
@@ -247,14 +242,6 @@ steps_grow (f ∷ es) (Some d ∷ ds) w v so =
 steps_grow (f ∷ es) (None ∷ ds) w v so =
     let more = steps_grow es ds w v so.1 in
     (more.0, more.1, sum_by-cons (λ x. cond (did_so is_grant x) 1 0) None ds ∙ from_zero _ _ more.2)
-
--- the plan stays over events
-pub steps_plan : (w v : WorldContent) (es : List Event) (ds : List (Option Did)) → AreSteps es ds w v → v.plan ≡ w.plan
-steps_plan w v [] [] so = ap (λ (u : WorldContent). u.plan) so
-steps_plan w v [] (o ∷ ds) so = absurd so
-steps_plan w v (f ∷ es) [] so = absurd so
-steps_plan w v (f ∷ es) (Some d ∷ ds) so = steps_plan so.0 v es ds so.2 ∙ step_plan w f d so.0 so.1
-steps_plan w v (f ∷ es) (None ∷ ds) so = steps_plan w v es ds so.1
 
 -- no more of a kind are kept than there are
 kept_counted : (f : Message → Bool) (ps xs : List Message) → AreKeptOf ps xs → count_by f ps ≤ count_by f xs

@@ -12,7 +12,8 @@ use Rattle.bip_core.specs.Worlds.{FitsIfRequest}
 use Rattle.bip_core.specs.declared.events.What.{What}
 use Rattle.bip_core.specs.declared.events.What.TheVariants.{Acts, Hears, Learns, Moves, Nothing, Submits, Tries}
 use Rattle.bip_core.specs.declared.messages.Message.TheVariants.{NotifyComponent, OfferTo, ReplyToClass, RequestToBank}
-use Rattle.bip_core.specs.Events.{AreKeptOf, ArePut, AreSent, IsSending, SendsWhatFits, all_done, kind_of, one_kept, one_lost, reply_to}
+use Rattle.bip_core.specs.Events.{AreKeptOf, ArePut, AreSent, IsSending, SendsWhatFits, all_done, kind_of, one_kept, one_lost}
+use Rattle.bip_bank.specs.Decisions.{reply_to}
 use Rattle.bip_core.specs.declared.messages.Message.{Message}
 use Rattle.bip_core.specs.declared.outcomes.Outcome.{Outcome}
 

@@ -91,5 +91,5 @@ offers_fit (suc c) p nodes mail (node, offer, before, last, is, offered, sent, s
     (rw sent.each (All-map (FitsIfRequest p) (λ k. OfferTo k offer) sent.classes (λ k d within q same. absurd (cc)))))
 
 -- a bank that was asked nothing and granted nothing
-pub unasked_content : (p : Planned) (base : ℕ) (b : BankContent) → IsUnasked p base b → b.used ≡ (λ c. b.base) → b ≡ asked_nothing p base b.lacking
+pub unasked_content : (p : Planned) (base : ℕ) (b : BankContent) → IsUnasked p base b → b.used ≡ (λ c. b.base) → b ≡ asked_nothing p base b.sharing
 unasked_content p base b is unused = rw (unused, is.plan, is.base, is.grants, is.waiting) refl

@@ -1,9 +1,9 @@
 -- What is kept of a world, as the world, and what its nodes leave.
-use Rattle.std.proofs.Common.{◌≡◌, ◌⊎◌, ℕ, suc, take, drop, ◌<◌, ◌≤◌, List, [], ◌∷◌, ◌++◌, length, set, get_or, Some, None, Option, inl, inr, refl, sym, ap, ◌∙◌, subst, slice_get, arith}
+use Rattle.std.proofs.Common.{◌≡◌, ◌⊎◌, ℕ, suc, take, drop, ◌<◌, ◌≤◌, List, [], ◌∷◌, ◌++◌, length, set, get_or, Some, None, Option, true, false, inl, inr, refl, sym, ap, ◌∙◌, subst, slice_get, arith}
 use Rattle.std.specs.Prelude.{All, Err, IfErr, IfSome, Ok, Result}
 use Rattle.std.specs.Option.{option_map}
 use Rattle.std.proofs.Math.Path.{fun_ext}
-use Rattle.std.proofs.lemmas.Bool.{cases_lt}
+use Rattle.std.proofs.lemmas.Bool.{cases_lt, false≢true, true≢false}
 use Rattle.std.proofs.lemmas.Bool.Decides.{eqb_tells}
 use Rattle.std.proofs.lemmas.List.{get_or-set_other, get_or-set_same, get_or_default, length-set, set-get_or, length-take-le}
 use Rattle.std.proofs.lemmas.List.Elements.{All-append, All-drop, All-head, All-push, All-tail, All-take}
@@ -24,8 +24,8 @@ use Rattle.bip_model.specs.declared.parts.System.{System}
 use Rattle.bip_model.proofs.PartyLemmas.{party_known}
 use Rattle.bip_partition.specs.Plans.{IsFit, IsReserved, Planned}
 use Rattle.bip_partition.proofs.TableLemmas.{reserved_known}
-use Rattle.bip_table.specs.Reservations.{grant_of}
-use Rattle.bip_table.specs.declared.reservations.Decision.TheVariants as decision
+use Rattle.bip_bank.specs.Decisions.{grant_of}
+use Rattle.bip_bank.specs.Decisions.Decision.TheVariants as decision
 use Rattle.bip_bank.specs.declared.banks.Acted.{Acted}
 use Rattle.bip_bank.specs.declared.banks.Acted.TheVariants as acted
 use Rattle.bip_ip.proofs.LawLemmas.{asked_fits}
@@ -41,11 +41,12 @@ use Rattle.bip_ip.specs.declared.nodes.Tried.{Tried}
 use Rattle.bip_ip.specs.declared.nodes.Tried.TheVariants as tried
 use Rattle.bip_ip.specs.declared.nodes.WhyNot.{WhyNot}
 use Rattle.bip_ip.specs.declared.nodes.WhyNot.TheVariants as why_not
-use Rattle.bip_bank.specs.Banks.{BankContent, DoesStep, IsActed, KeptBank, content_of, with_request}
+use Rattle.bip_bank.specs.Banks.{BankContent, CanWantMemory, DoesStep, IsActed, KeptBank, content_of, with_request}
+use Rattle.bip_bank.specs.declared.banks.BankStep.TheVariants.{Ask, Deliver, Pass, Serve}
 use Rattle.bip_core.specs.Worlds.{FitsIfRequest, IsKnownGrant, IsKeptWorld, KeptWorld, WorldContent, with_class_node, with_component_node, world_of}
 use Rattle.bip_model.specs.declared.numbering.ClassId.{ClassId}
 use Rattle.bip_observe.specs.Offers.{IsReceipt, observed}
-use Rattle.bip_core.specs.Events.{AreSent, CanBeSkipped, IsCounted, IsDelivered, IsDone, IsHandedOn, IsSending, IsTakenIn, IsTraced, SendsWhatFits, TakesOut, class_named, grant_acted, grant_in, grant_tried, kind_of, trace_with}
+use Rattle.bip_core.specs.Events.{AreSent, CanBeSkipped, IsCounted, IsDelivered, IsDone, IsHandedOn, IsSending, IsTakenIn, IsTraced, SendsWhatFits, StepCanBeSkipped, TakesOut, class_named, grant_acted, grant_in, grant_tried, is_serving, kind_of, trace_with}
 use Rattle.bip_core.specs.declared.events.Event.{Event}
 use Rattle.bip_core.specs.declared.events.Event.TheVariants.{Bank, Mail, Try}
 use Rattle.bip_core.specs.declared.events.What.TheVariants.{Acts, Hears, Learns, Moves, Nothing, Submits, Tries}
@@ -253,7 +254,7 @@ tried_on w k a did old n is tries left = record {
 -- what a step of a bank leaves of requests that fit
 pub acted_fit : (p : Planned) (did : Acted) (b later : BankContent) → IsActed did b later → ((a : ℕ) → All (λ (q : Request). IsFit p q) (b.waiting a)) → (a : ℕ) → All (λ (q : Request). IsFit p q) (later.waiting a)
 acted_fit p acted.Nothing b later is fit a = rw (ap (λ (c : BankContent). c.waiting a) is) (fit a)
-acted_fit p acted.Moved b later is fit a = rw (ap (λ (c : BankContent). c.waiting a) is.1) (fit a)
+acted_fit p acted.Moved b later is fit a = rw (ap (λ (c : BankContent). c.waiting a) is) (fit a)
 acted_fit p (acted.Answered q d) b later is fit a = rw (ap (λ (c : BankContent). c.waiting a) is.after) (elim (eqb_tells a q.inter.0) [
   | inl same ↦ rw same.0 (All-tail (λ (r : Request). IsFit p r) q is.rest (subst (λ (l : List Request). All (λ (r : Request). IsFit p r) l) is.oldest (fit q.inter.0)))
   | inr other ↦ rw other.0 (fit a)
@@ -262,7 +263,7 @@ acted_fit p (acted.Answered q d) b later is fit a = rw (ap (λ (c : BankContent)
 -- and of its plan
 pub acted_plan : (did : Acted) (b later : BankContent) → IsActed did b later → later.plan ≡ b.plan
 acted_plan acted.Nothing b later is = ap (λ (c : BankContent). c.plan) is
-acted_plan acted.Moved b later is = ap (λ (c : BankContent). c.plan) is.1
+acted_plan acted.Moved b later is = ap (λ (c : BankContent). c.plan) is
 acted_plan (acted.Answered q (decision.Granted serial)) b later is = ap (λ (c : BankContent). c.plan) is.after
 acted_plan (acted.Answered q (decision.Refused c n)) b later is = ap (λ (x : BankContent). x.plan) is.after
 
@@ -307,7 +308,7 @@ tried_idly w k a did old is tries left none =
     (tried_without w k a did old old is tries left none)
 
 -- a step of the bank, with the grant that it gives
-pub acted_on : (w : KeptWorld) (b : KeptBank) (step : BankStep) (did : Acted) (given : Option Grant) → DoesStep (content_of w.bank) step did → IsActed did (content_of w.bank) (content_of b) → grant_acted did ≡ given
+pub acted_on : (w : KeptWorld) (b : KeptBank) (step : BankStep) (did : Acted) (given : Option Grant) → DoesStep (content_of w.bank) step did (content_of b) → IsActed did (content_of w.bank) (content_of b) → grant_acted did ≡ given
     → IsTraced (world_of w) (Bank step) (Acts did) (world_of (record w { bank = b; trace = trace_with w.trace given }))
 acted_on w b step did given does is same = record {
   middle = record (world_of w) { bank = content_of b };
@@ -408,6 +409,32 @@ request_fits w place q kept is = All-slice_get (FitsIfRequest w.plan) w.mail pla
 -- and can be lost for want of memory
 pub request_skipped : (w : KeptWorld) (place : ℕ) (q : Request) → slice_get w.mail place ≡ Some (RequestToBank q) → CanBeSkipped (world_of w) (Mail place)
 request_skipped w place q is = (q, take place w.mail ++ drop (suc place) w.mail, taken_out w.mail place (RequestToBank q) is)
+
+-- no step grants but one that serves a station
+pub unserved_grants_nothing : (b : BankContent) (step : BankStep) (did : Acted) (later : BankContent) → DoesStep b step did later → is_serving step ≡ false → grant_acted did ≡ None
+unserved_grants_nothing b (Serve s) did later does unserved = absurd (true≢false unserved)
+unserved_grants_nothing b (Deliver k) acted.Nothing later does unserved = refl
+unserved_grants_nothing b (Deliver k) acted.Moved later does unserved = refl
+unserved_grants_nothing b (Deliver k) (acted.Answered q d) later does unserved = absurd does
+unserved_grants_nothing b (Pass s t) acted.Nothing later does unserved = refl
+unserved_grants_nothing b (Pass s t) acted.Moved later does unserved = refl
+unserved_grants_nothing b (Pass s t) (acted.Answered q d) later does unserved = absurd does
+unserved_grants_nothing b (Ask s t) acted.Nothing later does unserved = refl
+unserved_grants_nothing b (Ask s t) acted.Moved later does unserved = refl
+unserved_grants_nothing b (Ask s t) (acted.Answered q d) later does unserved = absurd does
+
+-- the steps of a bank that can be skipped
+pub serving_skipped : (b : BankContent) (step : BankStep) → is_serving step ≡ true → StepCanBeSkipped b step
+serving_skipped b (Serve s) serves = tt
+serving_skipped b (Deliver k) serves = absurd (false≢true serves)
+serving_skipped b (Pass s t) serves = absurd (false≢true serves)
+serving_skipped b (Ask s t) serves = absurd (false≢true serves)
+
+pub wanting_skipped : (b : BankContent) (step : BankStep) → CanWantMemory b step → StepCanBeSkipped b step
+wanting_skipped b (Serve s) wants = tt
+wanting_skipped b (Deliver k) wants = wants
+wanting_skipped b (Pass s t) wants = wants
+wanting_skipped b (Ask s t) wants = wants
 
 -- a try that asks for a local interaction can be skipped
 pub try_skipped : (w : KeptWorld) (k : ClassId) (a : InterId) → k.0 < length w.classes → ((node : KeptNode) → slice_get w.classes k.0 ≡ Some node → CanBeAsked (node_of node) a.0) → (¬ IsReserved w.plan a.0) → CanBeSkipped (world_of w) (Try k a)

@@ -1,15 +1,15 @@
 -- Events: what one does, and what it leaves.
 use Rattle.std.specs.Prelude.{◌≡◌, ℕ, ◌+◌, ◌<◌, ◌≤◌, List, [], ◌∷◌, ◌++◌, Option}
 use Rattle.std.specs.Prelude.{None, Some, length}
-use Rattle.std.specs.Prelude.{◌⊎◌, map, ⊤}
+use Rattle.std.specs.Prelude.{◌⊎◌, map, ⊤, Bool, true, false}
 use Rattle.bip_model.specs.declared.grants.Grant.{Grant}
 use Rattle.bip_model.specs.declared.messages.Notify.{Notify}
 use Rattle.bip_model.specs.declared.messages.Reply.{Reply}
 use Rattle.bip_model.specs.declared.messages.Reply.TheVariants as reply
 use Rattle.bip_model.specs.declared.messages.Request.{Request}
-use Rattle.bip_table.specs.Reservations.{grant_of}
-use Rattle.bip_table.specs.declared.reservations.Decision.{Decision}
-use Rattle.bip_table.specs.declared.reservations.Decision.TheVariants as decision
+use Rattle.bip_bank.specs.Decisions.{grant_of, reply_to}
+use Rattle.bip_bank.specs.Decisions.Decision.{Decision}
+use Rattle.bip_bank.specs.Decisions.Decision.TheVariants as decision
 use Rattle.bip_partition.specs.Plans.{IsFit, IsReserved, Planned}
 use Rattle.bip_component.specs.Components.{IsNodeAfter, IsNotified, Node}
 use Rattle.bip_component.specs.declared.components.Notified.TheVariants as notified
@@ -20,9 +20,11 @@ use Rattle.bip_ip.specs.declared.nodes.Answered.TheVariants as answered
 use Rattle.bip_ip.specs.declared.nodes.Tried.{Tried}
 use Rattle.bip_ip.specs.declared.nodes.Tried.TheVariants as tried
 use Rattle.bip_observe.specs.Offers.{IsReceipt}
-use Rattle.bip_bank.specs.Banks.{BankContent, DoesStep, IsActed, with_request}
+use Rattle.bip_bank.specs.Banks.{BankContent, CanWantMemory, DoesStep, IsActed, with_request}
 use Rattle.bip_bank.specs.declared.banks.Acted.{Acted}
 use Rattle.bip_bank.specs.declared.banks.Acted.TheVariants as acted
+use Rattle.bip_bank.specs.declared.banks.BankStep.TheVariants.{Serve}
+use Rattle.bip_bank.specs.declared.banks.BankStep.{BankStep}
 use Rattle.bip_core.specs.Worlds.{AreOffersOf, WorldContent, with_class_node, with_component_node}
 use Rattle.bip_core.specs.declared.events.Did.{Did}
 use Rattle.bip_core.specs.declared.events.Event.{Event}
@@ -41,11 +43,6 @@ use Rattle.bip_core.specs.declared.messages.Message.TheVariants.{ReplyToClass, N
 abbrev pub class_named : Reply → ℕ
 class_named (reply.Granted k request a serial) = k.0
 class_named (reply.Refused k request a c used) = k.0
-
--- the reply to a request, by the decision on it
-abbrev pub reply_to : Request → Decision → Reply
-reply_to q (decision.Granted serial) = reply.Granted q.class q.request q.inter serial
-reply_to q (decision.Refused c used) = reply.Refused q.class q.request q.inter c used
 
 -- a message that is handed on: the node for which it is answers by its own contract, and nothing
 -- else changes; where there is no such node nothing does
@@ -93,7 +90,7 @@ IsDone w (Try k a) (Tries did) v =
     × (v ≡ with_class_node k.0 (after_try a.0 did node) w)
 IsDone w (Try k a) Nothing v = (w.classes k.0 ≡ None) × (v ≡ w)
 IsDone w (Bank step) (Acts did) v =
-    (later : BankContent) × DoesStep w.bank step did × IsActed did w.bank later
+    (later : BankContent) × DoesStep w.bank step did later × IsActed did w.bank later
     × (v ≡ record w { bank = later })
 IsDone w event what v = ⊥
 
@@ -159,15 +156,21 @@ pub record IsStep (w : WorldContent) (event : Event) (did : Did) (v : WorldConte
   pub put : ArePut sent did.lost middle.mail v.mail
   pub others : v ≡ record middle { mail = v.mail }
 
--- the events that want of memory can skip: a submission, a try that asks for a local interaction, a
--- step of the bank
+-- a step of the bank that want of memory can skip: one that serves a station, since room for its
+-- grant is made before the bank is asked; or one that moves something
+abbrev pub StepCanBeSkipped : BankContent → BankStep → Type 0
+StepCanBeSkipped b (Serve s) = ⊤
+StepCanBeSkipped b step = CanWantMemory b step
+
+-- the events that want of memory can skip: a submission, a try that asks for a local interaction,
+-- and such a step of the bank
 abbrev pub CanBeSkipped : WorldContent → Event → Type 0
 CanBeSkipped w (Mail place) =
     (q : Request) × (rest : List Message) × TakesOut place (RequestToBank q) w.mail rest
 CanBeSkipped w (Try k a) =
     (node : ClassNode) × (w.classes k.0 ≡ Some node) × CanBeAsked node a.0
     × ¬ IsReserved w.plan a.0
-CanBeSkipped w (Bank step) = ⊤
+CanBeSkipped w (Bank step) = StepCanBeSkipped w.bank step
 
 -- What contracts of private functions say.
 
@@ -176,6 +179,11 @@ abbrev pub SendsWhatFits : Planned → What → Type 0
 SendsWhatFits p (Tries (tried.Sent q)) = IsFit p q
 SendsWhatFits p (Moves (notified.Moved offer)) = offer.comp.0 < length p.model.components
 SendsWhatFits p what = ⊤
+
+-- a step serves a station
+abbrev pub is_serving : BankStep → Bool
+is_serving (Serve s) = true
+is_serving step = false
 
 -- a message that is handed on to the bank, if it is a request
 abbrev pub submitted : Message → WorldContent → WorldContent

@@ -1,8 +1,19 @@
 -- What events mean for traces and messages, in the subject's own words: laws that a reviewer reads.
 -- They stand on what a step is, and on nothing else.
-use Rattle.std.specs.Prelude.{◌≡◌, ◌+◌, ◌≤◌, ◌<◌, ℕ, Bool, List, [], ◌∷◌, ◌++◌, Option, Some}
-use Rattle.std.specs.Prelude.{count_by, length, slice_get}
+use Rattle.std.specs.Prelude.{◌≡◌, ◌↔◌, ◌+◌, ◌≤◌, ◌<◌, ◌==◌, ◌&&◌, ℕ, Bool, false, List, [], ◌∷◌}
+use Rattle.std.specs.Prelude.{◌++◌, Contains, Option, Some, count_by, length, slice_get}
+use Rattle.bip_model.specs.States.{State}
 use Rattle.bip_model.specs.declared.grants.Grant.{Grant}
+use Rattle.bip_model.specs.declared.messages.Notify.{Notify}
+use Rattle.bip_model.specs.declared.messages.Offer.{Offer}
+use Rattle.bip_model.specs.declared.numbering.ClassId.{ClassId}
+use Rattle.bip_partition.specs.Plans.{ClassTouches, Planned}
+use Rattle.bip_observe.specs.Laws.{AllShow}
+use Rattle.bip_observe.specs.Verdicts.{IsReady}
+use Rattle.bip_component.specs.Components.{CanMoveBy, IsNode, IsOffered, Node}
+use Rattle.bip_ip.specs.Asking.{told_by}
+use Rattle.bip_core.specs.Starting.{IsNewWorld}
+use Rattle.bip_core.specs.Agreement.{AreOfPlan}
 use Rattle.bip_core.specs.Events.{AreSent, IsStep, grant_in, trace_with}
 use Rattle.bip_core.specs.Runs.{AreSteps, did_so, is_grant}
 use Rattle.bip_core.specs.Worlds.{WorldContent}
@@ -10,6 +21,8 @@ use Rattle.bip_core.specs.declared.events.Did.{Did}
 use Rattle.bip_core.specs.declared.events.Event.{Event}
 use Rattle.bip_core.specs.declared.events.Event.TheVariants.{Mail}
 use Rattle.bip_core.specs.declared.messages.Message.{Message}
+use Rattle.bip_core.specs.declared.messages.Message.TheVariants.{NotifyComponent, OfferTo}
+use Rattle.bip_core.specs.declared.messages.Message.TheVariants.{ReplyToClass, RequestToBank}
 
 -- the trace after an event is the one before with the grant that the event gave, if it gave one
 abbrev pub GrantsJoinTheTrace : Type 0
@@ -26,11 +39,17 @@ TracesGoOn =
     → (gs : List Grant) × (v.trace ≡ w.trace ++ gs)
     × (count_by (did_so is_grant) dids ≡ length gs)
 
--- no event changes the plan
+-- a world has the plan of another, its bank's base, and its nodes where that one's are the plan's
+pub record KeepsThePlan (w v : WorldContent) : Type 0 where
+  pub plan : v.plan ≡ w.plan
+  pub base : v.bank.base ≡ w.bank.base
+  pub nodes : AreOfPlan w → AreOfPlan v
+
+-- no event changes the plan, the base of the bank, or whose nodes stand where
 abbrev pub WorldsKeepTheirPlan : Type 0
 WorldsKeepTheirPlan =
     (w v : WorldContent) (events : List Event) (dids : List (Option Did))
-    → AreSteps events dids w v → v.plan ≡ w.plan
+    → AreSteps events dids w v → KeepsThePlan w v
 
 -- messages are neither made up nor doubled: whatever kind of them is counted, after an event there
 -- are no more in flight than were before and are sent by its answer
@@ -50,3 +69,45 @@ MessagesGoOnce =
     × (sent : List Message) × AreSent w.plan did.what sent
     × ((kind : Message → Bool) → count_by kind v.mail + count_by kind (message ∷ [])
     ≤ count_by kind w.mail + count_by kind sent)
+
+-- a node is that of a notification's component: its next move has that number, and it is where a
+-- state says
+pub record IsAwaiting (p : Planned) (s : State) (n : Notify) (node : Node) : Type 0 where
+  pub valid : IsNode node
+  pub plan : node.plan ≡ p
+  pub comp : n.comp.0 ≡ node.comp
+  pub number : n.number ≡ node.number
+  pub unspent : node.spent ≡ false
+  pub there : s node.comp ≡ Some node.local
+
+-- where the offers of a ready interaction show a state, each component that is told can move by it
+abbrev pub ToldCanBeTaken : Type 0
+ToldCanBeTaken =
+    (p : Planned) (o : ℕ → Offer) (s : State) (a : ℕ) → IsReady p.model o a
+    → AllShow p.model o s a → (n : Notify) → Contains (told_by p.model o a) n
+    → (node : Node) → IsAwaiting p s n node → CanMoveBy node n
+
+-- a message is the first offer of a component, to a class that touches it
+pub record IsFirstMail (w : WorldContent) (m : Message) : Type 0 where
+  pub class : ClassId
+  pub offer : Offer
+  pub node : Node
+  pub is : m ≡ OfferTo class offer
+  pub here : w.components offer.comp.0 ≡ Some node
+  pub offered : IsOffered node (Some offer)
+  pub touches : ClassTouches w.plan class.0 offer.comp.0
+
+-- a message offers a component's move to a class
+abbrev pub is_offer_to : ℕ → ℕ → Message → Bool
+is_offer_to k c (OfferTo class offer) = (class.0 == k) && (offer.comp.0 == c)
+is_offer_to k c (RequestToBank q) = false
+is_offer_to k c (ReplyToClass r) = false
+is_offer_to k c (NotifyComponent n) = false
+
+-- in flight at first are the first offers of all components to the classes that touch them, and no
+-- other messages; each once
+abbrev pub FirstOffersAreSent : Type 0
+FirstOffersAreSent =
+    (p : Planned) (base : ℕ) (w : WorldContent) → IsNewWorld p base w
+    → ((m : Message) → Contains w.mail m ↔ IsFirstMail w m)
+    × ((k c : ℕ) → count_by (is_offer_to k c) w.mail ≤ 1)

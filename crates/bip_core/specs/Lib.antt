@@ -1,5 +1,12 @@
+pub mod Agreement
+pub mod Books
 pub mod Events
 pub mod Laws
+pub mod Lists
+pub mod Locals
+pub mod Numbers
 pub mod Runs
+pub mod Sentences
 pub mod Starting
+pub mod Views
 pub mod Worlds

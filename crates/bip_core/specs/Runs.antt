@@ -1,7 +1,7 @@
 -- Runs: what events lead to one after another, and their sums.
 use Rattle.std.specs.Prelude.{◌≡◌, ℕ, ◌+◌, ◌*◌, ◌≤◌, Bool, false, true, List, [], ◌∷◌}
 use Rattle.std.specs.Prelude.{Option, None, Some, count_by, is_some, length, sum_by}
-use Rattle.bip_table.specs.declared.reservations.Decision.TheVariants as decision
+use Rattle.bip_bank.specs.Decisions.Decision.TheVariants as decision
 use Rattle.bip_ip.specs.declared.nodes.Tried.TheVariants as tried
 use Rattle.bip_bank.specs.declared.banks.Acted.TheVariants as acted
 use Rattle.bip_core.specs.Events.{CanBeSkipped, IsStep, grant_in}

@@ -48,7 +48,7 @@ pub record IsNewWorld (p : Planned) (base : ℕ) (w : WorldContent) : Type 0 whe
   pub classes : (k : ℕ) → IsFirstClass p base k (w.classes k)
   pub mail : AreOffersBelow (length p.model.components) p w.components w.mail
   pub trace : w.trace ≡ []
-  pub bank : w.bank ≡ asked_nothing p base w.bank.lacking
+  pub bank : w.bank ≡ asked_nothing p base w.bank.sharing
 
 -- What contracts of private functions say.
 

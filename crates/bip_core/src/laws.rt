@@ -1,15 +1,28 @@
 //! The laws above the definitions: what a reviewer reads to know what events do. The call does
 //! nothing, and has the laws for its contract.
-ghost use Rattle.bip_core.specs.Laws.{GrantsJoinTheTrace, MessagesAreSent, MessagesGoOnce};
-ghost use Rattle.bip_core.specs.Laws.{TracesGoOn, WorldsKeepTheirPlan};
+ghost use Rattle.bip_core.specs.Sentences.{AgreementInSix};
+ghost use Rattle.bip_core.specs.Laws.{FirstOffersAreSent, GrantsJoinTheTrace, MessagesAreSent};
+ghost use Rattle.bip_core.specs.Laws.{MessagesGoOnce, ToldCanBeTaken, TracesGoOn};
+ghost use Rattle.bip_core.specs.Laws.{WorldsKeepTheirPlan};
 
 /// An event's grant joins the trace, and nothing else does; so traces go on, by as many grants as
 /// were given. Messages are neither made up nor doubled, and one that is handed on is in flight no
-/// more. The plan stays (docs/DEFINITIONS.md, "The world and its events").
+/// more; at first each component's first offer is, once to each class that touches it, and nothing
+/// else. The plan stays, the bank's base, and whose nodes stand where. What is told by offers that
+/// show a state, each component can do there (docs/PROTOCOL.md, "The world and its events").
 pub fn world_laws()
     ensures join { GrantsJoinTheTrace }
     ensures go_on { TracesGoOn }
     ensures plan { WorldsKeepTheirPlan }
     ensures sent { MessagesAreSent }
     ensures once { MessagesGoOnce }
+    ensures first { FirstOffersAreSent }
+    ensures taken { ToldCanBeTaken }
+{}
+
+/// What it means that a world agrees with its trace, in six parts: of the trace, of each component,
+/// of each offer, of used and known numbers, of each request, and of records and what is about them
+/// (docs/PROTOCOL.md, "Agreement").
+pub fn agreement_laws()
+    ensures six { AgreementInSix }
 {}

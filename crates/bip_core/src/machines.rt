@@ -1,6 +1,7 @@
 //! The machine below the world: all its parts, and its events.
 ghost use Rattle.std.specs.Prelude.{◌≡◌, ◌<◌, ◌⊎◌, All, IfErr, IfNone, IfOk, IfSome, OnErr, OnOk};
-ghost use Rattle.std.specs.Prelude.{None, Some, length, slice_get, vec_capacity, vec_len};
+ghost use Rattle.std.specs.Prelude.{None, Some, false, length, slice_get, true, vec_capacity};
+ghost use Rattle.std.specs.Prelude.{vec_len};
 ghost use Rattle.bip_model.specs.declared.messages.Request.{Request};
 ghost use Rattle.bip_model.specs.Numbering.{last_number};
 ghost use Rattle.bip_model.specs.Parts.{IsSystem};
@@ -8,8 +9,8 @@ ghost use Rattle.bip_partition.specs.Plans.{IsFit, IsReserved};
 ghost use Rattle.bip_bank.specs.Banks.{content_of, with_request};
 ghost use Rattle.bip_ip.specs.Nodes.{CanBeAsked, KeptNode, node_of};
 ghost use Rattle.bip_core.specs.Events.{CanBeSkipped, IsCounted, IsTakenIn, TakesOut};
-ghost use Rattle.bip_core.specs.Events.{class_named, grant_acted, grant_tried, submitted};
-ghost use Rattle.bip_core.specs.Events.{trace_with};
+ghost use Rattle.bip_core.specs.Events.{class_named, grant_acted, grant_tried, is_serving};
+ghost use Rattle.bip_core.specs.Events.{submitted, trace_with};
 ghost use Rattle.bip_core.specs.Starting.{IsNewWorld, IsUnasked};
 ghost use Rattle.bip_core.specs.Worlds.{IsKeptWorld, IsKnownGrant, world_of};
 ghost use Rattle.bip_core.specs.declared.events.Event.TheVariants.{Bank, Mail, Try};
@@ -25,12 +26,11 @@ use crate::outcomes::{Kind, Outcome, Witness};
 use crate::sending::{send_acted, send_moved, send_told, send_tried};
 use crate::starting::{first_classes, first_components, first_offers};
 use crate::{Event, What};
-use bip_bank::{Acted, BankStep};
+use bip_bank::{Acted, BankStep, Decision};
 use bip_component::SrComponent;
 use bip_ip::{IpNode, Tried};
 use bip_model::{ClassId, Grant, InterId, Notify, Number, Offer, Reply, Request};
 use bip_partition::Plan;
-use bip_table::Decision;
 use std::alloc::{AllocError, Global};
 use std::marker;
 
@@ -82,8 +82,8 @@ impl<'p, B: bip_bank::Bank> Machine<'p, B> {
         requires base { base < last_number }
         requires unasked { IsUnasked plan.now base (content_of (B.kept bank)) }
         ensures new { IfOk result (λ machine. IsNewWorld plan.now base (world_of machine)) }
-        ensures lacking { IfOk result (λ machine. (world_of machine).bank.lacking
-            ≡ (B.kept bank).lacking) }
+        ensures sharing { IfOk result (λ machine. (world_of machine).bank.sharing
+            ≡ (B.kept bank).sharing) }
     {
         let _granted = bank.grants();
         let components = first_components(alloc, plan, base)?;
@@ -222,14 +222,16 @@ impl<'p, B: bip_bank::Bank> Machine<'p, B> {
         Ok(outcome)
     }
 
-    /// Lets the bank do a step; a grant joins the trace, for which room is made first.
+    /// Lets the bank do a step; a grant joins the trace, for which room is made first, where the
+    /// step serves a station: no other one grants.
     fn act<W: Witness>(&mut self, step: BankStep, witness: &mut W) -> Result<Outcome, AllocError>
         ensures counted { IfOk result (λ outcome. IsCounted (λ what. W.saw what witness.new)
             (world_of self.old) (Bank step) outcome (world_of self.new)) }
+        ensures skipped { IfErr result (λ e. CanBeSkipped (world_of self.old) (Bank step)) }
         ensures err { OnErr result (world_of self.new ≡ world_of self.old) }
     {
-        let _planned = self.plan.classes();
-        self.trace.reserve(1)?;
+        self.plan.recall();
+        make_room_to_serve(&mut self.trace, step)?;
         let did = self.bank.act(step)?;
         join_acted(&mut self.trace, &did);
         let outcome = send_acted(self.plan, &mut self.mail, &did);
@@ -353,6 +355,19 @@ fn make_room(plan: &Plan, trace: &mut Vec<Grant>, inter: InterId) -> Result<(), 
     trace.reserve(1)
 }
 
+/// Makes room in a trace for the grant that a step of the bank can give, if it serves a station.
+fn make_room_to_serve(trace: &mut Vec<Grant>, step: BankStep) -> Result<(), AllocError>
+    ensures same { trace.new.items ≡ trace.old.items }
+    ensures room { OnOk result ((is_serving step ≡ false)
+        ⊎ (vec_len trace.new < vec_capacity trace.new)) }
+    ensures serves { IfErr result (λ e. is_serving step ≡ true) }
+{
+    match step {
+        BankStep::Serve(_) => trace.reserve(1),
+        _ => Ok(()),
+    }
+}
+
 /// The grant that a try gives joins the trace, if there is one. There is room for it.
 fn join_tried(trace: &mut Vec<Grant>, did: &Tried)
     requires { (grant_tried did.now ≡ None) ⊎ (vec_len trace.old < vec_capacity trace.old) }
@@ -366,7 +381,7 @@ fn join_tried(trace: &mut Vec<Grant>, did: &Tried)
 
 /// The grant that a step of a bank gives joins the trace, if there is one. There is room for it.
 fn join_acted(trace: &mut Vec<Grant>, did: &Acted)
-    requires { vec_len trace.old < vec_capacity trace.old }
+    requires { (grant_acted did.now ≡ None) ⊎ (vec_len trace.old < vec_capacity trace.old) }
     ensures { trace.new.items ≡ trace_with trace.old.items (grant_acted did.now) }
 {
     match did {

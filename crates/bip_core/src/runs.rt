@@ -2,6 +2,9 @@
 ghost use Rattle.std.specs.Prelude.{◌≡◌, ◌<◌, ◌++◌, List, [], None, length};
 ghost use Rattle.bip_model.specs.Numbering.{last_number};
 ghost use Rattle.bip_model.specs.declared.grants.Grant.{Grant};
+ghost use Rattle.bip_model.specs.Grants.{MovesOnceEach};
+ghost use Rattle.bip_replay.specs.Runs.{IsModelRun};
+ghost use Rattle.bip_core.specs.Agreement.{Agrees};
 ghost use Rattle.bip_core.specs.Runs.{AddsUp, IsEventCounted, IsRunOfEvents, report_counted};
 ghost use Rattle.bip_core.specs.Runs.{report_of, report_with};
 ghost use Rattle.bip_core.specs.Worlds.{world_of};
@@ -9,7 +12,7 @@ ghost use Rattle.bip_core.specs.Worlds.{world_of};
 use crate::outcomes::{Kind, Outcome};
 use crate::{Event, World};
 
-/// The sums of a run of events (docs/DEFINITIONS.md, "The world and its events").
+/// The sums of a run of events (docs/PROTOCOL.md, "The world and its events").
 #[derive(Clone, Copy, Debug, PartialEq, Eq)]
 pub struct Report {
     /// Messages that were lost for want of memory.
@@ -93,10 +96,14 @@ pub fn run_steps<'p, B: bip_bank::Bank>(world: &mut World<'p, B>, events: &[Even
     ensures run { IsRunOfEvents events.now (world_of world.old) (world_of world.new) result }
     ensures grown { (grants : List Grant) × (world.new.trace ≡ world.old.trace ++ grants)
         × (result.grants ≡ length grants) }
+    ensures agrees { Agrees (world_of world.new) }
+    ensures ran { IsModelRun world.new.plan.model (world_of world.new).bank.base world.new.trace }
+    ensures once { MovesOnceEach world.new.trace }
 {
     let mut report = Report::empty();
     for event in events {
         run_event(world, *event, &mut report);
     }
+    let _agreed = world.trace();
     report
 }

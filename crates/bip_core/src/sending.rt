@@ -1,18 +1,17 @@
 //! Messages that are put last, one by one: one for which there is no memory is lost.
 ghost use Rattle.std.specs.Prelude.{◌≡◌, [], ◌∷◌, map};
 ghost use Rattle.bip_core.specs.Events.{ArePut, IsSending, SendsWhatFits, are_notified};
-ghost use Rattle.bip_core.specs.Events.{kind_decided, reply_to};
+ghost use Rattle.bip_core.specs.Events.{kind_decided};
 ghost use Rattle.bip_core.specs.declared.events.What.TheVariants.{Acts, Learns, Moves, Tries};
 ghost use Rattle.bip_core.specs.declared.messages.Message.TheVariants.{OfferTo, RequestToBank};
 
 use crate::messages::{Message, Posted};
 use crate::outcomes::{Kind, Outcome};
-use bip_bank::Acted;
+use bip_bank::{Acted, Decision, reply_to};
 use bip_component::Notified;
 use bip_ip::{Answered, Tried};
-use bip_model::{ClassId, Notify, Offer, Reply, Request};
+use bip_model::{ClassId, Notify, Offer, Request};
 use bip_partition::Plan;
-use bip_table::Decision;
 
 /// Puts what an answer to a reply sends last, and says what that comes to.
 pub(crate) fn send_told(plan: &Plan, mail: &mut Vec<Message>, did: &Answered) -> Outcome
@@ -128,25 +127,4 @@ pub(crate) fn offer_to_all(mail: &mut Vec<Message>, classes: &[ClassId], offer: 
         lost += put_last(mail, Message::OfferTo(*class, *offer));
     }
     lost
-}
-
-/// The reply to a request, by the decision on it.
-fn reply_to(request: &Request, decision: &Decision) -> Reply
-    ensures { result ≡ reply_to request.now decision.now }
-{
-    match *decision {
-        Decision::Granted(serial) => Reply::Granted {
-            class: request.class,
-            request: request.request,
-            inter: request.inter,
-            serial,
-        },
-        Decision::Refused { comp, used } => Reply::Refused {
-            class: request.class,
-            request: request.request,
-            inter: request.inter,
-            comp,
-            used,
-        },
-    }
 }

@@ -1,7 +1,10 @@
 //! The world: a machine of nodes, messages and a bank.
 ghost use Rattle.std.specs.Prelude.{◌≡◌, ◌<◌, All, IfErr, IfOk, OnErr, length, ⊤};
 ghost use Rattle.bip_model.specs.Numbering.{last_number};
+ghost use Rattle.bip_model.specs.Grants.{MovesOnceEach};
+ghost use Rattle.bip_replay.specs.Runs.{IsModelRun};
 ghost use Rattle.bip_bank.specs.Banks.{content_of};
+ghost use Rattle.bip_core.specs.Agreement.{Agrees};
 ghost use Rattle.bip_core.specs.Events.{CanBeSkipped, IsCounted, IsStep};
 ghost use Rattle.bip_core.specs.Starting.{IsNewWorld, IsUnasked};
 ghost use Rattle.bip_core.specs.Worlds.{IsKnownGrant, world_of};
@@ -15,18 +18,21 @@ use std::alloc::{AllocError, Global};
 use std::marker;
 
 /// The nodes of a plan, the messages in flight between them, and a bank: what events move
-/// (docs/DEFINITIONS.md, "The world and its events"). Contracts see what is kept.
+/// (docs/PROTOCOL.md, "The world and its events"). Contracts see what is kept.
 #[derive(Drop)]
 pub struct World<'p, B: bip_bank::Bank> {
     machine: Machine<'p, B>,
 }
 
 impl<'p, B: bip_bank::Bank> marker::Model for World<'p, B> {
-    ghost use Rattle.bip_core.specs.Worlds.{KeptWorld};
+    ghost use Rattle.bip_core.specs.Agreement.{Agrees};
+    ghost use Rattle.bip_core.specs.Worlds.{KeptWorld, world_of};
 
     ghost Value = { KeptWorld };
 
     ghost view = { λ w. w.machine };
+
+    ghost invariant = { λ w. Agrees (world_of w.machine) };
 }
 
 impl<'p, B: bip_bank::Bank> World<'p, B> {
@@ -45,9 +51,11 @@ impl<'p, B: bip_bank::Bank> World<'p, B> {
         requires base { base < last_number }
         requires unasked { IsUnasked plan.now base (content_of (B.kept bank)) }
         ensures new { IfOk result (λ world. IsNewWorld plan.now base (world_of world)) }
-        ensures lacking { IfOk result (λ world. (world_of world).bank.lacking
-            ≡ (B.kept bank).lacking) }
+        ensures sharing { IfOk result (λ world. (world_of world).bank.sharing
+            ≡ (B.kept bank).sharing) }
+        ensures agrees { IfOk result (λ world. Agrees (world_of world)) }
     {
+        plan.recall();
         let machine = Machine::new(alloc, plan, bank, base)?;
         Ok(World { machine })
     }
@@ -61,6 +69,7 @@ impl<'p, B: bip_bank::Bank> World<'p, B> {
             (world_of self.new)) }
         ensures skipped { IfErr result (λ e. CanBeSkipped (world_of self.old) event) }
         ensures err { OnErr result (world_of self.new ≡ world_of self.old) }
+        ensures agrees { Agrees (world_of self.new) }
     {
         let mut what = What::Nothing;
         let outcome = self.machine.step(event, &mut what)?;
@@ -91,6 +100,9 @@ impl<'p, B: bip_bank::Bank> World<'p, B> {
     pub fn trace(&self) -> &[Grant]
         ensures trace { result.now ≡ self.now.trace }
         ensures known { All (IsKnownGrant self.now.plan.model) result.now }
+        ensures run { IsModelRun self.now.plan.model (world_of self.now).bank.base result.now }
+        ensures once { MovesOnceEach result.now }
+        ensures agrees { Agrees (world_of self.now) }
     {
         self.machine.trace()
     }

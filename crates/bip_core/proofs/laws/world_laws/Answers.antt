@@ -1,4 +1,7 @@
-use Rattle.bip_core.proofs.RunLemmas.{messages_once, messages_sent, step_trace, steps_grow, steps_plan}
+use Rattle.bip_core.proofs.FirstLemmas.{first_offers_are_sent}
+use Rattle.bip_core.proofs.TakeLemmas.{told_can_be_taken}
+use Rattle.bip_core.proofs.KeepLemmas.{worlds_keep_their_plan}
+use Rattle.bip_core.proofs.RunLemmas.{messages_once, messages_sent, step_trace, steps_grow}
 use Rattle.bip_core.proofs.laws.world_laws.Goals as goal
 
 pub returns-clause-join : goal.returns-clause-join
@@ -8,10 +11,16 @@ pub returns-clause-go_on : goal.returns-clause-go_on
 returns-clause-go_on c = λ w v events dids so. steps_grow events dids w v so
 
 pub returns-clause-plan : goal.returns-clause-plan
-returns-clause-plan c = steps_plan
+returns-clause-plan c = worlds_keep_their_plan
 
 pub returns-clause-sent : goal.returns-clause-sent
 returns-clause-sent c = messages_sent
 
 pub returns-clause-once : goal.returns-clause-once
 returns-clause-once c = messages_once
+
+pub returns-clause-first : goal.returns-clause-first
+returns-clause-first c = first_offers_are_sent
+
+pub returns-clause-taken : goal.returns-clause-taken
+returns-clause-taken c = told_can_be_taken
