@@ -1,7 +1,8 @@
--- Exploring: many seeds, each of whose traces is checked to be a run of the model.
+-- Exploring: many seeds, each of whose traces is checked to be a run of the model, as it is.
 use Rattle.std.specs.Fmt.{decimal}
-use Rattle.std.specs.Prelude.{List, codes, length, ⊤, ℕ, ◌++◌, ◌+◌, ◌≡◌, ◌≤◌, ◌∷◌}
-use Rattle.bip_bank.specs.Banks.{BankContent}
+use Rattle.std.specs.Prelude.{List, Ok, Result, codes, length, ⊤, ℕ, ◌++◌, ◌+◌, ◌≡◌, ◌∷◌}
+use Rattle.bip_bank.specs.Banks.{KeptBank}
+use Rattle.bip_bank.specs.Sharing.{Sharing}
 use Rattle.bip_core.specs.Starting.{IsNewWorld}
 use Rattle.bip_core.specs.Worlds.{WorldContent}
 use Rattle.bip_core.specs.declared.events.Event.{Event}
@@ -16,15 +17,21 @@ use Rattle.bip_schedule.specs.Seeding.{AreSeeded}
 use Rattle.bip_schedule.specs.declared.exploring.ExploreFault.TheVariants.{Memory, NotARun}
 use Rattle.bip_schedule.specs.declared.exploring.ExploreFault.{ExploreFault}
 
--- the trace of a seed: that of a world to which so many events drawn from it lead from the new one
-pub record IsSeedTrace (may_fly : BankContent → ℕ → Type 0) (p : Planned) (base count seed : ℕ)
+-- what stations share is what those of some bank do that may be made
+abbrev pub IsSharedBy : {B E : Type 0} → (B → KeptBank) → (Result B E → Type 0) → Sharing → Type 0
+IsSharedBy {B} kept made sharing = (bank : B) × made (Ok bank) × ((kept bank).sharing ≡ sharing)
+
+-- the trace of a seed: that of a world to which so many events drawn from it lead from the new one,
+-- whose stations share this
+pub record IsSeedTrace (shares : Sharing → Type 0) (p : Planned) (base count seed : ℕ)
     (trace : List Grant) : Type 0 where
   pub first : WorldContent
   pub last : WorldContent
   pub events : List Event
   pub report : Report
   pub new : IsNewWorld p base first
-  pub seeded : AreSeeded may_fly seed count events first last report
+  pub shared : shares first.bank.sharing
+  pub seeded : AreSeeded seed count events first last report
   pub is : trace ≡ last.trace
 
 -- no event of a run was skipped, and no message lost, for want of memory
@@ -33,22 +40,22 @@ pub record IsLossless (report : Report) : Type 0 where
   pub sent : report.lost ≡ 0
 
 -- the trace of a seed, all of whose events were done, is a run of the model, of so many grants
-pub record IsSeedRun (may_fly : BankContent → ℕ → Type 0) (p : Planned) (base count seed : ℕ)
-    (grants : ℕ) : Type 0 where
+pub record IsSeedRun (shares : Sharing → Type 0) (p : Planned) (base count seed : ℕ) (grants : ℕ)
+    : Type 0 where
   pub trace : List Grant
-  pub of_seed : IsSeedTrace may_fly p base count seed trace
+  pub of_seed : IsSeedTrace shares p base count seed trace
   pub whole : IsLossless of_seed.report
   pub run : IsModelRun p.model base trace
   pub counted : grants ≡ length trace
 
 -- the seeds from 1 to this one are explored: the trace of each is a run, and they have so many
 -- grants in all
-pub data AreExplored (may_fly : BankContent → ℕ → Type 0) (p : Planned) (base count : ℕ) :
+pub data AreExplored (shares : Sharing → Type 0) (p : Planned) (base count : ℕ) :
     ℕ → ℕ → Type 0 where
-  none_explored : AreExplored may_fly p base count 0 0
-  one_explored : (seed before grants : ℕ) → AreExplored may_fly p base count seed before
-      → IsSeedRun may_fly p base count (seed + 1) grants
-      → AreExplored may_fly p base count (seed + 1) (before + grants)
+  none_explored : AreExplored shares p base count 0 0
+  one_explored : (seed before grants : ℕ) → AreExplored shares p base count seed before
+      → IsSeedRun shares p base count (seed + 1) grants
+      → AreExplored shares p base count (seed + 1) (before + grants)
 
 -- why a trace is no run: the grants before one of its grants are, and that has this fault then
 pub record IsNoRun (m : System) (base : ℕ) (trace : List Grant) (fault : StepFault) : Type 0 where
@@ -58,22 +65,6 @@ pub record IsNoRun (m : System) (base : ℕ) (trace : List Grant) (fault : StepF
   pub whole : trace ≡ front ++ grant ∷ rest
   pub run : IsModelRun m base front
   pub why : IsFaultAt (standing_after m base front) grant fault
-
--- why a seed isn't explored
-abbrev pub IsSeedFault : (BankContent → ℕ → Type 0) → Planned → ℕ → ℕ → ℕ → ExploreFault → Type 0
-IsSeedFault may_fly p base count seed (NotARun number fault) =
-    (number ≡ seed) × (trace : List Grant) × IsSeedTrace may_fly p base count seed trace
-    × IsNoRun p.model base trace fault
-IsSeedFault may_fly p base count seed Memory = ⊤
-
--- why so many seeds from 1 on aren't explored: those before one of them are, and it isn't
-pub record IsExploreFault (may_fly : BankContent → ℕ → Type 0) (p : Planned) (base count : ℕ)
-    (seeds : ℕ) (fault : ExploreFault) : Type 0 where
-  pub done : ℕ
-  pub grants : ℕ
-  pub few : done + 1 ≤ seeds
-  pub explored : AreExplored may_fly p base count done grants
-  pub why : IsSeedFault may_fly p base count (done + 1) fault
 
 -- the number of a fault
 abbrev pub number_of_explore : ExploreFault → ℕ

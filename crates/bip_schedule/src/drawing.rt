@@ -9,12 +9,12 @@ use bip_model::InterId;
 use bip_partition::Plan;
 
 /// The event of a word, in a world of a plan with so many messages in flight, whose bank has so
-/// many things in flight (docs/DEFINITIONS.md, "Events by chance").
+/// many things in flight (docs/ANSWERS.md, "Events by chance").
 pub fn event_of(word: u32, mail: usize, plan: &Plan, bank_mail: usize) -> Event
     ensures { IsDrawn plan.now word mail bank_mail result }
 {
     let stations = plan.stations().len();
-    let _named = plan.model().interaction_names();
+    plan.recall();
     let rest = (word / 4) as usize;
     match word % 4 {
         2 => try_of(plan, rest),

@@ -6,10 +6,8 @@ ghost use Rattle.bip_replay.specs.Runs.{IsModelRun};
 ghost use Rattle.bip_bank.specs.Banks.{content_of};
 ghost use Rattle.bip_core.specs.Starting.{IsNewWorld, IsUnasked};
 ghost use Rattle.bip_core.specs.Worlds.{world_of};
-ghost use Rattle.bip_schedule.specs.Exploring.{AreExplored, IsCheckFault, IsExploreFault};
-ghost use Rattle.bip_schedule.specs.Exploring.{IsLossless, IsSeedFault, IsSeedRun};
-ghost use Rattle.bip_schedule.specs.Exploring.{number_of_explore, text_of_explore};
-ghost use Rattle.bip_schedule.specs.Seeding.{IsFlightOf};
+ghost use Rattle.bip_schedule.specs.Exploring.{AreExplored, IsCheckFault, IsLossless, IsSeedRun};
+ghost use Rattle.bip_schedule.specs.Exploring.{IsSharedBy, number_of_explore, text_of_explore};
 ghost use Rattle.bip_schedule.specs.declared.exploring.ExploreFault.TheVariants.{Memory};
 
 use crate::seeding::run_seed;
@@ -33,7 +31,7 @@ pub struct Explored {
 #[derive(Debug, Drop, Error)]
 pub enum ExploreFault {
     /// The trace of this seed is no run of the model: its first grant that can't be next has this
-    /// fault. The traces of all seeds before it are runs.
+    /// fault. No call answers so: it is what the check would say if the proof were wrong.
     NotARun(u32, StepFault),
     /// Want of memory.
     Memory,
@@ -74,8 +72,8 @@ impl From<AllocError> for ExploreFault {
 /// plan above the base, and its trace is checked to be a run of the model. Ends at the first seed
 /// whose trace is none, or where memory is out: also where an event was skipped or a message lost
 /// for want of it, so that a seed's grants are always the same. `make` gives a bank of that plan
-/// and base without grants or open requests. One seed's world is kept at a time
-/// (docs/DEFINITIONS.md, "Exploring").
+/// and base without grants or open requests. One seed's world is kept at a time (docs/ANSWERS.md,
+/// "Exploring").
 pub fn explore<'p, B: Bank + Drop, F: Fn() -> Result<B, AllocError>>(
     alloc: Global,
     plan: &'p Plan,
@@ -89,10 +87,9 @@ pub fn explore<'p, B: Bank + Drop, F: Fn() -> Result<B, AllocError>>(
     requires unasked { (bank : B) → F.post make (Ok bank)
         → IsUnasked plan.now base (content_of (B.kept bank)) }
     ensures runs { IfOk result (λ done. done.runs ≡ seeds) }
-    ensures explored { IfOk result (λ done. AreExplored (IsFlightOf B.kept B.flight) plan.now base
-        count seeds done.grants) }
-    ensures fault { IfErr result (IsExploreFault (IsFlightOf B.kept B.flight) plan.now base count
-        seeds) }
+    ensures explored { IfOk result (λ done. AreExplored (IsSharedBy B.kept (F.post make)) plan.now
+        base count seeds done.grants) }
+    ensures fault { IfErr result (λ fault. fault ≡ Memory) }
 {
     let mut grants = 0;
     for done in 0..seeds {
@@ -104,8 +101,8 @@ pub fn explore<'p, B: Bank + Drop, F: Fn() -> Result<B, AllocError>>(
     })
 }
 
-/// Explores one seed, as `explore` does, and says how many grants its trace has
-/// (docs/DEFINITIONS.md, "Exploring").
+/// Explores one seed, as `explore` does, and says how many grants its trace has (docs/ANSWERS.md,
+/// "Exploring").
 pub fn explore_seed<'p, B: Bank + Drop, F: Fn() -> Result<B, AllocError>>(
     alloc: Global,
     plan: &'p Plan,
@@ -118,10 +115,10 @@ pub fn explore_seed<'p, B: Bank + Drop, F: Fn() -> Result<B, AllocError>>(
     requires callable { F.IsAlwaysCallable make.now }
     requires unasked { (bank : B) → F.post make.now (Ok bank)
         → IsUnasked plan.now base (content_of (B.kept bank)) }
-    ensures run { IfOk result (IsSeedRun (IsFlightOf B.kept B.flight) plan.now base count seed) }
-    ensures few { IfOk result (λ grants. grants ≤ count) }
-    ensures fault { IfErr result (IsSeedFault (IsFlightOf B.kept B.flight) plan.now base count
+    ensures run { IfOk result (IsSeedRun (IsSharedBy B.kept (F.post make.now)) plan.now base count
         seed) }
+    ensures few { IfOk result (λ grants. grants ≤ count) }
+    ensures fault { IfErr result (λ fault. fault ≡ Memory) }
 {
     let mut world = new_world(alloc, plan, make, base)?;
     let report = run_seed(&mut world, u64::from(seed), count);
@@ -151,7 +148,9 @@ fn new_world<'p, B: Bank + Drop, F: Fn() -> Result<B, AllocError>>(
     requires callable { F.IsAlwaysCallable make.now }
     requires unasked { (bank : B) → F.post make.now (Ok bank)
         → IsUnasked plan.now base (content_of (B.kept bank)) }
-    ensures { IfOk result (λ world. IsNewWorld plan.now base (world_of world)) }
+    ensures new { IfOk result (λ world. IsNewWorld plan.now base (world_of world)) }
+    ensures shared { IfOk result (λ world. IsSharedBy B.kept (F.post make.now)
+        (world_of world).bank.sharing) }
 {
     let bank = make()?;
     World::new(alloc, plan, bank, base)

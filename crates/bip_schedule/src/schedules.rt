@@ -14,7 +14,7 @@ use std::alloc::Global;
 
 /// The events of a schedule for a plan, or the number of the first line at fault with its fault;
 /// what follows that line doesn't count. Want of memory names the line of an event, and no line
-/// before it is at fault (docs/DEFINITIONS.md, "Schedules").
+/// before it is at fault (docs/ANSWERS.md, "Schedules").
 pub fn read_schedule(
     alloc: Global,
     plan: &Plan,

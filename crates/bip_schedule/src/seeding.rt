@@ -5,7 +5,7 @@ ghost use Rattle.bip_model.specs.Numbering.{last_number};
 ghost use Rattle.bip_core.specs.Runs.{AddsUp, IsEventCounted, IsRunOfEvents};
 ghost use Rattle.bip_core.specs.Worlds.{world_of};
 ghost use Rattle.bip_core.specs.declared.events.Event.{Event};
-ghost use Rattle.bip_schedule.specs.Seeding.{AreSeeded, IsDrawnIn, IsFlightOf, generator_of};
+ghost use Rattle.bip_schedule.specs.Seeding.{AreSeeded, IsDrawnIn, generator_of};
 
 use crate::event_of;
 use bip_bank::Bank;
@@ -16,16 +16,16 @@ use std::alloc::{AllocError, Global};
 
 /// Draws so many events from a seed and does them, one after another: each is that of the
 /// generator's next word in the world before it. Answers the events, with their report; the only
-/// error is want of memory for that list, and then the world stays as it was
-/// (docs/DEFINITIONS.md, "Events by chance").
+/// error is want of memory for that list, and then the world stays as it was (docs/ANSWERS.md,
+/// "Events by chance").
 pub fn seeded<'p, B: Bank>(
     alloc: Global,
     world: &mut World<'p, B>,
     seed: u64,
     count: u32,
 ) -> Result<(Vec<Event>, Report), AllocError>
-    ensures drawn { IfOk result (λ done. AreSeeded (IsFlightOf B.kept B.flight) seed count
-        done.0.items (world_of world.old) (world_of world.new) done.1) }
+    ensures drawn { IfOk result (λ done. AreSeeded seed count done.0.items (world_of world.old)
+        (world_of world.new) done.1) }
     ensures run { IfOk result (λ done. IsRunOfEvents done.0.items (world_of world.old)
         (world_of world.new) done.1) }
     ensures err { OnErr result (world_of world.new ≡ world_of world.old) }
@@ -42,8 +42,8 @@ pub fn seeded<'p, B: Bank>(
 
 /// Does what `seeded` does, and keeps no list of the events.
 pub(crate) fn run_seed<'p, B: Bank>(world: &mut World<'p, B>, seed: u64, count: u32) -> Report
-    ensures { (events : List Event) × AreSeeded (IsFlightOf B.kept B.flight) seed count events
-        (world_of world.old) (world_of world.new) result }
+    ensures { (events : List Event) × AreSeeded seed count events (world_of world.old)
+        (world_of world.new) result }
 {
     let mut words = words_of(seed);
     let mut report = Report::empty();
@@ -64,8 +64,7 @@ fn words_of(seed: u64) -> Lcg64Xsh32
 fn draw<'p, B: Bank>(world: &mut World<'p, B>, words: &mut Lcg64Xsh32, report: &mut Report) -> Event
     requires room { report.old.events < last_number }
     requires adds_up { AddsUp report.old }
-    ensures drawn { IsDrawnIn (IsFlightOf B.kept B.flight) (world_of world.old) (pcg32 words.old).0
-        result }
+    ensures drawn { IsDrawnIn (world_of world.old) (pcg32 words.old).0 result }
     ensures word { words.new ≡ (pcg32 words.old).1 }
     ensures done { IsEventCounted result (world_of world.old) (world_of world.new) report.old
         report.new }

@@ -21,7 +21,7 @@ use itoa::Buffer;
 use std::alloc::{AllocError, Global};
 
 /// The text of events of a plan: a line for each. It reads back as the same events
-/// (docs/DEFINITIONS.md, "Schedules").
+/// (docs/ANSWERS.md, "Schedules").
 pub fn write_schedule(alloc: Global, plan: &Plan, events: &[Event]) -> Result<Vec<u8>, AllocError>
     requires { HaveSpelling plan.now events.now }
     ensures text { IfOk result (λ text. IsWritten plan.now events.now text.items) }
@@ -36,7 +36,7 @@ pub fn write_schedule(alloc: Global, plan: &Plan, events: &[Event]) -> Result<Ve
 }
 
 /// Whether events of a plan have a spelling: the plan has what they name, and a place among
-/// messages is below 2^32 (docs/DEFINITIONS.md, "Schedules").
+/// messages is below 2^32 (docs/ANSWERS.md, "Schedules").
 pub fn have_spelling(plan: &Plan, events: &[Event]) -> bool
     ensures { IsTrue result ↔ HaveSpelling plan.now events.now }
 {
@@ -96,8 +96,7 @@ fn write_line(
     ensures reads_back { OnOk result
         (ReadsBack (event_on plan.now stations.now) (event_line plan.now stations.now) event.now) }
 {
-    let _named = plan.model().interaction_names();
-    let _planned = plan.classes().len();
+    plan.recall();
     write_words(text, plan, stations, event)?;
     text.push(b'\n')?;
     Ok(())
@@ -202,6 +201,6 @@ fn write_station(
         ≡ text.old.items ++ spaced (station_name plan.now stations.now station)) }
     ensures named { OnOk result (IsName (station_name plan.now stations.now station)) }
 {
-    let _named = plan.model().interaction_names();
+    plan.recall();
     write_inter(text, plan, stations[station.0 as usize])
 }

@@ -1,12 +1,18 @@
-use Rattle.std.proofs.Common.{refl, rules}
+use Rattle.std.proofs.Common.{◌≡◌, ◌∙◌, ℕ, ap, refl, rules, Err, Ok, Result}
+use Rattle.std.specs.Prelude.{IfErr, IsErrAnd}
+use Rattle.bip_bank.specs.Banks.{BankContent}
+use Rattle.bip_partition.specs.Plans.{Planned}
+use Rattle.bip_replay.specs.Runs.{IsModelRun}
+use Rattle.bip_schedule.specs.declared.exploring.ExploreFault.{ExploreFault}
+use Rattle.bip_schedule.specs.declared.exploring.ExploreFault.TheVariants.{Memory}
 use Rattle.bip_core.specs.Worlds.{world_of}
-use Rattle.bip_schedule.proofs.DrawLemmas.{seeded_few}
+use Rattle.bip_schedule.proofs.DrawLemmas.{run_checks, seeded_few, seeded_keeps}
 use Rattle.bip_schedule.proofs.exploring.explore_seed.Goals as goal
 
 pub returns-clause-few : goal.returns-clause-few
 returns-clause-few g c =
     rw c.trace-trace.ensures.trace
-    (seeded_few _ c.from.result c.args.count _ (world_of c.in_ok-world.world) (world_of c.run_seed-report.new.world) _ c.run_seed-report.ensures.1 c.in_ok-world.ensures.trace)
+    (seeded_few c.from.result c.args.count _ (world_of c.in_ok-world.world) (world_of c.run_seed-report.new.world) _ c.run_seed-report.ensures.1 c.in_ok-world.ensures.new.trace)
 
 pub returns-clause-run : goal.returns-clause-run
 returns-clause-run g c = record {
@@ -16,7 +22,8 @@ returns-clause-run g c = record {
     last = world_of c.run_seed-report.new.world;
     events = c.run_seed-report.ensures.0;
     report = c.run_seed-report.result;
-    new = c.in_ok-world.ensures;
+    new = c.in_ok-world.ensures.new;
+    shared = c.in_ok-world.ensures.shared;
     seeded = rw c.from.ensures at c.run_seed-report.ensures.1;
     is = c.trace-trace.ensures.trace;
   };
@@ -24,3 +31,18 @@ returns-clause-run g c = record {
   run = search rules;
   counted = refl;
 }
+
+pub returns-in_err-check_run-clause-fault : goal.returns-in_err-check_run-clause-fault
+returns-in_err-check_run-clause-fault g c =
+    let first = world_of c.in_ok-world.world in
+    let last = world_of c.run_seed-report.new.world in
+    let keeps = seeded_keeps c.from.result c.args.count c.run_seed-report.ensures.0 first last _ c.run_seed-report.ensures.1 in
+    let new = c.in_ok-world.ensures.new in
+    let model : last.plan.model ≡ c.args.plan.now.model = ap (λ (p : Planned). p.model) (keeps.plan ∙ new.plan) in
+    let base : last.bank.base ≡ c.args.base = keeps.base ∙ ap (λ (b : BankContent). b.base) new.bank in
+    let run : IsModelRun c.model.result.now c.args.base c.trace-trace.result.now = rw (c.model.ensures, ← model, ← base) c.trace-trace.ensures.run in
+    passed_on c.from_residual-in_err-check_run.result c.in_err-check_run.field-0.0 (run_checks _ _ _ _ _ run c.in_err-check_run.ensures.fault) c.from_residual-in_err-check_run.ensures.1
+  where
+    passed_on : (r : Result ℕ ExploreFault) (e : ExploreFault) → e ≡ Memory → IsErrAnd r (λ f. f ≡ e) → IfErr r (λ f. f ≡ Memory)
+    passed_on (Ok n) e is same = tt
+    passed_on (Err f) e is same = same ∙ is

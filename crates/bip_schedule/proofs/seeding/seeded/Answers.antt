@@ -1,28 +1,28 @@
 use Rattle.std.proofs.Common.{◌<◌, ◌^◌, arith, rules}
 use Rattle.bip_core.specs.Worlds.{world_of}
-use Rattle.bip_schedule.specs.Seeding.{IsFlightOf, generator_of}
+use Rattle.bip_schedule.specs.Seeding.{generator_of}
 use Rattle.bip_schedule.proofs.DrawLemmas.{drawing_counted, drawing_more, drawing_none, drawing_run}
 use Rattle.bip_schedule.proofs.seeding.seeded.Goals as goal
 
 pub loop-init : goal.loop-init
 loop-init g c = (
-  rw c.in_ok-events.ensures.items (drawing_none (IsFlightOf g.B.Bank.kept g.B.Bank.flight) (generator_of c.args.seed) (world_of c.args.world.now) _ _ c.words_of-words.ensures c.empty-report.ensures.sums c.empty-report.ensures.adds_up),
+  rw c.in_ok-events.ensures.items (drawing_none (generator_of c.args.seed) (world_of c.args.world.now) _ _ c.words_of-words.ensures c.empty-report.ensures.sums c.empty-report.ensures.adds_up),
   c.in_ok-events.ensures.len,
   c.in_ok-events.ensures.capacity,
 )
 
 pub draw-event-requires-clause-room : goal.draw-event-requires-clause-room
 draw-event-requires-clause-room g c =
-    let counted = drawing_counted _ _ _ _ _ _ _ _ c.loop.invariant.0 in
+    let counted = drawing_counted _ _ _ _ _ _ _ c.loop.invariant.0 in
     let small : c.args.count < 2 ^ 32 = search rules in
     omega (arith, counted, small, c.loop-test.true)
 
 pub loop-preserved : goal.loop-preserved
 loop-preserved g c = (
-  rw c.push_reserved.ensures.items (drawing_more _ _ _ _ (world_of c.loop.world) _ _ _ _ _ _ _ c.loop.invariant.0 c.draw-event.ensures.drawn c.draw-event.ensures.word c.draw-event.ensures.done c.draw-event.ensures.adds_up),
+  rw c.push_reserved.ensures.items (drawing_more _ _ _ (world_of c.loop.world) _ _ _ _ _ _ _ c.loop.invariant.0 c.draw-event.ensures.drawn c.draw-event.ensures.word c.draw-event.ensures.done c.draw-event.ensures.adds_up),
   (let more = c.push_reserved.ensures.len in omega (arith, more, c.loop.invariant.1)),
   (let same = c.push_reserved.ensures.capacity in omega (arith, same, c.loop.invariant.2)),
 )
 
 pub returns-clause-run : goal.returns-clause-run
-returns-clause-run g c = drawing_run _ _ _ _ _ _ _ _ c.loop.invariant.0
+returns-clause-run g c = drawing_run _ _ _ _ _ _ _ c.loop.invariant.0

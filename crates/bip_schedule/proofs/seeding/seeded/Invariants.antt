@@ -1,11 +1,11 @@
 use Rattle.std.proofs.Common.{◌≡◌, ◌≤◌, vec_capacity, vec_len}
 use Rattle.bip_core.specs.Worlds.{world_of}
-use Rattle.bip_schedule.specs.Seeding.{IsFlightOf, generator_of}
+use Rattle.bip_schedule.specs.Seeding.{generator_of}
 use Rattle.bip_schedule.proofs.DrawLemmas.{IsDrawing}
 use Rattle.bip_schedule.proofs.seeding.seeded.Given as goal
 
 abbrev pub invariant-loop : goal.invariant-loop
 invariant-loop g l =
-    IsDrawing (IsFlightOf g.B.Bank.kept g.B.Bank.flight) (generator_of l.seed) (world_of l.initial.world) l.events.items (world_of l.world) l.words l.report l.counter
+    IsDrawing (generator_of l.seed) (world_of l.initial.world) l.events.items (world_of l.world) l.words l.report l.counter
     × (vec_len l.events ≡ l.counter)
     × (l.count ≤ vec_capacity l.events)
