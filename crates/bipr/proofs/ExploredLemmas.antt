@@ -1,18 +1,18 @@
 -- What is told on the way while seeds are explored, and the answers.
 use Rattle.std.proofs.Common.{◌≡◌, ◌∙◌, ◌+◌, ◌++◌, ◌∷◌, ◌≤◌, add-one, ap, ℕ, true, false, List, [], Result, Ok, Err, refl, subst, sym}
-use Rattle.std.specs.Prelude.{IsErr, MatchResult}
+use Rattle.std.specs.Prelude.{IfOk, IsErr, MatchResult}
 use Rattle.std.specs.declared.alloc.AllocError.{AllocError}
 use Rattle.bip_partition.specs.Plans.{Planned}
-use Rattle.bip_replay.specs.declared.faults.StepFault.{StepFault}
-use Rattle.bip_schedule.specs.Exploring.{AreExplored, IsSeedFault}
-use Rattle.bip_schedule.specs.declared.exploring.ExploreFault.TheVariants as explore_fault
+use Rattle.bip_bank.specs.Sharing.{Sharing}
+use Rattle.bip_schedule.specs.Exploring.{AreExplored, IsSeedRun}
+use Rattle.bip_schedule.specs.declared.exploring.ExploreFault.{ExploreFault}
 use Rattle.bipr.specs.Answers.{HasPlan, saying}
 use Rattle.bipr.specs.Commands.Explore.{IsExplore, IsTextExplored, of_no_text, of_plan}
-use Rattle.bipr.specs.Explored.{IsCentralFlight, IsExploreAnswer, ends_hundredth, explored, no_run, told_at, told_until}
+use Rattle.bipr.specs.Explored.{IsAlone, IsExploreAnswer, ends_hundredth, explored, told_at, told_until}
 use Rattle.bipr.specs.Stops.{answer_of_stop, out_of_memory, unread}
-use Rattle.bipr.specs.Wording.{progress_text, seed_verdict, seeds_text}
+use Rattle.bipr.specs.Wording.{progress_text, seeds_text}
 use Rattle.bipr.specs.declared.answers.Answer.{Answer}
-use Rattle.bipr.specs.declared.answers.Status.TheVariants.{Done, NotARun}
+use Rattle.bipr.specs.declared.answers.Status.TheVariants.{Done}
 use Rattle.bipr.specs.declared.command_line.ExploreArguments.{ExploreArguments}
 use Rattle.bipr.specs.declared.inputs.InputFault.{InputFault}
 use Rattle.bipr.specs.declared.stops.Stop.{Stop}
@@ -35,18 +35,9 @@ pub told_lacking : (result : Result Answer AllocError) (P : Answer → Type 0) (
 told_lacking (Ok answer) P Q is held = cc
 told_lacking (Err e) P Q is held = held
 
--- a trace that is no run is told
-pub no_run_said : (p : Planned) (asked : ExploreArguments) (done grants seed : ℕ) (fault : StepFault) (answer : Answer) (text : List ℕ)
-    → done + 1 ≤ asked.seeds → AreExplored IsCentralFlight p 0 asked.events done grants
-    → IsSeedFault IsCentralFlight p 0 asked.events (done + 1) (explore_fault.NotARun seed fault)
-    → answer ≡ saying NotARun text → text ≡ seed_verdict seed → IsExploreAnswer p asked (told_until asked done) answer
-no_run_said p asked done grants seed fault answer text few so why said spelled =
-    subst (IsExploreAnswer p asked (told_until asked done)) (sym (said ∙ ap (saying NotARun) (spelled ∙ ap seed_verdict why.0)))
-    (no_run done grants fault few so (subst (λ (s : ℕ). IsSeedFault IsCentralFlight p 0 asked.events (done + 1) (explore_fault.NotARun s fault)) why.0 why))
-
 -- that all are runs is said
 pub explored_said : (p : Planned) (asked : ExploreArguments) (grants : ℕ) (answer : Answer) (text : List ℕ)
-    → AreExplored IsCentralFlight p 0 asked.events asked.seeds grants
+    → AreExplored IsAlone p 0 asked.events asked.seeds grants
     → answer ≡ saying Done text → text ≡ seeds_text asked.seeds → IsExploreAnswer p asked (told_until asked asked.seeds) answer
 explored_said p asked grants answer text so said spelled =
     subst (IsExploreAnswer p asked (told_until asked asked.seeds)) (sym (said ∙ ap (saying Done) spelled)) (explored grants so)
@@ -63,3 +54,24 @@ pub stopped_at_explored : (gives : List ℕ → Result (List ℕ) InputFault →
     → (fault : InputFault) × gives asked.model.now (Err fault) × (answer_of_stop why ≡ unread asked.model.now fault)
     → IsExplore gives asked [] (answer_of_stop why)
 stopped_at_explored gives asked why (fault, given, same) = subst (IsExplore gives asked []) (sym same) (of_no_text fault given)
+
+-- the run of a seed with a bank that may be made is one with what its stations share
+pub shared_run : (shares others : Sharing → Type 0) (p : Planned) (count seed : ℕ) (result : Result ℕ ExploreFault) → ((x : Sharing) → shares x → others x)
+    → IfOk result (IsSeedRun shares p 0 count seed) → IfOk result (IsSeedRun others p 0 count seed)
+shared_run shares others p count seed (Ok grants) is run = record {
+  trace = run.trace;
+  of_seed = record {
+    first = run.of_seed.first;
+    last = run.of_seed.last;
+    events = run.of_seed.events;
+    report = run.of_seed.report;
+    new = run.of_seed.new;
+    shared = is run.of_seed.first.bank.sharing run.of_seed.shared;
+    seeded = run.of_seed.seeded;
+    is = run.of_seed.is;
+  };
+  whole = run.whole;
+  run = run.run;
+  counted = run.counted;
+}
+shared_run shares others p count seed (Err fault) is run = tt

@@ -1,5 +1,13 @@
 -- Answers to schedules that were written out are those that the texts have.
-use Rattle.std.proofs.Common.{◌≡◌, ◌≢◌, ℕ, List, None, sym, ap, ◌∙◌, subst}
+use Rattle.std.proofs.Common.{◌≡◌, ◌≢◌, ◌++◌, ℕ, List, Ok, length, sym, ap, ◌∙◌, subst}
+use Rattle.bip_bank.specs.Banks.{BankContent}
+use Rattle.bip_bank.specs.Sharing.{alone}
+use Rattle.bip_core.specs.Laws.{WorldsKeepTheirPlan}
+use Rattle.bip_model.specs.declared.grants.Grant.{Grant}
+use Rattle.bip_model.specs.declared.parts.System.{System}
+use Rattle.bip_replay.specs.Replays.{IsRunOf}
+use Rattle.bip_replay.specs.Runs.{IsModelRun}
+use Rattle.bip_replay.specs.Traces.{grants_of}
 use Rattle.bip_core.specs.Runs.{IsRunOfEvents}
 use Rattle.bip_core.specs.Starting.{IsNewWorld}
 use Rattle.bip_core.specs.Worlds.{WorldContent}
@@ -10,11 +18,12 @@ use Rattle.bip_replay.specs.Writing.{text_of}
 use Rattle.bip_replay.specs.declared.faults.TraceFault.TheVariants.{Memory}
 use Rattle.bip_replay.specs.declared.faults.TraceFault.{TraceFault}
 use Rattle.bip_schedule.specs.Schedules.{IsEventText, IsScheduleFault}
-use Rattle.bipr.specs.Answers.{complaining}
+use Rattle.bipr.specs.Answers.{IsAnswer, complaining, run, saying}
+use Rattle.bipr.specs.Laws.{StepsReplay}
 use Rattle.bipr.specs.Scheduled.{IsScheduleAnswer, no_schedule, reporting, stepped}
-use Rattle.bipr.specs.Wording.{report_text, schedule_refusal}
+use Rattle.bipr.specs.Wording.{report_text, run_text, schedule_refusal}
 use Rattle.bipr.specs.declared.answers.Answer.{Answer}
-use Rattle.bipr.specs.declared.answers.Status.TheVariants.{Refused}
+use Rattle.bipr.specs.declared.answers.Status.TheVariants.{Done, Refused}
 
 pub has_answered-no_schedule : (p : Planned) (base : ℕ) (schedule complaint : List ℕ) (answer : Answer) (number : ℕ) (fault : TraceFault)
     → answer ≡ complaining Refused complaint → complaint ≡ schedule_refusal number fault → (fault ≢ Memory)
@@ -24,7 +33,31 @@ has_answered-no_schedule p base schedule complaint answer number fault same writ
 
 pub has_answered-stepped : (p : Planned) (base : ℕ) (schedule trace told : List ℕ) (answer : Answer) (events : List Event) (w v : WorldContent) (report : Report)
     → answer ≡ reporting trace told → trace ≡ text_of p.model v.trace → told ≡ report_text report
-    → IsEventText p schedule events → IsNewWorld p base w → w.bank.lacking ≡ None → IsRunOfEvents events w v report → IsScheduleAnswer p base schedule answer
-has_answered-stepped p base schedule trace told answer events w v report same written reported is begins lacking run =
+    → IsEventText p schedule events → IsNewWorld p base w → w.bank.sharing ≡ alone → IsRunOfEvents events w v report → IsRunOf p.model base (text_of p.model v.trace) report.grants → IsScheduleAnswer p base schedule answer
+has_answered-stepped p base schedule trace told answer events w v report same written reported is begins sharing steps leads =
     subst (IsScheduleAnswer p base schedule) (sym (same ∙ (ap (λ (t : List ℕ). reporting t told) written ∙ ap (λ (r : List ℕ). reporting (text_of p.model v.trace) r) reported)))
-    (stepped events w v report is begins lacking run)
+    (stepped events w v report is begins sharing steps leads)
+
+-- the trace of a world to which events lead from the new one is that of a run above its base
+pub is_run : (p : Planned) (base : ℕ) (events : List Event) (w v : WorldContent) (report : Report) (text : List ℕ) → WorldsKeepTheirPlan → IsNewWorld p base w → IsRunOfEvents events w v report
+    → IsModelRun v.plan.model v.bank.base v.trace → (grants : List Grant) × (v.trace ≡ w.trace ++ grants) × (report.grants ≡ length grants)
+    → grants_of p.model text ≡ Ok v.trace → IsRunOf p.model base text report.grants
+is_run p base events w v report text keep begins steps ran grown reads =
+    let keeps = keep w v events steps.dids steps.steps in
+    let model : v.plan.model ≡ p.model = ap (λ (q : Planned). q.model) (keeps.plan ∙ begins.plan) in
+    let above : v.bank.base ≡ base = keeps.base ∙ ap (λ (b : BankContent). b.base) begins.bank in
+    let whole : v.trace ≡ grown.0 = grown.1 ∙ ap (λ (gs : List Grant). gs ++ grown.0) begins.trace in
+    record {
+      grants = v.trace;
+      reads = reads;
+      run = subst (λ (b : ℕ). IsModelRun p.model b v.trace) above (subst (λ (m : System). IsModelRun m v.bank.base v.trace) model ran);
+      counted = ap length whole ∙ sym grown.2;
+    }
+
+-- what is written of a schedule is replayed as a run
+pub steps_replay : StepsReplay
+steps_replay base model schedule p answer has is done = by_answer answer is done
+  where
+    by_answer : (a : Answer) → IsScheduleAnswer p base schedule a → a.status ≡ Done → (count : ℕ) × IsAnswer base model a.output (saying Done (run_text count))
+    by_answer _ (stepped events w v report reads begins sharing steps leads) done = (report.grants, run p.model p.classes report.grants has.means leads)
+    by_answer _ (no_schedule number fault other is) done = cc

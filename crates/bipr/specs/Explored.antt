@@ -1,23 +1,19 @@
 -- The answer to exploring a plan by many seeds, and what is told on the way.
 use Rattle.std.specs.Prelude.{List, [], ℕ, zero, suc, nat_lt, if◌then◌else◌, ◌&&◌, ◌*◌, ◌+◌, ◌++◌}
-use Rattle.std.specs.Prelude.{Bool, ◌-◌, ◌/◌, ◌∷◌, ◌≤◌}
-use Rattle.bip_bank.specs.Banks.{BankContent}
-use Rattle.bip_bank.specs.Central.{kept_central}
+use Rattle.std.specs.Prelude.{Bool, ◌-◌, ◌/◌, ◌∷◌, ◌≡◌, ◌≤◌}
+use Rattle.bip_bank.specs.Sharing.{Sharing, alone}
 use Rattle.bip_partition.specs.Plans.{Planned}
-use Rattle.bip_replay.specs.declared.faults.StepFault.{StepFault}
-use Rattle.bip_schedule.specs.Exploring.{AreExplored, IsSeedFault}
-use Rattle.bip_schedule.specs.Seeding.{IsFlightOf}
-use Rattle.bip_schedule.specs.declared.exploring.ExploreFault.TheVariants as explore_fault
+use Rattle.bip_schedule.specs.Exploring.{AreExplored}
 use Rattle.bipr.specs.Answers.{saying}
 use Rattle.bipr.specs.Stops.{out_of_memory}
-use Rattle.bipr.specs.Wording.{progress_text, seed_verdict, seeds_text}
+use Rattle.bipr.specs.Wording.{progress_text, seeds_text}
 use Rattle.bipr.specs.declared.answers.Answer.{Answer}
-use Rattle.bipr.specs.declared.answers.Status.TheVariants.{Done, NotARun}
+use Rattle.bipr.specs.declared.answers.Status.TheVariants.{Done}
 use Rattle.bipr.specs.declared.command_line.ExploreArguments.{ExploreArguments}
 
--- so many things are in flight inside a central bank with this content: none
-abbrev pub IsCentralFlight : BankContent → ℕ → Type 0
-IsCentralFlight content count = IsFlightOf kept_central (λ bank. 0) content count
+-- stations share nothing, as those of the central bank
+abbrev pub IsAlone : Sharing → Type 0
+IsAlone sharing = sharing ≡ alone
 
 -- with this seed another hundredth of the seeds is done
 abbrev pub ends_hundredth : ℕ → ℕ → Bool
@@ -36,19 +32,12 @@ told_until asked (suc done) = told_until asked done ++ told_at asked (suc done)
 -- the answer to exploring a plan, with what is told on the way
 pub data IsExploreAnswer (p : Planned) (asked : ExploreArguments) :
     List (List ℕ) → Answer → Type 0 where
-  -- the trace of each seed is a run of the model
+  -- the trace of each seed is a run of the model: that one is none can't be
   explored : (grants : ℕ)
-      → AreExplored IsCentralFlight p 0 asked.events asked.seeds grants
+      → AreExplored IsAlone p 0 asked.events asked.seeds grants
       → IsExploreAnswer p asked (told_until asked asked.seeds)
       (saying Done (seeds_text asked.seeds))
-  -- those of so many seeds are, and that of the next one is none
-  no_run : (done grants : ℕ) (fault : StepFault) → done + 1 ≤ asked.seeds
-      → AreExplored IsCentralFlight p 0 asked.events done grants
-      → IsSeedFault IsCentralFlight p 0 asked.events (done + 1)
-      (explore_fault.NotARun (done + 1) fault)
-      → IsExploreAnswer p asked (told_until asked done)
-      (saying NotARun (seed_verdict (done + 1)))
-  -- those of so many seeds are, and memory is out
+  -- so many seeds are explored, and memory is out
   ends_without_memory : (done grants : ℕ) → done ≤ asked.seeds
-      → AreExplored IsCentralFlight p 0 asked.events done grants
+      → AreExplored IsAlone p 0 asked.events done grants
       → IsExploreAnswer p asked (told_until asked done) out_of_memory

@@ -1,12 +1,15 @@
 -- The laws of answers, and of the replay of texts that are known.
 use Rattle.std.specs.Prelude.{◌≡◌, ◌≤◌, ℕ, false, true, List, length}
-use Rattle.bipr.specs.Answers.{IsAnswer, IsCheckAnswer, complaining}
+use Rattle.bip_partition.specs.Plans.{Planned}
+use Rattle.bipr.specs.Answers.{HasPlan, IsAnswer, IsCheckAnswer, complaining, saying}
 use Rattle.bipr.specs.Commands.Replay.{IsModelText, IsReplay, is_joined}
 use Rattle.bipr.specs.Dividing.{AreParts, after_mark, before_mark}
 use Rattle.bipr.specs.Inputs.{IsReading, Named, bytes, most_bytes}
+use Rattle.bipr.specs.Scheduled.{IsScheduleAnswer}
 use Rattle.bipr.specs.Stops.{out_of_memory, unread_text}
+use Rattle.bipr.specs.Wording.{run_text}
 use Rattle.bipr.specs.declared.answers.Answer.{Answer}
-use Rattle.bipr.specs.declared.answers.Status.TheVariants.{Refused}
+use Rattle.bipr.specs.declared.answers.Status.TheVariants.{Done, Refused}
 use Rattle.bipr.specs.declared.command_line.ReplayArguments.{ReplayArguments}
 
 -- two texts in one are parted by lines
@@ -27,6 +30,14 @@ OneCheckAnswer =
 abbrev pub SomeAnswer : Type 0
 SomeAnswer = (base : ℕ) (model trace : List ℕ)
     → (answer : Answer) × IsAnswer base model trace answer
+
+-- what `steps` writes where it ends as done is a trace of which `replay`, of the same model from
+-- the same base, says that it is a run
+abbrev pub StepsReplay : Type 0
+StepsReplay =
+    (base : ℕ) (model schedule : List ℕ) (p : Planned) (answer : Answer) → HasPlan model p
+    → IsScheduleAnswer p base schedule answer → answer.status ≡ Done
+    → (count : ℕ) × IsAnswer base model answer.output (saying Done (run_text count))
 
 -- what may be answered where the two paths name these texts
 pub data IsOfTwo (asked : ReplayArguments) (model trace : List ℕ) : Answer → Type 0 where

@@ -1,11 +1,13 @@
 -- The answer to a schedule: the trace of the world to which its events lead, and their report.
-use Rattle.std.specs.Prelude.{List, None, ℕ, ◌≡◌, ◌≢◌}
+use Rattle.std.specs.Prelude.{List, ℕ, ◌≡◌, ◌≢◌}
+use Rattle.bip_bank.specs.Sharing.{alone}
 use Rattle.bip_core.specs.Runs.{IsRunOfEvents}
 use Rattle.bip_core.specs.Starting.{IsNewWorld}
 use Rattle.bip_core.specs.Worlds.{WorldContent}
 use Rattle.bip_core.specs.declared.events.Event.{Event}
 use Rattle.bip_core.specs.declared.runs.Report.{Report}
 use Rattle.bip_partition.specs.Plans.{Planned}
+use Rattle.bip_replay.specs.Replays.{IsRunOf}
 use Rattle.bip_replay.specs.Writing.{text_of}
 use Rattle.bip_replay.specs.declared.faults.TraceFault.TheVariants.{Memory}
 use Rattle.bip_replay.specs.declared.faults.TraceFault.{TraceFault}
@@ -22,10 +24,11 @@ reporting trace report = record { status = Done; output = trace; complaint = rep
 -- the answer to the text of a schedule for a plan, from a base
 pub data IsScheduleAnswer (p : Planned) (base : ℕ) (schedule : List ℕ) : Answer → Type 0 where
   -- its events lead from the new world, whose stations share nothing, to one with this trace, and
-  -- this is their report
+  -- this is their report; and the trace is that of a run of the model, of as many grants
   stepped : (events : List Event) (w v : WorldContent) (report : Report)
-      → IsEventText p schedule events → IsNewWorld p base w → w.bank.lacking ≡ None
+      → IsEventText p schedule events → IsNewWorld p base w → w.bank.sharing ≡ alone
       → IsRunOfEvents events w v report
+      → IsRunOf p.model base (text_of p.model v.trace) report.grants
       → IsScheduleAnswer p base schedule (reporting (text_of p.model v.trace) (report_text report))
   -- the text is none
   no_schedule : (number : ℕ) (fault : TraceFault) → fault ≢ Memory

@@ -63,7 +63,7 @@ pub struct Answer {
 /// The answer to the replay of a trace's text on a model's text from a base: `run N` where the
 /// grants are a run of the model; else the verdict on the first line at fault where that line's
 /// grant can't be next; else the first fault of the model's text, or of the trace's
-/// (docs/DEFINITIONS.md, "Answers"). The only error is want of memory.
+/// (docs/ANSWERS.md, "Answers"). The only error is want of memory.
 pub fn answer_replay(
     alloc: Global,
     explanation: &mut Explanation,
@@ -82,8 +82,8 @@ pub fn answer_replay(
 }
 
 /// The answer to the check of a model's text: the counts of its plan; else the lowest interaction
-/// that touches too many components, or the first fault of the text (docs/DEFINITIONS.md,
-/// "Answers"). The only error is want of memory.
+/// that touches too many components, or the first fault of the text (docs/ANSWERS.md, "Answers").
+/// The only error is want of memory.
 pub fn answer_check(
     alloc: Global,
     explanation: &mut Explanation,

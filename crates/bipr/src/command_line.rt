@@ -49,7 +49,7 @@ pub enum Asked<'a> {
     Explore(ExploreArguments<'a>),
 }
 
-/// Whether a command line asks to explain what is refused (docs/DEFINITIONS.md, "Arguments").
+/// Whether a command line asks to explain what is refused (docs/ANSWERS.md, "Arguments").
 pub fn is_explained(matches: &ArgMatches<'_>) -> bool
     ensures { IsExplainAsked (subcommand_rows_of matches.now) result }
 {
@@ -60,7 +60,7 @@ pub fn is_explained(matches: &ArgMatches<'_>) -> bool
 }
 
 /// What a command line asks; none where it asks for nothing: its base is out of range
-/// (docs/DEFINITIONS.md, "Arguments").
+/// (docs/ANSWERS.md, "Arguments").
 pub fn read_arguments<'a>(matches: &ArgMatches<'a>) -> Option<Asked<'a>>
     ensures some { IfSome result (Asks (subcommand_rows_of matches.now)) }
     ensures none { IfNone result (AsksNothing (subcommand_rows_of matches.now)) }

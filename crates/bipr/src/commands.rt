@@ -32,7 +32,7 @@ use std::alloc::Global;
 use steps::steps;
 
 /// Carries out what the words of a command line ask, or says why they ask for nothing, and says
-/// with which status the program ends (docs/DEFINITIONS.md, "Endings").
+/// with which status the program ends (docs/ANSWERS.md, "Endings").
 pub fn carry_out<'a, I: Inputs, O: Stream, E: Stream>(
     alloc: Global,
     words: &'a [String],

@@ -5,7 +5,7 @@ ghost use Rattle.bipr.specs.Dividing.{after_mark, before_mark, begins_with_mark,
 use bip_model::split_line;
 
 /// Two texts in one: what stands before the first line `---`, and what stands behind it; the second
-/// is empty where there is no such line (docs/DEFINITIONS.md, "Two texts in one").
+/// is empty where there is no such line (docs/ANSWERS.md, "Two texts in one").
 pub fn divide(text: &[u8]) -> (&[u8], &[u8])
     ensures before { result.0.now ≡ before_mark text.now }
     ensures after { result.1.now ≡ after_mark text.now }

@@ -22,7 +22,7 @@ const MOST_OF_LINE: usize = 512;
 const CANNOT_WRITE: &[u8] = b"bipr: cannot write\n";
 
 /// Ends a command with its answer, or with what stopped it: the output stands on standard output,
-/// and then the complaint on standard error, each in one write (docs/DEFINITIONS.md, "Endings").
+/// and then the complaint on standard error, each in one write (docs/ANSWERS.md, "Endings").
 pub fn end<O: Stream, E: Stream>(
     alloc: Global,
     explanation: &mut Explanation,
@@ -101,7 +101,7 @@ fn told_status(is_told: bool, status: Status) -> Status
 }
 
 /// Explains a fault: puts what is said of it on standard error, in one write, behind all else.
-/// Nothing is put where nothing is said, or all is done (docs/DEFINITIONS.md, "Endings").
+/// Nothing is put where nothing is said, or all is done (docs/ANSWERS.md, "Endings").
 pub fn explain<E: Stream>(errors: &mut E, status: Status, explanation: &Explanation)
     ensures explained { Explains E.writes errors.old errors.new status explanation.now.said }
     ensures shown { list_all is_shown explanation.now.said ≡ true }

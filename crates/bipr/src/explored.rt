@@ -1,8 +1,9 @@
 //! Answers to exploring: what the seeds come to, and what is told on the way.
 ghost use Rattle.std.specs.Prelude.{◌≡◌, IfErr, IfOk, OnErr, OnOk};
-ghost use Rattle.bip_schedule.specs.Exploring.{IsSeedFault, IsSeedRun};
+ghost use Rattle.bip_schedule.specs.Exploring.{IsSeedRun};
+ghost use Rattle.bip_schedule.specs.declared.exploring.ExploreFault.TheVariants.{Memory};
 ghost use Rattle.bipr.specs.Endings.{IsAnsweredTelling};
-ghost use Rattle.bipr.specs.Explored.{IsCentralFlight, IsExploreAnswer, ends_hundredth, told_at};
+ghost use Rattle.bipr.specs.Explored.{IsAlone, IsExploreAnswer, ends_hundredth, told_at};
 ghost use Rattle.bipr.specs.Streams.{PutsEach};
 
 use crate::answers::{Answer, Status, said};
@@ -16,9 +17,10 @@ use bip_schedule::{ExploreFault, explore_seed};
 use std::alloc::{AllocError, Global};
 
 /// The answer to exploring a plan with the central bank: that the traces of all seeds are runs of
-/// the model, or the lowest seed whose trace is none. Where progress is asked for, a line is put on
+/// the model. Each is checked, and it is proved that no check fails; what a failed one says is
+/// there for who doesn't believe the proof. Where progress is asked for, a line is put on
 /// standard error each time that another hundredth of the seeds is done; whether it is out decides
-/// nothing (docs/DEFINITIONS.md, "Answers"). The only error is want of memory.
+/// nothing (docs/ANSWERS.md, "Answers"). The only error is want of memory.
 pub fn answer_explore<E: Stream>(
     alloc: Global,
     explanation: &mut Explanation,
@@ -45,8 +47,8 @@ pub fn answer_explore<E: Stream>(
 
 // Explores one seed from base 0, with a new central bank.
 fn explore_one(alloc: Global, plan: &Plan, seed: u32, events: u32) -> Result<u64, ExploreFault>
-    ensures run { IfOk result (IsSeedRun IsCentralFlight plan.now 0 events seed) }
-    ensures fault { IfErr result (IsSeedFault IsCentralFlight plan.now 0 events seed) }
+    ensures run { IfOk result (IsSeedRun IsAlone plan.now 0 events seed) }
+    ensures fault { IfErr result (λ fault. fault ≡ Memory) }
 {
     explore_seed(
         alloc,

@@ -74,7 +74,7 @@ impl<O: Open> Inputs for O {
     }
 }
 
-/// All that a reader gives, at most so many bytes (docs/DEFINITIONS.md, "Inputs").
+/// All that a reader gives, at most so many bytes (docs/ANSWERS.md, "Inputs").
 pub fn read_text<R: Read>(
     alloc: Global,
     explanation: &mut Explanation,

@@ -15,8 +15,6 @@ mod scheduled;
 mod sources;
 mod stops;
 mod streams;
-#[cfg(test)]
-mod tests;
 mod wording;
 
 ghost use Rattle.bipr.specs.Commands.{IsProgramEnd};
@@ -43,7 +41,7 @@ fn main(rt: HostRuntime) -> ExitCode {
 }
 
 // Carries out what the words that the program was started with ask, and says how it ends
-// (docs/DEFINITIONS.md, "Words").
+// (docs/ANSWERS.md, "Words").
 fn run<R: AllocGlobal + Env, I: Inputs, O: Stream, E: Stream>(
     rt: &R,
     inputs: &I,

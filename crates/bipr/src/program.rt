@@ -120,8 +120,8 @@ pub const CENTRAL: &str = "central";
 /// The resolvers, by their names.
 pub const RESOLVERS: &[&str] = &[CENTRAL];
 
-/// The program, whose bank is one of these resolvers, as the library takes it
-/// (docs/DEFINITIONS.md, "Words").
+/// The program, whose bank is one of these resolvers, as the library takes it (docs/ANSWERS.md,
+/// "Words").
 pub fn program<'a>(alloc: Global, resolvers: &'a [&'a str]) -> Result<Command<'a>, AllocError>
     ensures { IfOk result (λ command. app_of command ≡ program resolvers.entry) }
 {

@@ -17,7 +17,7 @@ use std::alloc::{AllocError, Global};
 
 /// The answer to a schedule's text for a plan, from a base: the trace of the world to which its
 /// events lead from the new one, with their report; else the first fault of the text
-/// (docs/DEFINITIONS.md, "Answers"). The only error is want of memory.
+/// (docs/ANSWERS.md, "Answers"). The only error is want of memory.
 pub fn answer_schedule(
     alloc: Global,
     explanation: &mut Explanation,
@@ -54,7 +54,7 @@ fn answer_events(
     let bank = Central::new(alloc, plan, base)?;
     let mut world = World::new(alloc, plan, bank, base)?;
     let report = run_steps(&mut world, events);
-    let _named = plan.model().interaction_names();
+    plan.recall();
     let trace = write_trace(alloc, plan.model(), world.trace())?;
     let told = report_text(alloc, &report)?;
     Ok(reported(trace, told))

@@ -13,7 +13,7 @@ use bip_explain::Explanation;
 use std::alloc::Global;
 
 /// Counts what the plan has of the model that the path names, writes the answer, and says with
-/// which status the command ends (docs/DEFINITIONS.md, "The check that is asked for").
+/// which status the command ends (docs/ANSWERS.md, "The check that is asked for").
 pub fn check<I: Inputs, O: Stream, E: Stream>(
     alloc: Global,
     explanation: &mut Explanation,

@@ -16,7 +16,7 @@ use std::alloc::{AllocError, Global};
 
 /// Explores the plan of the model that the path names by so many seeds, with the central bank:
 /// tells progress on standard error where that is asked for, writes the answer, and says with which
-/// status the command ends (docs/DEFINITIONS.md, "The exploring that is asked for").
+/// status the command ends (docs/ANSWERS.md, "The exploring that is asked for").
 pub fn explore<I: Inputs, O: Stream, E: Stream>(
     alloc: Global,
     explanation: &mut Explanation,

@@ -23,7 +23,7 @@ use std::alloc::Global;
 
 /// Replays the trace that the second path names on the model that the first path names, writes the
 /// answer, and says with which status the command ends. The trace is read only where the model's
-/// text is one; where both paths are standard input, that has both texts (docs/DEFINITIONS.md, "The
+/// text is one; where both paths are standard input, that has both texts (docs/ANSWERS.md, "The
 /// replay that is asked for").
 pub fn replay<I: Inputs, O: Stream, E: Stream>(
     alloc: Global,

@@ -24,7 +24,7 @@ use std::alloc::{AllocError, Global};
 /// Runs the events of the schedule that the second path names from the new world of the model that
 /// the first path names, with the central bank: writes the trace, and their report on standard
 /// error, and says with which status the command ends. The schedule is read only where the model
-/// has a plan; where both paths are standard input, that has both texts (docs/DEFINITIONS.md, "The
+/// has a plan; where both paths are standard input, that has both texts (docs/ANSWERS.md, "The
 /// steps that are asked for").
 pub fn steps<I: Inputs, O: Stream, E: Stream>(
     alloc: Global,

@@ -1,8 +1,8 @@
 use Rattle.std.proofs.Common.{◌≡◌, ◌+◌, ◌≤◌, ℕ, List, arith, rules, subst}
 use Rattle.bip_schedule.specs.Exploring.{AreExplored, none_explored, one_explored}
-use Rattle.bipr.specs.Explored.{IsCentralFlight, ends_without_memory, told_until}
+use Rattle.bipr.specs.Explored.{IsAlone, ends_without_memory, told_until}
 use Rattle.bipr.specs.Streams.{PutsEach, none_put}
-use Rattle.bipr.proofs.ExploredLemmas.{explored_said, no_run_said, told_lacking, told_more}
+use Rattle.bipr.proofs.ExploredLemmas.{explored_said, told_lacking, told_more}
 use Rattle.bipr.proofs.StreamLemmas.{puts_each_append}
 use Rattle.bipr.proofs.explored.answer_explore.Goals as goal
 
@@ -26,10 +26,7 @@ returns-in_err-seed_verdict-in-Err-NotARun g c =
     (_, so.2, told_lacking c.from_residual.result _ _ (search rules) (ends_without_memory c.loop-done.done so.0 few so.1))
 
 pub returns-in-Err-NotARun : goal.returns-in-Err-NotARun
-returns-in-Err-NotARun g c =
-    let so = c.loop-done.invariant in
-    let few : c.loop-done.done + 1 ≤ c.args.asked.now.seeds = omega (arith, c.loop-done-test.true) in
-    (_, so.2, no_run_said c.args.plan.now c.args.asked.now c.loop-done.done so.0 c.in-Err-NotARun.seed c.in-Err-NotARun.fault _ _ few so.1 (rw c.in-Err-NotARun.field-0-is at c.in-Err-NotARun.ensures.fault) c.said.ensures (let spelled = c.in_ok-seed_verdict-in-Err-NotARun.ensures in let seed = c.in-Err-NotARun.seed-is in cc))
+returns-in-Err-NotARun g c = absurd (let never = rw c.in-Err-NotARun.field-0-is at c.in-Err-NotARun.ensures.fault in cc)
 
 pub returns-in-Err-Memory : goal.returns-in-Err-Memory
 returns-in-Err-Memory g c =
@@ -59,5 +56,5 @@ returns g c =
     let all : c.loop-done.done ≡ c.args.asked.now.seeds = omega (arith, c.loop-done-test.false) in (
       told_until c.args.asked.now c.args.asked.now.seeds,
       subst (λ (n : ℕ). PutsEach writes c.args.errors.now (told_until c.args.asked.now n) c.loop-done.errors) all so.2,
-      explored_said c.args.plan.now c.args.asked.now so.0 c.said-2.result _ (subst (λ (n : ℕ). AreExplored IsCentralFlight c.args.plan.now 0 c.args.asked.now.events n so.0) all so.1) c.said-2.ensures c.in_ok-seeds_text.ensures,
+      explored_said c.args.plan.now c.args.asked.now so.0 c.said-2.result _ (subst (λ (n : ℕ). AreExplored IsAlone c.args.plan.now 0 c.args.asked.now.events n so.0) all so.1) c.said-2.ensures c.in_ok-seeds_text.ensures,
     )

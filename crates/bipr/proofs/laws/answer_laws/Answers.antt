@@ -1,6 +1,7 @@
 use Rattle.bipr.proofs.MarkLemmas.{are_parts}
 use Rattle.bipr.proofs.OneAnswerLemmas.{AreExact, has_one_answer}
 use Rattle.bipr.proofs.OneCheckLemmas.{has_one_check}
+use Rattle.bipr.proofs.ScheduledLemmas.{steps_replay}
 use Rattle.bipr.proofs.SomeAnswerLemmas.{some_answer}
 use Rattle.bipr.proofs.laws.answer_laws.Goals as goal
 
@@ -12,4 +13,5 @@ returns c =
       some = some_answer c.meaning_laws.ensures.some c.meaning_laws.ensures.valid c.meaning_laws.ensures.whys c.fault_laws.ensures.answered;
       one = has_one_answer exact;
       one_check = has_one_check exact;
+      replays = steps_replay;
     }
