@@ -1,0 +1,10 @@
+pub mod FieldLemmas
+pub mod EntryLemmas
+pub mod ReadingLemmas
+pub mod PassLemmas
+pub mod LentLemmas
+pub mod WritingLemmas
+pub mod FaultLemmas
+pub mod CutLemmas
+pub mod LawLemmas
+pub mod LengthLemmas
