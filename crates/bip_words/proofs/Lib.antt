@@ -1,0 +1,13 @@
+pub mod ClaimLemmas
+pub mod ClosingLemmas
+pub mod FlightLemmas
+pub mod LawLemmas
+pub mod LogLemmas
+pub mod OpeningLemmas
+pub mod OwedLemmas
+pub mod Passes
+pub mod ReservingLemmas
+pub mod RowLemmas
+pub mod RuleLemmas
+pub mod StepLemmas
+pub mod Totals
