@@ -1,0 +1,196 @@
+-- A ring: what serving a station and letting the token go leave of its content.
+use Rattle.std.proofs.Common.{◌≡◌, ℕ, ◌<◌, length, List, slice_get, Some, Result}
+use Rattle.std.proofs.Common.{Ok, Err, refl, ap, ◌∙◌}
+use Rattle.std.specs.Prelude.{IfErr, IfOk, OnErr}
+use Rattle.std.specs.declared.alloc.AllocError.{AllocError}
+use Rattle.bip_model.specs.Numbering.{put}
+use Rattle.bip_model.specs.declared.messages.Request.{Request}
+use Rattle.bip_model.specs.declared.numbering.InterId.{InterId}
+use Rattle.bip_partition.specs.Plans.{AreStations, Planned}
+use Rattle.bip_table.specs.Reservations.{KeptRows}
+use Rattle.bip_bank.specs.Decisions.Decision.TheVariants.{Granted, Refused}
+use Rattle.bip_bank.specs.Decisions.Decision.{Decision}
+use Rattle.bip_bank.proofs.CentralLemmas.{serves, served_steps}
+use Rattle.bip_bank.proofs.CentralLemmas.{with_parts}
+use Rattle.bip_bank.specs.Banks.{BankContent, CanDecide, DoesStep, HasNextSerial, IsActed}
+use Rattle.bip_bank.specs.Banks.{WantsMemory, asked_nothing, content_of, with_decision}
+use Rattle.bip_bank.specs.Banks.{with_request}
+use Rattle.bip_bank.specs.Central.{IsFirstDecided, KeptCentral, kept_central}
+use Rattle.bip_bank.specs.Sharing.{Sharing, TakesToken, TokenPlace, alone, ring, token_at}
+use Rattle.bip_bank.specs.declared.banks.Acted.TheVariants.{Answered, Moved, Nothing}
+use Rattle.bip_bank.specs.declared.banks.Acted.{Acted}
+use Rattle.bip_bank.specs.declared.banks.BankStep.TheVariants.{Ask, Deliver, Pass, Serve}
+use Rattle.bip_bank.specs.declared.banks.BankStep.{BankStep}
+use Rattle.bip_bank.specs.declared.banks.StationId.{StationId}
+use Rattle.bip_ring.specs.Rings.{IsNewRing, IsRing, KeptRing, kept_ring, token_place}
+use Rattle.bip_ring.specs.declared.places.Place.{Place}
+
+abbrev pub shared_with : Sharing → BankContent → BankContent
+shared_with x b = record b { sharing = x }
+
+with_shared : (x : Sharing) (b : BankContent) (q : Request) (d : Decision) (open' : ℕ → List
+    Request) (y : Sharing)
+    → shared_with x (record (with_decision q d b) { waiting = open'; sharing = y }) ≡ record
+    (with_decision q d (shared_with x b)) { waiting = open'; sharing = x }
+with_shared x b q (Granted n) open' y = refl
+with_shared x b q (Refused c n) open' y = refl
+
+-- what a bank did, by what its stations share now, where that stays
+pub acted_shared : (n : ℕ) (p : TokenPlace) (b later : BankContent) (did : Acted) → IsActed did b
+    later → IsActed did (shared_with (ring n p) b) (shared_with (ring n p) later)
+acted_shared n p b later Nothing is = ap (shared_with (ring n p)) is
+acted_shared n p b later Moved is = ap (shared_with (ring n p)) is
+acted_shared n p b later (Answered q d) is = record {
+  rest = is.rest;
+  oldest = is.oldest;
+  decision = is.decision;
+  left = is.left;
+  sharing = refl;
+  after = ap (shared_with (ring n p)) is.after ∙ with_shared (ring n p) b q d (put b.waiting
+      q.inter.0 is.rest) later.sharing;
+}
+
+-- a ring after its table and open requests changed
+abbrev pub with_desk : KeptRing → KeptRows → List (List Request) → KeptRing
+with_desk r t waiting = record r { desk = with_parts r.desk t waiting }
+
+-- what serving a station that has the token leaves
+pub record Serves (r : KeptRing) (s : StationId) (later : KeptRing) (result : Result Acted
+    AllocError) : Type 0 where
+  pub valid : IsRing later
+  pub does : IfOk result (λ did. DoesStep (content_of (kept_ring r)) (Serve s) did (content_of
+      (kept_ring later)))
+  pub acted : IfOk result (λ did. IsActed did (content_of (kept_ring r)) (content_of (kept_ring
+      later)))
+  pub serial : IfOk result (HasNextSerial (content_of (kept_ring r)))
+  pub same : OnErr result (later ≡ r)
+
+can_of_ring : (r : KeptRing) (s : ℕ) → CanDecide (content_of (kept_ring r)) s → CanDecide
+    (content_of (kept_central r.desk)) s
+can_of_ring r s can = record {
+  complete = tt;
+  oldest = record {
+    number = can.oldest.number;
+    request = can.oldest.request;
+    rest =
+        can.oldest.rest;
+    station = can.oldest.station;
+    first = can.oldest.first;
+  };
+  left = can.left;
+}
+
+ring_does : (r later : KeptRing) (s : StationId) (did : Acted) → token_place r.place ≡ token_at s.0
+    → DoesStep (content_of (kept_central r.desk)) (Serve s) did (content_of (kept_central
+    later.desk)) → DoesStep (content_of (kept_ring r)) (Serve s) did (content_of (kept_ring later))
+ring_does r later s Nothing at is = λ can. is (can_of_ring r s.0 can)
+ring_does r later s Moved at is = absurd is
+ring_does r later s (Answered q d) at is = (at, is.1)
+
+-- its grants are those of its desk
+ring_serial : (r : KeptRing) (did : Acted) → HasNextSerial (content_of (kept_central r.desk)) did →
+    HasNextSerial (content_of (kept_ring r)) did
+ring_serial r Nothing is = tt
+ring_serial r Moved is = tt
+ring_serial r (Answered q (Granted n)) is = is
+ring_serial r (Answered q (Refused c n)) is = tt
+
+-- what memory a station that has the token wants
+pub ring_starves : (r : KeptRing) (s : StationId) (result : Result Acted AllocError) → token_place
+    r.place ≡ token_at s.0 → IfErr result (λ e. WantsMemory (content_of (kept_central r.desk))
+    (Serve s)) → IfErr result (λ e. WantsMemory (content_of (kept_ring r)) (Serve s))
+ring_starves r s (Ok did) at wants = tt
+ring_starves r s (Err e) at (can, fresh) = (
+  record {
+    complete = at;
+    oldest = record {
+      number = can.oldest.number;
+      request = can.oldest.request;
+      rest =
+          can.oldest.rest;
+      station = can.oldest.station;
+      first = can.oldest.first;
+    };
+    left = can.left;
+  },
+  fresh,
+)
+
+pub serves_ring : (r : KeptRing) (s : StationId) (stations : List InterId) (a : InterId) (t :
+    KeptRows) (waiting : List (List Request)) (result : Result Acted AllocError) → IsRing r →
+    token_place r.place ≡ token_at s.0
+    → AreStations r.desk.plan stations → slice_get stations s.0 ≡ Some a → a.0 < length
+    r.desk.waiting → IfOk result (IsFirstDecided a.0 r.desk.table r.desk.waiting t waiting) →
+    OnErr result (t ≡ r.desk.table) → OnErr result (waiting ≡ r.desk.waiting)
+    → Serves r s (with_desk r t waiting) result
+serves_ring r s stations a t waiting (Ok did) is at listed here within decided table queues =
+    let all = serves r.desk a.0 t waiting did is.desk within decided in
+    record {
+      valid = record {
+        desk = all.valid;
+        stations = is.stations;
+        listed = is.listed;
+        counted =
+            is.counted;
+      };
+      does = ring_does r (with_desk r t waiting) s did at (served_steps r.desk s stations a t
+          waiting (Ok did) (content_of (kept_central (with_parts r.desk t waiting))) is.desk listed
+          here decided).0;
+      acted = acted_shared r.count (token_place r.place) (content_of (kept_central r.desk))
+          (content_of (kept_central (with_parts r.desk t waiting))) did all.content;
+      serial = ring_serial r did (served_steps r.desk s stations a t waiting (Ok did) (content_of
+          (kept_central r.desk)) is.desk listed here decided).1;
+      same = tt;
+    }
+serves_ring r s stations a t waiting (Err e) is at listed here within decided table queues =
+    rw (table, queues) (record { valid = is; does = tt; acted = tt; serial = tt; same = refl })
+
+-- a station without the token, and one that there isn't, can't decide
+pub without_token : (r : KeptRing) (s : ℕ) → (token_place r.place ≡ token_at s → ⊥) → CanDecide
+    (content_of (kept_ring r)) s → ⊥
+without_token r s away can = away can.complete
+
+pub no_such_station : (r : KeptRing) (s : ℕ) (stations : List InterId) → (CanDecide (content_of
+    (kept_central r.desk)) s → ⊥) → CanDecide (content_of (kept_ring r)) s → ⊥
+no_such_station r s stations not can = not (can_of_ring r s can)
+
+-- what letting the token go leaves
+pub let_go_does : (r : KeptRing) (step : BankStep) (to : Place) → ((s : StationId) → step ≡ Serve s
+    → ⊥) → TakesToken r.count (token_place r.place) step (token_place to) → DoesStep (content_of
+    (kept_ring r)) step Moved (content_of (kept_ring (record r { place = to })))
+let_go_does r (Serve s) to other takes = absurd (other s refl)
+let_go_does r (Deliver k) to other takes = (token_place to, takes, refl)
+let_go_does r (Pass s t) to other takes = (token_place to, takes, refl)
+let_go_does r (Ask s t) to other takes = (token_place to, takes, refl)
+
+pub stays_does : (r : KeptRing) (step : BankStep) → ((s : StationId) → step ≡ Serve s → ⊥) → ((to :
+    TokenPlace) → TakesToken r.count (token_place r.place) step to → ⊥) → DoesStep (content_of
+    (kept_ring r)) step Nothing (content_of (kept_ring r))
+stays_does r (Serve s) other none = absurd (other s refl)
+stays_does r (Deliver k) other none = none
+stays_does r (Pass s t) other none = none
+stays_does r (Ask s t) other none = none
+
+-- what a submission leaves
+pub submits_ring : (r : KeptRing) (q : Request) (later : List (List Request)) → content_of
+    (kept_central (with_parts r.desk r.desk.table later)) ≡ with_request q (content_of (kept_central
+    r.desk))
+    → content_of (kept_ring (with_desk r r.desk.table later)) ≡ with_request q (content_of
+    (kept_ring r))
+submits_ring r q later is = ap (shared_with (ring r.count (token_place r.place))) is
+
+-- a new ring
+pub first_ring : (p : Planned) (base : ℕ) (c : KeptCentral) (stations : List InterId) (place :
+    Place) → token_place place ≡ token_at 0 → AreStations p stations → content_of (kept_central c) ≡
+    asked_nothing p base alone
+    → IsNewRing p base (content_of (kept_ring (record {
+      desk = c;
+      place = place;
+      count = length
+          stations;
+    })))
+first_ring p base c stations place at listed is = record {
+  stations = stations;
+  listed = listed;
+  content = rw (← at) (ap (shared_with (ring (length stations) (token_place place))) is);
+}

@@ -1,0 +1,79 @@
+//! Where a ring's token is, and where steps take it.
+ghost use Rattle.std.specs.Prelude.{◌≡◌, ◌↔◌, IfNone, IfSome, IsTrue};
+ghost use Rattle.bip_bank.specs.Sharing.{IsNextStation, TakesToken, TokenPlace, token_at};
+ghost use Rattle.bip_bank.specs.declared.banks.BankStep.TheVariants.{Pass};
+ghost use Rattle.bip_ring.specs.Rings.{arrival_of, token_place};
+
+use bip_bank::{BankStep, StationId};
+
+/// Where a token is: at a station, or in flight to one.
+#[derive(Clone, Copy, Debug, PartialEq, Eq)]
+pub enum Place {
+    At(StationId),
+    To(StationId),
+}
+
+/// Whether a station has the token.
+pub(crate) fn is_at(place: Place, station: StationId) -> bool
+    ensures { IsTrue result ↔ (token_place place ≡ token_at station.0) }
+{
+    match place {
+        Place::At(at) => at.0 == station.0,
+        Place::To(_) => false,
+    }
+}
+
+/// Whether a station is the next one after a station of a ring of so many.
+fn is_next(count: usize, station: StationId, next: StationId) -> bool
+    ensures { IsTrue result ↔ IsNextStation count station.0 next.0 }
+{
+    let (station, next) = (station.0 as usize, next.0 as usize);
+    if station >= count {
+        return false;
+    }
+    if station + 1 < count {
+        next == station + 1
+    } else {
+        next == 0
+    }
+}
+
+/// Where a step takes the token of a ring of so many stations, if it takes it anywhere.
+pub(crate) fn moved(place: Place, count: usize, step: BankStep) -> Option<Place>
+    ensures some { IfSome result (λ to.
+        TakesToken count (token_place place) step (token_place to)) }
+    ensures none { IfNone result ((to : TokenPlace)
+        → ¬ TakesToken count (token_place place) step to) }
+{
+    match step {
+        BankStep::Pass(from, to) => handed_on(place, count, from, to),
+        BankStep::Deliver(0) => arrived(place),
+        _ => None,
+    }
+}
+
+/// Where a station hands the token on to.
+fn handed_on(place: Place, count: usize, from: StationId, to: StationId) -> Option<Place>
+    ensures some { IfSome result (λ later.
+        TakesToken count (token_place place) (Pass from to) (token_place later)) }
+    ensures none { IfNone result ((later : TokenPlace)
+        → ¬ TakesToken count (token_place place) (Pass from to) later) }
+{
+    if !is_at(place, from) {
+        return None;
+    }
+    if !is_next(count, from, to) {
+        return None;
+    }
+    Some(Place::To(to))
+}
+
+/// Where a token that is in flight arrives.
+fn arrived(place: Place) -> Option<Place>
+    ensures { result ≡ arrival_of place }
+{
+    match place {
+        Place::At(_) => None,
+        Place::To(to) => Some(Place::At(to)),
+    }
+}

@@ -1,0 +1,190 @@
+//! The ring: a bank whose table travels in a token.
+ghost use Rattle.std.specs.Prelude.{◌≡◌, ◌<◌, [], IfErr, IfOk, OnErr, OnOk, length, slice_index_or};
+ghost use Rattle.bip_model.specs.Numbering.{last_number};
+ghost use Rattle.bip_bank.specs.Banks.{CanWantMemory, DoesStep, HasNextSerial, IsActed};
+ghost use Rattle.bip_bank.specs.Banks.{WantsMemory, content_of, with_request};
+ghost use Rattle.bip_bank.specs.Central.{CannotKeep, IsFirstDecided};
+ghost use Rattle.bip_bank.specs.declared.banks.BankStep.TheVariants.{Serve};
+ghost use Rattle.bip_ring.specs.Rings.{IsNewRing, kept_ring};
+
+use crate::places::{is_at, moved};
+use crate::{Place, Token};
+use bip_bank::{Acted, Bank, BankStep, Queue, StationId, interaction_at, no_requests, put_last};
+use bip_model::{Grant, Number, Request};
+use bip_partition::Plan;
+use bip_table::TableFault;
+use std::alloc::{AllocError, Global};
+use std::marker;
+
+/// The token ring: the table travels in a token from each station to the next one, and the station
+/// that has it decides (docs/PROTOCOL.md, "The token ring"). Contracts see what is kept.
+#[derive(Drop)]
+pub struct Ring<'p> {
+    plan: &'p Plan,
+    base: Number,
+    token: Token,
+    place: Place,
+    count: usize,
+    waiting: Vec<Queue<Request>>,
+}
+
+impl<'p> marker::Model for Ring<'p> {
+    ghost use Rattle.bip_ring.specs.Rings.{IsRing, KeptRing};
+
+    ghost Value = { KeptRing };
+
+    ghost view = { λ r. record {
+      desk = record {
+        plan = r.plan.now;
+        base = r.base;
+        table = r.token.table;
+        waiting = r.waiting.items;
+      };
+      place = r.place;
+      count = r.count;
+    } };
+
+    ghost invariant = { λ r. IsRing (record {
+      desk = record {
+        plan = r.plan.now;
+        base = r.base;
+        table = r.token.table;
+        waiting = r.waiting.items;
+      };
+      place = r.place;
+      count = r.count;
+    }) };
+}
+
+impl<'p> Ring<'p> {
+    /// The ring of a plan, which was asked nothing yet: the token is at the first station, and all
+    /// used numbers are the base.
+    pub fn new(alloc: Global, plan: &'p Plan, base: Number) -> Result<Ring<'p>, AllocError>
+        requires { base < last_number }
+        ensures { IfOk result (λ bank. IsNewRing plan.now base (content_of (kept_ring bank))) }
+    {
+        let token = Token::new(alloc, plan, base)?;
+        let waiting = no_requests(alloc, plan.model().interactions().len())?;
+        Ok(Ring {
+            plan,
+            base,
+            token,
+            place: Place::At(StationId(0)),
+            count: plan.stations().len(),
+            waiting,
+        })
+    }
+
+    /// Decides on the oldest open request of a station that has the token, if it has one.
+    fn serve(&mut self, station: StationId) -> Result<Acted, AllocError>
+        ensures does { IfOk result (λ acted. DoesStep (content_of (kept_ring self.old))
+            (Serve station) acted (content_of (kept_ring self.new))) }
+        ensures acted { IfOk result (λ acted. IsActed acted (content_of (kept_ring self.old))
+            (content_of (kept_ring self.new))) }
+        ensures serial { IfOk result (HasNextSerial (content_of (kept_ring self.old))) }
+        ensures wants { IfErr result (λ e. WantsMemory (content_of (kept_ring self.old))
+            (Serve station)) }
+        ensures err { OnErr result (self.new ≡ self.old) }
+    {
+        self.plan.recall();
+        if !is_at(self.place, station) {
+            return Ok(Acted::Nothing);
+        }
+        match interaction_at(self.plan.stations(), station) {
+            Some(inter) => decide_first(&mut self.token, &mut self.waiting, inter.0 as usize),
+            None => Ok(Acted::Nothing),
+        }
+    }
+
+    /// Lets the token go where a step takes it, if it takes it anywhere.
+    fn let_go(&mut self, step: BankStep) -> Acted
+        requires { (s : StationId) → ¬ (step ≡ Serve s) }
+        ensures does { DoesStep (content_of (kept_ring self.old)) step result
+            (content_of (kept_ring self.new)) }
+        ensures acted { IsActed result (content_of (kept_ring self.old))
+            (content_of (kept_ring self.new)) }
+        ensures serial { HasNextSerial (content_of (kept_ring self.old)) result }
+    {
+        match moved(self.place, self.count, step) {
+            Some(place) => {
+                self.place = place;
+                Acted::Moved
+            }
+            None => Acted::Nothing,
+        }
+    }
+}
+
+impl<'p> Bank for Ring<'p> {
+    ghost use Rattle.bip_partition.specs.Plans.{IsFit};
+    ghost use Rattle.bip_ring.specs.Rings.{kept_ring};
+
+    ghost kept = { kept_ring };
+
+    fn submit(&mut self, request: Request) -> Result<(), (Request, AllocError)> {
+        self.plan.recall();
+        if let Err(request) = put_last(&mut self.waiting, request.inter.0 as usize, request) {
+            return Err((request, AllocError));
+        }
+        Ok(())
+    }
+
+    /// Does a step, as any bank does. A grant's serial is the number of the grants before it, and
+    /// memory is wanted only in place of a grant.
+    fn act(&mut self, step: BankStep) -> Result<Acted, AllocError>
+        ensures does { IfOk result (λ acted. DoesStep (content_of (kept_ring self.old)) step acted
+            (content_of (kept_ring self.new))) }
+        ensures acted { IfOk result (λ acted. IsActed acted (content_of (kept_ring self.old))
+            (content_of (kept_ring self.new))) }
+        ensures serial { IfOk result (HasNextSerial (content_of (kept_ring self.old))) }
+        ensures wants { IfErr result (λ e. WantsMemory (content_of (kept_ring self.old)) step) }
+        ensures memory { IfErr result (λ e. CanWantMemory (content_of (kept_ring self.old)) step) }
+        ensures err { OnErr result (content_of (kept_ring self.new)
+            ≡ content_of (kept_ring self.old)) }
+    {
+        match step {
+            BankStep::Serve(station) => self.serve(station),
+            _ => Ok(self.let_go(step)),
+        }
+    }
+
+    fn grants(&self) -> &[Grant] {
+        self.token.grants()
+    }
+
+    fn in_flight(&self) -> usize {
+        match self.place {
+            Place::At(_) => 0,
+            Place::To(_) => 1,
+        }
+    }
+}
+
+/// Decides on the first request in one of the queues by the token, and takes it off then.
+fn decide_first(
+    token: &mut Token,
+    queues: &mut Vec<Queue<Request>>,
+    place: usize,
+) -> Result<Acted, AllocError>
+    requires { place < length queues.old.items }
+    ensures decided { IfOk result (IsFirstDecided place token.old.table queues.old.items
+        token.new.table queues.new.items) }
+    ensures memory { IfErr result (λ e. CannotKeep token.old.table
+        (slice_index_or queues.old.items place [])) }
+    ensures table { OnErr result (token.new.table ≡ token.old.table) }
+    ensures queues { OnErr result (queues.new.items ≡ queues.old.items) }
+{
+    let Some(request) = queues[place].first() else {
+        return Ok(Acted::Nothing);
+    };
+    let decision = match token.decide(request) {
+        Ok(decision) => decision,
+        Err(TableFault::Memory) => return Err(AllocError),
+        Err(TableFault::Ended) => return Ok(Acted::Nothing),
+        Err(TableFault::UnknownRow(_)) => return Ok(Acted::Nothing),
+    };
+    match queues[place].take_first() {
+        Some(request) => Ok(Acted::Answered { request, decision }),
+        None => unreachable!(),
+    }
+}
