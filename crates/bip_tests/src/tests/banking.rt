@@ -1,9 +1,10 @@
 ghost use Rattle.std.specs.Prelude.{◌≡◌};
 ghost use Rattle.bip_bank.specs.Banks.{content_of};
 
-use self::Step::{Serves, Shows, Submits, Tries};
+use self::Step::{Delivers, Serves, Shows, Submits, Tries};
 use super::over_plan;
 use super::tabling::{Wanted, request};
+use crate::Second;
 use bip_bank::{Acted, Bank, BankStep, Central, StationId};
 use bip_model::{CompId, Request};
 use bip_partition::Plan;
@@ -18,10 +19,12 @@ const COMPETE: &str = "bip 1\n\
     component R\nloc free\nloc taken\nport g\ntrans g free taken\nend\n\
     interaction x A.s R.g\ninteraction y B.s R.g\nclass P x\nclass Q y\n";
 
-/// What x wants, and y, each first move.
+/// What x wants, and y, each first move; and what x wants behind that.
 const X: ((u16, u16), &[Wanted]) = ((0, 0), &[(0, 1, true), (2, 1, true)]);
 
 const Y: ((u16, u16), &[Wanted]) = ((1, 1), &[(1, 1, true), (2, 1, true)]);
+
+const NEXT_X: ((u16, u16), &[Wanted]) = ((0, 0), &[(0, 2, true), (2, 2, true)]);
 
 /// What is asked of a bank, and what it says.
 #[derive(Drop)]
@@ -30,6 +33,8 @@ enum Step {
     Submits(((u16, u16), &'static [Wanted])),
     /// The station is served: of which interaction a request is answered, and how.
     Serves(u16, Option<(u16, Decision)>),
+    /// The request at this place, of those on their way, is handed on.
+    Delivers(usize),
     /// A step that doesn't apply.
     Tries(BankStep),
     /// So many grants were given.
@@ -77,6 +82,10 @@ fn take_step<B: Bank>(rt: &impl Abort, alloc: Global, plan: &Plan, bank: &mut B,
             let did = acts(rt, plan, bank, BankStep::Serve(StationId(*station)));
             assert!(rt; is_answer(&did, answer));
         }
+        Step::Delivers(place) => {
+            let did = acts(rt, plan, bank, BankStep::Deliver(*place));
+            assert!(rt; matches!(did, Acted::Moved));
+        }
         Step::Tries(step) => {
             let did = acts(rt, plan, bank, *step);
             assert!(rt; is_answer(&did, &None));
@@ -95,6 +104,12 @@ fn take_steps<B: Bank>(rt: &impl Abort, alloc: Global, plan: &Plan, bank: &mut B
 
 fn central_takes(rt: &impl Abort, alloc: Global, plan: &Plan, steps: &[Step]) {
     let mut bank = Central::new(alloc, plan, 0).expect(rt, "memory");
+    take_steps(rt, alloc, plan, &mut bank, steps);
+    assert!(rt; bank.in_flight() == 0);
+}
+
+fn second_takes(rt: &impl Abort, alloc: Global, plan: &Plan, steps: &[Step]) {
+    let mut bank = Second::new(alloc, plan, 0).expect(rt, "memory");
     take_steps(rt, alloc, plan, &mut bank, steps);
     assert!(rt; bank.in_flight() == 0);
 }
@@ -128,7 +143,7 @@ fn the_first_that_is_served_is_granted(rt: HostRuntime) {
 fn the_oldest_is_served_first_and_other_steps_never_apply(rt: HostRuntime) {
     const STEPS: &[Step] = &[
         Submits(X),
-        Submits(((0, 0), &[(0, 2, true), (2, 2, true)])),
+        Submits(NEXT_X),
         Tries(BankStep::Deliver(0)),
         Tries(BankStep::Pass(StationId(0), StationId(1))),
         Tries(BankStep::Ask(StationId(0), StationId(1))),
@@ -137,4 +152,23 @@ fn the_oldest_is_served_first_and_other_steps_never_apply(rt: HostRuntime) {
         Shows(2),
     ];
     over_plan(&rt, rt.alloc(), COMPETE, STEPS, central_takes);
+}
+
+#[test]
+fn a_second_bank_serves_what_was_handed_on(rt: HostRuntime) {
+    const STEPS: &[Step] = &[
+        Submits(X),
+        Submits(NEXT_X),
+        Serves(0, None),
+        Tries(BankStep::Deliver(2)),
+        Delivers(1),
+        Tries(BankStep::Deliver(0)),
+        Serves(1, None),
+        Serves(0, Some((0, Decision::Granted(0)))),
+        Serves(0, None),
+        Delivers(0),
+        Serves(0, Some((0, Decision::Granted(1)))),
+        Shows(2),
+    ];
+    over_plan(&rt, rt.alloc(), COMPETE, STEPS, second_takes);
 }

@@ -1,5 +1,6 @@
 use bip_bank::bank_laws;
 use bip_component::component_laws;
+use bip_frame::frame_laws;
 use bip_ip::{node_laws, notify_laws};
 use bip_model::{
     builder_laws, expression_laws, history_laws, partition_laws, priority_laws, step_laws,
@@ -9,6 +10,7 @@ use bip_partition::plan_laws;
 use bip_reader::meaning_laws;
 use bip_replay::{fault_laws, run_laws, trace_laws};
 use bip_table::table_laws;
+use bip_words::word_laws;
 
 #[test]
 fn laws_can_be_called(_rt: HostRuntime) {
@@ -26,8 +28,10 @@ fn laws_can_be_called(_rt: HostRuntime) {
     run_laws();
     trace_laws();
     table_laws();
+    word_laws();
     bank_laws();
     component_laws();
     notify_laws();
     node_laws();
+    frame_laws();
 }

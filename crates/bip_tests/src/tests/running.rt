@@ -1,16 +1,21 @@
+ghost use Rattle.bip_bank.specs.Banks.{content_of};
+ghost use Rattle.bip_core.specs.Starting.{IsUnasked};
+
 use self::Said::{
     Below, Drops, Foreign, Grants, Hears, Local, Moves, NotReady, Nothing, Refuses, Sent, Spends,
     Submits, Tells,
 };
 use super::worked::{COMPETE, COMPETE_TWICE};
 use super::{grants, over_plan};
-use bip_bank::{Acted, BankStep, Central, StationId};
+use crate::Second;
+use bip_bank::{Acted, Bank, BankStep, Central, StationId};
 use bip_component::Notified;
 use bip_core::{Did, Event, Report, What, World, run_steps};
 use bip_ip::{Answered, Tried};
 use bip_model::{ClassId, CompId, Grant, InterId, Number};
 use bip_observe::{Receipt, Verdict};
 use bip_partition::Plan;
+use bip_ring::Ring;
 use bip_table::Decision;
 use std::alloc::Global;
 use std::process::Abort;
@@ -22,6 +27,14 @@ const ALONE: &str = "bip 1\n\
 
 const OLDEST: Event = Event::Mail(0);
 
+const SECOND: Event = Event::Mail(1);
+
+const THIRD: Event = Event::Mail(2);
+
+const FOURTH: Event = Event::Mail(3);
+
+const FIFTH: Event = Event::Mail(4);
+
 const TRY_X: Event = Event::Try(ClassId(0), InterId(0));
 
 const TRY_Y: Event = Event::Try(ClassId(1), InterId(1));
@@ -29,6 +42,14 @@ const TRY_Y: Event = Event::Try(ClassId(1), InterId(1));
 const SERVE_X: Event = Event::Bank(BankStep::Serve(StationId(0)));
 
 const SERVE_Y: Event = Event::Bank(BankStep::Serve(StationId(1)));
+
+const PASS_X_Y: Event = Event::Bank(BankStep::Pass(StationId(0), StationId(1)));
+
+const PASS_Y_X: Event = Event::Bank(BankStep::Pass(StationId(1), StationId(0)));
+
+const DELIVER: Event = Event::Bank(BankStep::Deliver(0));
+
+const DELIVER_1: Event = Event::Bank(BankStep::Deliver(1));
 
 /// What an event did, as far as it is told.
 #[derive(Clone, Copy, Drop)]
@@ -55,6 +76,16 @@ struct Run {
     base: Number,
     events: &'static [Event],
     report: Report,
+    trace: &'static str,
+}
+
+/// The grants of a new world above 0, over the central bank, over one that serves only what was
+/// delivered before, and over a token ring: for each the events, and what they come to.
+#[derive(Drop)]
+struct Alike {
+    central: (&'static [Event], Report),
+    second: (&'static [Event], Report),
+    ring: (&'static [Event], Report),
     trace: &'static str,
 }
 
@@ -97,6 +128,38 @@ fn runs(rt: &impl Abort, alloc: Global, plan: &Plan, run: &Run) {
     assert!(rt; run_steps(&mut world, run.events) == run.report);
     let expected = grants(rt, alloc, plan.model(), run.trace);
     assert!(rt; are_grants(world.trace(), expected.as_slice()));
+}
+
+/// Events of a new world over any bank, what they come to, and the grants.
+fn lead<B: Bank + Drop>(
+    rt: &impl Abort,
+    alloc: Global,
+    plan: &Plan,
+    bank: B,
+    run: (&[Event], Report),
+    trace: &str,
+)
+    requires { IsUnasked plan.now 0 (content_of (B.kept bank)) }
+{
+    let mut world = World::new(alloc, plan, bank, 0).expect(rt, "memory");
+    assert!(rt; run_steps(&mut world, run.0) == run.1);
+    let expected = grants(rt, alloc, plan.model(), trace);
+    assert!(rt; are_grants(world.trace(), expected.as_slice()));
+}
+
+fn run_alike(rt: &impl Abort, alloc: Global, plan: &Plan, runs: &Alike) {
+    let central = Central::new(alloc, plan, 0).expect(rt, "memory");
+    lead(rt, alloc, plan, central, runs.central, runs.trace);
+    let second = Second::new(alloc, plan, 0).expect(rt, "memory");
+    lead(rt, alloc, plan, second, runs.second, runs.trace);
+    let ring = Ring::new(alloc, plan, 0).expect(rt, "memory");
+    lead(rt, alloc, plan, ring, runs.ring, runs.trace);
+}
+
+/// Events of a new world above 0 over a token ring.
+fn run_ring(rt: &impl Abort, alloc: Global, plan: &Plan, run: &Run) {
+    let ring = Ring::new(alloc, plan, 0).expect(rt, "memory");
+    lead(rt, alloc, plan, ring, (run.events, run.report), run.trace);
 }
 
 /// Whether a class that tried an interaction said so.
@@ -173,59 +236,130 @@ fn says(
 
 #[test]
 fn the_first_that_is_served_is_granted(rt: HostRuntime) {
-    let run = Run {
-        base: 0,
-        events: &[
-            OLDEST, OLDEST, OLDEST, OLDEST, TRY_X, TRY_Y, OLDEST, OLDEST, SERVE_X, SERVE_Y,
-        ],
-        report: report(10, 1, 1, 0),
+    let runs = Alike {
+        central: (
+            &[
+                OLDEST, OLDEST, OLDEST, OLDEST, TRY_X, TRY_Y, OLDEST, OLDEST, SERVE_X, SERVE_Y,
+            ],
+            report(10, 1, 1, 0),
+        ),
+        second: (
+            &[
+                OLDEST, OLDEST, OLDEST, OLDEST, TRY_X, TRY_Y, OLDEST, OLDEST, SERVE_X, DELIVER,
+                SERVE_X, DELIVER, SERVE_Y,
+            ],
+            report(13, 1, 1, 1),
+        ),
+        ring: (
+            &[
+                OLDEST, OLDEST, OLDEST, OLDEST, TRY_X, TRY_Y, OLDEST, OLDEST, SERVE_X, PASS_X_Y,
+                DELIVER, SERVE_Y,
+            ],
+            report(12, 1, 1, 0),
+        ),
         trace: "grant x A:1 R:1",
     };
-    over_plan(&rt, rt.alloc(), COMPETE, &run, runs);
+    over_plan(&rt, rt.alloc(), COMPETE, &runs, run_alike);
 }
 
 #[test]
 fn the_other_one_is_if_it_is_served_first(rt: HostRuntime) {
-    let run = Run {
-        base: 0,
-        events: &[
-            OLDEST, OLDEST, OLDEST, OLDEST, TRY_X, TRY_Y, OLDEST, OLDEST, SERVE_Y, SERVE_X,
-        ],
-        report: report(10, 1, 1, 0),
+    let runs = Alike {
+        central: (
+            &[
+                OLDEST, OLDEST, OLDEST, OLDEST, TRY_X, TRY_Y, OLDEST, OLDEST, SERVE_Y, SERVE_X,
+            ],
+            report(10, 1, 1, 0),
+        ),
+        second: (
+            &[
+                OLDEST, OLDEST, OLDEST, OLDEST, TRY_X, TRY_Y, OLDEST, OLDEST, DELIVER_1, SERVE_Y,
+                DELIVER, SERVE_X,
+            ],
+            report(12, 1, 1, 0),
+        ),
+        ring: (
+            &[
+                OLDEST, OLDEST, OLDEST, OLDEST, TRY_X, TRY_Y, OLDEST, OLDEST, PASS_X_Y, DELIVER,
+                SERVE_Y, PASS_Y_X, DELIVER, SERVE_X,
+            ],
+            report(14, 1, 1, 0),
+        ),
         trace: "grant y B:1 R:1",
     };
-    over_plan(&rt, rt.alloc(), COMPETE, &run, runs);
+    over_plan(&rt, rt.alloc(), COMPETE, &runs, run_alike);
 }
 
 #[test]
 fn one_below_waits_until_what_is_above_cannot_run(rt: HostRuntime) {
+    let runs = Alike {
+        central: (
+            &[
+                OLDEST, OLDEST, OLDEST, OLDEST, OLDEST, TRY_X, TRY_Y, OLDEST, SERVE_Y, TRY_X,
+                OLDEST, SECOND, SECOND, TRY_X, OLDEST, SECOND, TRY_X, THIRD, SERVE_X,
+            ],
+            report(19, 2, 0, 3),
+        ),
+        second: (
+            &[
+                OLDEST, OLDEST, OLDEST, OLDEST, OLDEST, TRY_X, TRY_Y, OLDEST, DELIVER, SERVE_Y,
+                TRY_X, OLDEST, SECOND, SECOND, TRY_X, OLDEST, SECOND, TRY_X, THIRD, DELIVER,
+                SERVE_X,
+            ],
+            report(21, 2, 0, 3),
+        ),
+        ring: (
+            &[
+                OLDEST, OLDEST, OLDEST, OLDEST, OLDEST, TRY_X, TRY_Y, OLDEST, PASS_X_Y, DELIVER,
+                SERVE_Y, TRY_X, OLDEST, SECOND, SECOND, TRY_X, OLDEST, SECOND, TRY_X, THIRD,
+                PASS_Y_X, DELIVER, SERVE_X,
+            ],
+            report(23, 2, 0, 3),
+        ),
+        trace: "grant y B:1 R:1\ngrant x A:1 R:2 see B:2",
+    };
+    over_plan(&rt, rt.alloc(), COMPETE_TWICE, &runs, run_alike);
+}
+
+#[test]
+fn an_offer_comes_late(rt: HostRuntime) {
+    let runs = Alike {
+        central: (
+            &[
+                THIRD, FOURTH, TRY_Y, FOURTH, SERVE_Y, FOURTH, FIFTH, FIFTH, THIRD,
+            ],
+            report(9, 1, 0, 0),
+        ),
+        second: (
+            &[
+                THIRD, FOURTH, TRY_Y, FOURTH, DELIVER, SERVE_Y, FOURTH, FIFTH, FIFTH, THIRD,
+            ],
+            report(10, 1, 0, 0),
+        ),
+        ring: (
+            &[
+                THIRD, FOURTH, TRY_Y, FOURTH, PASS_X_Y, DELIVER, SERVE_Y, FOURTH, FIFTH, FIFTH,
+                THIRD,
+            ],
+            report(11, 1, 0, 0),
+        ),
+        trace: "grant y B:1 R:1",
+    };
+    over_plan(&rt, rt.alloc(), COMPETE_TWICE, &runs, run_alike);
+}
+
+#[test]
+fn who_has_not_the_token_decides_nothing(rt: HostRuntime) {
     let run = Run {
         base: 0,
         events: &[
-            OLDEST,
-            OLDEST,
-            OLDEST,
-            OLDEST,
-            OLDEST,
-            TRY_X,
-            TRY_Y,
-            OLDEST,
-            SERVE_Y,
-            TRY_X,
-            OLDEST,
-            Event::Mail(1),
-            Event::Mail(1),
-            TRY_X,
-            OLDEST,
-            Event::Mail(1),
-            TRY_X,
-            Event::Mail(2),
-            SERVE_X,
+            OLDEST, OLDEST, OLDEST, OLDEST, TRY_X, TRY_Y, OLDEST, OLDEST, SERVE_Y, PASS_X_Y,
+            SERVE_X, DELIVER, SERVE_Y, PASS_Y_X, DELIVER, SERVE_X,
         ],
-        report: report(19, 2, 0, 3),
-        trace: "grant y B:1 R:1\ngrant x A:1 R:2 see B:2",
+        report: report(16, 1, 1, 2),
+        trace: "grant y B:1 R:1",
     };
-    over_plan(&rt, rt.alloc(), COMPETE_TWICE, &run, runs);
+    over_plan(&rt, rt.alloc(), COMPETE, &run, run_ring);
 }
 
 #[test]
