@@ -23,9 +23,10 @@ def instructions(words):
 
 
 def program():
-    """What ./bipr runs: the program of release/ where it is of these crates, else the built one."""
-    tree = subprocess.run([TOP / "refresh", "--tree"], capture_output=True, text=True).stdout
-    of = TOP / "release" / "tree"
-    if tree and of.is_file() and of.read_text() == tree:
+    """The program that is measured: that of release/ where it is of these sources, else the built
+    one."""
+    asked = subprocess.run([TOP / "refresh", "--sources"], capture_output=True, text=True)
+    said = (TOP / "release" / "from").read_text().splitlines()
+    if asked.returncode == 0 and f"sources {asked.stdout.strip()}" in said:
         return TOP / "release" / "bipr"
     return TOP / "crates" / "bipr" / "out" / "bipr"
