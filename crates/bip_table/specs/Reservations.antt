@@ -9,7 +9,7 @@ use Rattle.bip_model.specs.Wants.{IsFresh, raised}
 use Rattle.bip_model.specs.declared.grants.Grant.{Grant}
 use Rattle.bip_model.specs.declared.messages.Request.{Request}
 use Rattle.bip_model.specs.declared.wants.Want.{Want}
-use Rattle.bip_table.specs.Rows.{has_row, row_components, used_at}
+use Rattle.bip_table.specs.Rows.{has_row, raised_to, row_components, used_at}
 use Rattle.bip_table.specs.declared.faults.TableFault.TheVariants.{UnknownRow, Memory, Ended}
 use Rattle.bip_table.specs.declared.faults.TableFault.{TableFault}
 use Rattle.bip_table.specs.declared.reservations.Decision.TheVariants.{Granted, Refused}
@@ -115,3 +115,11 @@ IsTableAfter q (Ok (Granted serial)) t later =
     × (0 < t.room → later.room + 1 ≡ t.room)
 IsTableAfter q (Ok (Refused c n)) t later = later ≡ t
 IsTableAfter q (Err fault) t later = later ≡ t
+
+-- a table without grants, with the number and the floor of a component's row at least this number
+abbrev pub with_raised : ℕ → ℕ → Reservations → Reservations
+with_raised comp n t =
+    record t {
+      used = raised_to comp n t.tabled t.used;
+      floor = raised_to comp n t.tabled t.floor;
+    }

@@ -1,6 +1,6 @@
 use self::Step::{Asks, Shows};
 use super::{moved, seen};
-use bip_model::{ClassId, CompId, InterId, Number, Request, Want, Wants};
+use bip_model::{ClassId, CompId, Grant, InterId, Number, Request, Want, Wants};
 use bip_table::{Decision, Row, Table};
 use std::alloc::Global;
 use std::process::Abort;
@@ -63,6 +63,15 @@ fn have(rows: &[Row], numbers: &[Number]) -> bool {
     rows.len() == numbers.len()
         && rows.iter().zip(numbers).enumerate().all(|(comp, (row, number))| row.used == *number
             && row.comp.0 as usize == comp)
+}
+
+/// Whether grants are for these wants.
+fn have_wants(grants: &[Grant], wants: &[&[Want]]) -> bool {
+    grants.len() == wants.len()
+        && grants
+            .iter()
+            .zip(wants)
+            .all(|(grant, wants)| grant.wants.as_slice() == *wants)
 }
 
 fn take_step(rt: &impl Abort, alloc: Global, table: &mut Table, step: &Step) {
@@ -166,4 +175,39 @@ fn room_is_made_for_grants(rt: HostRuntime) {
     assert!(&rt; table.reserve_room(3).is_ok());
     decides_all(&rt, rt.alloc(), &mut table, 4);
     assert!(&rt; have(table.rows(), &[4, 0, 0]));
+}
+
+#[test]
+fn a_table_that_is_cut_goes_on_above_its_floor(rt: HostRuntime) {
+    const BEFORE: &[Step] = &[
+        Asks(&[(0, 1, true), (1, 1, false)], Ok(Decision::Granted(0))),
+        Asks(&[(1, 1, true)], Ok(Decision::Granted(1))),
+        Shows([1, 1, 0], [0, 0, 0], 2),
+    ];
+    const BEHIND: &[Step] = &[
+        Shows([1, 1, 4], [1, 1, 4], 0),
+        Asks(
+            &[(2, 4, true)],
+            Ok(Decision::Refused {
+                comp: CompId(2),
+                used: 4,
+            }),
+        ),
+        Asks(&[(2, 5, true)], Ok(Decision::Granted(2))),
+        Shows([1, 1, 5], [1, 1, 4], 1),
+    ];
+    let mut table = Table::new(rt.alloc(), THREE, 0).expect(&rt, "memory");
+    take_steps(&rt, rt.alloc(), &mut table, BEFORE);
+    let grants = table.cut(Vec::new(rt.alloc()));
+    table.raise(CompId(2), 4);
+    table.raise(CompId(1), 0);
+    table.raise(CompId(7), 9);
+    take_steps(&rt, rt.alloc(), &mut table, BEHIND);
+    assert!(&rt;
+        have_wants(
+            grants.as_slice(),
+            &[[moved(0, 1), seen(1, 1)].as_slice(), &[moved(1, 1)]]
+        )
+    );
+    assert!(&rt; have_wants(table.journal(), &[[moved(2, 5)].as_slice()]));
 }
