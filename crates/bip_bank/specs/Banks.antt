@@ -84,13 +84,19 @@ with_decision q (Refused c n) b = b
 abbrev pub IsEnded : BankContent → Request → Type 0
 IsEnded b q = IsFresh b.used q.wants × (length b.grants ≡ end_of_serials)
 
+-- a station decides for an interaction
+pub record IsStationOf (p : Planned) (s a : ℕ) : Type 0 where
+  pub stations : List InterId
+  pub listed : AreStations p stations
+  pub here : slice_get stations s ≡ Some (inter a)
+
 -- the oldest open request of an interaction was decided by the used numbers, and is open no more
 pub record IsDecided (q : Request) (d : Decision) (b later : BankContent) : Type 0 where
   pub rest : List Request
   pub oldest : b.waiting q.inter.0 ≡ q ∷ rest
   pub decision : IsDecision b.used q.wants d
   pub left : ¬ IsEnded b q
-  pub sharing : StaysShared b.sharing later.sharing
+  pub sharing : StaysShared (λ s. IsStationOf b.plan s q.inter.0) b.sharing later.sharing
   pub after : later
       ≡ record (with_decision q d b) {
         waiting = put b.waiting q.inter.0 rest;
@@ -103,12 +109,6 @@ abbrev pub IsActed : Acted → BankContent → BankContent → Type 0
 IsActed Nothing b later = later ≡ b
 IsActed Moved b later = later ≡ record b { sharing = later.sharing }
 IsActed (Answered q d) b later = IsDecided q d b later
-
--- a station decides for an interaction
-pub record IsStationOf (p : Planned) (s a : ℕ) : Type 0 where
-  pub stations : List InterId
-  pub listed : AreStations p stations
-  pub here : slice_get stations s ≡ Some (inter a)
 
 -- the interaction of a station has an open request, of which this is the oldest
 pub record HasOldest (b : BankContent) (s : ℕ) : Type 0 where
@@ -127,10 +127,10 @@ pub record CanDecide (b : BankContent) (s : ℕ) : Type 0 where
 
 -- what a step, not one that serves, moves of what stations share; and that it moves nothing
 abbrev pub Moves : BankContent → BankStep → Sharing → Type 0
-Moves b step later = MovesShared b.sharing step later
+Moves b step later = MovesShared (HasOldest b) b.sharing step later
 
 abbrev pub MovesNothing : BankContent → BankStep → Type 0
-MovesNothing b step = MovesNothingShared b.sharing step
+MovesNothing b step = MovesNothingShared (HasOldest b) b.sharing step
 
 -- what a step does, and leaves of what stations share: a station that can decide does, for its
 -- interaction, and one that can't does nothing; no other step decides, and it does nothing just

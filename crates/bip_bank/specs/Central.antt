@@ -46,7 +46,7 @@ pub record IsCentral (c : KeptCentral) : Type 0 where
   pub explained : used_above c.base c.table.rows ≡ used_by (λ k. c.base) c.table.journal
   pub counted : c.table.serial ≡ length c.table.journal
 
--- What contracts of private functions say.
+-- What contracts of the bodies of banks with one table say.
 
 -- a table can't keep the grant of the first of some requests
 abbrev pub CannotKeep : KeptRows → List Request → Type 0

@@ -1,5 +1,6 @@
 -- What the stations of a bank share, and where the steps of a ring take its token.
-use Rattle.std.specs.Prelude.{◌≡◌, ◌⊎◌, ℕ, ⊤, suc, ◌<◌, List, Contains}
+use Rattle.std.specs.Prelude.{◌≡◌, ◌⊎◌, ℕ, ⊤, suc, ◌<◌, List, Contains, length}
+use Rattle.bip_bank.specs.ForkSharing.{ForkSharing, HasEachFork, TakesForks, made_dirty}
 use Rattle.bip_bank.specs.declared.banks.BankStep.TheVariants.{Deliver, Pass}
 use Rattle.bip_bank.specs.declared.banks.BankStep.{BankStep}
 
@@ -8,17 +9,20 @@ pub data TokenPlace : Type 0 where
   token_at : ℕ → TokenPlace
   token_to : ℕ → TokenPlace
 
--- what stations share: nothing; one token, among so many stations; or in another form, with the
--- stations that lack some of it, and how many things are in flight
+-- what stations share: nothing; one token, among so many stations; forks, with their request
+-- tokens; or in another form, with the stations that lack some of it, and how many things are in
+-- flight
 pub data Sharing : Type 0 where
   alone : Sharing
   ring : ℕ → TokenPlace → Sharing
+  forks : ForkSharing → Sharing
   otherwise : List ℕ → ℕ → Sharing
 
 -- a station lacks nothing of what stations share
 abbrev pub LacksNothing : Sharing → ℕ → Type 0
 LacksNothing alone s = ⊤
 LacksNothing (ring count place) s = place ≡ token_at s
+LacksNothing (forks f) s = HasEachFork f s
 LacksNothing (otherwise lacking flying) s = ¬ Contains lacking s
 
 -- how many things are in flight among the stations
@@ -26,6 +30,7 @@ abbrev pub in_flight : Sharing → ℕ
 in_flight alone = 0
 in_flight (ring count (token_at s)) = 0
 in_flight (ring count (token_to s)) = 1
+in_flight (forks f) = length f.flight
 in_flight (otherwise lacking flying) = flying
 
 -- a station of a ring, and the next one: the first one after the last
@@ -45,22 +50,28 @@ TakesToken count place step to = ⊥
 abbrev pub IsOtherwise : Sharing → Type 0
 IsOtherwise later = (lacking : List ℕ) × (flying : ℕ) × (later ≡ otherwise lacking flying)
 
--- what a step, not one that serves, moves of what stations share, and what that leaves: nothing
--- where nothing is shared; a ring's token; whatever it may be in another form
-abbrev pub MovesShared : Sharing → BankStep → Sharing → Type 0
-MovesShared alone step later = ⊥
-MovesShared (ring count place) step later =
+-- what a step, not one that serves, moves of what stations share, and what that leaves, where some
+-- of the stations have an open request: nothing where nothing is shared; a ring's token; forks and
+-- their request tokens; whatever it may be in another form
+abbrev pub MovesShared : (ℕ → Type 0) → Sharing → BankStep → Sharing → Type 0
+MovesShared waits alone step later = ⊥
+MovesShared waits (ring count place) step later =
     (to : TokenPlace) × TakesToken count place step to × (later ≡ ring count to)
-MovesShared (otherwise lacking flying) step later = IsOtherwise later
+MovesShared waits (forks f) step later =
+    (to : ForkSharing) × TakesForks waits f step to × (later ≡ forks to)
+MovesShared waits (otherwise lacking flying) step later = IsOtherwise later
 
 -- such a step moves nothing; in another form it may be any
-abbrev pub MovesNothingShared : Sharing → BankStep → Type 0
-MovesNothingShared alone step = ⊤
-MovesNothingShared (ring count place) step = (to : TokenPlace) → ¬ TakesToken count place step to
-MovesNothingShared (otherwise lacking flying) step = ⊤
+abbrev pub MovesNothingShared : (ℕ → Type 0) → Sharing → BankStep → Type 0
+MovesNothingShared waits alone step = ⊤
+MovesNothingShared waits (ring count place) step =
+    (to : TokenPlace) → ¬ TakesToken count place step to
+MovesNothingShared waits (forks f) step = (to : ForkSharing) → ¬ TakesForks waits f step to
+MovesNothingShared waits (otherwise lacking flying) step = ⊤
 
--- a decision leaves what stations share as it was, but in another form it may leave other stations
--- with some of it
-abbrev pub StaysShared : Sharing → Sharing → Type 0
-StaysShared (otherwise lacking flying) later = IsOtherwise later
-StaysShared sharing later = later ≡ sharing
+-- a decision leaves what stations share as it was; but all forks of the station that decided are
+-- dirty then, and in another form it may leave other stations with some of it
+abbrev pub StaysShared : (ℕ → Type 0) → Sharing → Sharing → Type 0
+StaysShared decides (forks f) later = (s : ℕ) × decides s × (later ≡ forks (made_dirty s f))
+StaysShared decides (otherwise lacking flying) later = IsOtherwise later
+StaysShared decides sharing later = later ≡ sharing

@@ -132,8 +132,10 @@ impl<'p> Bank for Central<'p> {
     }
 }
 
-/// Decides on the first request in one of the queues, and takes it off then.
-fn decide_first(
+/// Decides by a table on the first request in one of the queues, and takes it off then. There is no
+/// answer where there is no request, no serial is left for its grant, or a component has no row.
+/// Want of memory stands in place of a grant, and changes nothing (docs/PROTOCOL.md, "Banks").
+pub fn decide_first(
     table: &mut Table,
     queues: &mut Vec<Queue<Request>>,
     place: usize,

@@ -10,7 +10,7 @@ mod queues;
 
 pub use banks::{Acted, Bank, BankStep, StationId, interaction_at};
 pub use bip_table::Decision;
-pub use central::Central;
+pub use central::{Central, decide_first};
 pub use decisions::reply_to;
 pub use laws::bank_laws;
 pub use opening::{first_table, no_requests};

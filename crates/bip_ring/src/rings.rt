@@ -1,18 +1,18 @@
 //! The ring: a bank whose table travels in a token.
-ghost use Rattle.std.specs.Prelude.{◌≡◌, ◌<◌, [], IfErr, IfOk, OnErr, OnOk, length, slice_index_or};
+ghost use Rattle.std.specs.Prelude.{◌≡◌, ◌<◌, IfErr, IfOk, OnErr, OnOk, length};
 ghost use Rattle.bip_model.specs.Numbering.{last_number};
 ghost use Rattle.bip_bank.specs.Banks.{CanWantMemory, DoesStep, HasNextSerial, IsActed};
 ghost use Rattle.bip_bank.specs.Banks.{WantsMemory, content_of, with_request};
-ghost use Rattle.bip_bank.specs.Central.{CannotKeep, IsFirstDecided};
 ghost use Rattle.bip_bank.specs.declared.banks.BankStep.TheVariants.{Serve};
 ghost use Rattle.bip_ring.specs.Rings.{IsNewRing, kept_ring};
 
 use crate::places::{is_at, moved};
 use crate::{Place, Token};
-use bip_bank::{Acted, Bank, BankStep, Queue, StationId, interaction_at, no_requests, put_last};
+use bip_bank::{
+    Acted, Bank, BankStep, Queue, StationId, decide_first, interaction_at, no_requests, put_last,
+};
 use bip_model::{Grant, Number, Request};
 use bip_partition::Plan;
-use bip_table::TableFault;
 use std::alloc::{AllocError, Global};
 use std::marker;
 
@@ -91,7 +91,9 @@ impl<'p> Ring<'p> {
             return Ok(Acted::Nothing);
         }
         match interaction_at(self.plan.stations(), station) {
-            Some(inter) => decide_first(&mut self.token, &mut self.waiting, inter.0 as usize),
+            Some(inter) => {
+                decide_first(&mut self.token.table, &mut self.waiting, inter.0 as usize)
+            }
             None => Ok(Acted::Nothing),
         }
     }
@@ -157,34 +159,5 @@ impl<'p> Bank for Ring<'p> {
             Place::At(_) => 0,
             Place::To(_) => 1,
         }
-    }
-}
-
-/// Decides on the first request in one of the queues by the token, and takes it off then.
-fn decide_first(
-    token: &mut Token,
-    queues: &mut Vec<Queue<Request>>,
-    place: usize,
-) -> Result<Acted, AllocError>
-    requires { place < length queues.old.items }
-    ensures decided { IfOk result (IsFirstDecided place token.old.table queues.old.items
-        token.new.table queues.new.items) }
-    ensures memory { IfErr result (λ e. CannotKeep token.old.table
-        (slice_index_or queues.old.items place [])) }
-    ensures table { OnErr result (token.new.table ≡ token.old.table) }
-    ensures queues { OnErr result (queues.new.items ≡ queues.old.items) }
-{
-    let Some(request) = queues[place].first() else {
-        return Ok(Acted::Nothing);
-    };
-    let decision = match token.decide(request) {
-        Ok(decision) => decision,
-        Err(TableFault::Memory) => return Err(AllocError),
-        Err(TableFault::Ended) => return Ok(Acted::Nothing),
-        Err(TableFault::UnknownRow(_)) => return Ok(Acted::Nothing),
-    };
-    match queues[place].take_first() {
-        Some(request) => Ok(Acted::Answered { request, decision }),
-        None => unreachable!(),
     }
 }

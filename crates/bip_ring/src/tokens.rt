@@ -12,7 +12,7 @@ use std::alloc::{AllocError, Global};
 /// The token of a ring, in which the one table travels.
 #[derive(Drop)]
 pub struct Token {
-    table: Table,
+    pub(crate) table: Table,
 }
 
 impl Token {

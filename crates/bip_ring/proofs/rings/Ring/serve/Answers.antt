@@ -36,7 +36,7 @@ invariant_of-self c =
       place = c.self.inside.place;
       count = c.self.inside.count;
     }) c.args.station
-    c.stations.result.now c.in-Some.inter c.decide_first.new.token.table
+    c.stations.result.now c.in-Some.inter c.decide_first.new.table
     c.decide_first.new.queues.items c.decide_first.result c.self.invariant has c.stations.ensures
     at within c.decide_first.ensures.decided c.decide_first.ensures.table
     c.decide_first.ensures.queues in
@@ -62,7 +62,7 @@ returns-in-Some-clause-does c =
       place = c.self.inside.place;
       count = c.self.inside.count;
     }) c.args.station
-    c.stations.result.now c.in-Some.inter c.decide_first.new.token.table
+    c.stations.result.now c.in-Some.inter c.decide_first.new.table
     c.decide_first.new.queues.items c.decide_first.result c.self.invariant has c.stations.ensures
     at within c.decide_first.ensures.decided c.decide_first.ensures.table
     c.decide_first.ensures.queues in
@@ -72,7 +72,7 @@ returns-in-Some-clause-does c =
         plan =
             c.self.inside.plan.now;
         base = c.self.inside.base;
-        table = c.decide_first.new.token.table;
+        table = c.decide_first.new.table;
         waiting = c.decide_first.new.queues.items;
       };
       place = c.self.inside.place;
@@ -100,7 +100,7 @@ returns-in-Some-clause-acted c =
       place = c.self.inside.place;
       count = c.self.inside.count;
     }) c.args.station
-    c.stations.result.now c.in-Some.inter c.decide_first.new.token.table
+    c.stations.result.now c.in-Some.inter c.decide_first.new.table
     c.decide_first.new.queues.items c.decide_first.result c.self.invariant has c.stations.ensures
     at within c.decide_first.ensures.decided c.decide_first.ensures.table
     c.decide_first.ensures.queues in
@@ -110,7 +110,7 @@ returns-in-Some-clause-acted c =
         plan = c.self.inside.plan.now;
         base =
             c.self.inside.base;
-        table = c.decide_first.new.token.table;
+        table = c.decide_first.new.table;
         waiting =
             c.decide_first.new.queues.items;
       };
@@ -138,7 +138,7 @@ returns-in-Some-clause-serial c =
       place = c.self.inside.place;
       count = c.self.inside.count;
     }) c.args.station
-    c.stations.result.now c.in-Some.inter c.decide_first.new.token.table
+    c.stations.result.now c.in-Some.inter c.decide_first.new.table
     c.decide_first.new.queues.items c.decide_first.result c.self.invariant has c.stations.ensures
     at within c.decide_first.ensures.decided c.decide_first.ensures.table
     c.decide_first.ensures.queues in
