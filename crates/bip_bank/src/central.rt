@@ -156,6 +156,7 @@ pub fn decide_first(
         Err(TableFault::Memory) => return Err(AllocError),
         Err(TableFault::Ended) => return Ok(Acted::Nothing),
         Err(TableFault::UnknownRow(_)) => return Ok(Acted::Nothing),
+        Err(TableFault::NotKept) => unreachable!(),
     };
     match queues[place].take_first() {
         Some(request) => Ok(Acted::Answered { request, decision }),

@@ -1,3 +1,5 @@
+pub mod ClosingLemmas
 pub mod DecideLemmas
 pub mod LawLemmas
+pub mod PassLemmas
 pub mod RowLemmas

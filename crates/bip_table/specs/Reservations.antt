@@ -11,6 +11,7 @@ use Rattle.bip_model.specs.declared.messages.Request.{Request}
 use Rattle.bip_model.specs.declared.wants.Want.{Want}
 use Rattle.bip_table.specs.Rows.{has_row, raised_to, row_components, used_at}
 use Rattle.bip_table.specs.declared.faults.TableFault.TheVariants.{UnknownRow, Memory, Ended}
+use Rattle.bip_table.specs.declared.faults.TableFault.TheVariants.{NotKept}
 use Rattle.bip_table.specs.declared.faults.TableFault.{TableFault}
 use Rattle.bip_table.specs.declared.reservations.Decision.TheVariants.{Granted, Refused}
 use Rattle.bip_table.specs.declared.reservations.Decision.{Decision}
@@ -82,7 +83,7 @@ pub record CanBeGranted (t : Reservations) (wants : List Want) : Type 0 where
 
 -- what a table answers to wants, the first that applies: a component has no row, and this is the
 -- lowest; one isn't fresh; no serial is left; they are granted with the next one. Want of memory is
--- told only in place of a grant, and where there is no room
+-- told only in place of a grant, and where there is no room. A table keeps what it grants
 abbrev pub IsTableAnswer : KeptRows → List Want → Result Decision TableFault → Type 0
 IsTableAnswer t wants (Err (UnknownRow c)) = IsLowest (LacksRow (reservations t) wants) c.0
 IsTableAnswer t wants (Ok (Refused c n)) =
@@ -91,6 +92,7 @@ IsTableAnswer t wants (Err Ended) =
     AllHaveRows (reservations t) wants × IsFresh (used_at t.rows) wants
     × (t.serial ≡ end_of_serials)
 IsTableAnswer t wants (Err Memory) = CanBeGranted (reservations t) wants × (t.room ≡ 0)
+IsTableAnswer t wants (Err NotKept) = ⊥
 IsTableAnswer t wants (Ok (Granted serial)) =
     CanBeGranted (reservations t) wants × (serial ≡ t.serial)
 

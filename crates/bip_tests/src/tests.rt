@@ -11,6 +11,7 @@ mod exploring;
 mod framing;
 mod laws;
 mod listing;
+mod locking;
 mod notifying;
 mod observing;
 mod parting;

@@ -1,0 +1,353 @@
+//! Tables behind a lock: two callers that want one row, four that share none, and a keeper that
+//! keeps some grants and not others.
+ghost use Rattle.std.specs.Prelude.{◌≡◌, []};
+
+use super::{moved, seen};
+use bip_model::{ClassId, CompId, Grant, InterId, Number, Request, Want, Wants};
+use bip_table::{CloseFault, Decision, Keep, Pass, Row, Table, TableFault, TableLock};
+use std::alloc::Global;
+use std::marker::Brand;
+use std::sync::Wait;
+use std::sync::ledger::{Blank, Ledger};
+use std::test::*;
+use std::thread;
+use std::thread::Threads;
+
+/// Rows of four components, all numbers of which are free.
+const FOUR: &[(CompId, Number)] = &[A, B, R, S];
+
+const A: (CompId, Number) = (CompId(0), 0);
+
+const B: (CompId, Number) = (CompId(1), 0);
+
+const R: (CompId, Number) = (CompId(2), 0);
+
+const S: (CompId, Number) = (CompId(3), 0);
+
+/// A request for an interaction with these wants; none where they can't be the wants of one.
+fn request(inter: u16, wants: &[Want]) -> Option<Request> {
+    Some(Request {
+        wants: Wants::of(wants)?,
+        request: 1,
+        class: ClassId(inter),
+        inter: InterId(inter),
+    })
+}
+
+/// What a pass counts of each component and was shown of it.
+fn told<L: Ledger>(pass: &Pass<L>) -> [(u64, Number); 4] {
+    let of = |comp: u16| (pass.count(CompId(comp)), pass.shown(CompId(comp)));
+    [of(0), of(1), of(2), of(3)]
+}
+
+/// Asks once.
+fn ask<L: Ledger, W: Wait>(
+    rt: &W,
+    lock: &TableLock<L>,
+    mut pass: Pass<L>,
+    request: Request,
+) -> (Pass<L>, Option<Decision>) {
+    let decided = lock.reserve(rt, &mut pass, request).ok();
+    (pass, decided)
+}
+
+/// What came of two callers, and the table behind them.
+#[derive(Drop)]
+struct Two {
+    decided: (Option<Decision>, Option<Decision>),
+    told: ([(u64, Number); 4], [(u64, Number); 4]),
+    table: Table,
+}
+
+/// Lets a thread ask for the first of two, and then another one for the second; closes with the first one's pass alone,
+/// which is refused, and then with both.
+fn ask_in_turn<L: Ledger + Send + Sync, T: Threads + Wait + Sync>(
+    rt: &T,
+    alloc: Global,
+    blank: Blank,
+    table: Table,
+    asked: (Request, Request),
+) -> Option<Two>
+    requires name { blank.name ≡ L.name }
+    requires parts { (blank.parts ≡ L.parts) × (blank.parts ≡ 2) }
+    requires empty { table.journal ≡ [] }
+{
+    let (lock, mut passes) = TableLock::<L>::new(alloc, blank, table, 2).ok()?;
+    let (one, two) = (passes.pop()?, passes.pop()?);
+    let ((x, y), shared) = (asked, &lock);
+    let ((one, first), ()) = thread::join(rt, move || ask(rt, shared, one, x), || ());
+    let ((two, second), ()) = thread::join(rt, move || ask(rt, shared, two, y), || ());
+    let told = (told(&one), told(&two));
+    passes.push(one).ok()?;
+    let Err(CloseFault::PassesMissing(lock, mut passes)) = lock.close(passes) else {
+        return None;
+    };
+    passes.push(two).ok()?;
+    let Ok(table) = lock.close(passes) else {
+        return None;
+    };
+    Some(Two {
+        decided: (first, second),
+        told,
+        table,
+    })
+}
+
+/// Whether rows have these numbers, and are of the components 0, 1 and so on.
+fn have(rows: &[Row], numbers: &[Number]) -> bool {
+    rows.len() == numbers.len()
+        && rows.iter().zip(numbers).enumerate().all(|(comp, (row, number))| row.used == *number
+            && row.comp.0 as usize == comp)
+}
+
+#[test]
+fn two_callers_want_one_row(rt: HostRuntime) -> Result<(), Fail> {
+    let table = Table::new(rt.alloc(), FOUR, 0)?;
+    let Some(x) = request(5, &[moved(0, 1), moved(2, 1), seen(3, 1)]) else {
+        panic!(rt; "x can be asked for")
+    };
+    let Some(y) = request(6, &[moved(1, 1), moved(2, 1)]) else {
+        panic!(rt; "y can be asked for")
+    };
+    let blank = Blank::new(2);
+    let Some(two) = ask_in_turn::<Brand, _>(&rt, rt.alloc(), blank, table, (x, y)) else {
+        panic!(rt; "it closes with both passes")
+    };
+    let refused = Decision::Refused {
+        comp: CompId(2),
+        used: 1,
+    };
+    assert_eq!(rt; two.decided, (Some(Decision::Granted(0)), Some(refused)));
+    assert_eq!(rt; two.told.0, [(1, 1), (0, 0), (1, 1), (0, 0)]);
+    assert_eq!(rt; two.told.1, [(0, 0), (0, 0), (0, 1), (0, 0)]);
+    assert!(rt; have(two.table.rows(), &[1, 0, 1, 0]));
+    assert!(rt; have(two.table.floor(), &[0, 0, 0, 0]));
+    let [grant] = two.table.journal() else {
+        panic!(rt; "there is one grant")
+    };
+    assert_eq!(rt; grant.inter, InterId(5));
+    assert_eq!(rt;
+        grant.wants.as_slice(),
+        [moved(0, 1), moved(2, 1), seen(3, 1)].as_slice()
+    );
+    Ok(())
+}
+
+/// Asks a hundred times to move one component, with the numbers from 1 on: the serials of the
+/// grants.
+fn move_one<L: Ledger, W: Wait>(
+    rt: &W,
+    lock: &TableLock<L>,
+    mut pass: Pass<L>,
+    comp: u16,
+    mut serials: Vec<u64>,
+) -> (Pass<L>, Vec<u64>) {
+    for number in 1..101 {
+        let Some(request) = request(comp, &[moved(comp, number)]) else {
+            break;
+        };
+        if let Ok(Decision::Granted(serial)) = lock.reserve(rt, &mut pass, request) {
+            if serials.push(serial).is_err() {
+                break;
+            }
+        }
+    }
+    (pass, serials)
+}
+
+/// What came of four callers: of each what its pass counts, the serials of all, and the table.
+#[derive(Drop)]
+struct Four {
+    told: [[(u64, Number); 4]; 4],
+    serials: Vec<u64>,
+    table: Table,
+}
+
+/// Lets four threads each move a row of its own.
+fn move_apart<L: Ledger + Send + Sync, T: Threads + Wait + Sync>(
+    rt: &T,
+    alloc: Global,
+    blank: Blank,
+    table: Table,
+) -> Option<Four>
+    requires name { blank.name ≡ L.name }
+    requires parts { (blank.parts ≡ L.parts) × (blank.parts ≡ 4) }
+    requires empty { table.journal ≡ [] }
+{
+    let (lock, mut passes) = TableLock::<L>::new(alloc, blank, table, 4).ok()?;
+    let (a, b) = (passes.pop()?, passes.pop()?);
+    let (c, d) = (passes.pop()?, passes.pop()?);
+    let (e, f, g, h) = (
+        Vec::new(alloc),
+        Vec::new(alloc),
+        Vec::new(alloc),
+        Vec::new(alloc),
+    );
+    let shared = &lock;
+    let (((a, mut serials), (b, f)), ((c, g), (d, h))) = thread::join(
+        rt,
+        move || {
+            thread::join(
+                rt,
+                move || move_one(rt, shared, a, 0, e),
+                move || move_one(rt, shared, b, 1, f),
+            )
+        },
+        move || {
+            thread::join(
+                rt,
+                move || move_one(rt, shared, c, 2, g),
+                move || move_one(rt, shared, d, 3, h),
+            )
+        },
+    );
+    serials.extend_from_slice(f.as_slice()).ok()?;
+    serials.extend_from_slice(g.as_slice()).ok()?;
+    serials.extend_from_slice(h.as_slice()).ok()?;
+    let told = [told(&a), told(&b), told(&c), told(&d)];
+    passes.push(a).ok()?;
+    passes.push(b).ok()?;
+    passes.push(c).ok()?;
+    passes.push(d).ok()?;
+    let Ok(table) = lock.close(passes) else {
+        return None;
+    };
+    Some(Four {
+        told,
+        serials,
+        table,
+    })
+}
+
+#[test]
+fn four_callers_share_no_row(rt: HostRuntime) -> Result<(), Fail> {
+    let table = Table::new(rt.alloc(), FOUR, 0)?;
+    let Some(four) = move_apart::<Brand, _>(&rt, rt.alloc(), Blank::new(4), table) else {
+        panic!(rt; "it closes")
+    };
+    let Four {
+        told,
+        mut serials,
+        table,
+    } = four;
+    let none = (0, 0);
+    let all = (100, 100);
+    assert_eq!(rt;
+        told,
+        [
+            [all, none, none, none],
+            [none, all, none, none],
+            [none, none, all, none],
+            [none, none, none, all]
+        ]
+    );
+    serials.sort_unstable();
+    assert_eq!(rt; serials.len(), 400);
+    assert!(rt;
+        serials
+            .iter()
+            .enumerate()
+            .all(|(place, serial)| *serial == place as u64)
+    );
+    assert_eq!(rt; table.journal().len(), 400);
+    assert!(rt; have(table.rows(), &[100, 100, 100, 100]));
+    assert!(rt; have(table.floor(), &[0, 0, 0, 0]));
+    Ok(())
+}
+
+/// Keeps the grants of one interaction alone, and remembers how many it was handed, and the last.
+#[derive(Drop)]
+struct Choosy {
+    keeps: InterId,
+    handed: u64,
+    last: InterId,
+}
+
+impl Keep for Choosy {
+    ghost keeps = { λ keeper grant kept later. later.last ≡ grant.inter };
+
+    fn keep<W: Wait>(&mut self, _rt: &W, grant: &Grant) -> bool {
+        self.handed = self.handed.saturating_add(1);
+        self.last = grant.inter;
+        grant.inter == self.keeps
+    }
+}
+
+/// What came of three requests with a keeper: what was answered, the keeper, what the pass counts.
+#[derive(Drop)]
+struct Kept {
+    answers: [Result<Decision, u8>; 3],
+    keeper: Choosy,
+    told: [(u64, Number); 4],
+    table: Table,
+}
+
+fn ask_keeping<L: Ledger, W: Wait>(
+    rt: &W,
+    alloc: Global,
+    blank: Blank,
+    table: Table,
+    asked: (Request, Request, Request),
+) -> Option<Kept>
+    requires name { blank.name ≡ L.name }
+    requires parts { (blank.parts ≡ L.parts) × (blank.parts ≡ 1) }
+    requires empty { table.journal ≡ [] }
+{
+    let (lock, mut passes) = TableLock::<L>::new(alloc, blank, table, 1).ok()?;
+    let mut pass = passes.pop()?;
+    let mut keeper = Choosy {
+        keeps: InterId(5),
+        handed: 0,
+        last: InterId(0),
+    };
+    let (x, y, z) = asked;
+    let first = lock.reserve_kept(rt, &mut pass, x, &mut keeper);
+    let second = lock.reserve_kept(rt, &mut pass, y, &mut keeper);
+    let third = lock.reserve_kept(rt, &mut pass, z, &mut keeper);
+    let told = told(&pass);
+    passes.push(pass).ok()?;
+    let Ok(table) = lock.close(passes) else {
+        return None;
+    };
+    let number = |fault: TableFault| fault.number();
+    Some(Kept {
+        answers: [
+            first.map_err(number),
+            second.map_err(number),
+            third.map_err(number),
+        ],
+        keeper,
+        told,
+        table,
+    })
+}
+
+#[test]
+fn a_grant_that_is_not_kept_stays(rt: HostRuntime) -> Result<(), Fail> {
+    let table = Table::new(rt.alloc(), FOUR, 7)?;
+    let (Some(x), Some(y), Some(z)) = (
+        request(5, &[moved(0, 1), moved(2, 1)]),
+        request(6, &[moved(1, 1), moved(2, 2)]),
+        request(5, &[moved(1, 1), moved(3, 1)]),
+    ) else {
+        panic!(rt; "they can be asked for")
+    };
+    let Some(kept) = ask_keeping::<Brand, _>(&rt, rt.alloc(), Blank::new(1), table, (x, y, z))
+    else {
+        panic!(rt; "it closes")
+    };
+    let refused = Decision::Refused {
+        comp: CompId(1),
+        used: 1,
+    };
+    assert_eq!(rt;
+        kept.answers,
+        [Ok(Decision::Granted(7)), Err(4), Ok(refused)]
+    );
+    assert_eq!(rt; kept.keeper.handed, 2);
+    assert_eq!(rt; kept.keeper.last, InterId(6));
+    assert_eq!(rt; kept.told, [(1, 1), (1, 1), (2, 2), (0, 0)]);
+    assert_eq!(rt; kept.table.journal().len(), 2);
+    assert!(rt; have(kept.table.rows(), &[1, 1, 2, 0]));
+    Ok(())
+}
