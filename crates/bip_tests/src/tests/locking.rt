@@ -2,9 +2,10 @@
 //! keeps some grants and not others.
 ghost use Rattle.std.specs.Prelude.{◌≡◌, []};
 
+use super::tabling::have;
 use super::{moved, seen};
 use bip_model::{ClassId, CompId, Grant, InterId, Number, Request, Want, Wants};
-use bip_table::{CloseFault, Decision, Keep, Pass, Row, Table, TableFault, TableLock};
+use bip_table::{CloseFault, Decision, Keep, Pass, Table, TableFault, TableLock};
 use std::alloc::Global;
 use std::marker::Brand;
 use std::sync::Wait;
@@ -14,15 +15,12 @@ use std::thread;
 use std::thread::Threads;
 
 /// Rows of four components, all numbers of which are free.
-const FOUR: &[(CompId, Number)] = &[A, B, R, S];
-
-const A: (CompId, Number) = (CompId(0), 0);
-
-const B: (CompId, Number) = (CompId(1), 0);
-
-const R: (CompId, Number) = (CompId(2), 0);
-
-const S: (CompId, Number) = (CompId(3), 0);
+const FOUR: &[(CompId, Number)] = &[
+    (CompId(0), 0),
+    (CompId(1), 0),
+    (CompId(2), 0),
+    (CompId(3), 0),
+];
 
 /// A request for an interaction with these wants; none where they can't be the wants of one.
 fn request(inter: u16, wants: &[Want]) -> Option<Request> {
@@ -34,8 +32,10 @@ fn request(inter: u16, wants: &[Want]) -> Option<Request> {
     })
 }
 
-/// What a pass counts of each component and was shown of it.
-fn told<L: Ledger>(pass: &Pass<L>) -> [(u64, Number); 4] {
+/// What a pass counts of each component, and was shown of it.
+type Told = [(u64, Number); 4];
+
+fn told<L: Ledger>(pass: &Pass<L>) -> Told {
     let of = |comp: u16| (pass.count(CompId(comp)), pass.shown(CompId(comp)));
     [of(0), of(1), of(2), of(3)]
 }
@@ -55,12 +55,12 @@ fn ask<L: Ledger, W: Wait>(
 #[derive(Drop)]
 struct Two {
     decided: (Option<Decision>, Option<Decision>),
-    told: ([(u64, Number); 4], [(u64, Number); 4]),
+    told: (Told, Told),
     table: Table,
 }
 
-/// Lets a thread ask for the first of two, and then another one for the second; closes with the first one's pass alone,
-/// which is refused, and then with both.
+/// Lets a thread ask for the first of two, and then another one for the second; closes with the
+/// first one's pass alone, which is refused, and then with both.
 fn ask_in_turn<L: Ledger + Send + Sync, T: Threads + Wait + Sync>(
     rt: &T,
     alloc: Global,
@@ -91,13 +91,6 @@ fn ask_in_turn<L: Ledger + Send + Sync, T: Threads + Wait + Sync>(
         told,
         table,
     })
-}
-
-/// Whether rows have these numbers, and are of the components 0, 1 and so on.
-fn have(rows: &[Row], numbers: &[Number]) -> bool {
-    rows.len() == numbers.len()
-        && rows.iter().zip(numbers).enumerate().all(|(comp, (row, number))| row.used == *number
-            && row.comp.0 as usize == comp)
 }
 
 #[test]
@@ -133,32 +126,66 @@ fn two_callers_want_one_row(rt: HostRuntime) -> Result<(), Fail> {
     Ok(())
 }
 
-/// Asks a hundred times to move one component, with the numbers from 1 on: the serials of the
-/// grants.
-fn move_one<L: Ledger, W: Wait>(
-    rt: &W,
-    lock: &TableLock<L>,
-    mut pass: Pass<L>,
+/// A caller that moves one component, with its pass, and the serials of its grants.
+#[derive(Drop)]
+struct Mover<L: Ledger> {
+    pass: Pass<L>,
     comp: u16,
-    mut serials: Vec<u64>,
-) -> (Pass<L>, Vec<u64>) {
+    serials: Vec<u64>,
+}
+
+fn movers<L: Ledger>(alloc: Global, passes: Vec<Pass<L>>) -> Option<Vec<Mover<L>>> {
+    let mut movers = Vec::new(alloc);
+    for (comp, pass) in (0..4).zip(passes) {
+        let serials = Vec::new(alloc);
+        movers
+            .push(Mover {
+                pass,
+                comp,
+                serials,
+            })
+            .ok()?;
+    }
+    Some(movers)
+}
+
+/// Asks a hundred times to move the component, with the numbers from 1 on.
+fn move_own<L: Ledger, W: Wait>(rt: &W, lock: &TableLock<L>, mut mover: Mover<L>) -> Mover<L> {
     for number in 1..101 {
-        let Some(request) = request(comp, &[moved(comp, number)]) else {
+        let Some(request) = request(mover.comp, &[moved(mover.comp, number)]) else {
             break;
         };
-        if let Ok(Decision::Granted(serial)) = lock.reserve(rt, &mut pass, request) {
-            if serials.push(serial).is_err() {
+        if let Ok(Decision::Granted(serial)) = lock.reserve(rt, &mut mover.pass, request) {
+            if mover.serials.push(serial).is_err() {
                 break;
             }
         }
     }
-    (pass, serials)
+    mover
+}
+
+/// What each mover's pass counts, and the serials of all.
+fn tell_all<L: Ledger>(alloc: Global, movers: &[Mover<L>]) -> Option<(Vec<Told>, Vec<u64>)> {
+    let (mut all, mut serials) = (Vec::new(alloc), Vec::new(alloc));
+    for mover in movers {
+        all.push(told(&mover.pass)).ok()?;
+        serials.extend_from_slice(mover.serials.as_slice()).ok()?;
+    }
+    Some((all, serials))
+}
+
+fn passes_of<L: Ledger>(alloc: Global, movers: Vec<Mover<L>>) -> Option<Vec<Pass<L>>> {
+    let mut passes = Vec::new(alloc);
+    for mover in movers {
+        passes.push(mover.pass).ok()?;
+    }
+    Some(passes)
 }
 
 /// What came of four callers: of each what its pass counts, the serials of all, and the table.
 #[derive(Drop)]
 struct Four {
-    told: [[(u64, Number); 4]; 4],
+    told: Vec<Told>,
     serials: Vec<u64>,
     table: Table,
 }
@@ -174,44 +201,12 @@ fn move_apart<L: Ledger + Send + Sync, T: Threads + Wait + Sync>(
     requires parts { (blank.parts ≡ L.parts) × (blank.parts ≡ 4) }
     requires empty { table.journal ≡ [] }
 {
-    let (lock, mut passes) = TableLock::<L>::new(alloc, blank, table, 4).ok()?;
-    let (a, b) = (passes.pop()?, passes.pop()?);
-    let (c, d) = (passes.pop()?, passes.pop()?);
-    let (e, f, g, h) = (
-        Vec::new(alloc),
-        Vec::new(alloc),
-        Vec::new(alloc),
-        Vec::new(alloc),
-    );
+    let (lock, passes) = TableLock::<L>::new(alloc, blank, table, 4).ok()?;
     let shared = &lock;
-    let (((a, mut serials), (b, f)), ((c, g), (d, h))) = thread::join(
-        rt,
-        move || {
-            thread::join(
-                rt,
-                move || move_one(rt, shared, a, 0, e),
-                move || move_one(rt, shared, b, 1, f),
-            )
-        },
-        move || {
-            thread::join(
-                rt,
-                move || move_one(rt, shared, c, 2, g),
-                move || move_one(rt, shared, d, 3, h),
-            )
-        },
-    );
-    serials.extend_from_slice(f.as_slice()).ok()?;
-    serials.extend_from_slice(g.as_slice()).ok()?;
-    serials.extend_from_slice(h.as_slice()).ok()?;
-    let told = [told(&a), told(&b), told(&c), told(&d)];
-    passes.push(a).ok()?;
-    passes.push(b).ok()?;
-    passes.push(c).ok()?;
-    passes.push(d).ok()?;
-    let Ok(table) = lock.close(passes) else {
-        return None;
-    };
+    let four = movers(alloc, passes)?;
+    let four = thread::map_vec(rt, four, &|mover| move_own(rt, shared, mover)).ok()?;
+    let (told, serials) = tell_all(alloc, four.as_slice())?;
+    let table = lock.close(passes_of(alloc, four)?).ok()?;
     Some(Four {
         told,
         serials,
@@ -233,13 +228,14 @@ fn four_callers_share_no_row(rt: HostRuntime) -> Result<(), Fail> {
     let none = (0, 0);
     let all = (100, 100);
     assert_eq!(rt;
-        told,
+        told.as_slice(),
         [
             [all, none, none, none],
             [none, all, none, none],
             [none, none, all, none],
             [none, none, none, all]
         ]
+        .as_slice()
     );
     serials.sort_unstable();
     assert_eq!(rt; serials.len(), 400);
@@ -278,7 +274,7 @@ impl Keep for Choosy {
 struct Kept {
     answers: [Result<Decision, u8>; 3],
     keeper: Choosy,
-    told: [(u64, Number); 4],
+    told: Told,
     table: Table,
 }
 

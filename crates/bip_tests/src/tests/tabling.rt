@@ -59,7 +59,7 @@ fn asks(
 }
 
 /// Whether rows have these numbers, and are of the components 0, 1 and so on.
-fn have(rows: &[Row], numbers: &[Number]) -> bool {
+pub(super) fn have(rows: &[Row], numbers: &[Number]) -> bool {
     rows.len() == numbers.len()
         && rows.iter().zip(numbers).enumerate().all(|(comp, (row, number))| row.used == *number
             && row.comp.0 as usize == comp)
