@@ -1,0 +1,13 @@
+pub mod ActLemmas
+pub mod CountLemmas
+pub mod HoldLemmas
+pub mod KeptLemmas
+pub mod NewLemmas
+pub mod OpeningLemmas
+pub mod RowLemmas
+pub mod ServeLemmas
+pub mod ServedLemmas
+pub mod SharingLemmas
+pub mod StationLemmas
+pub mod StepLemmas
+pub mod ViewLemmas

@@ -1,0 +1,46 @@
+-- One station: its oldest open request, and a table that can't decide on it.
+use Rattle.std.proofs.Common.{◌≡◌, ℕ, ◌<◌, Bool, List, [], ◌∷◌, Some, slice_get, ap, ◌∙◌, inl, inr, sym, subst, get_or, length, arith}
+use Rattle.std.specs.Prelude.{Err}
+use Rattle.std.proofs.lemmas.Bool.{false≢true}
+use Rattle.std.proofs.lemmas.List.{get_or_default}
+use Rattle.bip_model.specs.declared.grants.Grant.{Grant}
+use Rattle.bip_model.specs.declared.messages.Request.{Request}
+use Rattle.bip_model.specs.declared.numbering.CompId.{CompId}
+use Rattle.bip_table.specs.Reservations.{IsTableAnswer, KeptRows, end_of_serials}
+use Rattle.bip_table.specs.Rows.{has_row}
+use Rattle.bip_table.specs.declared.faults.TableFault.TheVariants.{UnknownRow}
+use Rattle.bip_forks.specs.Kept.{CanAnswer, no_station, station_at}
+use Rattle.bip_forks.specs.Stations.{AllLie, CannotAnswer, IsNotServed, IsReadyToServe, KeptStation}
+
+-- the first of a list, and the others
+pub first_there : (xs : List Request) (q : Request) → slice_get xs 0 ≡ Some q → (rest : List Request) × (xs ≡ q ∷ rest)
+first_there [] q is = cc
+first_there (x ∷ xs) q is = let same : x ≡ q = cc in (xs, ap (λ (y : Request). y ∷ xs) same)
+
+-- a station that can serve, whose table can't decide
+abbrev pub IsUndecidedHere : KeptStation → Type 0
+IsUndecidedHere s = AllLie s.sides × ((q : Request) × (rest : List Request) × (s.waiting ≡ q ∷ rest) × CannotAnswer s q)
+
+pub row_unknown : (s : KeptStation) (q : Request) (ready up : KeptRows) (comp : CompId) → slice_get s.waiting 0 ≡ Some q → AllLie s.sides → ready ≡ record s.table { room = ready.room } → has_row up.rows ≡ has_row ready.rows
+    → IsTableAnswer up q.wants (Err (UnknownRow comp)) → IsUndecidedHere s
+row_unknown s q ready up comp first all kept tabled answer =
+    let rest = first_there s.waiting q first in
+    (all, (q, rest.0, rest.1, inl (comp, answer.here.0, sym (ap (λ (f : ℕ → Bool). f comp.0) (tabled ∙ ap (λ (t : KeptRows). has_row t.rows) kept)) ∙ answer.here.1)))
+
+-- where each wanted component has a row, and a serial is left, there is no such station
+pub undecided : (stations : List KeptStation) (grants : List Grant) (s : ℕ) (x y later : KeptStation) → CanAnswer stations grants → s < length stations → x ≡ get_or stations s x → y ≡ get_or stations s y → IsReadyToServe x → IsNotServed y later → length grants < end_of_serials → ⊥
+undecided stations grants s x y later can within at other ready not few = elim not [
+  | inl stays ↦ stays.1 (subst IsReadyToServe same ready)
+  | inr left ↦ by_table left.1.0 left.1.1 left.1.2 left.1.3
+]
+  where
+    here : y ≡ station_at stations s
+    here = other ∙ get_or_default stations s y no_station within
+
+    same : x ≡ y
+    same = at ∙ (get_or_default stations s x y within ∙ sym other)
+
+    by_table : (q : Request) (rest : List Request) → y.waiting ≡ q ∷ rest → CannotAnswer y q → ⊥
+    by_table q rest oldest (inl (c, wanted, none)) =
+        false≢true (sym none ∙ (ap (λ (z : KeptStation). has_row z.table.rows c.0) here ∙ can.rows s q rest within (ap (λ (z : KeptStation). z.waiting) (sym here) ∙ oldest) c.0 wanted))
+    by_table q rest oldest (inr (fresh, ended)) = omega (arith, few, can.serials s, ended, ap (λ (z : KeptStation). z.table.serial) here)

@@ -1,0 +1,14 @@
+use Rattle.std.proofs.Common.{◌≡◌, [], take}
+use Rattle.bip_table.specs.Rows.{has_row, used_at}
+use Rattle.bip_forks.specs.Stations.{raised_by, rows_here}
+use Rattle.bip_forks.proofs.stations.raise_all.Given as goal
+
+abbrev pub invariant-loop-side : goal.invariant-loop-side
+invariant-loop-side l =
+    record {
+      used : used_at l.table.rows ≡ raised_by (rows_here (take l.side-index l.sides)) (has_row l.initial.table.rows) (used_at l.initial.table.rows);
+      tabled : has_row l.table.rows ≡ has_row l.initial.table.rows;
+      journal : l.table.journal ≡ [];
+      serial : l.table.serial ≡ l.initial.table.serial;
+      room : l.table.room ≡ l.initial.table.room;
+    }

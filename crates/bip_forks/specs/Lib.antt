@@ -1,0 +1,5 @@
+pub mod Kept
+pub mod Laws
+pub mod Machines
+pub mod Opening
+pub mod Stations

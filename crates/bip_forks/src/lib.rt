@@ -1,0 +1,12 @@
+//! Dining philosophers: stations that share forks, each with a table of its own.
+#![tactic(auto)]
+
+mod forks;
+mod laws;
+mod opening;
+mod sending;
+mod shares;
+mod stations;
+
+pub use forks::Forks;
+pub use laws::fork_laws;

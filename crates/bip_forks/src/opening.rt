@@ -1,0 +1,185 @@
+//! How forks begin: each station at first, and what it shares.
+ghost use Rattle.std.specs.Prelude.{◌≡◌, ◌↔◌, ◌<◌, ◌≤◌, All, Contains, IfOk, IsTrue, length, map};
+ghost use Rattle.bip_model.specs.declared.numbering.CompId.{CompId};
+ghost use Rattle.bip_model.specs.declared.numbering.InterId.{InterId};
+ghost use Rattle.bip_forks.specs.Opening.{AreFirstSides, AreFirstStations, BothTouch, IsCommon};
+ghost use Rattle.bip_forks.specs.Opening.{IsFirstSide, IsFirstStation, IsListCommon, rows_with};
+
+use crate::shares::{Fork, Side, pair_of_stations};
+use crate::stations::Station;
+use bip_bank::StationId;
+use bip_model::{CompId, InterId, Number, Seq};
+use bip_partition::Plan;
+use bip_table::{Row, Table};
+use std::alloc::{AllocError, Global};
+
+/// The stations of a plan at first, in order.
+pub(crate) fn first_stations(
+    alloc: Global,
+    plan: &Plan,
+    inters: &[InterId],
+    base: Number,
+) -> Result<Vec<Station>, AllocError>
+    requires known { All (λ (a : InterId). a.0 < length plan.now.model.interactions) inters.now }
+    requires few { length inters.now ≤ 128 }
+    ensures { IfOk result (λ stations.
+        AreFirstStations plan.now base inters.now (length inters.now) stations.items) }
+{
+    let mut stations = Vec::new(alloc);
+    for place in 0..inters.len() {
+        let number = StationId(place as u16);
+        stations.push(first_station(alloc, plan, inters, number, inters[place], base)?)?;
+    }
+    Ok(stations)
+}
+
+/// A station at first: a row of each component that its interaction touches, with the base for its
+/// number, and what it shares with each station.
+fn first_station(
+    alloc: Global,
+    plan: &Plan,
+    inters: &[InterId],
+    number: StationId,
+    inter: InterId,
+    base: Number,
+) -> Result<Station, AllocError>
+    requires known { All (λ (a : InterId). a.0 < length plan.now.model.interactions) inters.now }
+    requires few { length inters.now ≤ 128 }
+    requires here { inter.0 < length plan.now.model.interactions }
+    ensures { IfOk result (IsFirstStation plan.now base inters.now number.0 inter) }
+{
+    let entries = with_number(alloc, plan.touches(inter), base)?;
+    let table = Table::new(alloc, &entries, 0)?;
+    let sides = first_sides(alloc, plan, inters, number, inter, base)?;
+    Ok(Station::new(alloc, number, inter, table, sides))
+}
+
+/// Each of these components with a number.
+fn with_number(
+    alloc: Global,
+    comps: &[CompId],
+    number: Number,
+) -> Result<Vec<(CompId, Number)>, AllocError>
+    ensures { IfOk result (λ entries. entries.items ≡ map (λ c. (c, number)) comps.now) }
+{
+    comps.iter().map(|comp| (*comp, number)).collect(alloc)
+}
+
+/// What a station has at first of what it shares with each station, in order.
+fn first_sides(
+    alloc: Global,
+    plan: &Plan,
+    inters: &[InterId],
+    number: StationId,
+    inter: InterId,
+    base: Number,
+) -> Result<Vec<Side>, AllocError>
+    requires known { All (λ (a : InterId). a.0 < length plan.now.model.interactions) inters.now }
+    requires few { length inters.now ≤ 128 }
+    requires here { inter.0 < length plan.now.model.interactions }
+    ensures { IfOk result (λ sides. AreFirstSides plan.now base inters.now number.0 inter
+        (length inters.now) sides.items) }
+{
+    let mut sides = Vec::new(alloc);
+    for place in 0..inters.len() {
+        let other = StationId(place as u16);
+        sides.push(first_side(alloc, plan, number, inter, other, inters[place], base)?)?;
+    }
+    Ok(sides)
+}
+
+/// What a station has at first of what it shares with another one: where their interactions are in
+/// conflict, the fork, dirty, with the base for numbers, if the other one is higher; else its
+/// request token.
+fn first_side(
+    alloc: Global,
+    plan: &Plan,
+    number: StationId,
+    inter: InterId,
+    other: StationId,
+    other_inter: InterId,
+    base: Number,
+) -> Result<Side, AllocError>
+    requires one { inter.0 < length plan.now.model.interactions }
+    requires other { other_inter.0 < length plan.now.model.interactions }
+    ensures { IfOk result (IsFirstSide plan.now base number.0 inter.0 other.0 other_inter.0) }
+{
+    let shared = number.0 != other.0 && plan.conflict(inter, other_inter);
+    let fork = if shared && number.0 < other.0 {
+        Some(Fork {
+            pair: pair_of_stations(number, other),
+            rows: common_rows(alloc, plan, inter, other_inter, base)?,
+        })
+    } else {
+        None
+    };
+    Ok(Side {
+        shared,
+        fork,
+        clean: false,
+        asked: shared && other.0 < number.0,
+    })
+}
+
+/// A row of each component that two interactions both touch, with a number.
+fn common_rows(
+    alloc: Global,
+    plan: &Plan,
+    inter: InterId,
+    other: InterId,
+    base: Number,
+) -> Result<Seq<Row>, AllocError>
+    requires one { inter.0 < length plan.now.model.interactions }
+    requires other { other.0 < length plan.now.model.interactions }
+    ensures { IfOk result (IsCommon (BothTouch plan.now inter.0 other.0) base) }
+{
+    let comps = list_common(alloc, plan, inter, other)?;
+    Ok(Seq::of(rows_with(alloc, comps.as_slice(), base)?))
+}
+
+/// A row of each of these components, with a number.
+fn rows_with(alloc: Global, comps: &[CompId], used: Number) -> Result<Vec<Row>, AllocError>
+    ensures { IfOk result (λ rows. rows.items ≡ rows_with used comps.now) }
+{
+    comps
+        .iter()
+        .map(|comp| Row { used, comp: *comp })
+        .collect(alloc)
+}
+
+/// The components that two interactions both touch, by number.
+fn list_common(
+    alloc: Global,
+    plan: &Plan,
+    inter: InterId,
+    other: InterId,
+) -> Result<Seq<CompId>, AllocError>
+    requires one { inter.0 < length plan.now.model.interactions }
+    requires other { other.0 < length plan.now.model.interactions }
+    ensures { IfOk result (IsListCommon (BothTouch plan.now inter.0 other.0)) }
+{
+    let mut list = Seq::of(Vec::new(alloc));
+    for number in 0..plan.model().components().len() {
+        let comp = CompId(number as u16);
+        if is_common(plan, inter, other, comp) {
+            list.push(comp)?;
+        }
+    }
+    Ok(list)
+}
+
+/// Whether two interactions both touch a component.
+fn is_common(plan: &Plan, inter: InterId, other: InterId, comp: CompId) -> bool
+    requires one { inter.0 < length plan.now.model.interactions }
+    requires other { other.0 < length plan.now.model.interactions }
+    ensures { IsTrue result ↔ BothTouch plan.now inter.0 other.0 comp.0 }
+{
+    is_among(plan.touches(inter), comp) && is_among(plan.touches(other), comp)
+}
+
+/// Whether a component is among others.
+fn is_among(comps: &[CompId], comp: CompId) -> bool
+    ensures { IsTrue result ↔ Contains comps.now comp }
+{
+    comps.iter().any(|other| other.0 == comp.0)
+}

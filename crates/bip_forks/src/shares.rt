@@ -1,0 +1,146 @@
+//! What two stations share: a fork, and its request token.
+ghost use Rattle.std.specs.Prelude.{◌≡◌, ◌↔◌, IfSome, IfNone, IsTrue, None, Some, map, true};
+ghost use Rattle.std.specs.Prelude.{false};
+ghost use Rattle.bip_table.specs.Rows.{used_at};
+ghost use Rattle.bip_forks.specs.Stations.{AllLie, LiesHere, MayAsk, MayPass, other_of};
+ghost use Rattle.bip_forks.specs.Stations.{pair_of_stations, renumbered};
+ghost use Rattle.bip_forks.specs.Stations.{rewritten};
+
+use bip_bank::StationId;
+use bip_model::{Number, Seq};
+use bip_table::Row;
+
+/// Two stations that share a fork, the lower and the higher.
+#[derive(Clone, Copy, Debug, PartialEq, Eq)]
+pub(crate) struct Pair {
+    pub low: StationId,
+    pub high: StationId,
+}
+
+/// The request token of a fork.
+#[derive(Drop)]
+pub(crate) struct AskToken {
+    pub pair: Pair,
+}
+
+/// A fork: its two stations, and the number of each component that both touch.
+#[derive(Drop)]
+pub(crate) struct Fork {
+    pub pair: Pair,
+    pub rows: Seq<Row>,
+}
+
+/// What a station has of what it shares with another one: whether they share anything; the fork,
+/// if it lies here, and whether it is clean; and whether its request token is here.
+#[derive(Drop)]
+pub(crate) struct Side {
+    pub shared: bool,
+    pub fork: Option<Fork>,
+    pub clean: bool,
+    pub asked: bool,
+}
+
+/// The pair of two stations.
+pub(crate) fn pair_of_stations(one: StationId, other: StationId) -> Pair
+    ensures { result ≡ pair_of_stations one other }
+{
+    if one.0 < other.0 {
+        Pair {
+            low: one,
+            high: other,
+        }
+    } else {
+        Pair {
+            low: other,
+            high: one,
+        }
+    }
+}
+
+/// The other station of a pair that has this one.
+pub(crate) fn other_of(pair: Pair, station: StationId) -> Option<StationId>
+    ensures { result ≡ other_of pair station }
+{
+    if pair.low.0 == station.0 {
+        return Some(pair.high);
+    }
+    if pair.high.0 == station.0 {
+        return Some(pair.low);
+    }
+    None
+}
+
+/// Whether a station has all its forks.
+pub(crate) fn has_all(sides: &[Side]) -> bool
+    ensures { IsTrue result ↔ AllLie sides.now }
+{
+    sides.iter().all(|side| side.lies())
+}
+
+impl Side {
+    /// Whether the fork lies here, where one is shared.
+    fn lies(&self) -> bool
+        ensures { IsTrue result ↔ LiesHere self.now }
+    {
+        !self.shared || self.fork.is_some()
+    }
+
+    /// Whether the request token can go: it is here, and not the fork.
+    pub fn may_ask(&self) -> bool
+        ensures { IsTrue result ↔ MayAsk self.now }
+    {
+        self.asked && self.fork.is_none()
+    }
+
+    /// Whether the fork can go: the request token is here, and the fork, dirty.
+    pub fn may_pass(&self) -> bool
+        ensures { IsTrue result ↔ MayPass self.now }
+    {
+        self.asked && !self.clean && self.fork.is_some()
+    }
+
+    /// Lets the fork go, where it can.
+    pub fn pass(&mut self) -> Option<Fork>
+        ensures some { IfSome result (λ fork. MayPass self.old × (self.old.fork ≡ Some fork)
+            × (self.new ≡ record self.old { fork = None })) }
+        ensures none { IfNone result ((self.new ≡ self.old) × ¬ MayPass self.old) }
+    {
+        if !self.may_pass() {
+            return None;
+        }
+        self.fork.take()
+    }
+
+    /// Writes the numbers of a table's rows into the fork, if it lies here, which is dirty then.
+    pub fn write(&mut self, rows: &[Row])
+        ensures { self.new ≡ rewritten rows.now self.old }
+    {
+        self.clean = false;
+        if let Some(fork) = &mut self.fork {
+            write_rows(&mut fork.rows, rows);
+        }
+    }
+}
+
+/// The number of a component among rows; 0 without such a row.
+fn number_in(rows: &[Row], comp: u16) -> Number
+    ensures { result ≡ used_at rows.now comp }
+{
+    for row in rows {
+        if row.comp.0 == comp {
+            return row.used;
+        }
+    }
+    0
+}
+
+/// Writes the numbers of a table's rows into those of a fork.
+fn write_rows(fork: &mut Seq<Row>, rows: &[Row])
+    ensures { fork.new ≡ map (renumbered rows.now) fork.old }
+{
+    for place in 0..fork.len() {
+        let comp = fork.as_slice()[place].comp;
+        let used = number_in(rows, comp.0);
+        fork.set(place, Row { used, comp });
+    }
+}
