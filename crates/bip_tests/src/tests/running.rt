@@ -11,6 +11,7 @@ use crate::Second;
 use bip_bank::{Acted, Bank, BankStep, Central, StationId};
 use bip_component::Notified;
 use bip_core::{Did, Event, Report, What, World, run_steps};
+use bip_forks::Forks;
 use bip_ip::{Answered, Tried};
 use bip_model::{ClassId, CompId, Grant, InterId, Number};
 use bip_observe::{Receipt, Verdict};
@@ -47,6 +48,10 @@ const PASS_X_Y: Event = Event::Bank(BankStep::Pass(StationId(0), StationId(1)));
 
 const PASS_Y_X: Event = Event::Bank(BankStep::Pass(StationId(1), StationId(0)));
 
+const ASK_X_Y: Event = Event::Bank(BankStep::Ask(StationId(0), StationId(1)));
+
+const ASK_Y_X: Event = Event::Bank(BankStep::Ask(StationId(1), StationId(0)));
+
 const DELIVER: Event = Event::Bank(BankStep::Deliver(0));
 
 const DELIVER_1: Event = Event::Bank(BankStep::Deliver(1));
@@ -80,12 +85,13 @@ struct Run {
 }
 
 /// The grants of a new world above 0, over the central bank, over one that serves only what was
-/// delivered before, and over a token ring: for each the events, and what they come to.
+/// delivered before, over a token ring and over forks: for each the events, and what they come to.
 #[derive(Drop)]
 struct Alike {
     central: (&'static [Event], Report),
     second: (&'static [Event], Report),
     ring: (&'static [Event], Report),
+    forks: (&'static [Event], Report),
     trace: &'static str,
 }
 
@@ -154,12 +160,20 @@ fn run_alike(rt: &impl Abort, alloc: Global, plan: &Plan, runs: &Alike) {
     lead(rt, alloc, plan, second, runs.second, runs.trace);
     let ring = Ring::new(alloc, plan, 0).expect(rt, "memory");
     lead(rt, alloc, plan, ring, runs.ring, runs.trace);
+    let forks = Forks::new(alloc, plan, 0).expect(rt, "memory");
+    lead(rt, alloc, plan, forks, runs.forks, runs.trace);
 }
 
 /// Events of a new world above 0 over a token ring.
 fn run_ring(rt: &impl Abort, alloc: Global, plan: &Plan, run: &Run) {
     let ring = Ring::new(alloc, plan, 0).expect(rt, "memory");
     lead(rt, alloc, plan, ring, (run.events, run.report), run.trace);
+}
+
+/// Events of a new world above 0 over forks.
+fn run_forks(rt: &impl Abort, alloc: Global, plan: &Plan, run: &Run) {
+    let forks = Forks::new(alloc, plan, 0).expect(rt, "memory");
+    lead(rt, alloc, plan, forks, (run.events, run.report), run.trace);
 }
 
 /// Whether a class that tried an interaction said so.
@@ -257,6 +271,13 @@ fn the_first_that_is_served_is_granted(rt: HostRuntime) {
             ],
             report(12, 1, 1, 0),
         ),
+        forks: (
+            &[
+                OLDEST, OLDEST, OLDEST, OLDEST, TRY_X, TRY_Y, OLDEST, OLDEST, SERVE_X, ASK_Y_X,
+                DELIVER, PASS_X_Y, DELIVER, SERVE_Y,
+            ],
+            report(14, 1, 1, 0),
+        ),
         trace: "grant x A:1 R:1",
     };
     over_plan(&rt, rt.alloc(), COMPETE, &runs, run_alike);
@@ -284,6 +305,13 @@ fn the_other_one_is_if_it_is_served_first(rt: HostRuntime) {
                 SERVE_Y, PASS_Y_X, DELIVER, SERVE_X,
             ],
             report(14, 1, 1, 0),
+        ),
+        forks: (
+            &[
+                OLDEST, OLDEST, OLDEST, OLDEST, TRY_X, TRY_Y, OLDEST, OLDEST, ASK_Y_X, DELIVER,
+                PASS_X_Y, DELIVER, SERVE_Y, ASK_X_Y, DELIVER, PASS_Y_X, DELIVER, SERVE_X,
+            ],
+            report(18, 1, 1, 0),
         ),
         trace: "grant y B:1 R:1",
     };
@@ -316,6 +344,14 @@ fn one_below_waits_until_what_is_above_cannot_run(rt: HostRuntime) {
             ],
             report(23, 2, 0, 3),
         ),
+        forks: (
+            &[
+                OLDEST, OLDEST, OLDEST, OLDEST, OLDEST, TRY_X, TRY_Y, OLDEST, ASK_Y_X, DELIVER,
+                PASS_X_Y, DELIVER, SERVE_Y, TRY_X, OLDEST, SECOND, SECOND, TRY_X, OLDEST, SECOND,
+                TRY_X, THIRD, ASK_X_Y, DELIVER, PASS_Y_X, DELIVER, SERVE_X,
+            ],
+            report(27, 2, 0, 3),
+        ),
         trace: "grant y B:1 R:1\ngrant x A:1 R:2 see B:2",
     };
     over_plan(&rt, rt.alloc(), COMPETE_TWICE, &runs, run_alike);
@@ -343,6 +379,13 @@ fn an_offer_comes_late(rt: HostRuntime) {
             ],
             report(11, 1, 0, 0),
         ),
+        forks: (
+            &[
+                THIRD, FOURTH, TRY_Y, FOURTH, ASK_Y_X, DELIVER, PASS_X_Y, DELIVER, SERVE_Y, FOURTH,
+                FIFTH, FIFTH, THIRD,
+            ],
+            report(13, 1, 0, 0),
+        ),
         trace: "grant y B:1 R:1",
     };
     over_plan(&rt, rt.alloc(), COMPETE_TWICE, &runs, run_alike);
@@ -360,6 +403,34 @@ fn who_has_not_the_token_decides_nothing(rt: HostRuntime) {
         trace: "grant y B:1 R:1",
     };
     over_plan(&rt, rt.alloc(), COMPETE, &run, run_ring);
+}
+
+#[test]
+fn who_lacks_a_fork_asks_for_it(rt: HostRuntime) {
+    let run = Run {
+        base: 0,
+        events: &[
+            OLDEST, OLDEST, OLDEST, OLDEST, TRY_X, TRY_Y, OLDEST, OLDEST, SERVE_Y, ASK_Y_X,
+            DELIVER, PASS_X_Y, DELIVER, SERVE_Y, ASK_X_Y, DELIVER, PASS_Y_X, DELIVER, SERVE_X,
+        ],
+        report: report(19, 1, 1, 1),
+        trace: "grant y B:1 R:1",
+    };
+    over_plan(&rt, rt.alloc(), COMPETE, &run, run_forks);
+}
+
+#[test]
+fn a_clean_fork_stays_until_its_station_has_decided(rt: HostRuntime) {
+    let run = Run {
+        base: 0,
+        events: &[
+            OLDEST, OLDEST, OLDEST, OLDEST, TRY_X, TRY_Y, OLDEST, OLDEST, ASK_Y_X, DELIVER,
+            PASS_X_Y, DELIVER, ASK_X_Y, DELIVER, PASS_Y_X, SERVE_Y, PASS_Y_X, DELIVER, SERVE_X,
+        ],
+        report: report(19, 1, 1, 1),
+        trace: "grant y B:1 R:1",
+    };
+    over_plan(&rt, rt.alloc(), COMPETE, &run, run_forks);
 }
 
 #[test]
