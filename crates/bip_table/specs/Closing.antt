@@ -1,5 +1,5 @@
 -- Closing a locked table: what is compared, and why one isn't closed.
-use Rattle.std.specs.Prelude.{◌≡◌, ◌⊎◌, ℕ, ◌<◌, ◌≤◌, List, [], ◌∷◌, IsTrue, count_by, length}
+use Rattle.std.specs.Prelude.{◌≡◌, ◌⊎◌, ℕ, ◌<◌, List, [], ◌∷◌, IsTrue, count_by, length}
 use Rattle.std.specs.Prelude.{map, max, nat_lt, sum_by}
 use Rattle.bip_model.specs.Numbering.{IsLowest}
 use Rattle.bip_model.specs.Wants.{moved_in}
@@ -45,12 +45,14 @@ pub record IsClosedWith (o : Opened) (passes : List Passed) (t : KeptRows) : Typ
   pub told : (c : ℕ) → IsTrue (has_row t.rows c) → IsAsTold o.rows passes t c
 
 -- why a lock isn't closed: passes are missing, and the lock and those that there are come back; or
--- this is the lowest component whose row differs
+-- all are there, and have all grants together, but this is the lowest component whose row differs
 abbrev pub IsCloseFault : {L : Type 0} → Opened → List Passed → CloseFault L → Type 0
 IsCloseFault o passes (PassesMissing lock back) =
     (length passes < o.passes) × (lock ≡ o) × (back.items ≡ passes)
 IsCloseFault o passes (RowsDiffer c t) =
-    (o.passes ≤ length passes) × IsLowest (Differs o.rows passes t) c.0
+    (length passes ≡ o.passes)
+    × (length t.journal ≡ sum_by (λ (p : Passed). p.grants) passes)
+    × IsLowest (Differs o.rows passes t) c.0
 
 -- What contracts of private functions say.
 

@@ -1,6 +1,7 @@
 -- Passes: what one caller of a locked table was granted and shown, row by row.
-use Rattle.std.specs.Prelude.{ℕ, ◌+◌, ◌==◌, List, [], ◌∷◌, Result, Ok, Err, map, max}
+use Rattle.std.specs.Prelude.{ℕ, ◌+◌, Bool, ◌==◌, List, [], ◌∷◌, Result, Ok, Err, map, max}
 use Rattle.std.specs.Prelude.{if◌then◌else◌}
+use Rattle.std.specs.List.{list_any}
 use Rattle.bip_model.specs.Wants.{moved_in}
 use Rattle.bip_model.specs.declared.wants.Want.{Want}
 use Rattle.bip_table.specs.declared.faults.TableFault.TheVariants.{UnknownRow, Memory, Ended}
@@ -15,6 +16,10 @@ use Rattle.bip_table.specs.declared.rows.Row.{Row}
 pub record Passed : Type 0 where
   pub grants : ℕ
   pub tallies : List Tally
+
+-- whether a pass has a tally of a component
+abbrev pub has_tally : List Tally → ℕ → Bool
+has_tally ts c = list_any (λ (t : Tally). t.comp.0 == c) ts
 
 -- how many grants of a pass moved a component; 0 where it has no row
 abbrev pub count_at : List Tally → ℕ → ℕ

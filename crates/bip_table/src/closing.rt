@@ -20,7 +20,8 @@ impl<L: Ledger> TableLock<L> {
     /// rows and their floor are those of the opening, and of each row the grants that move it are
     /// as many as the passes count, and the used number is the greatest that they were shown. Where
     /// a pass is missing, the lock and the passes come back; where a row differs, the table does,
-    /// with the lowest such component (docs/LOCK.md, "Closing"). Takes no memory.
+    /// with the lowest such component, and as many grants as the passes have (docs/LOCK.md,
+    /// "Closing"). Takes no memory.
     pub fn close(self, passes: Vec<Pass<L>>) -> Result<Table, CloseFault<L>>
         ensures closed { IfOk result (λ t. IsClosedWith self passes.items t) }
         ensures fault { IfErr result (λ e. IsCloseFault self passes.items e) }
@@ -30,14 +31,15 @@ impl<L: Ledger> TableLock<L> {
         }
         let TableLock { inner, opening, .. } = self;
         let CountedTable { table, mut book } = inner.into_inner();
-        if let Some(comp) = first_differing(opening.as_slice(), passes.as_slice(), &table) {
-            return Err(CloseFault::RowsDiffer(comp, table));
-        }
+        let differing = first_differing(opening.as_slice(), passes.as_slice(), &table);
         if let Some(mut all) = join_shares(passes) {
             book.audit(&mut all);
         }
         let _grants = table.journal();
-        Ok(table)
+        match differing {
+            Some(comp) => Err(CloseFault::RowsDiffer(comp, table)),
+            None => Ok(table),
+        }
     }
 }
 

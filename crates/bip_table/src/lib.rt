@@ -13,7 +13,7 @@ mod reserving;
 mod rows;
 
 pub use faults::TableFault;
-pub use laws::table_laws;
+pub use laws::{lock_laws, table_laws};
 pub use locks::{CloseFault, TableLock};
 pub use passes::{Pass, Tally};
 pub use reservations::{Decision, Table};

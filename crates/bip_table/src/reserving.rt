@@ -29,7 +29,8 @@ pub trait Keep {
 
 impl<L: Ledger> TableLock<L> {
     /// Puts a table without grants behind a lock, with so many passes, each of which was granted
-    /// nothing and shown the floor. The ledger has a part for each pass.
+    /// nothing and shown the floor. The ledger has a part for each pass. Without memory the table
+    /// is given up.
     pub fn new(
         alloc: Global,
         blank: Blank,

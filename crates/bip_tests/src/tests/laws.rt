@@ -9,7 +9,7 @@ use bip_observe::{offer_laws, verdict_laws};
 use bip_partition::plan_laws;
 use bip_reader::meaning_laws;
 use bip_replay::{fault_laws, run_laws, trace_laws};
-use bip_table::table_laws;
+use bip_table::{lock_laws, table_laws};
 use bip_words::word_laws;
 
 #[test]
@@ -28,6 +28,7 @@ fn laws_can_be_called(_rt: HostRuntime) {
     run_laws();
     trace_laws();
     table_laws();
+    lock_laws();
     word_laws();
     bank_laws();
     component_laws();
