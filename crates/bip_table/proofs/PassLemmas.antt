@@ -8,7 +8,7 @@ use Rattle.std.proofs.lemmas.List.Elements.{All-head, All-map, All-tail, All-wea
 use Rattle.bip_model.specs.Wants.{moved_in}
 use Rattle.bip_model.specs.declared.wants.Want.{Want}
 use Rattle.bip_table.specs.Reserving.{NamesWanted}
-use Rattle.bip_table.specs.Passes.{count_at, first_tally, granted_by, tallies_after, tally_after_grant, tally_after_refusal}
+use Rattle.bip_table.specs.Passes.{Passed, count_at, first_tally, granted_by, tallies_after, tally_after_grant, tally_after_refusal}
 use Rattle.bip_table.specs.Reservations.{IsTableAnswer, KeptRows}
 use Rattle.bip_table.specs.declared.faults.TableFault.TheVariants.{UnknownRow, Memory, Ended, NotKept}
 use Rattle.bip_table.specs.declared.faults.TableFault.{TableFault}
@@ -44,13 +44,22 @@ named t wants (Err Ended) is = tt
 named t wants (Err NotKept) is = tt
 
 -- the counts of a pass are within its grants
-by_test : (b : Bool) (k n : ℕ) → k ≤ n → k + (if b then 0 else 1) ≤ n + 1
+by_test : (b : Bool) (k n : ℕ) → k + 1 ≤ n → k + (if b then 0 else 1) ≤ n
 by_test true k n within = omega (arith, within)
 by_test false k n within = omega (arith, within)
 
-pub counts_after : (wants : List Want) (ts : List Tally) (n : ℕ) → All (λ (t : Tally). t.count ≤ n) ts → All (λ (t : Tally). t.count ≤ n + 1) (map (tally_after_grant wants) ts)
+pub counts_after : (wants : List Want) (ts : List Tally) (n : ℕ) → All (λ (t : Tally). t.count + 1 ≤ n) ts → All (λ (t : Tally). t.count ≤ n) (map (tally_after_grant wants) ts)
 counts_after wants ts n all =
-    All-map (λ (t : Tally). t.count ≤ n + 1) (tally_after_grant wants) ts (All-weaker (λ (t : Tally). t.count ≤ n) (λ (t : Tally). (tally_after_grant wants t).count ≤ n + 1) (λ t within. by_test (moved_in wants t.comp.0 == 0) t.count n within) ts all)
+    All-map (λ (t : Tally). t.count ≤ n) (tally_after_grant wants) ts (All-weaker (λ (t : Tally). t.count + 1 ≤ n) (λ (t : Tally). (tally_after_grant wants t).count ≤ n) (λ t within. by_test (moved_in wants t.comp.0 == 0) t.count n within) ts all)
+
+-- the same of a pass as it is seen, after an answer that gives a grant
+pub counts_noted : (wants : List Want) (p q : Passed) (r : Result Decision TableFault) → p ≡ q → granted_by r ≡ 1 → All (λ (t : Tally). t.count + granted_by r ≤ q.grants) q.tallies → All (λ (t : Tally). t.count ≤ p.grants) (map (tally_after_grant wants) p.tallies)
+counts_noted wants p q r seen one few =
+    let here = subst (λ (u : Passed). All (λ (t : Tally). t.count + granted_by r ≤ u.grants) u.tallies) (sym seen) few in
+    counts_after wants p.tallies p.grants (subst (λ (n : ℕ). All (λ (t : Tally). t.count + n ≤ p.grants) p.tallies) one here)
+
+pub counts_given : (ts : List Tally) (n given m : ℕ) → m ≡ n + given → All (λ (t : Tally). t.count ≤ n) ts → All (λ (t : Tally). t.count + given ≤ m) ts
+counts_given ts n given m is all = All-weaker (λ (t : Tally). t.count ≤ n) (λ (t : Tally). t.count + given ≤ m) (λ t within. omega (arith, within, is)) ts all
 
 pub counts_told : (c used : ℕ) (ts : List Tally) (n : ℕ) → All (λ (t : Tally). t.count ≤ n) ts → All (λ (t : Tally). t.count ≤ n) (map (tally_after_refusal c used) ts)
 counts_told c used ts n all = All-map (λ (t : Tally). t.count ≤ n) (tally_after_refusal c used) ts all

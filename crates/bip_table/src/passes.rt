@@ -62,7 +62,8 @@ impl<L: Ledger> Pass<L> {
         shown_in(self.tallies.as_slice(), comp)
     }
 
-    /// Asks the table that lies under a lock.
+    /// Asks the table that lies under a lock, and counts a grant in its share. The answer has still
+    /// to be noted in the tallies: of each there is room for what it gives.
     pub(crate) fn ask(
         &mut self,
         counted: &mut CountedTable<L>,
@@ -71,20 +72,29 @@ impl<L: Ledger> Pass<L> {
         ensures answer { IsTableAnswer counted.old.table request.now.wants result }
         ensures left { IsTableAfter request.now result counted.old.table counted.new.table }
         ensures grants { self.new.grants ≡ self.old.grants + granted_by result }
-        ensures tallies { self.new.tallies
-            ≡ tallies_after request.now.wants result self.old.tallies }
+        ensures bound { self.new.grants < 2 ^ 64 }
+        ensures tallies { self.new.tallies ≡ self.old.tallies }
+        ensures few { All (λ (t : Tally). t.count + granted_by result ≤ self.new.grants)
+            self.new.tallies }
     {
-        let decided = counted.decide(&mut self.share, request);
-        match &decided {
-            Ok(Decision::Granted(_)) => {
-                note_grant(&mut self.tallies, request.wants.as_slice());
-            }
-            Ok(Decision::Refused { comp, used }) => {
-                note_refusal(&mut self.tallies, *comp, *used);
-            }
+        counted.decide(&mut self.share, request)
+    }
+
+    /// Notes an answer to wants in its tallies.
+    pub(crate) fn note(&mut self, wants: &[Want], answer: &Result<Decision, TableFault>)
+        requires bound { self.old.grants < 2 ^ 64 }
+        requires few { All (λ (t : Tally). t.count + granted_by answer.now ≤ self.old.grants)
+            self.old.tallies }
+        ensures grants { self.new.grants ≡ self.old.grants }
+        ensures tallies { self.new.tallies
+            ≡ tallies_after wants.now answer.now self.old.tallies }
+    {
+        match answer {
+            Ok(Decision::Granted(_)) => note_grant(&mut self.tallies, wants),
+            Err(TableFault::NotKept) => note_grant(&mut self.tallies, wants),
+            Ok(Decision::Refused { comp, used }) => note_refusal(&mut self.tallies, *comp, *used),
             Err(_) => {}
         }
-        decided
     }
 }
 

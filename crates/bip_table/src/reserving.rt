@@ -73,7 +73,9 @@ impl<L: Ledger> TableLock<L> {
         ensures grants { pass.new.grants ≡ pass.old.grants + granted_by result }
         ensures tallies { pass.new.tallies ≡ tallies_after request.wants result pass.old.tallies }
     {
-        pass.ask(&mut *self.inner.lock(rt), &request)
+        let decided = pass.ask(&mut *self.inner.lock(rt), &request);
+        pass.note(request.wants.as_slice(), &decided);
+        decided
     }
 
     /// Asks as `reserve` does, and hands a grant to a keeper before the lock is let go. Where the
@@ -92,18 +94,19 @@ impl<L: Ledger> TableLock<L> {
         ensures keeper { IsKeeperAfter K.keeps (grant_of request) keeper.old result keeper.new }
     {
         let mut counted = self.inner.lock(rt);
-        let decided = pass.ask(&mut *counted, &request);
-        let Ok(Decision::Granted(_)) = &decided else {
-            return decided;
-        };
-        let grant = Grant {
-            inter: request.inter,
-            wants: request.wants.copy(),
-        };
-        if !keeper.keep(rt, &grant) {
-            return Err(TableFault::NotKept);
+        let mut answer = pass.ask(&mut *counted, &request);
+        if let Ok(Decision::Granted(_)) = &answer {
+            let grant = Grant {
+                inter: request.inter,
+                wants: request.wants.copy(),
+            };
+            if !keeper.keep(rt, &grant) {
+                answer = Err(TableFault::NotKept);
+            }
         }
-        decided
+        drop(counted);
+        pass.note(request.wants.as_slice(), &answer);
+        answer
     }
 }
 
