@@ -45,7 +45,7 @@ use Rattle.bip_forks.specs.Laws.{content, sharing_of}
 use Rattle.bip_bank.specs.Sharing.{forks}
 use Rattle.bip_model.specs.Priorities.{inter}
 use Rattle.bip_partition.specs.Plans.{IsReserved}
-use Rattle.bip_forks.specs.Machines.{Applies, IsForkStep, AreForks, HasAll, IsListed, LyingFork, Machine, grants_after, used_in}
+use Rattle.bip_forks.specs.Machines.{Applies, IsForkStep, AreForks, HasAll, IsListed, LyingFork, Machine, grants_after, used_by_all}
 use Rattle.bip_forks.proofs.StepLemmas.{taken_in}
 use Rattle.bip_model.specs.Numbering.{put}
 use Rattle.bip_forks.specs.Stations.{AllLie, IsServedHere, KeptStation, LiesHere, nothing_shared, pair_of_stations, renumbered, rewritten, side_with}
@@ -143,7 +143,7 @@ rows_read f a (suc n) c = elim (eqb_tells a c) [
       (λ row. rw other.0 (rest.0 (rw other.0 at row)), λ above below. rw other.0 (rest.1 (omega (arith, above, other.1)) (omega (arith, below))))
 ]
 
-used_beyond : (k : KeptForks) (c : ℕ) → IsKeptForks k → length k.plan.model.components ≤ c → used_in (net_of k) k.parts.grants c ≡ k.base
+used_beyond : (k : KeptForks) (c : ℕ) → IsKeptForks k → length k.plan.model.components ≤ c → used_by_all (net_of k) k.parts.grants c ≡ k.base
 used_beyond k c is beyond =
     let greatest = greatest_used (λ d. k.base) k.parts.grants c in
     elim greatest.reached [
@@ -154,13 +154,13 @@ used_beyond k c is beyond =
       ]
     ]
 
-used_is : (k : KeptForks) → IsKeptForks k → used_above k.base (kept_forks k).rows ≡ used_in (net_of k) k.parts.grants
+used_is : (k : KeptForks) → IsKeptForks k → used_above k.base (kept_forks k).rows ≡ used_by_all (net_of k) k.parts.grants
 used_is k is = fun_ext (λ c. by_row c (has_row (kept_forks k).rows c) refl)
   where
-    by_row : (c : ℕ) (b : Bool) → has_row (kept_forks k).rows c ≡ b → cond b (used_at (kept_forks k).rows c) k.base ≡ used_in (net_of k) k.parts.grants c
-    by_row c true row = (rows_read (used_in (net_of k) k.parts.grants) 0 (length k.plan.model.components) c).0 row
+    by_row : (c : ℕ) (b : Bool) → has_row (kept_forks k).rows c ≡ b → cond b (used_at (kept_forks k).rows c) k.base ≡ used_by_all (net_of k) k.parts.grants c
+    by_row c true row = (rows_read (used_by_all (net_of k) k.parts.grants) 0 (length k.plan.model.components) c).0 row
     by_row c false none = elim (cases_lt c (length k.plan.model.components)) [
-      | inl known ↦ absurd (true≢false (sym ((rows_read (used_in (net_of k) k.parts.grants) 0 (length k.plan.model.components) c).1 (omega arith) (omega (arith, known))) ∙ none))
+      | inl known ↦ absurd (true≢false (sym ((rows_read (used_by_all (net_of k) k.parts.grants) 0 (length k.plan.model.components) c).1 (omega arith) (omega (arith, known))) ∙ none))
       | inr beyond ↦ sym (used_beyond k c is beyond)
     ]
 
@@ -337,4 +337,4 @@ submitted_stays k s x y (Err e) within at err = ap (λ (j : KeptForks). content_
 
 -- without grants all used numbers are the base
 pub unused : (k : KeptForks) → IsKeptForks k → k.parts.grants ≡ [] → used_above k.base (kept_forks k).rows ≡ (λ c. k.base)
-unused k is none = used_is k is ∙ ap (λ (gs : List Grant). used_in (net_of k) gs) none
+unused k is none = used_is k is ∙ ap (λ (gs : List Grant). used_by_all (net_of k) gs) none

@@ -18,7 +18,7 @@ use Rattle.bip_table.specs.Reservations.{IsDecision, IsUsedUp}
 use Rattle.bip_table.specs.declared.reservations.Decision.{Decision}
 use Rattle.bip_table.specs.declared.reservations.Decision.TheVariants.{Granted, Refused}
 use Rattle.bip_bank.specs.Laws.{IsAllowed}
-use Rattle.bip_forks.specs.Machines.{AreRaised, AtBoth, AtStation, LyingFork, HasAll, Holds, IsNet, Net, Owns, ShareFork, used_in}
+use Rattle.bip_forks.specs.Machines.{AreRaised, AtBoth, AtStation, LyingFork, HasAll, Holds, IsNet, Net, Owns, ShareFork, used_by_all}
 
 -- a want that moves a component, where wants move it
 pub record Moving (ws : List Want) (c : ℕ) : Type 0 where
@@ -48,7 +48,7 @@ want_touches m a ws c parties at = by_role at.1.role refl
     by_role Seen role = inr ((parties.seen c).0 (at.0, at.1, at.2, at.3, (at.4, role)))
 
 -- the used number is at most what is at least the base and each number of a grant
-pub used_least : (n : Net) (gs : List Grant) (c k : ℕ) → n.base ≤ k → ((g : Grant) → Contains gs g → moved_in g.wants c ≤ k) → used_in n gs c ≤ k
+pub used_least : (n : Net) (gs : List Grant) (c k : ℕ) → n.base ≤ k → ((g : Grant) → Contains gs g → moved_in g.wants c ≤ k) → used_by_all n gs c ≤ k
 used_least n gs c k above each =
     let greatest = greatest_used (λ d. n.base) gs c in
     elim greatest.reached [
@@ -57,13 +57,13 @@ used_least n gs c k above each =
     ]
 
 -- and at least each of these
-pub used_most : (n : Net) (gs : List Grant) (c : ℕ) (g : Grant) → Contains gs g → moved_in g.wants c ≤ used_in n gs c
-used_most n gs c g has = All-contains (λ (h : Grant). moved_in h.wants c ≤ used_in n gs c) gs g (greatest_used (λ d. n.base) gs c).moves_within has
+pub used_most : (n : Net) (gs : List Grant) (c : ℕ) (g : Grant) → Contains gs g → moved_in g.wants c ≤ used_by_all n gs c
+used_most n gs c g has = All-contains (λ (h : Grant). moved_in h.wants c ≤ used_by_all n gs c) gs g (greatest_used (λ d. n.base) gs c).moves_within has
 
-pub used_above_base : (n : Net) (gs : List Grant) (c : ℕ) → n.base ≤ used_in n gs c
+pub used_above_base : (n : Net) (gs : List Grant) (c : ℕ) → n.base ≤ used_by_all n gs c
 used_above_base n gs c = (greatest_used (λ d. n.base) gs c).floor_within
 
-pub used_goes_on : (n : Net) (gs : List Grant) (g : Grant) (c : ℕ) → used_in n gs c ≤ used_in n (gs ++ g ∷ []) c
+pub used_goes_on : (n : Net) (gs : List Grant) (g : Grant) (c : ℕ) → used_by_all n gs c ≤ used_by_all n (gs ++ g ∷ []) c
 used_goes_on n gs g c = omega (arith, ap (λ (u : ℕ → ℕ). u c) (used_by-push (λ d. n.base) gs g))
 
 pub both_swap : (n : Net) (s t c : ℕ) → AtBoth n s t c → AtBoth n t s c
@@ -94,13 +94,13 @@ holds_swap n gs s t numbers holds = record {
 -- the raised rows of a station that has all its forks say the used numbers of all grants
 pub rows_exact : (n : Net) (gs : List Grant) (forks : ℕ → ℕ → Option LyingFork) (used : ℕ → ℕ) (s : ℕ) (rows : ℕ → ℕ) → IsNet n → ((g : Grant) → Contains gs g → IsAllowed n.plan g)
     → ((t : ℕ) (f : LyingFork) → forks s t ≡ Some f → Holds n gs s t f.numbers) → Owns n gs s used → s < n.count → HasAll n forks s → AreRaised n forks used s rows
-    → (c : ℕ) → AtStation n s c → rows c ≡ used_in n gs c
+    → (c : ℕ) → AtStation n s c → rows c ≡ used_by_all n gs c
 rows_exact n gs forks used s rows net allowed hold own station complete raised' c at =
-    let below : rows c ≤ used_in n gs c = elim (raised'.reached c at) [
+    let below : rows c ≤ used_by_all n gs c = elim (raised'.reached c at) [
       | inl same ↦ omega (arith, same, own.most c at)
       | inr by ↦ omega (arith, by.5, (hold by.0 by.1 by.3).most c by.4)
     ] in
-    let above : used_in n gs c ≤ rows c = used_least n gs c (rows c) (omega (arith, own.floor c at, raised'.own c at)) each in
+    let above : used_by_all n gs c ≤ rows c = used_least n gs c (rows c) (omega (arith, own.floor c at, raised'.own c at)) each in
     omega (arith, below, above)
   where
     each : (g : Grant) → Contains gs g → moved_in g.wants c ≤ rows c

@@ -28,7 +28,7 @@ use Rattle.bip_forks.proofs.SharingLemmas.{map_twice, table_at}
 use Rattle.bip_forks.proofs.StepLemmas.{begins}
 use Rattle.bip_forks.proofs.ViewLemmas.{in_place}
 use Rattle.bip_forks.specs.Kept.{IsKeptForks, KeptForks, kept_forks, lying, machine_of, net_of, no_station, side_at, station_at, waiting_of}
-use Rattle.bip_forks.specs.Laws.{AreNew, sharing_of, side_between, state_of}
+use Rattle.bip_forks.specs.Laws.{AreNew, sharing_of, side_between, fork_state}
 use Rattle.bip_forks.specs.Machines.{IsNet, LyingFork, Machine, ShareFork}
 use Rattle.bip_forks.specs.Opening.{AreFirstStations, IsCommon, IsFirstShare, IsFirstSide, IsFirstStation, IsNewForks, rows_with}
 use Rattle.bip_forks.specs.Stations.{KeptStation, pair_of_stations}
@@ -247,17 +247,17 @@ shared_first p base inters stations are s t one other =
     token_is false true same = same.1 refl
     token_is false false same = refl
 
-    by_test : (v : Bool) → (side_at stations s t).shared ≡ v → IsFirstShare p s (station_at stations s).inter.0 t (station_at stations t).inter.0 (cond v (Some (record { fork = state_of (lying (side_at stations s t)); token = (side_at stations s t).asked })) None)
+    by_test : (v : Bool) → (side_at stations s t).shared ≡ v → IsFirstShare p s (station_at stations s).inter.0 t (station_at stations t).inter.0 (cond v (Some (record { fork = fork_state (lying (side_at stations s t)); token = (side_at stations s t).asked })) None)
     by_test true shared = record {
       none = λ not. absurd (not (is.shared.0 shared));
       lower = λ of below.
           let f = is.fork shared below in
-          let state : state_of (lying (side_at stations s t)) ≡ dirty = ap state_of (lying_of (side_at stations s t) f.0 f.1) ∙ ap {B = ForkState} (λ (b : Bool). cond b clean dirty) is.clean in
+          let state : fork_state (lying (side_at stations s t)) ≡ dirty = ap fork_state (lying_of (side_at stations s t) f.0 f.1) ∙ ap {B = ForkState} (λ (b : Bool). cond b clean dirty) is.clean in
           ap {B = Option ForkSide} (λ (x : ForkState). Some (record { fork = x; token = (side_at stations s t).asked })) state
           ∙ ap {B = Option ForkSide} (λ (b : Bool). Some (record { fork = dirty; token = b })) (token_is (side_at stations s t).asked false (λ asked. absurd (omega (arith, below, (is.asked.0 asked).1)), λ e. absurd (false≢true e)));
       higher = λ of above.
           let none : (side_at stations s t).fork ≡ None = is.away (λ both. omega (arith, above, both.1)) in
-          ap {B = Option ForkSide} (λ (x : Option Fork). Some (record { fork = state_of (option_map (λ (f : Fork). record { clean = (side_at stations s t).clean; numbers = used_at f.rows }) x); token = (side_at stations s t).asked })) none
+          ap {B = Option ForkSide} (λ (x : Option Fork). Some (record { fork = fork_state (option_map (λ (f : Fork). record { clean = (side_at stations s t).clean; numbers = used_at f.rows }) x); token = (side_at stations s t).asked })) none
           ∙ ap {B = Option ForkSide} (λ (b : Bool). Some (record { fork = away; token = b })) (token_is (side_at stations s t).asked true (λ asked. refl, λ e. is.asked.1 (shared, above)));
     }
     by_test false none = record {

@@ -17,7 +17,7 @@ use Rattle.bip_bank.specs.Central.{IsOpen}
 use Rattle.bip_bank.specs.Laws.{IsAllowed}
 use Rattle.bip_forks.proofs.CountLemmas.{flies, flies_back}
 use Rattle.bip_forks.proofs.HoldLemmas.{rows_exact, share_swap, used_above_base, used_goes_on, used_most}
-use Rattle.bip_forks.specs.Machines.{AreForks, AtBoth, AtStation, LyingFork, Machine, Holds, IsServed, IsForkWritten, Net, Owns, ShareFork, flying, grants_after, here, rows_after, sent_fork, serial_after, used_in}
+use Rattle.bip_forks.specs.Machines.{AreForks, AtBoth, AtStation, LyingFork, Machine, Holds, IsServed, IsForkWritten, Net, Owns, ShareFork, flying, grants_after, here, rows_after, sent_fork, serial_after, used_by_all}
 
 -- a value of a function with another row is of that row, or was there
 pub row_cases : {X : Type 0} (f : ℕ → ℕ → X) (s : ℕ) (g : ℕ → X) (i j : ℕ) (y : X) → put f s g i j ≡ y
@@ -28,15 +28,15 @@ row_cases f s g i j y is = elim (eqb_tells i s) [
 ]
 
 -- the raised rows, and what is left of them, say the used numbers
-pub served_exact : (m later : Machine) (s : ℕ) (q : Request) (d : Decision) → AreForks m → (is : IsServed m s q d later) → (c : ℕ) → AtStation m.net s c → is.rows c ≡ used_in m.net m.grants c
+pub served_exact : (m later : Machine) (s : ℕ) (q : Request) (d : Decision) → AreForks m → (is : IsServed m s q d later) → (c : ℕ) → AtStation m.net s c → is.rows c ≡ used_by_all m.net m.grants c
 served_exact m later s q d are is c at =
     rows_exact m.net m.grants m.forks (m.used s) s is.rows are.net are.allowed (λ t f lies. are.hold s t f lies) (are.own s is.station) is.station is.complete is.raised c at
 
-after_exact : (n : Net) (gs : List Grant) (rows : ℕ → ℕ) (q : Request) (d : Decision) (c : ℕ) → rows c ≡ used_in n gs c → rows_after rows q d c ≡ used_in n (grants_after gs q d) c
+after_exact : (n : Net) (gs : List Grant) (rows : ℕ → ℕ) (q : Request) (d : Decision) (c : ℕ) → rows c ≡ used_by_all n gs c → rows_after rows q d c ≡ used_by_all n (grants_after gs q d) c
 after_exact n gs rows q (Granted k) c same = ap (λ x. max x (moved_in q.wants c)) same ∙ sym (ap (λ (u : ℕ → ℕ). u c) (used_by-push (λ e. n.base) gs (grant_of q)))
 after_exact n gs rows q (Refused e k) c same = same
 
-used_after : (n : Net) (gs : List Grant) (q : Request) (d : Decision) (c : ℕ) → used_in n gs c ≤ used_in n (grants_after gs q d) c
+used_after : (n : Net) (gs : List Grant) (q : Request) (d : Decision) (c : ℕ) → used_by_all n gs c ≤ used_by_all n (grants_after gs q d) c
 used_after n gs q (Granted k) c = used_goes_on n gs (grant_of q) c
 used_after n gs q (Refused e k) c = omega arith
 
@@ -147,7 +147,7 @@ served m later s q d are is = subst AreForks (sym is.after) (record {
     fit : IsOpen m.net.plan (m.net.inter s) q
     fit = are.fit (m.net.inter s) q (rw is.oldest (Contains-head q is.rest))
 
-    exact : (c : ℕ) → AtStation m.net s c → rows_after is.rows q d c ≡ used_in m.net (grants_after m.grants q d) c
+    exact : (c : ℕ) → AtStation m.net s c → rows_after is.rows q d c ≡ used_by_all m.net (grants_after m.grants q d) c
     exact c at = after_exact m.net m.grants is.rows q d c (served_exact m later s q d are is c at)
 
     stays : (t : ℕ) → here (is.forks t) ≡ here (m.forks s t)

@@ -29,11 +29,11 @@ use Rattle.bip_bank.specs.declared.banks.BankStep.TheVariants.{Ask, Deliver, Pas
 use Rattle.bip_bank.specs.declared.banks.StationId.{StationId}
 use Rattle.bip_forks.proofs.HoldLemmas.{decision_same, fresh_same, rows_exact, share_swap, want_touches}
 use Rattle.bip_forks.proofs.ServeLemmas.{served_exact}
-use Rattle.bip_forks.specs.Laws.{ForksAreABank, content, parcel_of, sharing_of, side_between, state_of, table_of}
-use Rattle.bip_forks.specs.Machines.{AreForks, Applies, CanServe, HasAll, IsListed, IsStationAsked, IsAskedFor, HasArrived, IsPassed, IsServed, IsForkWritten, LyingFork, Machine, Net, Sending, ShareFork, arrived, grants_after, put_at_two, rows_after, sent_fork, sent_token, used_in}
+use Rattle.bip_forks.specs.Laws.{ForksAreABank, content, parcel_of, sharing_of, side_between, fork_state, table_of}
+use Rattle.bip_forks.specs.Machines.{AreForks, Applies, CanServe, HasAll, IsListed, IsStationAsked, IsAskedFor, HasArrived, IsPassed, IsServed, IsForkWritten, LyingFork, Machine, Net, Sending, ShareFork, arrived, grants_after, put_at_two, rows_after, sent_fork, sent_token, used_by_all}
 
 -- what is known of a state
-dirty_here : (x : Option LyingFork) → state_of x ≡ dirty → (f : LyingFork) × (x ≡ Some f) × (f.clean ≡ false)
+dirty_here : (x : Option LyingFork) → fork_state x ≡ dirty → (f : LyingFork) × (x ≡ Some f) × (f.clean ≡ false)
 dirty_here None is = cc
 dirty_here (Some f) is = by_test f.clean refl is
   where
@@ -41,7 +41,7 @@ dirty_here (Some f) is = by_test f.clean refl is
     by_test true was is' = cc
     by_test false was is' = (f, refl, was)
 
-away_here : (x : Option LyingFork) → state_of x ≡ away → x ≡ None
+away_here : (x : Option LyingFork) → fork_state x ≡ away → x ≡ None
 away_here None is = refl
 away_here (Some f) is = by_test f.clean is
   where
@@ -49,10 +49,10 @@ away_here (Some f) is = by_test f.clean is
     by_test true is' = cc
     by_test false is' = cc
 
-is_dirty : (x : Option LyingFork) (f : LyingFork) → x ≡ Some f → f.clean ≡ false → state_of x ≡ dirty
-is_dirty x f same unclean = ap state_of same ∙ ap {B = ForkState} (λ (b : Bool). cond b clean dirty) unclean
+is_dirty : (x : Option LyingFork) (f : LyingFork) → x ≡ Some f → f.clean ≡ false → fork_state x ≡ dirty
+is_dirty x f same unclean = ap fork_state same ∙ ap {B = ForkState} (λ (b : Bool). cond b clean dirty) unclean
 
-not_away : (x : Option LyingFork) (f : LyingFork) → x ≡ Some f → state_of x ≡ away → ⊥
+not_away : (x : Option LyingFork) (f : LyingFork) → x ≡ Some f → fork_state x ≡ away → ⊥
 not_away x f same is = let none = away_here x is in none_some (sym none ∙ same)
   where
     none_some : None ≡ Some f → ⊥
@@ -60,53 +60,53 @@ not_away x f same is = let none = away_here x is in none_some (sym none ∙ same
 
 -- what a station has of what it shares
 side_cases : (shares : ℕ → ℕ → Bool) (lying : ℕ → ℕ → Option LyingFork) (tokens : ℕ → ℕ → Bool) (s t : ℕ) (side : ForkSide) → side_between shares lying tokens s t ≡ Some side
-    → (shares s t ≡ true) × (side.fork ≡ state_of (lying s t)) × (side.token ≡ tokens s t)
+    → (shares s t ≡ true) × (side.fork ≡ fork_state (lying s t)) × (side.token ≡ tokens s t)
 side_cases shares lying tokens s t side is = by_test (shares s t) refl is
   where
-    by_test : (b : Bool) → shares s t ≡ b → cond b (Some (record { fork = state_of (lying s t); token = tokens s t })) None ≡ Some side
-        → (shares s t ≡ true) × (side.fork ≡ state_of (lying s t)) × (side.token ≡ tokens s t)
+    by_test : (b : Bool) → shares s t ≡ b → cond b (Some (record { fork = fork_state (lying s t); token = tokens s t })) None ≡ Some side
+        → (shares s t ≡ true) × (side.fork ≡ fork_state (lying s t)) × (side.token ≡ tokens s t)
     by_test true was is' =
-        let same : side ≡ record { fork = state_of (lying s t); token = tokens s t } = cc in
+        let same : side ≡ record { fork = fork_state (lying s t); token = tokens s t } = cc in
         (was, ap (λ (x : ForkSide). x.fork) same, ap (λ (x : ForkSide). x.token) same)
     by_test false was is' = cc
 
-side_here : (shares : ℕ → ℕ → Bool) (lying : ℕ → ℕ → Option LyingFork) (tokens : ℕ → ℕ → Bool) (s t : ℕ) → shares s t ≡ true → side_between shares lying tokens s t ≡ Some (record { fork = state_of (lying s t); token = tokens s t })
+side_here : (shares : ℕ → ℕ → Bool) (lying : ℕ → ℕ → Option LyingFork) (tokens : ℕ → ℕ → Bool) (s t : ℕ) → shares s t ≡ true → side_between shares lying tokens s t ≡ Some (record { fork = fork_state (lying s t); token = tokens s t })
 side_here shares lying tokens s t is = rw is refl
 
 -- with another fork, or another token, at a pair
 put_fork : (shares : ℕ → ℕ → Bool) (lying : ℕ → ℕ → Option LyingFork) (tokens : ℕ → ℕ → Bool) (a b : ℕ) (x : Option LyingFork) → shares a b ≡ true
-    → side_between shares (put_at_two lying a b x) tokens ≡ put_at_two (side_between shares lying tokens) a b (Some (record { fork = state_of x; token = tokens a b }))
+    → side_between shares (put_at_two lying a b x) tokens ≡ put_at_two (side_between shares lying tokens) a b (Some (record { fork = fork_state x; token = tokens a b }))
 put_fork shares lying tokens a b x share = fun_ext (λ s. fun_ext (λ t. by_test s t (eqb s a && eqb t b) refl))
   where
     by_test : (s t : ℕ) (c : Bool) → (eqb s a && eqb t b) ≡ c
-        → cond (shares s t) (Some (record { fork = state_of (cond c x (lying s t)); token = tokens s t })) None
-        ≡ cond c (Some (record { fork = state_of x; token = tokens a b })) (side_between shares lying tokens s t)
+        → cond (shares s t) (Some (record { fork = fork_state (cond c x (lying s t)); token = tokens s t })) None
+        ≡ cond c (Some (record { fork = fork_state x; token = tokens a b })) (side_between shares lying tokens s t)
     by_test s t true both =
         let parts = and_parts (eqb s a) (eqb t b) both in
         rw (eqb-true s a parts.0, eqb-true t b parts.1, share) refl
     by_test s t false other = refl
 
 put_token : (shares : ℕ → ℕ → Bool) (lying : ℕ → ℕ → Option LyingFork) (tokens : ℕ → ℕ → Bool) (a b : ℕ) (x : Bool) → shares a b ≡ true
-    → side_between shares lying (put_at_two tokens a b x) ≡ put_at_two (side_between shares lying tokens) a b (Some (record { fork = state_of (lying a b); token = x }))
+    → side_between shares lying (put_at_two tokens a b x) ≡ put_at_two (side_between shares lying tokens) a b (Some (record { fork = fork_state (lying a b); token = x }))
 put_token shares lying tokens a b x share = fun_ext (λ s. fun_ext (λ t. by_test s t (eqb s a && eqb t b) refl))
   where
     by_test : (s t : ℕ) (c : Bool) → (eqb s a && eqb t b) ≡ c
-        → cond (shares s t) (Some (record { fork = state_of (lying s t); token = cond c x (tokens s t) })) None
-        ≡ cond c (Some (record { fork = state_of (lying a b); token = x })) (side_between shares lying tokens s t)
+        → cond (shares s t) (Some (record { fork = fork_state (lying s t); token = cond c x (tokens s t) })) None
+        ≡ cond c (Some (record { fork = fork_state (lying a b); token = x })) (side_between shares lying tokens s t)
     by_test s t true both =
         let parts = and_parts (eqb s a) (eqb t b) both in
         rw (eqb-true s a parts.0, eqb-true t b parts.1, share) refl
     by_test s t false other = refl
 
 -- with other forks of a station, all of them dirty
-put_dirty : (shares : ℕ → ℕ → Bool) (lying : ℕ → ℕ → Option LyingFork) (tokens : ℕ → ℕ → Bool) (s : ℕ) (g : ℕ → Option LyingFork) → ((t : ℕ) → shares s t ≡ true → state_of (g t) ≡ dirty)
+put_dirty : (shares : ℕ → ℕ → Bool) (lying : ℕ → ℕ → Option LyingFork) (tokens : ℕ → ℕ → Bool) (s : ℕ) (g : ℕ → Option LyingFork) → ((t : ℕ) → shares s t ≡ true → fork_state (g t) ≡ dirty)
     → side_between shares (put lying s g) tokens ≡ put (side_between shares lying tokens) s (λ t. with_dirty (side_between shares lying tokens s t))
 put_dirty shares lying tokens s g made = fun_ext (λ i. fun_ext (λ t. elim (eqb_tells i s) [
   | inl same ↦ rw (same.0, same.1) (row t (shares s t) refl)
   | inr other ↦ rw other.0 refl
 ]))
   where
-    row : (t : ℕ) (b : Bool) → shares s t ≡ b → cond b (Some (record { fork = state_of (g t); token = tokens s t })) None ≡ with_dirty (cond b (Some (record { fork = state_of (lying s t); token = tokens s t })) None)
+    row : (t : ℕ) (b : Bool) → shares s t ≡ b → cond b (Some (record { fork = fork_state (g t); token = tokens s t })) None ≡ with_dirty (cond b (Some (record { fork = fork_state (lying s t); token = tokens s t })) None)
     row t true is = ap {B = Option ForkSide} (λ (x : ForkState). Some (record { fork = x; token = tokens s t })) (made t is)
     row t false is = refl
 
@@ -180,7 +180,7 @@ same_sharing a b x y sides' flight' = rw (sides', flight') refl
 abbrev between : Machine → ℕ → ℕ → Option ForkSide
 between m = side_between m.net.shares m.forks m.tokens
 
-side_is : (m : Machine) (s t : ℕ) (x : ForkState) (k : Bool) → ShareFork m.net s t → m.net.shares s t ≡ true → state_of (m.forks s t) ≡ x → m.tokens s t ≡ k → side_of (sharing_of m).sides s t ≡ Some (record { fork = x; token = k })
+side_is : (m : Machine) (s t : ℕ) (x : ForkState) (k : Bool) → ShareFork m.net s t → m.net.shares s t ≡ true → fork_state (m.forks s t) ≡ x → m.tokens s t ≡ k → side_of (sharing_of m).sides s t ≡ Some (record { fork = x; token = k })
 side_is m s t x k share is state token =
     table_at (between m) m.net.count s t share.one share.other
     ∙ (side_here m.net.shares m.forks m.tokens s t is
@@ -188,7 +188,7 @@ side_is m s t x k share is state token =
     ∙ ap {B = Option ForkSide} (λ (j : Bool). Some (record { fork = x; token = j })) token))
 
 -- what is read of what stations share
-side_read : (m : Machine) (s t : ℕ) (side : ForkSide) → side_of (sharing_of m).sides s t ≡ Some side → (m.net.shares s t ≡ true) × (side.fork ≡ state_of (m.forks s t)) × (side.token ≡ m.tokens s t)
+side_read : (m : Machine) (s t : ℕ) (side : ForkSide) → side_of (sharing_of m).sides s t ≡ Some side → (m.net.shares s t ≡ true) × (side.fork ≡ fork_state (m.forks s t)) × (side.token ≡ m.tokens s t)
 side_read m s t side is = side_cases m.net.shares m.forks m.tokens s t side (table_has (between m) m.net.count s t side is)
 
 -- a station has all its forks, whether numbers are looked at or not
@@ -196,7 +196,7 @@ has_all_of : (m : Machine) (s : ℕ) → AreForks m → HasEachFork (sharing_of 
 has_all_of m s are each = λ t share. by_lying t (m.forks s t) refl share
   where
     by_lying : (t : ℕ) (x : Option LyingFork) → m.forks s t ≡ x → ShareFork m.net s t → (f : LyingFork) × (m.forks s t ≡ Some f)
-    by_lying t None is share = absurd (each t (record { fork = state_of (m.forks s t); token = m.tokens s t }) (side_is m s t (state_of (m.forks s t)) (m.tokens s t) share ((are.net.share s t).1 share) refl refl) (ap state_of is))
+    by_lying t None is share = absurd (each t (record { fork = fork_state (m.forks s t); token = m.tokens s t }) (side_is m s t (fork_state (m.forks s t)) (m.tokens s t) share ((are.net.share s t).1 share) refl refl) (ap fork_state is))
     by_lying t (Some f) is share = (f, is)
 
 pub each_of : (m : Machine) (s : ℕ) → AreForks m → HasAll m.net m.forks s → HasEachFork (sharing_of m) s
@@ -267,8 +267,8 @@ does_ask m later s t are is = subst (DoesInBank m (Ask s t) Moved) (sym is.after
     (
       asked_oldest m s.0 are (are.token_shared s.0 t.0 is.asked).one is.waits,
       record {
-        here = side_is m s.0 t.0 away true sharing share (ap state_of is.away) is.asked;
-        after = same_sharing _ _ _ _ (ap (table_of m.net.count) (put_token m.net.shares m.forks m.tokens s.0 t.0 false share) ∙ (table_put (between m) m.net.count s.0 t.0 (Some (record { fork = state_of (m.forks s.0 t.0); token = false })) sharing.one sharing.other ∙ ap (λ (x : Option LyingFork). with_side (sharing_of m).sides s.0 t.0 (Some (record { fork = state_of x; token = false }))) is.away)) (map-append parcel_of m.flight (sent_token s.0 t.0 ∷ []));
+        here = side_is m s.0 t.0 away true sharing share (ap fork_state is.away) is.asked;
+        after = same_sharing _ _ _ _ (ap (table_of m.net.count) (put_token m.net.shares m.forks m.tokens s.0 t.0 false share) ∙ (table_put (between m) m.net.count s.0 t.0 (Some (record { fork = fork_state (m.forks s.0 t.0); token = false })) sharing.one sharing.other ∙ ap (λ (x : Option LyingFork). with_side (sharing_of m).sides s.0 t.0 (Some (record { fork = fork_state x; token = false }))) is.away)) (map-append parcel_of m.flight (sent_token s.0 t.0 ∷ []));
       },
     ),
     refl,
@@ -293,13 +293,13 @@ arrives m (sent_fork a b n) flight are has =
     let share = (are.net.share b a).1 sharing in
     same_sharing _ _ _ _ (ap (table_of m.net.count) (put_fork m.net.shares m.forks m.tokens b a (Some (record { clean = true; numbers = n })) share)
     ∙ (table_put (between m) m.net.count b a (Some (record { fork = clean; token = m.tokens b a })) sharing.one sharing.other
-    ∙ ap (λ (y : Option ForkSide). with_side (sharing_of m).sides b a (with_clean y)) (sym (side_is m b a (state_of (m.forks b a)) (m.tokens b a) sharing share refl refl)))) refl
+    ∙ ap (λ (y : Option ForkSide). with_side (sharing_of m).sides b a (with_clean y)) (sym (side_is m b a (fork_state (m.forks b a)) (m.tokens b a) sharing share refl refl)))) refl
 arrives m (sent_token a b) flight are has =
     let sharing = share_swap m.net a b (are.sent_token_shared a b has) in
     let share = (are.net.share b a).1 sharing in
     same_sharing _ _ _ _ (ap (table_of m.net.count) (put_token m.net.shares m.forks m.tokens b a true share)
-    ∙ (table_put (between m) m.net.count b a (Some (record { fork = state_of (m.forks b a); token = true })) sharing.one sharing.other
-    ∙ ap (λ (y : Option ForkSide). with_side (sharing_of m).sides b a (with_token y)) (sym (side_is m b a (state_of (m.forks b a)) (m.tokens b a) sharing share refl refl)))) refl
+    ∙ (table_put (between m) m.net.count b a (Some (record { fork = fork_state (m.forks b a); token = true })) sharing.one sharing.other
+    ∙ ap (λ (y : Option ForkSide). with_side (sharing_of m).sides b a (with_token y)) (sym (side_is m b a (fork_state (m.forks b a)) (m.tokens b a) sharing share refl refl)))) refl
 
 does_deliver : (m later : Machine) (k : ℕ) → AreForks m → HasArrived m k later → DoesInBank m (Deliver k) Moved later
 does_deliver m later k are is = subst (DoesInBank m (Deliver k) Moved) (sym is.after) (
@@ -329,9 +329,9 @@ does_deliver m later k are is = subst (DoesInBank m (Deliver k) Moved) (sym is.a
     by_sent (sent_token a b) = refl
 
 -- a decision by raised rows is one by the used numbers of all grants
-decides_exactly : (m later : Machine) (s : ℕ) (q : Request) (d : Decision) → AreForks m → IsServed m s q d later → IsOpen m.net.plan (m.net.inter s) q → IsDecision (used_in m.net m.grants) q.wants d
+decides_exactly : (m later : Machine) (s : ℕ) (q : Request) (d : Decision) → AreForks m → IsServed m s q d later → IsOpen m.net.plan (m.net.inter s) q → IsDecision (used_by_all m.net m.grants) q.wants d
 decides_exactly m later s q d are is fit =
-    decision_same is.rows (used_in m.net m.grants) q.wants d (λ c wanted. served_exact m later s q d are is c (rw (← fit.1) (want_touches m.net.plan.model q.inter.0 q.wants c fit.0.parties wanted))) is.decision
+    decision_same is.rows (used_by_all m.net m.grants) q.wants d (λ c wanted. served_exact m later s q d are is c (rw (← fit.1) (want_touches m.net.plan.model q.inter.0 q.wants c fit.0.parties wanted))) is.decision
 
 abbrev with_parts : Machine → (ℕ → ℕ) → List Grant → (ℕ → List Request) → Sharing → BankContent
 with_parts m u gs w x = record { plan = m.net.plan; base = m.net.base; used = u; grants = gs; waiting = w; sharing = x }
@@ -341,12 +341,12 @@ same_content : (m : Machine) (u v : ℕ → ℕ) (gs : List Grant) (w x : ℕ �
 same_content m u v gs w x y numbers waiting = rw (numbers, waiting) refl
 
 content_after : (m : Machine) (s : ℕ) (q : Request) (d : Decision) (rest : List Request) (x : Sharing) → q.inter.0 ≡ m.net.inter s
-    → with_parts m (used_in m.net (grants_after m.grants q d)) (grants_after m.grants q d) (put m.waiting (m.net.inter s) rest) x
+    → with_parts m (used_by_all m.net (grants_after m.grants q d)) (grants_after m.grants q d) (put m.waiting (m.net.inter s) rest) x
     ≡ record (with_decision q d (content m)) { waiting = put m.waiting q.inter.0 rest; sharing = x }
 content_after m s q (Granted n) rest x same =
-    same_content m (used_in m.net (m.grants ++ grant_of q ∷ [])) (raised (used_in m.net m.grants) q.wants) (m.grants ++ grant_of q ∷ []) (put m.waiting (m.net.inter s) rest) (put m.waiting q.inter.0 rest) x (used_by-push (λ c. m.net.base) m.grants (grant_of q)) (ap (λ a. put m.waiting a rest) (sym same))
+    same_content m (used_by_all m.net (m.grants ++ grant_of q ∷ [])) (raised (used_by_all m.net m.grants) q.wants) (m.grants ++ grant_of q ∷ []) (put m.waiting (m.net.inter s) rest) (put m.waiting q.inter.0 rest) x (used_by-push (λ c. m.net.base) m.grants (grant_of q)) (ap (λ a. put m.waiting a rest) (sym same))
 content_after m s q (Refused c n) rest x same =
-    same_content m (used_in m.net m.grants) (used_in m.net m.grants) m.grants (put m.waiting (m.net.inter s) rest) (put m.waiting q.inter.0 rest) x refl (ap (λ a. put m.waiting a rest) (sym same))
+    same_content m (used_by_all m.net m.grants) (used_by_all m.net m.grants) m.grants (put m.waiting (m.net.inter s) rest) (put m.waiting q.inter.0 rest) x refl (ap (λ a. put m.waiting a rest) (sym same))
 
 -- a station that can decide for the bank can serve
 can_serve : (m : Machine) (s : ℕ) → AreForks m → CanDecide (content m) s → CanServe m s
@@ -362,7 +362,7 @@ can_serve m s are can =
       rest = can.oldest.rest;
       oldest = oldest;
       left = λ ended. can.left (
-        fresh_same ended.rows (used_in m.net m.grants) can.oldest.request.wants (λ c wanted.
+        fresh_same ended.rows (used_by_all m.net m.grants) can.oldest.request.wants (λ c wanted.
             rows_exact m.net m.grants m.forks (m.used s) s ended.rows are.net are.allowed (λ t f lies. are.hold s t f lies) (are.own s known.0) known.0 complete ended.raised c
             (rw (← fit.1) (want_touches m.net.plan.model can.oldest.request.inter.0 can.oldest.request.wants c fit.0.parties wanted))) ended.fresh,
         ended.last,
@@ -370,14 +370,14 @@ can_serve m s are can =
     }
 
 -- forks that are written are dirty
-written_dirty : (n : Net) (s t : ℕ) (rows : ℕ → ℕ) (x y : Option LyingFork) (f : LyingFork) → IsForkWritten n s t rows x y → x ≡ Some f → state_of y ≡ dirty
+written_dirty : (n : Net) (s t : ℕ) (rows : ℕ → ℕ) (x y : Option LyingFork) (f : LyingFork) → IsForkWritten n s t rows x y → x ≡ Some f → fork_state y ≡ dirty
 written_dirty n s t rows None y f written is = cc
 written_dirty n s t rows (Some k) None f written is = absurd written
 written_dirty n s t rows (Some k) (Some g) f written is = is_dirty (Some g) g refl written.0
 
-not_ended : (m : Machine) (q : Request) (d : Decision) → IsListed m.grants d → IsDecision (used_in m.net m.grants) q.wants d → ¬ IsEnded (content m) q
+not_ended : (m : Machine) (q : Request) (d : Decision) → IsListed m.grants d → IsDecision (used_by_all m.net m.grants) q.wants d → ¬ IsEnded (content m) q
 not_ended m q (Granted n) listed decision ended = omega (arith, listed, ended.1)
-not_ended m q (Refused c n) listed decision ended = refused_stale (used_in m.net m.grants) q.wants c n decision ended.0
+not_ended m q (Refused c n) listed decision ended = refused_stale (used_by_all m.net m.grants) q.wants c n decision ended.0
 
 does_serve : (m later : Machine) (s : StationId) (q : Request) (d : Decision) → AreForks m → IsServed m s.0 q d later → DoesInBank m (Serve s) (Answered q d) later
 does_serve m later s q d are is = (
@@ -398,7 +398,7 @@ does_serve m later s q d are is = (
     station : IsStationOf m.net.plan s.0 q.inter.0
     station = rw fit.1 (are.net.station s.0 is.station)
 
-    made : (t : ℕ) → m.net.shares s.0 t ≡ true → state_of (is.forks t) ≡ dirty
+    made : (t : ℕ) → m.net.shares s.0 t ≡ true → fork_state (is.forks t) ≡ dirty
     made t share = let fork = is.complete t ((are.net.share s.0 t).0 share) in
         written_dirty m.net s.0 t (rows_after is.rows q d) (m.forks s.0 t) (is.forks t) fork.0 (is.written t) fork.1
 

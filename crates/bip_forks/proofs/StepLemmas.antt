@@ -18,7 +18,7 @@ use Rattle.bip_forks.proofs.CountLemmas.{arrived_count, asking-append, asks, fli
 use Rattle.bip_forks.proofs.HoldLemmas.{holds_swap, share_swap}
 use Rattle.bip_forks.proofs.ServeLemmas.{served}
 use Rattle.bip_forks.specs.Laws.{AreNew, ForksStay, LeadOn, asked, at_rest, stepped}
-use Rattle.bip_forks.specs.Machines.{AreForks, LyingFork, Machine, Holds, IsAskedFor, HasArrived, IsForkStep, IsPassed, Sending, ShareFork, arrived, asking, flying, held, here, sent_fork, sent_token, used_in}
+use Rattle.bip_forks.specs.Machines.{AreForks, LyingFork, Machine, Holds, IsAskedFor, HasArrived, IsForkStep, IsPassed, Sending, ShareFork, arrived, asking, flying, held, here, sent_fork, sent_token, used_by_all}
 
 same_fork : (a b c d : ℕ) (n k : ℕ → ℕ) → sent_fork a b n ≡ sent_fork c d k → (a ≡ c) × (b ≡ d) × (n ≡ k)
 same_fork a b c d n k is = (cc, cc, cc)
@@ -230,7 +230,7 @@ begins m new = record {
     none_sent : (s t : ℕ) (numbers : ℕ → ℕ) → Contains m.flight (sent_fork s t numbers) → ⊥
     none_sent s t numbers has = Contains-none (sent_fork s t numbers) (subst (λ (xs : List Sending). Contains xs (sent_fork s t numbers)) new.flight has)
 
-    unused : (c : ℕ) → used_in m.net m.grants c ≡ m.net.base
+    unused : (c : ℕ) → used_by_all m.net m.grants c ≡ m.net.base
     unused c = rw new.grants refl
 
     nothing_flies : (i j : ℕ) → flying i j m.flight ≡ 0

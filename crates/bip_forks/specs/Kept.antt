@@ -21,7 +21,7 @@ use Rattle.bip_bank.specs.declared.banks.BankStep.{BankStep}
 use Rattle.bip_bank.specs.declared.banks.BankStep.TheVariants.{Ask, Deliver, Pass, Serve}
 use Rattle.bip_forks.specs.Laws.{sharing_of}
 use Rattle.bip_forks.specs.Machines.{AreForks, AtBoth, IsListed, LyingFork, Machine, Net, Sending}
-use Rattle.bip_forks.specs.Machines.{grants_after, sent_fork, sent_token, used_in}
+use Rattle.bip_forks.specs.Machines.{grants_after, sent_fork, sent_token, used_by_all}
 use Rattle.bip_forks.specs.Stations.{CanTakeFork, CanTakeToken, HasFirst, IsReadyToServe}
 use Rattle.bip_forks.specs.Stations.{IsServedHere}
 use Rattle.bip_forks.specs.Stations.{KeptStation, MayAsk, MayPass, other_of, pair_of_stations}
@@ -40,8 +40,8 @@ pub record ForkParts : Type 0 where
   pub flight : List Sent
   pub grants : List Grant
 
-abbrev pub parts_of : List KeptStation → List Sent → List Grant → ForkParts
-parts_of stations flight grants =
+abbrev pub fork_parts : List KeptStation → List Sent → List Grant → ForkParts
+fork_parts stations flight grants =
     record { stations = stations; flight = flight; grants = grants }
 
 -- what forks keep
@@ -114,7 +114,7 @@ kept_forks k =
       plan = k.plan;
       base = k.base;
       rows = map
-          (λ c. record { used = used_in (net_of k) k.parts.grants c; comp = record { 0 = c } })
+          (λ c. record { used = used_by_all (net_of k) k.parts.grants c; comp = record { 0 = c } })
           (range_with_len 0 (length k.plan.model.components));
       grants = k.parts.grants;
       waiting = map (waiting_of k.parts.stations)

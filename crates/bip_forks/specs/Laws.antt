@@ -12,7 +12,8 @@ use Rattle.bip_bank.specs.Sharing.{forks}
 use Rattle.bip_bank.specs.declared.banks.Acted.{Acted}
 use Rattle.bip_bank.specs.declared.banks.BankStep.{BankStep}
 use Rattle.bip_forks.specs.Machines.{AreForks, AtBoth, AtStation, IsForkStep, IsNet, LyingFork}
-use Rattle.bip_forks.specs.Machines.{Machine, Sending, ShareFork, sent_fork, sent_token, used_in}
+use Rattle.bip_forks.specs.Machines.{Machine, Sending, ShareFork, sent_fork, sent_token}
+use Rattle.bip_forks.specs.Machines.{used_by_all}
 
 -- a fork as it is at first: with the lower of its stations, dirty, its numbers the base
 pub record IsForkAtFirst (m : Machine) (s t : ℕ) (f : LyingFork) : Type 0 where
@@ -51,9 +52,9 @@ abbrev pub ForksStay : Type 0
 ForksStay = (m later : Machine) → AreNew m → LeadOn m later → AreForks later
 
 -- what a station has of a fork, without its numbers
-abbrev pub state_of : Option LyingFork → ForkState
-state_of None = away
-state_of (Some f) = if f.clean then clean else dirty
+abbrev pub fork_state : Option LyingFork → ForkState
+fork_state None = away
+fork_state (Some f) = if f.clean then clean else dirty
 
 abbrev pub parcel_of : Sending → Parcel
 parcel_of (sent_fork s t numbers) = fork_parcel s t
@@ -63,7 +64,7 @@ parcel_of (sent_token s t) = token_parcel s t
 abbrev pub side_between : (ℕ → ℕ → Bool) → (ℕ → ℕ → Option LyingFork) → (ℕ → ℕ → Bool) → ℕ → ℕ
     → Option ForkSide
 side_between shares lying tokens s t =
-    if shares s t then Some (record { fork = state_of (lying s t); token = tokens s t })
+    if shares s t then Some (record { fork = fork_state (lying s t); token = tokens s t })
     else None
 
 -- so many rows of so many values of a function
@@ -84,7 +85,7 @@ content m =
     record {
       plan = m.net.plan;
       base = m.net.base;
-      used = used_in m.net m.grants;
+      used = used_by_all m.net m.grants;
       grants = m.grants;
       waiting = m.waiting;
       sharing = forks (sharing_of m);

@@ -79,8 +79,8 @@ abbrev pub HasAll : Net → (ℕ → ℕ → Option LyingFork) → ℕ → Type 
 HasAll n forks s = (t : ℕ) → ShareFork n s t → (f : LyingFork) × (forks s t ≡ Some f)
 
 -- the used number of each component, that all grants explain
-abbrev pub used_in : Net → List Grant → ℕ → ℕ
-used_in n gs = used_by (λ c. n.base) gs
+abbrev pub used_by_all : Net → List Grant → ℕ → ℕ
+used_by_all n gs = used_by (λ c. n.base) gs
 
 -- a station's rows raised to its forks' numbers: for each component that it touches the greatest of
 -- its own used number and those of its forks
@@ -229,7 +229,7 @@ IsForkStep m step did later = ⊥
 pub record Holds (n : Net) (gs : List Grant) (s t : ℕ) (numbers : ℕ → ℕ) : Type 0 where
   pub least : (c : ℕ) (g : Grant) → AtBoth n s t c → Contains gs g
       → (g.inter.0 ≡ n.inter s) ⊎ (g.inter.0 ≡ n.inter t) → moved_in g.wants c ≤ numbers c
-  pub most : (c : ℕ) → AtBoth n s t c → numbers c ≤ used_in n gs c
+  pub most : (c : ℕ) → AtBoth n s t c → numbers c ≤ used_by_all n gs c
 
 -- how many forks lie here, and how many are in flight between two stations
 abbrev pub here : Option LyingFork → ℕ
@@ -260,7 +260,7 @@ pub record Owns (n : Net) (gs : List Grant) (s : ℕ) (used : ℕ → ℕ) : Typ
   pub floor : (c : ℕ) → AtStation n s c → n.base ≤ used c
   pub least : (c : ℕ) (g : Grant) → AtStation n s c → Contains gs g → g.inter.0 ≡ n.inter s
       → moved_in g.wants c ≤ used c
-  pub most : (c : ℕ) → AtStation n s c → used c ≤ used_in n gs c
+  pub most : (c : ℕ) → AtStation n s c → used c ≤ used_by_all n gs c
 
 -- stations are numbered as the plan has them, and those share a fork that are in conflict
 pub record IsNet (n : Net) : Type 0 where

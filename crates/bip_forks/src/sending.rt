@@ -4,7 +4,7 @@ ghost use Rattle.std.specs.Prelude.{vec_capacity, vec_len};
 ghost use Rattle.bip_model.specs.declared.grants.Grant.{Grant};
 ghost use Rattle.bip_bank.specs.declared.banks.BankStep.TheVariants.{Ask, Deliver, Pass, Serve};
 ghost use Rattle.bip_forks.specs.Kept.{CanAnswer, CanArrive, CanLack, DoesHere, with_arrived};
-ghost use Rattle.bip_forks.specs.Kept.{parts_of, side_at, station_at};
+ghost use Rattle.bip_forks.specs.Kept.{fork_parts, side_at, station_at};
 ghost use Rattle.bip_forks.specs.Machines.{grants_after};
 ghost use Rattle.bip_forks.specs.Stations.{HasFirst, IsReadyToServe, MayAsk, MayPass};
 ghost use Rattle.bip_forks.specs.declared.sending.Sent.{Sent};
@@ -43,11 +43,11 @@ pub(crate) fn do_step(
         → CanArrive stations.old.items x }
     requires answer { CanAnswer stations.old.items grants.old.items }
     ensures does { IfOk result (λ acted. DoesHere
-        (parts_of stations.old.items flight.old.items grants.old.items)
+        (fork_parts stations.old.items flight.old.items grants.old.items)
         step acted
-        (parts_of stations.new.items flight.new.items grants.new.items)) }
+        (fork_parts stations.new.items flight.new.items grants.new.items)) }
     ensures memory { IfErr result (λ e. CanLack
-        (parts_of stations.old.items flight.old.items grants.old.items)
+        (fork_parts stations.old.items flight.old.items grants.old.items)
         step) }
     ensures stations { OnErr result (stations.new.items ≡ stations.old.items) }
     ensures flight { OnErr result (flight.new.items ≡ flight.old.items) }
@@ -69,9 +69,9 @@ fn pass(
     to: StationId,
 ) -> Result<Acted, AllocError>
     ensures does { (gs : List Grant) → IfOk result (λ acted. DoesHere
-        (parts_of stations.old.items flight.old.items gs)
+        (fork_parts stations.old.items flight.old.items gs)
         (Pass from to) acted
-        (parts_of stations.new.items flight.new.items gs)) }
+        (fork_parts stations.new.items flight.new.items gs)) }
     ensures memory { IfErr result (λ e. MayPass (side_at stations.old.items from.0 to.0)) }
     ensures stations { OnErr result (stations.new.items ≡ stations.old.items) }
     ensures flight { OnErr result (flight.new.items ≡ flight.old.items) }
@@ -98,9 +98,9 @@ fn ask(
     to: StationId,
 ) -> Result<Acted, AllocError>
     ensures does { (gs : List Grant) → IfOk result (λ acted. DoesHere
-        (parts_of stations.old.items flight.old.items gs)
+        (fork_parts stations.old.items flight.old.items gs)
         (Ask from to) acted
-        (parts_of stations.new.items flight.new.items gs)) }
+        (fork_parts stations.new.items flight.new.items gs)) }
     ensures memory { IfErr result (λ e. HasFirst (station_at stations.old.items from.0).waiting
         × MayAsk (side_at stations.old.items from.0 to.0)) }
     ensures stations { OnErr result (stations.new.items ≡ stations.old.items) }
@@ -125,9 +125,9 @@ fn deliver(stations: &mut Vec<Station>, flight: &mut Vec<Sent>, place: usize) ->
     requires arrive { (x : Sent) → slice_get flight.old.items place ≡ Some x
         → CanArrive stations.old.items x }
     ensures does { (gs : List Grant) → DoesHere
-        (parts_of stations.old.items flight.old.items gs)
+        (fork_parts stations.old.items flight.old.items gs)
         (Deliver place) result
-        (parts_of stations.new.items flight.new.items gs) }
+        (fork_parts stations.new.items flight.new.items gs) }
 {
     if place >= flight.len() {
         return Acted::Nothing;
@@ -161,9 +161,9 @@ fn serve(
 ) -> Result<Acted, AllocError>
     requires answer { CanAnswer stations.old.items grants.old.items }
     ensures does { (sent : List Sent) → IfOk result (λ acted. DoesHere
-        (parts_of stations.old.items sent grants.old.items)
+        (fork_parts stations.old.items sent grants.old.items)
         (Serve station) acted
-        (parts_of stations.new.items sent grants.new.items)) }
+        (fork_parts stations.new.items sent grants.new.items)) }
     ensures memory { IfErr result (λ e. (station.0 < length stations.old.items)
         × IsReadyToServe (station_at stations.old.items station.0)) }
     ensures stations { OnErr result (stations.new.items ≡ stations.old.items) }
