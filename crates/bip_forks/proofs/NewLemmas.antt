@@ -24,7 +24,7 @@ use Rattle.bip_bank.specs.Sharing.{forks}
 use Rattle.bip_forks.proofs.ActLemmas.{content_is}
 use Rattle.bip_forks.proofs.OpeningLemmas.{has_listed, used_listed}
 use Rattle.bip_forks.proofs.ServedLemmas.{lies, lying_of}
-use Rattle.bip_forks.proofs.SharingLemmas.{map_twice, table_at}
+use Rattle.bip_forks.proofs.SharingLemmas.{map_twice, side_read, table_at}
 use Rattle.bip_forks.proofs.StepLemmas.{begins}
 use Rattle.bip_forks.proofs.ViewLemmas.{in_place}
 use Rattle.bip_forks.specs.Kept.{IsKeptForks, KeptForks, kept_forks, lying, machine_of, net_of, no_station, side_at, station_at, waiting_of}
@@ -283,6 +283,9 @@ new_content p base inters stations are = record {
       subst (λ (n : ℕ). IsFirstShare p s n t c.0 (side_of (sharing_of (machine_of (new_forks p base stations))).sides s t)) same
       (subst (λ (n : ℕ). IsFirstShare p s (station_at stations s).inter.0 t n (side_of (sharing_of (machine_of (new_forks p base stations))).sides s t)) also
       (shared_first p base inters stations are s t first second));
+  others = λ s t side at.
+      let share = ((net_first p base inters stations are).share s t).0 (side_read (machine_of (new_forks p base stations)) s t side at).0 in
+      (omega (arith, share.one, are.first.each), omega (arith, share.other, are.first.each));
   flight = refl;
 }
 

@@ -188,7 +188,7 @@ side_is m s t x k share is state token =
     ∙ ap {B = Option ForkSide} (λ (j : Bool). Some (record { fork = x; token = j })) token))
 
 -- what is read of what stations share
-side_read : (m : Machine) (s t : ℕ) (side : ForkSide) → side_of (sharing_of m).sides s t ≡ Some side → (m.net.shares s t ≡ true) × (side.fork ≡ fork_state (m.forks s t)) × (side.token ≡ m.tokens s t)
+pub side_read : (m : Machine) (s t : ℕ) (side : ForkSide) → side_of (sharing_of m).sides s t ≡ Some side → (m.net.shares s t ≡ true) × (side.fork ≡ fork_state (m.forks s t)) × (side.token ≡ m.tokens s t)
 side_read m s t side is = side_cases m.net.shares m.forks m.tokens s t side (table_has (between m) m.net.count s t side is)
 
 -- a station has all its forks, whether numbers are looked at or not

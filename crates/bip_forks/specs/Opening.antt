@@ -37,6 +37,8 @@ pub record IsNewForks (p : Planned) (base : ℕ) (b : BankContent) : Type 0 wher
   pub content : b ≡ asked_nothing p base (forks sharing)
   pub sides : (s t : ℕ) (a c : InterId) → slice_get stations s ≡ Some a
       → slice_get stations t ≡ Some c → IsFirstShare p s a.0 t c.0 (side_of sharing.sides s t)
+  pub others : (s t : ℕ) (side : ForkSide) → side_of sharing.sides s t ≡ Some side
+      → (s < length stations) × (t < length stations)
   pub flight : sharing.flight ≡ []
 
 -- What contracts of private functions say.
