@@ -1,11 +1,12 @@
 ghost use Rattle.std.specs.Prelude.{◌≡◌};
 ghost use Rattle.bip_bank.specs.Banks.{content_of};
 
-use self::Step::{Delivers, Serves, Shows, Submits, Tries};
+use self::Step::{Delivers, Goes, Serves, Shows, Submits, Tries};
 use super::over_plan;
 use super::tabling::{Wanted, request};
 use crate::Second;
 use bip_bank::{Acted, Bank, BankStep, Central, StationId};
+use bip_forks::Forks;
 use bip_model::{CompId, Request};
 use bip_partition::Plan;
 use bip_table::Decision;
@@ -19,12 +20,27 @@ const COMPETE: &str = "bip 1\n\
     component R\nloc free\nloc taken\nport g\ntrans g free taken\nend\n\
     interaction x A.s R.g\ninteraction y B.s R.g\nclass P x\nclass Q y\n";
 
+/// Two components that each move only where a third can't, so that both interactions look at it.
+const LOOK: &str = "bip 1\n\
+    component A\nloc off\nloc on\nport s\ntrans s off on\nend\n\
+    component B\nloc off\nloc on\nport s\ntrans s off on\nend\n\
+    component C\nloc free\nport t\ntrans t free free\nend\n\
+    interaction x A.s\ninteraction y B.s\ninteraction z C.t\n\
+    priority x < z\npriority y < z\nclass P x\nclass Q y\nclass T z\n";
+
 /// What x wants, and y, each first move; and what x wants behind that.
 const X: ((u16, u16), &[Wanted]) = ((0, 0), &[(0, 1, true), (2, 1, true)]);
 
 const Y: ((u16, u16), &[Wanted]) = ((1, 1), &[(1, 1, true), (2, 1, true)]);
 
 const NEXT_X: ((u16, u16), &[Wanted]) = ((0, 0), &[(0, 2, true), (2, 2, true)]);
+
+/// The same where both look at a component, and what moves it wants.
+const LOOK_X: ((u16, u16), &[Wanted]) = ((0, 0), &[(0, 1, true), (2, 1, false)]);
+
+const LOOK_Y: ((u16, u16), &[Wanted]) = ((1, 1), &[(1, 1, true), (2, 1, false)]);
+
+const MOVE_Z: ((u16, u16), &[Wanted]) = ((2, 2), &[(2, 1, true)]);
 
 /// What is asked of a bank, and what it says.
 #[derive(Drop)]
@@ -35,6 +51,8 @@ enum Step {
     Serves(u16, Option<(u16, Decision)>),
     /// The request at this place, of those on their way, is handed on.
     Delivers(usize),
+    /// A step that moves something.
+    Goes(BankStep),
     /// A step that doesn't apply.
     Tries(BankStep),
     /// So many grants were given.
@@ -86,6 +104,10 @@ fn take_step<B: Bank>(rt: &impl Abort, alloc: Global, plan: &Plan, bank: &mut B,
             let did = acts(rt, plan, bank, BankStep::Deliver(*place));
             assert!(rt; matches!(did, Acted::Moved));
         }
+        Step::Goes(step) => {
+            let did = acts(rt, plan, bank, *step);
+            assert!(rt; matches!(did, Acted::Moved));
+        }
         Step::Tries(step) => {
             let did = acts(rt, plan, bank, *step);
             assert!(rt; is_answer(&did, &None));
@@ -110,6 +132,12 @@ fn central_takes(rt: &impl Abort, alloc: Global, plan: &Plan, steps: &[Step]) {
 
 fn second_takes(rt: &impl Abort, alloc: Global, plan: &Plan, steps: &[Step]) {
     let mut bank = Second::new(alloc, plan, 0).expect(rt, "memory");
+    take_steps(rt, alloc, plan, &mut bank, steps);
+    assert!(rt; bank.in_flight() == 0);
+}
+
+fn forks_take(rt: &impl Abort, alloc: Global, plan: &Plan, steps: &[Step]) {
+    let mut bank = Forks::new(alloc, plan, 0).expect(rt, "memory");
     take_steps(rt, alloc, plan, &mut bank, steps);
     assert!(rt; bank.in_flight() == 0);
 }
@@ -171,4 +199,35 @@ fn a_second_bank_serves_what_was_handed_on(rt: HostRuntime) {
         Shows(2),
     ];
     over_plan(&rt, rt.alloc(), COMPETE, STEPS, second_takes);
+}
+
+#[test]
+fn two_that_look_at_the_same_share_no_fork(rt: HostRuntime) {
+    const STEPS: &[Step] = &[
+        Submits(LOOK_X),
+        Submits(LOOK_Y),
+        Submits(MOVE_Z),
+        Tries(BankStep::Ask(StationId(1), StationId(0))),
+        Tries(BankStep::Pass(StationId(0), StationId(1))),
+        Tries(BankStep::Ask(StationId(2), StationId(2))),
+        Tries(BankStep::Pass(StationId(3), StationId(0))),
+        Serves(2, None),
+        Serves(1, Some((1, Decision::Granted(0)))),
+        Serves(0, Some((0, Decision::Granted(0)))),
+        Goes(BankStep::Ask(StationId(2), StationId(1))),
+        Goes(BankStep::Ask(StationId(2), StationId(0))),
+        Tries(BankStep::Ask(StationId(2), StationId(0))),
+        Delivers(1),
+        Goes(BankStep::Pass(StationId(0), StationId(2))),
+        Tries(BankStep::Pass(StationId(1), StationId(2))),
+        Delivers(1),
+        Serves(2, None),
+        Delivers(0),
+        Goes(BankStep::Pass(StationId(1), StationId(2))),
+        Tries(BankStep::Deliver(1)),
+        Delivers(0),
+        Serves(2, Some((2, Decision::Granted(0)))),
+        Shows(3),
+    ];
+    over_plan(&rt, rt.alloc(), LOOK, STEPS, forks_take);
 }
