@@ -55,7 +55,7 @@ have_rows c is q fit = λ k d within.
     by_role w k within at Seen role = inr ((fit.parties.seen w.comp.0).0 (k, w, within, at, (refl, role)))
 
 -- a plan has one list of stations
-stations_same : (p : Planned) (xs ys : List InterId) → AreStations p xs → AreStations p ys → xs ≡ ys
+pub stations_same : (p : Planned) (xs ys : List InterId) → AreStations p xs → AreStations p ys → xs ≡ ys
 stations_same p xs ys one other =
     same_list (λ (a : InterId). a.0) xs ys (rises_from_increasing (map (λ (a : InterId). a.0) xs) one.rising) (rises_from_increasing (map (λ (a : InterId). a.0) ys) other.rising)
     (λ a at. (other.exact a.0).1 ((one.exact a.0).0 at)) (λ a at. (one.exact a.0).1 ((other.exact a.0).0 at))
@@ -190,7 +190,7 @@ next_serial c a t later (Answered q (decision.Granted n)) is (rest, oldest, answ
 next_serial c a t later (Answered q (decision.Refused d n)) is served = tt
 
 -- a component is in a list where its number is among those of the list
-listed_row : (base : ℕ) (list : List CompId) (k : ℕ) → IsTrue (has_row (rows_of (map (λ (d : CompId). (d, base)) list)) k) ↔ Contains list (record { 0 = k })
+pub listed_row : (base : ℕ) (list : List CompId) (k : ℕ) → IsTrue (has_row (rows_of (map (λ (d : CompId). (d, base)) list)) k) ↔ Contains list (record { 0 = k })
 listed_row base [] k = (λ row. cc, λ at. absurd (Contains-none (record { 0 = k }) at))
 listed_row base (d ∷ ds) k = elim (eqb_tells d.0 k) [
   | inl same ↦ (λ row. subst (Contains (d ∷ ds)) (ap (λ n. record { 0 = n }) same.1) (Contains-head d ds), λ at. rw same.0 refl)

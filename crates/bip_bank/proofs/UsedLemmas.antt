@@ -78,7 +78,7 @@ refused_stale used wants c n refused fresh =
     omega (arith, above, at.4.1, same)
 
 -- rows with the base say nothing else
-used_first : (base : ℕ) (list : List CompId) (c : ℕ) → has_row (rows_of (map (λ (d : CompId). (d, base)) list)) c ≡ true → used_at (rows_of (map (λ (d : CompId). (d, base)) list)) c ≡ base
+pub used_first : (base : ℕ) (list : List CompId) (c : ℕ) → has_row (rows_of (map (λ (d : CompId). (d, base)) list)) c ≡ true → used_at (rows_of (map (λ (d : CompId). (d, base)) list)) c ≡ base
 used_first base [] c row = cc
 used_first base (d ∷ ds) c row = elim (eqb_tells d.0 c) [ inl same ↦ rw same.0 refl | inr other ↦ rw other.0 (used_first base ds c (rw other.0 at row)) ]
 

@@ -13,5 +13,5 @@ pub use bip_table::Decision;
 pub use central::{Central, decide_first};
 pub use decisions::reply_to;
 pub use laws::bank_laws;
-pub use opening::{first_table, no_requests};
+pub use opening::{first_table, no_requests, numbered};
 pub use queues::{Queue, put_last};

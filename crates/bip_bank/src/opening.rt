@@ -33,7 +33,7 @@ fn list_tabled(alloc: Global, plan: &Plan) -> Result<Seq<CompId>, AllocError>
 }
 
 /// Each of these components with a number.
-fn numbered(
+pub fn numbered(
     alloc: Global,
     comps: &[CompId],
     number: Number,

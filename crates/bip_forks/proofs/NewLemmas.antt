@@ -10,27 +10,26 @@ use Rattle.std.proofs.lemmas.Option.{get_or_from_slice_get, slice_get-get_or, sl
 use Rattle.std.proofs.lemmas.List.{length-map}
 use Rattle.std.proofs.Math.Path.{fun_ext}
 use Rattle.bip_model.proofs.ListLemmas.{below_later, Contains-none}
-use Rattle.bip_model.proofs.NumberingLemmas.{rises_from_increasing, same_list}
 use Rattle.bip_model.specs.Parts.{IsSystem}
 use Rattle.bip_model.specs.Priorities.{inter}
 use Rattle.bip_model.specs.declared.messages.Request.{Request}
-use Rattle.bip_model.specs.declared.numbering.CompId.{CompId}
 use Rattle.bip_model.specs.declared.numbering.InterId.{InterId}
 use Rattle.bip_partition.specs.Plans.{AreStations, Planned, Touches}
-use Rattle.bip_table.specs.Rows.{has_row, rows_of, used_at}
+use Rattle.bip_table.specs.Rows.{has_row, used_at}
 use Rattle.bip_bank.specs.Banks.{BankContent, content_of}
 use Rattle.bip_bank.specs.ForkSharing.{ForkSide, ForkState, away, clean, dirty, side_of}
 use Rattle.bip_bank.specs.Sharing.{forks}
 use Rattle.bip_forks.proofs.ActLemmas.{content_is}
-use Rattle.bip_forks.proofs.OpeningLemmas.{has_listed, used_listed}
+use Rattle.bip_bank.proofs.CentralLemmas.{listed_row, stations_same}
+use Rattle.bip_bank.proofs.UsedLemmas.{used_first}
 use Rattle.bip_forks.proofs.ServedLemmas.{lies, lying_of}
-use Rattle.bip_forks.proofs.SharingLemmas.{map_twice, side_read, table_at}
+use Rattle.bip_forks.proofs.SharingLemmas.{side_read, table_at}
 use Rattle.bip_forks.proofs.StepLemmas.{begins}
 use Rattle.bip_forks.proofs.ViewLemmas.{in_place}
 use Rattle.bip_forks.specs.Kept.{IsKeptForks, KeptForks, kept_forks, lying, machine_of, net_of, no_station, side_at, station_at, waiting_of}
 use Rattle.bip_forks.specs.Laws.{AreNew, sharing_of, side_between, fork_state}
 use Rattle.bip_forks.specs.Machines.{IsNet, LyingFork, Machine, ShareFork}
-use Rattle.bip_forks.specs.Opening.{AreFirstStations, IsCommon, IsFirstShare, IsFirstSide, IsFirstStation, IsNewForks, rows_with}
+use Rattle.bip_forks.specs.Opening.{AreFirstStations, IsCommon, IsFirstShare, IsFirstSide, IsFirstStation, IsNewForks}
 use Rattle.bip_forks.specs.Stations.{KeptStation, pair_of_stations}
 use Rattle.bip_forks.specs.declared.shares.Fork.{Fork}
 use Rattle.bip_forks.specs.declared.shares.Side.{Side}
@@ -80,11 +79,6 @@ apart_in p inters s t a listed one other = elim (cases_order s t) [
     | inr above ↦ absurd (omega (arith, below_later (λ (b : InterId). b.0) inters listed.rising t s a above (slice_get_within inters s a one), ap (λ (b : InterId). b.0) (get_or_from_slice_get inters s a a one), ap (λ (b : InterId). b.0) (get_or_from_slice_get inters t a a other)))
   ]
 ]
-
-stations_same : (p : Planned) (xs ys : List InterId) → AreStations p xs → AreStations p ys → xs ≡ ys
-stations_same p xs ys one other =
-    same_list (λ (a : InterId). a.0) xs ys (rises_from_increasing (map (λ (a : InterId). a.0) xs) one.rising) (rises_from_increasing (map (λ (a : InterId). a.0) ys) other.rising)
-    (λ a at. (other.exact a.0).1 ((one.exact a.0).0 at)) (λ a at. (one.exact a.0).1 ((other.exact a.0).0 at))
 
 some_inter : {a b : InterId} → Some a ≡ Some b → a ≡ b
 some_inter e = cc
@@ -145,17 +139,14 @@ lies_first p base inters stations are s t f here =
     let at = inter_at p base inters stations are s places.0 in
     (places.0, omega (arith, places.1, at.2.sides.each, are.first.each))
 
-rows_same : (base : ℕ) (list : List CompId) → rows_of (map (λ (c : CompId). (c, base)) list) ≡ rows_with base list
-rows_same base list = sym (map_twice (λ (e : CompId × ℕ). record { used = e.1; comp = e.0 }) (λ (c : CompId). (c, base)) list)
-
 station_rows : (p : Planned) (base : ℕ) (inters : List InterId) (stations : List KeptStation) → AreBegun p base inters stations → (s c : ℕ) → s < length stations
     → (IsTrue (has_row (station_at stations s).table.rows c) ↔ Touches p.model (station_at stations s).inter.0 c) × (IsTrue (has_row (station_at stations s).table.rows c) → used_at (station_at stations s).table.rows c ≡ base)
 station_rows p base inters stations are s c within =
     let at = inter_at p base inters stations are s within in
-    let rows : (station_at stations s).table.rows ≡ rows_with base at.2.list = at.2.rows ∙ rows_same base at.2.list in
+    let rows = at.2.rows in
     let touched : Contains at.2.list (record { 0 = c }) ↔ Touches p.model (station_at stations s).inter.0 c = subst (λ (a : InterId). Contains at.2.list (record { 0 = c }) ↔ Touches p.model a.0 c) (sym at.2.inter) (at.2.touched.exact c) in (
-      (λ row. touched.0 ((has_listed base at.2.list c).0 (ap (λ rs. has_row rs c) (sym rows) ∙ row)), λ has. ap (λ rs. has_row rs c) rows ∙ (has_listed base at.2.list c).1 (touched.1 has)),
-      λ row. ap (λ rs. used_at rs c) rows ∙ used_listed base at.2.list c (ap (λ rs. has_row rs c) (sym rows) ∙ row),
+      (λ row. touched.0 ((listed_row base at.2.list c).0 (ap (λ rs. has_row rs c) (sym rows) ∙ row)), λ has. ap (λ rs. has_row rs c) rows ∙ (listed_row base at.2.list c).1 (touched.1 has)),
+      λ row. ap (λ rs. used_at rs c) rows ∙ used_first base at.2.list c (ap (λ rs. has_row rs c) (sym rows) ∙ row),
     )
 
 asked_first : (p : Planned) (base : ℕ) (inters : List InterId) (stations : List KeptStation) → AreBegun p base inters stations → (s t : ℕ) → ((side_at stations s t).asked ≡ true) ↔ (ShareFork (net_of (new_forks p base stations)) s t × (t < s))

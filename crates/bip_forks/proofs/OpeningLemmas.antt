@@ -3,19 +3,20 @@ use Rattle.std.proofs.Common.{◌≡◌, ℕ, ◌+◌, ◌<◌, ◌≤◌, true,
 use Rattle.std.specs.Prelude.{◌↔◌, All, Contains, IsTrue}
 use Rattle.std.specs.List.Sorted.{IsStrictlyIncreasing}
 use Rattle.std.proofs.lemmas.Bool.{cases_lt}
-use Rattle.std.proofs.lemmas.Bool.Decides.{eqb_tells}
 use Rattle.std.proofs.lemmas.List.{get_or_append_left, get_or_push, length_push}
 use Rattle.std.proofs.lemmas.List.Elements.{Contains-get_or}
 use Rattle.std.proofs.lemmas.Option.{get_or_from_slice_get}
-use Rattle.bip_model.proofs.ListLemmas.{Contains-cases, Contains-head, Contains-none, Contains-tail}
 use Rattle.bip_model.proofs.NumberingLemmas.{apart_from_rises, few_below, rises_from_increasing}
 use Rattle.bip_model.specs.Parts.{IsSystem}
 use Rattle.bip_model.specs.declared.numbering.CompId.{CompId}
 use Rattle.bip_model.specs.declared.numbering.InterId.{InterId}
 use Rattle.bip_partition.proofs.TableLemmas.{reserved_known}
 use Rattle.bip_partition.specs.Plans.{AreStations, Planned}
-use Rattle.bip_table.specs.Rows.{has_row, row_components, used_at}
+use Rattle.bip_table.specs.Rows.{has_row, row_components, rows_of, used_at}
 use Rattle.bip_table.specs.declared.rows.Row.{Row}
+use Rattle.bip_bank.proofs.CentralLemmas.{listed_row}
+use Rattle.bip_bank.proofs.UsedLemmas.{used_first}
+use Rattle.bip_forks.proofs.SharingLemmas.{map_twice}
 use Rattle.bip_forks.specs.Kept.{no_station}
 use Rattle.bip_forks.specs.Opening.{AreFirstSides, AreFirstStations, IsCommon, IsFirstSide, IsFirstStation, IsListCommon, rows_with}
 use Rattle.bip_forks.specs.Stations.{KeptStation, nothing_shared}
@@ -70,22 +71,15 @@ pub listed_rows : (base : ℕ) (comps : List CompId) → row_components (rows_wi
 listed_rows base [] = refl
 listed_rows base (d ∷ ds) = ap (λ (ks : List ℕ). d.0 ∷ ks) (listed_rows base ds)
 
-pub has_listed : (base : ℕ) (comps : List CompId) (c : ℕ) → IsTrue (has_row (rows_with base comps) c) ↔ Contains comps (record { 0 = c })
-has_listed base [] c = (λ row. cc, λ at. absurd (Contains-none (record { 0 = c }) at))
-has_listed base (d ∷ ds) c = elim (eqb_tells d.0 c) [
-  | inl same ↦ (λ row. subst (Contains (d ∷ ds)) (ap (λ n. record { 0 = n }) same.1) (Contains-head d ds), λ at. rw same.0 refl)
-  | inr other ↦ (
-    λ row. Contains-tail d (record { 0 = c }) ds ((has_listed base ds c).0 (rw other.0 at row)),
-    λ at. elim (Contains-cases d ds (record { 0 = c }) at) [
-      | inl is ↦ absurd (other.1 (ap (λ (x : CompId). x.0) is))
-      | inr there ↦ rw other.0 ((has_listed base ds c).1 there)
-    ],
-  )
-]
+-- as a table's rows at first
+rows_same : (base : ℕ) (list : List CompId) → rows_of (map (λ (c : CompId). (c, base)) list) ≡ rows_with base list
+rows_same base list = sym (map_twice (λ (e : CompId × ℕ). record { used = e.1; comp = e.0 }) (λ (c : CompId). (c, base)) list)
 
-pub used_listed : (base : ℕ) (comps : List CompId) (c : ℕ) → has_row (rows_with base comps) c ≡ true → used_at (rows_with base comps) c ≡ base
-used_listed base [] c row = cc
-used_listed base (d ∷ ds) c row = elim (eqb_tells d.0 c) [ inl same ↦ rw same.0 refl | inr other ↦ rw other.0 (used_listed base ds c (rw other.0 at row)) ]
+has_listed : (base : ℕ) (comps : List CompId) (c : ℕ) → IsTrue (has_row (rows_with base comps) c) ↔ Contains comps (record { 0 = c })
+has_listed base comps c = subst (λ (rows : List Row). IsTrue (has_row rows c) ↔ Contains comps (record { 0 = c })) (rows_same base comps) (listed_row base comps c)
+
+used_listed : (base : ℕ) (comps : List CompId) (c : ℕ) → has_row (rows_with base comps) c ≡ true → used_at (rows_with base comps) c ≡ base
+used_listed base comps c = subst (λ (rows : List Row). has_row rows c ≡ true → used_at rows c ≡ base) (rows_same base comps) (used_first base comps c)
 
 pub common_of : (both : ℕ → Type 0) (base : ℕ) (comps : List CompId) (rows : List Row) → IsListCommon both comps → rows ≡ rows_with base comps → IsCommon both base rows
 common_of both base comps rows is same = subst (IsCommon both base) (sym same) (record {

@@ -7,7 +7,7 @@ ghost use Rattle.bip_forks.specs.Opening.{IsFirstSide, IsFirstStation, IsListCom
 
 use crate::shares::{Fork, Side, pair_of_stations};
 use crate::stations::Station;
-use bip_bank::StationId;
+use bip_bank::{StationId, numbered};
 use bip_model::{CompId, InterId, Number, Seq};
 use bip_partition::Plan;
 use bip_table::{Row, Table};
@@ -48,21 +48,10 @@ fn first_station(
     requires here { inter.0 < length plan.now.model.interactions }
     ensures { IfOk result (IsFirstStation plan.now base inters.now number.0 inter) }
 {
-    let entries = with_number(alloc, plan.touches(inter), base)?;
+    let entries = numbered(alloc, plan.touches(inter), base)?;
     let table = Table::new(alloc, &entries, 0)?;
     let sides = first_sides(alloc, plan, inters, number, inter, base)?;
     Ok(Station::new(alloc, number, inter, table, sides))
-}
-
-/// Each of these components with a number.
-fn with_number(
-    alloc: Global,
-    comps: &[CompId],
-    number: Number,
-) -> Result<Vec<(CompId, Number)>, AllocError>
-    ensures { IfOk result (λ entries. entries.items ≡ map (λ c. (c, number)) comps.now) }
-{
-    comps.iter().map(|comp| (*comp, number)).collect(alloc)
 }
 
 /// What a station has at first of what it shares with each station, in order.
