@@ -1,3 +1,4 @@
 pub mod BankLemmas
 pub mod CentralLemmas
+pub mod RepeatLemmas
 pub mod UsedLemmas

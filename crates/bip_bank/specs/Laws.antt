@@ -1,13 +1,18 @@
 -- What a bank's calls mean, in the subject's own words: laws that a reviewer reads. They stand on
 -- what any bank's calls make of its content, and on nothing else.
-use Rattle.std.specs.Prelude.{◌≡◌, List, [], ◌++◌, All}
+use Rattle.std.specs.Prelude.{◌≡◌, ⊤, List, [], ◌++◌, All}
 use Rattle.bip_model.specs.Grants.{IsHistory, MovesOnceEach, used_by}
 use Rattle.bip_model.specs.Parties.{AreParties}
 use Rattle.bip_model.specs.declared.grants.Grant.{Grant}
 use Rattle.bip_model.specs.declared.messages.Request.{Request}
 use Rattle.bip_partition.specs.Plans.{IsFit, IsReserved, Planned}
-use Rattle.bip_bank.specs.Banks.{BankContent, IsActed, with_request}
+use Rattle.bip_table.specs.declared.reservations.Decision.TheVariants.{Granted, Refused}
+use Rattle.bip_table.specs.declared.reservations.Decision.{Decision}
+use Rattle.bip_bank.specs.Banks.{BankContent, DoesStep, IsActed, with_request}
+use Rattle.bip_bank.specs.Sharing.{Sharing, alone, forks, otherwise, ring}
+use Rattle.bip_bank.specs.declared.banks.Acted.TheVariants.{Answered, Moved, Nothing}
 use Rattle.bip_bank.specs.declared.banks.Acted.{Acted}
+use Rattle.bip_bank.specs.declared.banks.BankStep.{BankStep}
 
 -- calls of a bank lead from one content to another: none; a request that fits is taken; or a step
 -- is done; and more calls
@@ -55,3 +60,29 @@ abbrev pub GrantsAreAllowed : Type 0
 GrantsAreAllowed =
     (b later : BankContent) → b.grants ≡ [] → b.waiting ≡ (λ a. []) → Lead b later
     → All (IsAllowed later.plan) later.grants
+
+-- a decision, and what a step did, but for the serial of a grant
+abbrev pub decision_but_serial : Decision → Decision
+decision_but_serial (Granted serial) = Granted 0
+decision_but_serial (Refused c n) = Refused c n
+
+abbrev pub acted_but_serial : Acted → Acted
+acted_but_serial Nothing = Nothing
+acted_but_serial Moved = Moved
+acted_but_serial (Answered q d) = Answered q (decision_but_serial d)
+
+-- what stations share is moved in one way: they share nothing, one token, or forks
+abbrev pub MovesInOneWay : Sharing → Type 0
+MovesInOneWay alone = ⊤
+MovesInOneWay (ring count place) = ⊤
+MovesInOneWay (forks f) = ⊤
+MovesInOneWay (otherwise lacking flying) = ⊥
+
+-- a step did one thing, but for the serial of a grant, and left one content, of which that is true
+-- again
+abbrev pub OneAnswerToAStep : Type 0
+OneAnswerToAStep =
+    (b later other : BankContent) (step : BankStep) (did also : Acted) → MovesInOneWay b.sharing
+    → DoesStep b step did later → IsActed did b later
+    → DoesStep b step also other → IsActed also b other
+    → (acted_but_serial did ≡ acted_but_serial also) × (later ≡ other) × MovesInOneWay later.sharing

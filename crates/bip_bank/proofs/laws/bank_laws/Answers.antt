@@ -1,4 +1,5 @@
 use Rattle.bip_bank.proofs.BankLemmas.{grants_allowed, grants_go_on, grants_histories, plan_stays}
+use Rattle.bip_bank.proofs.RepeatLemmas.{one_answer_to_a_step}
 use Rattle.bip_bank.proofs.laws.bank_laws.Goals as goal
 
 pub returns-clause-history : goal.returns-clause-history
@@ -12,3 +13,6 @@ returns-clause-plan c = plan_stays
 
 pub returns-clause-allowed : goal.returns-clause-allowed
 returns-clause-allowed c = grants_allowed
+
+pub returns-clause-one : goal.returns-clause-one
+returns-clause-one c = one_answer_to_a_step
