@@ -1,5 +1,6 @@
 pub mod ActLemmas
 pub mod CountLemmas
+pub mod FirstLemmas
 pub mod HoldLemmas
 pub mod KeptLemmas
 pub mod NewLemmas

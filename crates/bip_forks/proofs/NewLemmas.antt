@@ -1,11 +1,12 @@
 -- New forks: their machine is new, and so is their content.
 use Rattle.std.proofs.Common.{◌≡◌, ℕ, ◌<◌, Bool, true, false, cond, get_or, length, map, List, [], ◌∷◌, Option, None, Some, slice_get, refl, sym, ap, ◌∙◌, subst, inl, inr, arith, zero, suc}
 use Rattle.std.specs.Prelude.{◌↔◌, Contains, IsTrue}
+use Rattle.std.specs.List.{range_with_len}
 use Rattle.std.specs.Option.{option_map}
 use Rattle.std.proofs.lemmas.Bool.{cases_lt, cases_order, false≢true}
 use Rattle.std.proofs.lemmas.Bool.Decides.{eqb_tells}
 use Rattle.std.proofs.lemmas.List.{get_or-map, get_or_past}
-use Rattle.std.proofs.lemmas.List.FromFn.{fill_by_all}
+use Rattle.std.proofs.lemmas.List.FromFn.{fill_by_all, length-map-range_with_len}
 use Rattle.std.proofs.lemmas.Option.{get_or_from_slice_get, slice_get-get_or, slice_get_within}
 use Rattle.std.proofs.lemmas.List.{length-map}
 use Rattle.std.proofs.Math.Path.{fun_ext}
@@ -23,7 +24,7 @@ use Rattle.bip_forks.proofs.ActLemmas.{content_is}
 use Rattle.bip_bank.proofs.CentralLemmas.{listed_row, stations_same}
 use Rattle.bip_bank.proofs.UsedLemmas.{used_first}
 use Rattle.bip_forks.proofs.ServedLemmas.{lies, lying_of}
-use Rattle.bip_forks.proofs.SharingLemmas.{side_read, table_at}
+use Rattle.bip_forks.proofs.SharingLemmas.{table_at, table_row}
 use Rattle.bip_forks.proofs.StepLemmas.{begins}
 use Rattle.bip_forks.proofs.ViewLemmas.{in_place}
 use Rattle.bip_forks.specs.Kept.{IsKeptForks, KeptForks, kept_forks, lying, machine_of, net_of, no_station, side_at, station_at, waiting_of}
@@ -260,24 +261,29 @@ shared_first p base inters stations are s t one other =
 abbrev content_open : KeptForks → (ℕ → List Request) → BankContent
 content_open j w = record { plan = j.plan; base = j.base; used = λ c. j.base; grants = []; waiting = w; sharing = forks (sharing_of (machine_of j)) }
 
+abbrev first_sides : Planned → ℕ → List KeptStation → ℕ → ℕ → Option ForkSide
+first_sides p base stations = side_between (machine_of (new_forks p base stations)).net.shares (machine_of (new_forks p base stations)).forks (machine_of (new_forks p base stations)).tokens
+
 pub new_content : (p : Planned) (base : ℕ) (inters : List InterId) (stations : List KeptStation) → AreBegun p base inters stations → IsNewForks p base (content_of (kept_forks (new_forks p base stations)))
 new_content p base inters stations are = record {
-  stations = inters;
-  listed = are.listed;
-  sharing = sharing_of (machine_of (new_forks p base stations));
+  first = record {
+    stations = inters;
+    listed = are.listed;
+    sharing = sharing_of (machine_of (new_forks p base stations));
+    is = refl;
+    each = length-map-range_with_len (λ s. map (first_sides p base stations s) (range_with_len 0 (length stations))) 0 (length stations) ∙ are.first.each;
+    with_each = λ s within. ap length (table_row (first_sides p base stations) (length stations) s (omega (arith, within, are.first.each))) ∙ (length-map-range_with_len (first_sides p base stations s) 0 (length stations) ∙ are.first.each);
+    sides = λ s t a c one other.
+        let first : s < length stations = omega (arith, slice_get_within inters s a one, are.first.each) in
+        let second : t < length stations = omega (arith, slice_get_within inters t c other, are.first.each) in
+        let same : (station_at stations s).inter.0 ≡ a.0 = ap (λ (b : InterId). b.0) (some_inter (sym (inter_is p base inters stations are s first) ∙ one)) in
+        let also : (station_at stations t).inter.0 ≡ c.0 = ap (λ (b : InterId). b.0) (some_inter (sym (inter_is p base inters stations are t second) ∙ other)) in
+        subst (λ (n : ℕ). IsFirstShare p s n t c.0 (side_of (sharing_of (machine_of (new_forks p base stations))).sides s t)) same
+        (subst (λ (n : ℕ). IsFirstShare p s (station_at stations s).inter.0 t n (side_of (sharing_of (machine_of (new_forks p base stations))).sides s t)) also
+        (shared_first p base inters stations are s t first second));
+    flight = refl;
+  };
   content = content_is (new_forks p base stations) (new_kept p base inters stations are) ∙ ap (content_open (new_forks p base stations)) (new_machine p base inters stations are).waiting;
-  sides = λ s t a c one other.
-      let first : s < length stations = omega (arith, slice_get_within inters s a one, are.first.each) in
-      let second : t < length stations = omega (arith, slice_get_within inters t c other, are.first.each) in
-      let same : (station_at stations s).inter.0 ≡ a.0 = ap (λ (b : InterId). b.0) (some_inter (sym (inter_is p base inters stations are s first) ∙ one)) in
-      let also : (station_at stations t).inter.0 ≡ c.0 = ap (λ (b : InterId). b.0) (some_inter (sym (inter_is p base inters stations are t second) ∙ other)) in
-      subst (λ (n : ℕ). IsFirstShare p s n t c.0 (side_of (sharing_of (machine_of (new_forks p base stations))).sides s t)) same
-      (subst (λ (n : ℕ). IsFirstShare p s (station_at stations s).inter.0 t n (side_of (sharing_of (machine_of (new_forks p base stations))).sides s t)) also
-      (shared_first p base inters stations are s t first second));
-  others = λ s t side at.
-      let share = ((net_first p base inters stations are).share s t).0 (side_read (machine_of (new_forks p base stations)) s t side at).0 in
-      (omega (arith, share.one, are.first.each), omega (arith, share.other, are.first.each));
-  flight = refl;
 }
 
 pub new_is : (p : Planned) (base : ℕ) (inters : List InterId) (stations : List KeptStation) → AreBegun p base inters stations → AreNew (machine_of (new_forks p base stations))

@@ -114,7 +114,7 @@ put_dirty shares lying tokens s g made = fun_ext (λ i. fun_ext (λ t. elim (eqb
 row_at : {X : Type 0} (g : ℕ → X) (n t : ℕ) (d : X) → t < n → get_or (map g (range_with_len 0 n)) t d ≡ g t
 row_at g n t d within = get_or-map-range_with_len g 0 n t t d within (omega arith)
 
-table_row : (f : ℕ → ℕ → Option ForkSide) (n s : ℕ) → s < n → get_or (table_of n f) s [] ≡ map (f s) (range_with_len 0 n)
+pub table_row : (f : ℕ → ℕ → Option ForkSide) (n s : ℕ) → s < n → get_or (table_of n f) s [] ≡ map (f s) (range_with_len 0 n)
 table_row f n s within = row_at (λ i. map (f i) (range_with_len 0 n)) n s [] within
 
 pub table_at : (f : ℕ → ℕ → Option ForkSide) (n s t : ℕ) → s < n → t < n → side_of (table_of n f) s t ≡ f s t

@@ -9,7 +9,7 @@ use Rattle.bip_table.specs.Rows.{has_row, row_components, rows_of, used_at}
 use Rattle.bip_table.specs.declared.rows.Row.{Row}
 use Rattle.bip_bank.specs.Banks.{BankContent, asked_nothing}
 use Rattle.bip_bank.specs.ForkSharing.{ForkSharing, ForkSide, away, dirty, side_of}
-use Rattle.bip_bank.specs.Sharing.{forks}
+use Rattle.bip_bank.specs.Sharing.{Sharing, forks}
 use Rattle.bip_forks.specs.Kept.{station_at}
 use Rattle.bip_forks.specs.Stations.{KeptStation, nothing_shared, pair_of_stations}
 use Rattle.bip_forks.specs.declared.shares.Fork.{Fork}
@@ -28,18 +28,25 @@ pub record IsFirstShare (p : Planned) (s a t b : ℕ) (side : Option ForkSide) :
   pub higher : SharedByPlan p s a t b → t < s
       → side ≡ Some (record { fork = away; token = true })
 
--- new forks were asked nothing; their stations are those of the plan, each fork is dirty and with
--- the lower of its stations, its request token with the higher, and nothing is in flight
-pub record IsNewForks (p : Planned) (base : ℕ) (b : BankContent) : Type 0 where
+-- what the stations of forks share at first: they are those of the plan, and there is a place for
+-- each two of them and no more; each fork is dirty and with the lower of its stations, its request
+-- token with the higher, and nothing is in flight
+pub record AreForksAtFirst (p : Planned) (shared : Sharing) : Type 0 where
   pub stations : List InterId
   pub listed : AreStations p stations
   pub sharing : ForkSharing
-  pub content : b ≡ asked_nothing p base (forks sharing)
+  pub is : shared ≡ forks sharing
+  pub each : length sharing.sides ≡ length stations
+  pub with_each : (s : ℕ) → s < length stations
+      → length (slice_index_or sharing.sides s []) ≡ length stations
   pub sides : (s t : ℕ) (a c : InterId) → slice_get stations s ≡ Some a
       → slice_get stations t ≡ Some c → IsFirstShare p s a.0 t c.0 (side_of sharing.sides s t)
-  pub others : (s t : ℕ) (side : ForkSide) → side_of sharing.sides s t ≡ Some side
-      → (s < length stations) × (t < length stations)
   pub flight : sharing.flight ≡ []
+
+-- new forks were asked nothing
+pub record IsNewForks (p : Planned) (base : ℕ) (b : BankContent) : Type 0 where
+  pub first : AreForksAtFirst p b.sharing
+  pub content : b ≡ asked_nothing p base b.sharing
 
 -- What contracts of private functions say.
 

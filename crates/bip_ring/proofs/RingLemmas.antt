@@ -190,7 +190,10 @@ pub first_ring : (p : Planned) (base : ℕ) (c : KeptCentral) (stations : List I
           stations;
     })))
 first_ring p base c stations place at listed is = record {
-  stations = stations;
-  listed = listed;
-  content = rw (← at) (ap (shared_with (ring (length stations) (token_place place))) is);
+  first = record {
+    stations = stations;
+    listed = listed;
+    shared = ap (ring (length stations)) at;
+  };
+  content = ap (shared_with (ring (length stations) (token_place place))) is;
 }

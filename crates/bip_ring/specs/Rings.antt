@@ -4,7 +4,7 @@ use Rattle.bip_model.specs.declared.numbering.InterId.{InterId}
 use Rattle.bip_partition.specs.Plans.{AreStations, Planned}
 use Rattle.bip_bank.specs.Banks.{BankContent, KeptBank, asked_nothing}
 use Rattle.bip_bank.specs.Central.{IsCentral, KeptCentral, kept_central}
-use Rattle.bip_bank.specs.Sharing.{TokenPlace, ring, token_at, token_to}
+use Rattle.bip_bank.specs.Sharing.{Sharing, TokenPlace, ring, token_at, token_to}
 use Rattle.bip_ring.specs.declared.places.Place.{Place}
 use Rattle.bip_ring.specs.declared.places.Place.TheVariants.{At, To}
 
@@ -35,8 +35,14 @@ pub record IsRing (r : KeptRing) : Type 0 where
   pub listed : AreStations r.desk.plan stations
   pub counted : r.count ≡ length stations
 
--- a new ring was asked nothing; its stations are those of the plan, and the first one has the token
-pub record IsNewRing (p : Planned) (base : ℕ) (b : BankContent) : Type 0 where
+-- what the stations of a ring share at first: they are those of the plan, and the first one has
+-- the token
+pub record IsRingAtFirst (p : Planned) (sharing : Sharing) : Type 0 where
   pub stations : List InterId
   pub listed : AreStations p stations
-  pub content : b ≡ asked_nothing p base (ring (length stations) (token_at 0))
+  pub shared : sharing ≡ ring (length stations) (token_at 0)
+
+-- a new ring was asked nothing
+pub record IsNewRing (p : Planned) (base : ℕ) (b : BankContent) : Type 0 where
+  pub first : IsRingAtFirst p b.sharing
+  pub content : b ≡ asked_nothing p base b.sharing
