@@ -10,6 +10,8 @@ pub mod LocalLemmas
 pub mod MailLemmas
 pub mod NumberLemmas
 pub mod PutLemmas
+pub mod RepeatLemmas
+pub mod RepeatRunLemmas
 pub mod RunLemmas
 pub mod SendLemmas
 pub mod SentenceLemmas

@@ -5,6 +5,7 @@ pub mod Laws
 pub mod Lists
 pub mod Locals
 pub mod Numbers
+pub mod Repeats
 pub mod Runs
 pub mod Sentences
 pub mod Starting

@@ -87,6 +87,11 @@ report_with report did =
       skipped = report.skipped + number_if (was_skipped did);
     }
 
+-- no event of a run was skipped, and no message lost, for want of memory
+pub record IsLossless (report : Report) : Type 0 where
+  pub done : report.skipped ≡ 0
+  pub sent : report.lost ≡ 0
+
 -- one event leads from one world to another or is skipped, and is counted
 pub record IsEventCounted (event : Event) (w v : WorldContent) (report later : Report)
     : Type 0 where

@@ -1,5 +1,6 @@
 //! The laws above the definitions: what a reviewer reads to know what events do. The call does
 //! nothing, and has the laws for its contract.
+ghost use Rattle.bip_core.specs.Repeats.{OneNewWorld, OneRun};
 ghost use Rattle.bip_core.specs.Sentences.{AgreementInSix};
 ghost use Rattle.bip_core.specs.Laws.{FirstOffersAreSent, GrantsJoinTheTrace, MessagesAreSent};
 ghost use Rattle.bip_core.specs.Laws.{MessagesGoOnce, ToldCanBeTaken, TracesGoOn};
@@ -25,4 +26,13 @@ pub fn world_laws()
 /// (docs/PROTOCOL.md, "Agreement").
 pub fn agreement_laws()
     ensures six { AgreementInSix }
+{}
+
+/// What runs have in common. A plan has one new world above a base, by what its bank's stations
+/// share. Two runs of the same events from one world leave one trace and have one report, where
+/// stations share nothing, a token or forks, no event was skipped and no message lost
+/// (docs/PROTOCOL.md, "The world and its events").
+pub fn repeat_laws()
+    ensures new { OneNewWorld }
+    ensures run { OneRun }
 {}

@@ -1,7 +1,7 @@
 //! The machine below the world: all its parts, and its events.
 ghost use Rattle.std.specs.Prelude.{◌≡◌, ◌<◌, ◌⊎◌, All, IfErr, IfNone, IfOk, IfSome, OnErr, OnOk};
 ghost use Rattle.std.specs.Prelude.{None, Some, false, length, slice_get, true, vec_capacity};
-ghost use Rattle.std.specs.Prelude.{vec_len};
+ghost use Rattle.std.specs.Prelude.{[], vec_len};
 ghost use Rattle.bip_model.specs.declared.messages.Request.{Request};
 ghost use Rattle.bip_model.specs.Numbering.{last_number};
 ghost use Rattle.bip_model.specs.Parts.{IsSystem};
@@ -85,7 +85,7 @@ impl<'p, B: bip_bank::Bank> Machine<'p, B> {
         ensures sharing { IfOk result (λ machine. (world_of machine).bank.sharing
             ≡ (B.kept bank).sharing) }
     {
-        let _granted = bank.grants();
+        recall_unused(&bank);
         let components = first_components(alloc, plan, base)?;
         let classes = first_classes(alloc, plan, base)?;
         let mail = first_offers(alloc, plan, base, &components)?;
@@ -404,4 +404,13 @@ fn class_named(reply: &Reply) -> ClassId
         Reply::Granted { class, .. } => class,
         Reply::Refused { class, .. } => class,
     }
+}
+
+/// Does nothing: it reminds the prover that a bank without grants has used up nothing.
+#[inline(always)]
+fn recall_unused<B: bip_bank::Bank>(bank: &B)
+    ensures { (content_of (B.kept bank.now)).grants ≡ []
+        → (content_of (B.kept bank.now)).used ≡ (λ c. (content_of (B.kept bank.now)).base) }
+{
+    let _granted = bank.grants();
 }

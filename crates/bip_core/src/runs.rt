@@ -104,6 +104,6 @@ pub fn run_steps<'p, B: bip_bank::Bank>(world: &mut World<'p, B>, events: &[Even
     for event in events {
         run_event(world, *event, &mut report);
     }
-    let _agreed = world.trace();
+    world.recall();
     report
 }

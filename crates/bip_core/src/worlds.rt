@@ -89,6 +89,16 @@ impl<'p, B: bip_bank::Bank> World<'p, B> {
         self.machine.step(event, &mut NoOne)
     }
 
+    /// Does nothing, and costs nothing: it reminds the prover of what holds of each world.
+    #[inline(always)]
+    pub(crate) fn recall(&self)
+        ensures run { IsModelRun self.now.plan.model (world_of self.now).bank.base self.now.trace }
+        ensures once { MovesOnceEach self.now.trace }
+        ensures agrees { Agrees (world_of self.now) }
+    {
+        let _trace = self.trace();
+    }
+
     /// The plan that the world is of.
     pub fn plan(&self) -> &'p Plan
         ensures { result.now ≡ self.now.plan }

@@ -1,4 +1,4 @@
-use Rattle.std.proofs.Common.{◌∙◌, ℕ, List, ap, refl}
+use Rattle.std.proofs.Common.{ℕ, List, ap, refl}
 use Rattle.std.proofs.lemmas.List.Elements.{All-nil}
 use Rattle.bip_model.specs.declared.messages.Request.{Request}
 use Rattle.bip_partition.specs.Plans.{IsFit}
@@ -31,5 +31,5 @@ returns-clause-new g c = record {
   classes = λ k. class_at c.args.plan.now c.args.base c.in_ok-classes.classes.items k c.in_ok-classes.ensures;
   mail = rw (← c.deref.ensures.value) c.in_ok-mail.ensures;
   trace = c.new.ensures.items;
-  bank = unasked_content c.args.plan.now c.args.base (content_of (g.B.Bank.kept c.args.bank)) c.requires.unasked (c.grants-granted.ensures.unused (c.grants-granted.ensures.grants ∙ c.requires.unasked.grants));
+  bank = unasked_content c.args.plan.now c.args.base (content_of (g.B.Bank.kept c.args.bank)) c.requires.unasked (c.recall_unused.ensures c.requires.unasked.grants);
 }
