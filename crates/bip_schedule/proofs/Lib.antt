@@ -1,3 +1,5 @@
 pub mod DrawLemmas
+pub mod LawLemmas
+pub mod LineLemmas
 pub mod SpellingLemmas
 pub mod StationLemmas

@@ -3,6 +3,7 @@ use Rattle.std.specs.Fmt.{decimal}
 use Rattle.std.specs.Prelude.{List, Ok, Result, codes, length, ⊤, ℕ, ◌++◌, ◌+◌, ◌≡◌, ◌∷◌}
 use Rattle.bip_bank.specs.Banks.{KeptBank}
 use Rattle.bip_bank.specs.Sharing.{Sharing}
+use Rattle.bip_core.specs.Runs.{IsLossless}
 use Rattle.bip_core.specs.Starting.{IsNewWorld}
 use Rattle.bip_core.specs.Worlds.{WorldContent}
 use Rattle.bip_core.specs.declared.events.Event.{Event}
@@ -33,11 +34,6 @@ pub record IsSeedTrace (shares : Sharing → Type 0) (p : Planned) (base count s
   pub shared : shares first.bank.sharing
   pub seeded : AreSeeded seed count events first last report
   pub is : trace ≡ last.trace
-
--- no event of a run was skipped, and no message lost, for want of memory
-pub record IsLossless (report : Report) : Type 0 where
-  pub done : report.skipped ≡ 0
-  pub sent : report.lost ≡ 0
 
 -- the trace of a seed, all of whose events were done, is a run of the model, of so many grants
 pub record IsSeedRun (shares : Sharing → Type 0) (p : Planned) (base count seed : ℕ) (grants : ℕ)

@@ -4,9 +4,10 @@ ghost use Rattle.std.specs.Prelude.{Some};
 ghost use Rattle.bip_model.specs.Numbering.{last_number};
 ghost use Rattle.bip_replay.specs.Runs.{IsModelRun};
 ghost use Rattle.bip_bank.specs.Banks.{content_of};
+ghost use Rattle.bip_core.specs.Runs.{IsLossless};
 ghost use Rattle.bip_core.specs.Starting.{IsNewWorld, IsUnasked};
 ghost use Rattle.bip_core.specs.Worlds.{world_of};
-ghost use Rattle.bip_schedule.specs.Exploring.{AreExplored, IsCheckFault, IsLossless, IsSeedRun};
+ghost use Rattle.bip_schedule.specs.Exploring.{AreExplored, IsCheckFault, IsSeedRun};
 ghost use Rattle.bip_schedule.specs.Exploring.{IsSharedBy, number_of_explore, text_of_explore};
 ghost use Rattle.bip_schedule.specs.declared.exploring.ExploreFault.TheVariants.{Memory};
 
@@ -71,9 +72,9 @@ impl From<AllocError> for ExploreFault {
 /// Explores the seeds from 1 on, so many of them: each draws so many events in the new world of the
 /// plan above the base, and its trace is checked to be a run of the model. Ends at the first seed
 /// whose trace is none, or where memory is out: also where an event was skipped or a message lost
-/// for want of it, so that a seed's grants are always the same. `make` gives a bank of that plan
-/// and base without grants or open requests. One seed's world is kept at a time (docs/ANSWERS.md,
-/// "Exploring").
+/// for want of it, so that a seed's grants are always the same. No seeds want no memory. `make`
+/// gives a bank of that plan and base without grants or open requests. One seed's world is kept
+/// at a time (docs/ANSWERS.md, "Exploring").
 pub fn explore<'p, B: Bank + Drop, F: Fn() -> Result<B, AllocError>>(
     alloc: Global,
     plan: &'p Plan,
@@ -89,7 +90,7 @@ pub fn explore<'p, B: Bank + Drop, F: Fn() -> Result<B, AllocError>>(
     ensures runs { IfOk result (λ done. done.runs ≡ seeds) }
     ensures explored { IfOk result (λ done. AreExplored (IsSharedBy B.kept (F.post make)) plan.now
         base count seeds done.grants) }
-    ensures fault { IfErr result (λ fault. fault ≡ Memory) }
+    ensures fault { IfErr result (λ fault. (fault ≡ Memory) × (0 < seeds)) }
 {
     let mut grants = 0;
     for done in 0..seeds {

@@ -3,6 +3,7 @@
 
 mod drawing;
 mod exploring;
+mod laws;
 mod lines;
 mod schedules;
 mod seeding;
@@ -10,6 +11,7 @@ mod writing;
 
 pub use drawing::event_of;
 pub use exploring::{ExploreFault, Explored, explore, explore_seed};
+pub use laws::schedule_laws;
 pub use schedules::read_schedule;
 pub use seeding::seeded;
 pub use writing::{have_spelling, write_schedule};

@@ -1,0 +1,25 @@
+use Rattle.bip_schedule.proofs.LawLemmas.{events_or_fault, not_both, one_schedule, one_schedule_fault, one_seed_trace}
+use Rattle.bip_schedule.proofs.LineLemmas.{lines_are_events}
+use Rattle.bip_schedule.proofs.StationLemmas.{one_stations}
+use Rattle.bip_schedule.proofs.laws.schedule_laws.Goals as goal
+
+pub returns-clause-stations : goal.returns-clause-stations
+returns-clause-stations c = one_stations
+
+pub returns-clause-events : goal.returns-clause-events
+returns-clause-events c = one_schedule
+
+pub returns-clause-fault : goal.returns-clause-fault
+returns-clause-fault c = one_schedule_fault
+
+pub returns-clause-apart : goal.returns-clause-apart
+returns-clause-apart c = not_both
+
+pub returns-clause-either : goal.returns-clause-either
+returns-clause-either c = events_or_fault
+
+pub returns-clause-seed : goal.returns-clause-seed
+returns-clause-seed c = one_seed_trace
+
+pub returns-clause-lines : goal.returns-clause-lines
+returns-clause-lines c = lines_are_events
