@@ -4,11 +4,13 @@ use Rattle.std.specs.Option.{option_map_or}
 use Rattle.std.specs.Prelude.{IfNone, IfSome}
 use Rattle.std.specs.Str.Parse.{ParsesUnsigned, digits_value, without_leading_plus}
 use Rattle.clap.specs.Words.{ReadsOne, Row, Text, first_of, one_of}
-use Rattle.bipr.specs.CommandLine.{AreStepsAsked, AsksNothing, IsAsked, IsNumberAsked}
+use Rattle.bipr.specs.CommandLine.{AreStepsAsked, AsksNothing, IsAsked, IsNumberAsked, IsResolverAsked}
 use Rattle.bipr.specs.Program.{Parsed}
+use Rattle.bipr.specs.Resolvers.{resolver_name}
 use Rattle.bipr.specs.declared.command_line.Asked.TheVariants as asks
 use Rattle.bipr.specs.declared.command_line.ReplayArguments.{ReplayArguments}
 use Rattle.bipr.specs.declared.command_line.StepsArguments.{StepsArguments}
+use Rattle.bipr.specs.declared.resolvers.Resolver.{Resolver}
 
 -- a number that was read is asked
 pub number_asked : (E : Type 0) (gives : Text → Result ℕ E → Type 0) (bits : ℕ) (values : List Row) (option : Text) (read : Option ℕ)
@@ -117,3 +119,15 @@ steps_ask_nothing parsed values named none (asks.Steps arguments) asked =
 steps_ask_nothing parsed values named none (asks.Explore arguments) asked =
     let bad : initial_of_steps ≡ initial_of_explore = same_initial parsed (codes "steps") (codes "explore") values asked.values named asked.named in
     absurd (omega arith)
+
+-- a resolver that is named is asked
+pub resolver_asked : (values : List Row) (name : Text) (found : Option Resolver) → Some name ≡ first_of (codes "resolver") values → IfSome found (λ resolver. name ≡ resolver_name resolver) → IfSome found (IsResolverAsked values)
+resolver_asked values name None first named = tt
+resolver_asked values name (Some resolver) first named = sym first ∙ ap Some named
+
+pub no_resolver_asked : (values : List Row) (name : Text) (found : Option Resolver) → Some name ≡ first_of (codes "resolver") values → IfNone found ((resolver : Resolver) → name ≡ resolver_name resolver → ⊥) → IfNone found ((resolver : Resolver) → IsResolverAsked values resolver → ⊥)
+no_resolver_asked values name None first none = λ resolver asked. none resolver (same_name name (resolver_name resolver) (first ∙ asked))
+  where
+    same_name : (x y : Text) → Some x ≡ Some y → x ≡ y
+    same_name x y is = cc
+no_resolver_asked values name (Some resolver) first none = tt

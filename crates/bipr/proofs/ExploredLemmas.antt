@@ -1,5 +1,5 @@
 -- What is told on the way while seeds are explored, and the answers.
-use Rattle.std.proofs.Common.{◌≡◌, ◌∙◌, ◌+◌, ◌++◌, ◌∷◌, ◌≤◌, add-one, ap, ℕ, true, false, List, [], Result, Ok, Err, refl, subst, sym}
+use Rattle.std.proofs.Common.{◌≡◌, ◌∙◌, ◌+◌, ◌++◌, ◌∷◌, add-one, ap, ℕ, true, false, List, [], Result, Ok, Err, refl, subst, sym}
 use Rattle.std.specs.Prelude.{IfOk, IsErr, MatchResult}
 use Rattle.std.specs.declared.alloc.AllocError.{AllocError}
 use Rattle.bip_partition.specs.Plans.{Planned}
@@ -8,7 +8,8 @@ use Rattle.bip_schedule.specs.Exploring.{AreExplored, IsSeedRun}
 use Rattle.bip_schedule.specs.declared.exploring.ExploreFault.{ExploreFault}
 use Rattle.bipr.specs.Answers.{HasPlan, saying}
 use Rattle.bipr.specs.Commands.Explore.{IsExplore, IsTextExplored, of_no_text, of_plan}
-use Rattle.bipr.specs.Explored.{IsAlone, IsExploreAnswer, ends_hundredth, explored, told_at, told_until}
+use Rattle.bipr.specs.Explored.{IsExploreAnswer, ends_hundredth, explored, told_at, told_until}
+use Rattle.bipr.specs.Resolvers.{IsSharedAtFirst}
 use Rattle.bipr.specs.Stops.{answer_of_stop, out_of_memory, unread}
 use Rattle.bipr.specs.Wording.{progress_text, seeds_text}
 use Rattle.bipr.specs.declared.answers.Answer.{Answer}
@@ -37,7 +38,7 @@ told_lacking (Err e) P Q is held = held
 
 -- that all are runs is said
 pub explored_said : (p : Planned) (asked : ExploreArguments) (grants : ℕ) (answer : Answer) (text : List ℕ)
-    → AreExplored IsAlone p 0 asked.events asked.seeds grants
+    → AreExplored (IsSharedAtFirst asked.resolver p) p 0 asked.events asked.seeds grants
     → answer ≡ saying Done text → text ≡ seeds_text asked.seeds → IsExploreAnswer p asked (told_until asked asked.seeds) answer
 explored_said p asked grants answer text so said spelled =
     subst (IsExploreAnswer p asked (told_until asked asked.seeds)) (sym (said ∙ ap (saying Done) spelled)) (explored grants so)

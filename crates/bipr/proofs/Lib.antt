@@ -8,8 +8,10 @@ pub mod MarkLemmas
 pub mod OneAnswerLemmas
 pub mod OneCheckLemmas
 pub mod ProgramLemmas
+pub mod RepeatLemmas
 pub mod ReplayLemmas
 pub mod ScheduledLemmas
 pub mod SomeAnswerLemmas
+pub mod StatusLemmas
 pub mod StepsLemmas
 pub mod StreamLemmas

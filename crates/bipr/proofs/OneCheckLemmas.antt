@@ -46,7 +46,7 @@ one_plan exact text p q h k =
     let whole : record { model = p.model; classes = p.classes } ≡ record { model = q.model; classes = q.classes } = rw (same.0, same.1) refl in
     whole
 
-planned_or_refused : AreExact → (text : List ℕ) (p : Planned) (answer : Answer) → HasPlan text p → IsRefusedModel text answer → ⊥
+pub planned_or_refused : AreExact → (text : List ℕ) (p : Planned) (answer : Answer) → HasPlan text p → IsRefusedModel text answer → ⊥
 planned_or_refused exact text p answer has (no_plan m c a means lowest) = has.few a (subst (λ s. IsLowestTooMany s a) (exact.meaning text m p.model c p.classes means has.means).0 lowest).many
 planned_or_refused exact text p answer has (no_text f other has') = exact.either text p.model p.classes f has.means has'
 

@@ -12,7 +12,7 @@ use Rattle.clap.specs.declared.parser.matches.ArgMatches.TheViews.{out-ArgMatche
 use Rattle.clap.specs.declared.parser.matches.SubCommand.{SubCommand}
 use Rattle.clap.proofs.OnLiterals.{clap_on_literals}
 use Rattle.clap.proofs.WalkLemmas.{first_value-rows, one_text-rows}
-use Rattle.bipr.specs.Program.{HasRule, HasShape, IsCentralAlone, IsNoParse, IsParse, program}
+use Rattle.bipr.specs.Program.{HasRule, HasShape, AreResolvers, IsNoParse, IsParse, program}
 
 -- a command with one more argument
 pub has_shape : (old new : Command) (argument : Arg) (shape : Shape) (rule : Rule) → HasShape shape old → HasRule rule argument
@@ -37,7 +37,7 @@ program_free resolvers = refl
 
 -- words that the library takes
 pub parses : (resolvers : Bor (List (Bor Text))) (app : App) (words : List Text) (m : ArgMatches) → app ≡ program resolvers
-    → IsCentralAlone resolvers → HasMatchesOf app words m → (is_simple_and_free app ≡ true → fault_of app words ≡ [])
+    → AreResolvers resolvers → HasMatchesOf app words m → (is_simple_and_free app ≡ true → fault_of app words ≡ [])
     → IsParse words (subcommand_rows_of m)
 parses resolvers app words m is alone matches faultless = (
   resolvers,
@@ -48,7 +48,7 @@ parses resolvers app words m is alone matches faultless = (
 
 -- words that it doesn't take
 pub does_not_parse : (resolvers : Bor (List (Bor Text))) (app : App) (words : List Text) (error : Error) → app ≡ program resolvers
-    → IsCentralAlone resolvers → (is_simple_and_free app ≡ true → HasKind (fault_of app words) error) → IsNoParse words error
+    → AreResolvers resolvers → (is_simple_and_free app ≡ true → HasKind (fault_of app words) error) → IsNoParse words error
 does_not_parse resolvers app words error is alone fails =
     (resolvers, alone, subst (λ (a : App). HasKind (fault_of a words) error) is (fails (ap is_simple_and_free is ∙ program_free resolvers)))
 

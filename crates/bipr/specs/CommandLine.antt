@@ -3,11 +3,13 @@ use Rattle.std.specs.Prelude.{◌≡◌, ℕ, ◌<◌, ◌≤◌, ◌^◌, Bool,
 use Rattle.std.specs.Str.Parse.{IsNumeral, digits_value, without_leading_plus}
 use Rattle.clap.specs.Words.{Row, Text, first_of, one_of}
 use Rattle.bipr.specs.Program.{Parsed}
+use Rattle.bipr.specs.Resolvers.{resolver_name}
 use Rattle.bipr.specs.declared.command_line.Asked.{Asked}
 use Rattle.bipr.specs.declared.command_line.Asked.TheVariants as asks
 use Rattle.bipr.specs.declared.command_line.ExploreArguments.{ExploreArguments}
 use Rattle.bipr.specs.declared.command_line.ReplayArguments.{ReplayArguments}
 use Rattle.bipr.specs.declared.command_line.StepsArguments.{StepsArguments}
+use Rattle.bipr.specs.declared.resolvers.Resolver.{Resolver}
 
 -- the greatest base: one number at least is left above it
 abbrev pub greatest_base : ℕ
@@ -25,6 +27,11 @@ pub record IsNumberAsked (values : List Row) (option : Text) (bits number : ℕ)
 pub record IsBaseAsked (values : List Row) (base : ℕ) : Type 0 where
   pub number : IsNumberAsked values (codes "base") 64 base
   pub bound : base ≤ greatest_base
+
+-- values name a resolver
+abbrev pub IsResolverAsked : List Row → Resolver → Type 0
+IsResolverAsked values resolver =
+    first_of (codes "resolver") values ≡ Some (resolver_name resolver)
 
 -- values set an option that takes none, or don't
 pub record IsFlagAsked (values : List Row) (option : Text) (is_set : Bool) : Type 0 where
@@ -44,17 +51,17 @@ pub record IsAsked (values : List Row) (arguments : ReplayArguments) : Type 0 wh
   pub trace : first_of (codes "trace") values ≡ Some arguments.trace.now
   pub base : IsBaseAsked values arguments.base
 
--- the values behind `steps` ask, where the resolver is the central bank
+-- the values behind `steps` ask
 pub record AreStepsAsked (values : List Row) (arguments : StepsArguments) : Type 0 where
   pub model : first_of (codes "model") values ≡ Some arguments.model.now
   pub schedule : first_of (codes "schedule") values ≡ Some arguments.schedule.now
-  pub resolver : first_of (codes "resolver") values ≡ Some (codes "central")
+  pub resolver : IsResolverAsked values arguments.resolver
   pub base : IsBaseAsked values arguments.base
 
--- the values behind `explore` ask, where the resolver is the central bank
+-- the values behind `explore` ask
 pub record IsExploreAsked (values : List Row) (arguments : ExploreArguments) : Type 0 where
   pub model : first_of (codes "model") values ≡ Some arguments.model.now
-  pub resolver : first_of (codes "resolver") values ≡ Some (codes "central")
+  pub resolver : IsResolverAsked values arguments.resolver
   pub seeds : IsNumberAsked values (codes "seeds") 32 arguments.seeds
   pub events : IsNumberAsked values (codes "events") 32 arguments.events
   pub progress : IsFlagAsked values (codes "progress") arguments.is_told

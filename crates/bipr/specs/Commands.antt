@@ -3,10 +3,11 @@ pub mod Check
 pub mod Explore
 pub mod Replay
 pub mod Steps
-use Rattle.std.specs.Prelude.{Bool, false, List, [], ℕ, Result}
+use Rattle.std.specs.Prelude.{◌≡◌, Bool, false, List, [], ℕ, Result, Ok, Err}
 use Rattle.std.specs.declared.io.Error as io_error
 use Rattle.clap.specs.Words.{Text}
 use Rattle.clap.specs.declared.error.Error.{Error}
+use Rattle.bipr.specs.Answers.{code_of}
 use Rattle.bipr.specs.CommandLine.{AsksForSteps, AsksNothing, AsksToCheck, AsksToExplore}
 use Rattle.bipr.specs.CommandLine.{AsksToReplay, IsExplainAsked}
 use Rattle.bipr.specs.Commands.Check.{IsCheck}
@@ -52,12 +53,18 @@ pub data IsCarriedOut (words : List Text)
       → IsErrorAnswer error answer → IsCarriedOut words gives false [] answer
   lacking : IsCarriedOut words gives false [] out_of_memory
 
--- how the program may end, where reading a path may give these texts: the words that it was started
--- with can't be had, or they were carried out
-pub data IsProgramEnd {S : Type 0} (gives : List ℕ → Result (List ℕ) InputFault → Type 0)
-    (says : List ℕ → Bool → Type 0) (writes : S → List ℕ → Bool → S → Type 0) (before after : S)
-    (status : Status) : Type 0 where
-  wordless : (error : io_error.Error) → Ends (IsWordsAnswer error) says (Puts writes before after)
-      status → IsProgramEnd gives says writes before after status
-  worded : (words : List Text) → EndsExplaining (IsCarriedOut words gives) says writes before after
-      status → IsProgramEnd gives says writes before after status
+-- how the program may end, where asking for its words may give these, and reading a path these
+-- texts: the words can't be had, or they were carried out
+pub data IsProgramEnd {S : Type 0} (asks : Result (List Text) io_error.Error → Type 0)
+    (gives : List ℕ → Result (List ℕ) InputFault → Type 0) (says : List ℕ → Bool → Type 0)
+    (writes : S → List ℕ → Bool → S → Type 0) (before after : S) (status : Status) : Type 0 where
+  wordless : (error : io_error.Error) → asks (Err error)
+      → Ends (IsWordsAnswer error) says (Puts writes before after) status
+      → IsProgramEnd asks gives says writes before after status
+  worded : (words : List Text) → asks (Ok words)
+      → EndsExplaining (IsCarriedOut words gives) says writes before after status
+      → IsProgramEnd asks gives says writes before after status
+
+-- the code with which the process ends is that of a status with which the program may end
+abbrev pub IsExit : (Status → Type 0) → ℕ → Type 0
+IsExit ends code = (status : Status) × ends status × (code ≡ code_of status)

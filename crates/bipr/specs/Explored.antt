@@ -1,19 +1,15 @@
 -- The answer to exploring a plan by many seeds, and what is told on the way.
-use Rattle.std.specs.Prelude.{List, [], ℕ, zero, suc, nat_lt, if◌then◌else◌, ◌&&◌, ◌*◌, ◌+◌, ◌++◌}
-use Rattle.std.specs.Prelude.{Bool, ◌-◌, ◌/◌, ◌∷◌, ◌≡◌, ◌≤◌}
-use Rattle.bip_bank.specs.Sharing.{Sharing, alone}
+use Rattle.std.specs.Prelude.{List, [], ℕ, zero, suc, nat_lt, if◌then◌else◌, ◌&&◌, ◌*◌, ◌++◌}
+use Rattle.std.specs.Prelude.{Bool, ◌-◌, ◌/◌, ◌∷◌, ◌≤◌}
 use Rattle.bip_partition.specs.Plans.{Planned}
 use Rattle.bip_schedule.specs.Exploring.{AreExplored}
 use Rattle.bipr.specs.Answers.{saying}
+use Rattle.bipr.specs.Resolvers.{IsSharedAtFirst}
 use Rattle.bipr.specs.Stops.{out_of_memory}
 use Rattle.bipr.specs.Wording.{progress_text, seeds_text}
 use Rattle.bipr.specs.declared.answers.Answer.{Answer}
 use Rattle.bipr.specs.declared.answers.Status.TheVariants.{Done}
 use Rattle.bipr.specs.declared.command_line.ExploreArguments.{ExploreArguments}
-
--- stations share nothing, as those of the central bank
-abbrev pub IsAlone : Sharing → Type 0
-IsAlone sharing = sharing ≡ alone
 
 -- with this seed another hundredth of the seeds is done
 abbrev pub ends_hundredth : ℕ → ℕ → Bool
@@ -29,15 +25,15 @@ abbrev pub told_until : ExploreArguments → ℕ → List (List ℕ)
 told_until asked zero = []
 told_until asked (suc done) = told_until asked done ++ told_at asked (suc done)
 
--- the answer to exploring a plan, with what is told on the way
+-- the answer to exploring a plan with a resolver's bank, and what is told on the way
 pub data IsExploreAnswer (p : Planned) (asked : ExploreArguments) :
     List (List ℕ) → Answer → Type 0 where
   -- the trace of each seed is a run of the model: that one is none can't be
   explored : (grants : ℕ)
-      → AreExplored IsAlone p 0 asked.events asked.seeds grants
+      → AreExplored (IsSharedAtFirst asked.resolver p) p 0 asked.events asked.seeds grants
       → IsExploreAnswer p asked (told_until asked asked.seeds)
       (saying Done (seeds_text asked.seeds))
   -- so many seeds are explored, and memory is out
   ends_without_memory : (done grants : ℕ) → done ≤ asked.seeds
-      → AreExplored IsAlone p 0 asked.events done grants
+      → AreExplored (IsSharedAtFirst asked.resolver p) p 0 asked.events done grants
       → IsExploreAnswer p asked (told_until asked done) out_of_memory

@@ -1,16 +1,29 @@
 -- The laws of answers, and of the replay of texts that are known.
-use Rattle.std.specs.Prelude.{◌≡◌, ◌≤◌, ℕ, false, true, List, length}
+use Rattle.std.specs.Prelude.{◌≡◌, ◌↔◌, ◌≤◌, ℕ, false, true, List, length}
 use Rattle.bip_partition.specs.Plans.{Planned}
-use Rattle.bipr.specs.Answers.{HasPlan, IsAnswer, IsCheckAnswer, complaining, saying}
+use Rattle.bip_core.specs.Runs.{IsLossless}
+use Rattle.bip_core.specs.declared.runs.Report.{Report}
+use Rattle.bip_model.specs.declared.parts.System.{System}
+use Rattle.bip_model.specs.declared.partitions.Partition.{Partition}
+use Rattle.bip_reader.specs.Texts.{Means}
+use Rattle.bip_replay.specs.Replays.{IsFirstFault, IsRunOf}
+use Rattle.bip_replay.specs.declared.faults.BookFault.{BookFault}
+use Rattle.bip_replay.specs.declared.faults.ReplayFault.TheVariants as replay_fault
+use Rattle.bip_schedule.specs.Exploring.{IsSeedRun}
+use Rattle.bipr.specs.Answers.{HasPlan, IsAnswer, IsCheckAnswer, IsRefusedModel, complaining}
+use Rattle.bipr.specs.Answers.{saying}
 use Rattle.bipr.specs.Commands.Replay.{IsModelText, IsReplay, is_joined}
 use Rattle.bipr.specs.Dividing.{AreParts, after_mark, before_mark}
 use Rattle.bipr.specs.Inputs.{IsReading, Named, bytes, most_bytes}
-use Rattle.bipr.specs.Scheduled.{IsScheduleAnswer}
+use Rattle.bipr.specs.Resolvers.{IsSharedAtFirst}
+use Rattle.bipr.specs.Scheduled.{IsScheduleAnswer, IsStepped}
 use Rattle.bipr.specs.Stops.{out_of_memory, unread_text}
 use Rattle.bipr.specs.Wording.{run_text}
 use Rattle.bipr.specs.declared.answers.Answer.{Answer}
-use Rattle.bipr.specs.declared.answers.Status.TheVariants.{Done, Refused}
+use Rattle.bipr.specs.declared.answers.Status.{Status}
+use Rattle.bipr.specs.declared.answers.Status.TheVariants.{Done, NotARun, Refused}
 use Rattle.bipr.specs.declared.command_line.ReplayArguments.{ReplayArguments}
+use Rattle.bipr.specs.declared.resolvers.Resolver.{Resolver}
 
 -- two texts in one are parted by lines
 abbrev pub PartedByLines : Type 0
@@ -31,13 +44,61 @@ abbrev pub SomeAnswer : Type 0
 SomeAnswer = (base : ℕ) (model trace : List ℕ)
     → (answer : Answer) × IsAnswer base model trace answer
 
--- what `steps` writes where it ends as done is a trace of which `replay`, of the same model from
--- the same base, says that it is a run
+-- with each resolver, what `steps` writes where it ends as done is a trace of which `replay`, of
+-- the same model from the same base, says that it is a run
 abbrev pub StepsReplay : Type 0
 StepsReplay =
-    (base : ℕ) (model schedule : List ℕ) (p : Planned) (answer : Answer) → HasPlan model p
-    → IsScheduleAnswer p base schedule answer → answer.status ≡ Done
+    (base : ℕ) (resolver : Resolver) (model schedule : List ℕ) (p : Planned) (answer : Answer)
+    → HasPlan model p → IsScheduleAnswer p base resolver schedule answer → answer.status ≡ Done
     → (count : ℕ) × IsAnswer base model answer.output (saying Done (run_text count))
+
+-- two answers of the same schedule, whose events are done, are one: with each resolver, where no
+-- event was skipped and no message lost
+abbrev pub OneStepsAnswer : Type 0
+OneStepsAnswer =
+    (p : Planned) (base : ℕ) (resolver : Resolver) (schedule : List ℕ) (report other : Report)
+    (a b : Answer) → IsStepped p base resolver schedule report a
+    → IsStepped p base resolver schedule other b → IsLossless report → IsLossless other → a ≡ b
+
+-- with each resolver, a seed that is explored again has the same trace
+abbrev pub OneTraceOfASeed : Type 0
+OneTraceOfASeed =
+    (p : Planned) (resolver : Resolver) (count seed m n : ℕ)
+    → (one : IsSeedRun (IsSharedAtFirst resolver p) p 0 count seed m)
+    → (other : IsSeedRun (IsSharedAtFirst resolver p) p 0 count seed n)
+    → (one.trace ≡ other.trace) × (m ≡ n)
+
+-- a text is the trace of a run of the model that another text means; or its first line at fault has
+-- a grant that can't be next
+abbrev pub IsRunText : ℕ → List ℕ → List ℕ → Type 0
+IsRunText base model trace =
+    (m : System) × (classes : Partition) × (count : ℕ) × Means model m classes
+    × IsRunOf m base trace count
+
+abbrev pub IsStoppedText : ℕ → List ℕ → List ℕ → Type 0
+IsStoppedText base model trace =
+    (m : System) × (classes : Partition) × (number : ℕ) × (fault : BookFault)
+    × Means model m classes × IsFirstFault m base trace number (replay_fault.NotARun fault)
+
+-- the status of a replay tells which it is: 0 exactly where the trace is that of a run, 4 exactly
+-- where it stops being one at a line, and 1 for all other texts
+pub record StatusTells (base : ℕ) (model trace : List ℕ) (status : Status) : Type 0 where
+  pub done : (status ≡ Done) ↔ IsRunText base model trace
+  pub stopped : (status ≡ NotARun) ↔ IsStoppedText base model trace
+  pub others : (¬ IsRunText base model trace) → (¬ IsStoppedText base model trace)
+      → status ≡ Refused
+
+abbrev pub StatusesTell : Type 0
+StatusesTell =
+    (base : ℕ) (model trace : List ℕ) (answer : Answer) → IsAnswer base model trace answer
+    → StatusTells base model trace answer.status
+
+-- the status of a check is 0 exactly where the text has a plan, and else 1
+abbrev pub CheckStatusesTell : Type 0
+CheckStatusesTell =
+    (model : List ℕ) (answer : Answer) → IsCheckAnswer model answer
+    → ((answer.status ≡ Done) ↔ ((p : Planned) × HasPlan model p))
+    × ((answer.status ≡ Refused) ↔ IsRefusedModel model answer)
 
 -- what may be answered where the two paths name these texts
 pub data IsOfTwo (asked : ReplayArguments) (model trace : List ℕ) : Answer → Type 0 where

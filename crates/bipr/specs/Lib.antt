@@ -8,6 +8,7 @@ pub mod Inputs
 pub mod Laws
 pub mod Program
 pub mod Refusals
+pub mod Resolvers
 pub mod Scheduled
 pub mod Sources
 pub mod Stops

@@ -96,9 +96,11 @@ HasShape shape command = (app_of command ≡ record { top = shape; subs = [] })
 
 -- ---- words
 
--- the one resolver so far is the central bank
-abbrev pub IsCentralAlone : Bor (List (Bor Text)) → Type 0
-IsCentralAlone resolvers = map (λ (name : Bor Text). name.now) resolvers.now ≡ codes "central" ∷ []
+-- the names of all resolvers
+abbrev pub AreResolvers : Bor (List (Bor Text)) → Type 0
+AreResolvers resolvers =
+    map (λ (name : Bor Text). name.now) resolvers.now
+    ≡ codes "central" ∷ codes "ring" ∷ codes "forks" ∷ []
 
 -- what words are parsed to: the command that they name, with the values that each of its arguments
 -- has
@@ -107,11 +109,11 @@ Parsed = Option (Text × List Row)
 
 -- words, of which the first is the program's own name, have no fault, and say this
 abbrev pub IsParse : List Text → Parsed → Type 0
-IsParse words parsed = (resolvers : Bor (List (Bor Text))) × IsCentralAlone resolvers
+IsParse words parsed = (resolvers : Bor (List (Bor Text))) × AreResolvers resolvers
     × (fault_of (program resolvers) words ≡ []) × (parsed ≡ subcommand_of (program resolvers) words)
 
 -- words have a fault, or ask for help or the version, of which the library's error tells; or memory
 -- is out
 abbrev pub IsNoParse : List Text → Error → Type 0
-IsNoParse words error = (resolvers : Bor (List (Bor Text))) × IsCentralAlone resolvers
+IsNoParse words error = (resolvers : Bor (List (Bor Text))) × AreResolvers resolvers
     × HasKind (fault_of (program resolvers) words) error

@@ -1,10 +1,10 @@
 //! What a command line asks.
-ghost use Rattle.std.specs.Prelude.{◌≡◌, ◌↔◌, IfNone, IfSome, IsTrue, Some, codes};
-ghost use Rattle.clap.specs.Words.{first_of, found_of, rows_of, subcommand_rows_of};
+ghost use Rattle.std.specs.Prelude.{IfNone, IfSome};
+ghost use Rattle.clap.specs.Words.{found_of, rows_of, subcommand_rows_of};
 ghost use Rattle.bipr.specs.CommandLine.{AreStepsAsked, Asks, AsksNothing, IsAsked, IsBaseAsked};
-ghost use Rattle.bipr.specs.CommandLine.{IsExplainAsked, IsExploreAsked};
+ghost use Rattle.bipr.specs.CommandLine.{IsExplainAsked, IsExploreAsked, IsResolverAsked};
 
-use crate::program::CENTRAL;
+use crate::resolvers::{Resolver, resolver_named};
 use bip_model::Number;
 use clap::ArgMatches;
 
@@ -21,19 +21,21 @@ pub struct ReplayArguments<'a> {
 }
 
 /// What the command line asks: the steps of a schedule from the new world of a model above a base,
-/// each text named by its path.
+/// with a resolver's bank, each text named by its path.
 #[derive(Drop)]
 pub struct StepsArguments<'a> {
     pub model: &'a str,
     pub schedule: &'a str,
+    pub resolver: Resolver,
     pub base: Number,
 }
 
-/// What the command line asks: to explore the model that a path names by the seeds from 1 on, with
-/// so many events each; and whether progress is told.
+/// What the command line asks: to explore the model that a path names, with a resolver's bank, by
+/// the seeds from 1 on, with so many events each; and whether progress is told.
 #[derive(Drop)]
 pub struct ExploreArguments<'a> {
     pub model: &'a str,
+    pub resolver: Resolver,
     pub seeds: u32,
     pub events: u32,
     pub is_told: bool,
@@ -98,13 +100,12 @@ fn read_steps<'a>(matches: &ArgMatches<'a>) -> Option<StepsArguments<'a>>
     ensures none { IfNone result ((asked : _)
         → AreStepsAsked (rows_of (found_of matches.now)) asked → ⊥) }
 {
+    let resolver = read_resolver(matches)?;
     let base = read_base(matches)?;
-    if !is_central(matches) {
-        return None;
-    }
     Some(StepsArguments {
         model: matches.get_str("model")?,
         schedule: matches.get_str("schedule")?,
+        resolver,
         base,
     })
 }
@@ -115,26 +116,23 @@ fn read_explore<'a>(matches: &ArgMatches<'a>) -> Option<ExploreArguments<'a>>
     ensures none { IfNone result ((asked : _)
         → IsExploreAsked (rows_of (found_of matches.now)) asked → ⊥) }
 {
-    if !is_central(matches) {
-        return None;
-    }
+    let resolver = read_resolver(matches)?;
     Some(ExploreArguments {
         model: matches.get_str("model")?,
+        resolver,
         seeds: matches.get_one("seeds")?,
         events: matches.get_one("events")?,
         is_told: matches.get_flag("progress"),
     })
 }
 
-// Whether the resolver that is named is the central bank.
-fn is_central(matches: &ArgMatches<'_>) -> bool
-    ensures { IsTrue result ↔ (first_of (codes "resolver") (rows_of (found_of matches.now))
-        ≡ Some (codes "central")) }
+// The resolver that is named; none where that is no resolver's name.
+fn read_resolver(matches: &ArgMatches<'_>) -> Option<Resolver>
+    ensures some { IfSome result (IsResolverAsked (rows_of (found_of matches.now))) }
+    ensures none { IfNone result ((resolver : _)
+        → IsResolverAsked (rows_of (found_of matches.now)) resolver → ⊥) }
 {
-    match matches.get_str("resolver") {
-        Some(resolver) => resolver == CENTRAL,
-        None => false,
-    }
+    resolver_named(matches.get_str("resolver")?)
 }
 
 // The base; none where it is out of range.

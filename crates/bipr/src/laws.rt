@@ -1,6 +1,7 @@
 //! The laws of answers, of two texts in one, and of the replay of texts that are known.
-ghost use Rattle.bipr.specs.Laws.{OneAnswer, OneCheckAnswer, OneTextDecides, PartedByLines};
-ghost use Rattle.bipr.specs.Laws.{SomeAnswer, StepsReplay, TwoTextsDecide};
+ghost use Rattle.bipr.specs.Laws.{CheckStatusesTell, OneAnswer, OneCheckAnswer, OneStepsAnswer};
+ghost use Rattle.bipr.specs.Laws.{OneTextDecides, OneTraceOfASeed, PartedByLines, SomeAnswer};
+ghost use Rattle.bipr.specs.Laws.{StatusesTell, StepsReplay, TwoTextsDecide};
 
 use bip_reader::meaning_laws;
 use bip_replay::fault_laws;
@@ -18,6 +19,23 @@ pub fn answer_laws()
     meaning_laws();
     fault_laws();
 }
+
+/// The status of an answer to two texts tells whether the trace is that of a run, and that of a
+/// check whether there is a plan (docs/ANSWERS.md, "Answers").
+pub fn status_laws()
+    ensures replay { StatusesTell }
+    ensures check { CheckStatusesTell }
+{
+    meaning_laws();
+    fault_laws();
+}
+
+/// The same again comes to the same: with each resolver a schedule has one answer, and a seed one
+/// trace, where no event was skipped and no message lost (docs/ANSWERS.md, "Answers").
+pub fn repeat_laws()
+    ensures steps { OneStepsAnswer }
+    ensures seeds { OneTraceOfASeed }
+{}
 
 /// Where the paths of a replay name texts that are known, what is answered is the answer of these
 /// texts, or that one of them can't be read, or want of memory (docs/ANSWERS.md, "The replay that

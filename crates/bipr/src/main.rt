@@ -11,13 +11,15 @@ mod inputs;
 mod laws;
 mod program;
 mod refusals;
+mod resolvers;
 mod scheduled;
 mod sources;
 mod stops;
 mod streams;
 mod wording;
+mod words;
 
-ghost use Rattle.bipr.specs.Commands.{IsProgramEnd};
+ghost use Rattle.bipr.specs.Commands.{IsExit, IsProgramEnd};
 ghost use Rattle.bipr.specs.Streams.{Puts};
 
 use answers::Status;
@@ -25,36 +27,50 @@ use commands::carry_out;
 use inputs::Inputs;
 use refusals::refuse_words;
 use sources::Sources;
-use std::env::{self, Env};
+use std::alloc::Global;
 use std::io;
 use std::process::ExitCode;
 use streams::Stream;
+use words::{Started, Words};
 
 fn main(rt: HostRuntime) -> ExitCode {
-    let status = run(
-        &rt,
+    ExitCode::from(exit_code(
+        rt.alloc(),
+        &Started::new(&rt),
         &Sources::new(&rt),
         &mut io::writer(&rt),
         &mut rt.stderr(),
-    );
-    ExitCode::from(status.code())
+    ))
 }
 
-// Carries out what the words that the program was started with ask, and says how it ends
-// (docs/ANSWERS.md, "Words").
-fn run<R: AllocGlobal + Env, I: Inputs, O: Stream, E: Stream>(
-    rt: &R,
+// Carries out what words ask, and says the code with which the process ends (docs/ANSWERS.md,
+// "Words").
+fn exit_code<W: Words, I: Inputs, O: Stream, E: Stream>(
+    alloc: Global,
+    words: &W,
+    inputs: &I,
+    output: &mut O,
+    errors: &mut E,
+) -> u8
+    ensures { IsExit (IsProgramEnd (W.says words.now) (I.gives inputs.now)
+        (Puts O.writes output.old output.new) E.writes errors.old errors.new) result }
+{
+    end_program(alloc, words, inputs, output, errors).code()
+}
+
+// Carries out what words ask, or says that they can't be had.
+fn end_program<W: Words, I: Inputs, O: Stream, E: Stream>(
+    alloc: Global,
+    words: &W,
     inputs: &I,
     output: &mut O,
     errors: &mut E,
 ) -> Status
-    ensures { IsProgramEnd (I.gives inputs.now) (Puts O.writes output.old output.new)
-        E.writes errors.old errors.new result }
+    ensures { IsProgramEnd (W.says words.now) (I.gives inputs.now)
+        (Puts O.writes output.old output.new) E.writes errors.old errors.new result }
 {
-    let alloc = rt.alloc();
-    let words: Vec<String> = match env::args(rt).and_then(|words| Ok(words.collect(alloc)?)) {
-        Ok(words) => words,
-        Err(error) => return refuse_words(output, errors, &error),
-    };
-    carry_out(alloc, words.as_slice(), inputs, output, errors)
+    match words.words(alloc) {
+        Ok(words) => carry_out(alloc, words.as_slice(), inputs, output, errors),
+        Err(error) => refuse_words(output, errors, &error),
+    }
 }

@@ -114,14 +114,8 @@ writes `seeds 3 runs 3`: the traces of all three seeds are runs of the model. We
 none, the answer would be `seed S: not a run`, of the lowest such seed. A seed draws the
 same steps each time.";
 
-/// The resolver that is one bank with one table.
-pub const CENTRAL: &str = "central";
-
-/// The resolvers, by their names.
-pub const RESOLVERS: &[&str] = &[CENTRAL];
-
-/// The program, whose bank is one of these resolvers, as the library takes it (docs/ANSWERS.md,
-/// "Words").
+/// The program, whose bank is that of one of these resolvers, as the library takes it
+/// (docs/ANSWERS.md, "Words").
 pub fn program<'a>(alloc: Global, resolvers: &'a [&'a str]) -> Result<Command<'a>, AllocError>
     ensures { IfOk result (λ command. app_of command ≡ program resolvers.entry) }
 {
@@ -213,7 +207,7 @@ fn resolver<'a>(alloc: Global, resolvers: &'a [&'a str]) -> Arg<'a>
         .value_name("R")
         .required(true)
         .value_parser(resolvers)
-        .help("who grants reserved interactions: one bank with one table")
+        .help("who grants reserved interactions: one table, a token ring, or philosophers' forks")
 }
 
 // The option of how many seeds.

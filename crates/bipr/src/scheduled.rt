@@ -1,35 +1,42 @@
 //! Answers to schedules: what their events lead to.
 ghost use Rattle.std.specs.Prelude.{◌≡◌, ◌≤◌, ℕ, List, IfOk};
+ghost use Rattle.bip_bank.specs.Banks.{content_of};
+ghost use Rattle.bip_core.specs.Starting.{IsUnasked};
 ghost use Rattle.bip_schedule.specs.Schedules.{IsEventText};
 ghost use Rattle.bipr.specs.CommandLine.{greatest_base};
+ghost use Rattle.bipr.specs.Resolvers.{IsSharedAtFirst};
 ghost use Rattle.bipr.specs.Scheduled.{IsScheduleAnswer, reporting};
 
 use crate::answers::{Answer, Status, complained};
+use crate::resolvers::Resolver;
 use crate::wording::{report_text, schedule_refusal};
-use bip_bank::Central;
+use bip_bank::{Bank, Central};
 use bip_core::{Event, World, run_steps, world_laws};
 use bip_explain::{Explanation, explain_schedule};
+use bip_forks::Forks;
 use bip_model::{Number, Seq};
 use bip_partition::Plan;
 use bip_replay::{TraceFault, write_trace};
+use bip_ring::Ring;
 use bip_schedule::read_schedule;
 use std::alloc::{AllocError, Global};
 
-/// The answer to a schedule's text for a plan, from a base: the trace of the world to which its
-/// events lead from the new one, with their report; else the first fault of the text
-/// (docs/ANSWERS.md, "Answers"). The only error is want of memory.
+/// The answer to a schedule's text for a plan, with a resolver's bank, from a base: the trace of
+/// the world to which its events lead from the new one, with their report; else the first fault of
+/// the text (docs/ANSWERS.md, "Answers"). The only error is want of memory.
 pub fn answer_schedule(
     alloc: Global,
     explanation: &mut Explanation,
     plan: &Plan,
+    resolver: Resolver,
     schedule: &[u8],
     base: Number,
 ) -> Result<Answer, AllocError>
     requires { base ≤ greatest_base }
-    ensures { IfOk result (IsScheduleAnswer plan.now base schedule.now) }
+    ensures { IfOk result (IsScheduleAnswer plan.now base resolver schedule.now) }
 {
     match read_schedule(alloc, plan, schedule) {
-        Ok(events) => answer_events(alloc, plan, events.as_slice(), base),
+        Ok(events) => answer_resolved(alloc, plan, resolver, events.as_slice(), base),
         Err((_, TraceFault::Memory)) => Err(AllocError),
         Err((line, fault)) => {
             explain_schedule(explanation, plan, schedule, line, &fault);
@@ -39,19 +46,51 @@ pub fn answer_schedule(
     }
 }
 
-// The answer to events.
-fn answer_events(
+// The answer to events, with a resolver's bank.
+fn answer_resolved(
     alloc: Global,
     plan: &Plan,
+    resolver: Resolver,
     events: &[Event],
     base: Number,
 ) -> Result<Answer, AllocError>
     requires { base ≤ greatest_base }
     ensures { IfOk result (λ answer. (text : List ℕ)
-        → IsEventText plan.now text events.now → IsScheduleAnswer plan.now base text answer) }
+        → IsEventText plan.now text events.now
+        → IsScheduleAnswer plan.now base resolver text answer) }
+{
+    match resolver {
+        Resolver::Central => {
+            let bank = Central::new(alloc, plan, base)?;
+            answer_events(alloc, plan, bank, events, base)
+        }
+        Resolver::Ring => {
+            let bank = Ring::new(alloc, plan, base)?;
+            answer_events(alloc, plan, bank, events, base)
+        }
+        Resolver::Forks => {
+            let bank = Forks::new(alloc, plan, base)?;
+            answer_events(alloc, plan, bank, events, base)
+        }
+    }
+}
+
+// The answer to events, with a new bank.
+fn answer_events<B: Bank + Drop>(
+    alloc: Global,
+    plan: &Plan,
+    bank: B,
+    events: &[Event],
+    base: Number,
+) -> Result<Answer, AllocError>
+    requires base { base ≤ greatest_base }
+    requires unasked { IsUnasked plan.now base (content_of (B.kept bank)) }
+    ensures { IfOk result (λ answer. (text : List ℕ) (resolver : Resolver)
+        → IsEventText plan.now text events.now
+        → IsSharedAtFirst resolver plan.now (B.kept bank).sharing
+        → IsScheduleAnswer plan.now base resolver text answer) }
 {
     world_laws();
-    let bank = Central::new(alloc, plan, base)?;
     let mut world = World::new(alloc, plan, bank, base)?;
     let report = run_steps(&mut world, events);
     plan.recall();

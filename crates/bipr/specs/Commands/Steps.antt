@@ -9,19 +9,22 @@ use Rattle.bipr.specs.Stops.{out_of_memory, unread}
 use Rattle.bipr.specs.declared.answers.Answer.{Answer}
 use Rattle.bipr.specs.declared.command_line.StepsArguments.{StepsArguments}
 use Rattle.bipr.specs.declared.inputs.InputFault.{InputFault}
+use Rattle.bipr.specs.declared.resolvers.Resolver.{Resolver}
 
 -- both texts are in standard input
 abbrev pub are_joined : StepsArguments → Bool
 are_joined asked = is_standard_input asked.model.now && is_standard_input asked.schedule.now
 
--- what the steps of two texts, from a base, may answer
-pub data AreStepsOf (model : List ℕ) (base : ℕ) (schedule : List ℕ) : Answer → Type 0 where
+-- what the steps of two texts may answer, with a resolver's bank, from a base
+pub data AreStepsOf (model : List ℕ) (base : ℕ) (resolver : Resolver) (schedule : List ℕ)
+    : Answer → Type 0 where
   -- the model has a plan
   of_plan : (p : Planned) (answer : Answer) → HasPlan model p
-      → IsScheduleAnswer p base schedule answer → AreStepsOf model base schedule answer
+      → IsScheduleAnswer p base resolver schedule answer
+      → AreStepsOf model base resolver schedule answer
   -- it has none
   of_no_plan : (answer : Answer) → IsRefusedModel model answer
-      → AreStepsOf model base schedule answer
+      → AreStepsOf model base resolver schedule answer
 
 -- what the steps that are asked for may answer, where reading a path may give these texts
 pub data IsSteps (gives : List ℕ → Result (List ℕ) InputFault → Type 0)
@@ -29,14 +32,15 @@ pub data IsSteps (gives : List ℕ → Result (List ℕ) InputFault → Type 0)
   -- the text that the first path names has a plan, and the second path names a schedule
   of_two : (model schedule : List ℕ) (p : Planned) (answer : Answer) → are_joined asked ≡ false
       → gives asked.model.now (Ok model) → HasPlan model p → gives asked.schedule.now (Ok schedule)
-      → IsScheduleAnswer p asked.base schedule answer → IsSteps gives asked answer
+      → IsScheduleAnswer p asked.base asked.resolver schedule answer
+      → IsSteps gives asked answer
   -- the text that the first path names has none, whatever the second path names
   no_plan_of_two : (model : List ℕ) (answer : Answer) → are_joined asked ≡ false
       → gives asked.model.now (Ok model) → IsRefusedModel model answer → IsSteps gives asked answer
   -- one input has both texts
   of_one : (text : List ℕ) (answer : Answer) → are_joined asked ≡ true
       → gives asked.model.now (Ok text)
-      → AreStepsOf (before_mark text) asked.base (after_mark text) answer
+      → AreStepsOf (before_mark text) asked.base asked.resolver (after_mark text) answer
       → IsSteps gives asked answer
   -- the text that the first path names isn't read
   model_unread : (fault : InputFault) → gives asked.model.now (Err fault)

@@ -14,7 +14,7 @@ use crate::streams::Stream;
 use bip_explain::Explanation;
 use std::alloc::{AllocError, Global};
 
-/// Explores the plan of the model that the path names by so many seeds, with the central bank:
+/// Explores the plan of the model that the path names by so many seeds, with the resolver's bank:
 /// tells progress on standard error where that is asked for, writes the answer, and says with which
 /// status the command ends (docs/ANSWERS.md, "The exploring that is asked for").
 pub fn explore<I: Inputs, O: Stream, E: Stream>(

@@ -12,6 +12,7 @@ use crate::commands::read_input;
 use crate::dividing::divide;
 use crate::endings::end;
 use crate::inputs::Inputs;
+use crate::resolvers::Resolver;
 use crate::scheduled::answer_schedule;
 use crate::sources::is_standard_input;
 use crate::stops::Stop;
@@ -22,7 +23,7 @@ use bip_partition::Plan;
 use std::alloc::{AllocError, Global};
 
 /// Runs the events of the schedule that the second path names from the new world of the model that
-/// the first path names, with the central bank: writes the trace, and their report on standard
+/// the first path names, with the resolver's bank: writes the trace, and their report on standard
 /// error, and says with which status the command ends. The schedule is read only where the model
 /// has a plan; where both paths are standard input, that has both texts (docs/ANSWERS.md, "The
 /// steps that are asked for").
@@ -72,23 +73,33 @@ fn answer_one<'a, I: Inputs>(
 {
     let both = read_input(alloc, explanation, inputs, asked.model)?;
     let (model, schedule) = divide(both.as_slice());
-    Ok(answer_texts(alloc, explanation, model, schedule, asked.base)?)
+    Ok(answer_texts(
+        alloc,
+        explanation,
+        model,
+        asked.resolver,
+        schedule,
+        asked.base,
+    )?)
 }
 
-// The answer to two texts, from a base. The only error is want of memory.
+// The answer to two texts, with a resolver's bank, from a base. The only error is want of memory.
 fn answer_texts(
     alloc: Global,
     explanation: &mut Explanation,
     model: &[u8],
+    resolver: Resolver,
     schedule: &[u8],
     base: Number,
 ) -> Result<Answer, AllocError>
     requires { base ≤ greatest_base }
-    ensures { IfOk result (AreStepsOf model.now base schedule.now) }
+    ensures { IfOk result (AreStepsOf model.now base resolver schedule.now) }
 {
     let given = plan_text(alloc, explanation, model)?;
     match given {
-        PlanOrRefusal::Plan(plan) => answer_schedule(alloc, explanation, &plan, schedule, base),
+        PlanOrRefusal::Plan(plan) => {
+            answer_schedule(alloc, explanation, &plan, resolver, schedule, base)
+        }
         PlanOrRefusal::Refusal(answer) => Ok(answer),
     }
 }
@@ -126,5 +137,6 @@ fn answer_second<'a, I: Inputs>(
         → HasPlan text plan.now → AllOutcomes result (IsSteps (I.gives inputs.now) asked.now) }
 {
     let schedule = read_input(alloc, explanation, inputs, asked.schedule)?;
-    Ok(answer_schedule(alloc, explanation, plan, schedule.as_slice(), asked.base)?)
+    let text = schedule.as_slice();
+    Ok(answer_schedule(alloc, explanation, plan, asked.resolver, text, asked.base)?)
 }

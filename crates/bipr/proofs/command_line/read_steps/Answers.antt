@@ -1,4 +1,4 @@
-use Rattle.std.proofs.Common.{Some, codes, refl, sym}
+use Rattle.std.proofs.Common.{Some, codes, sym}
 use Rattle.clap.specs.Words.{found_of, rows_of}
 use Rattle.bipr.specs.CommandLine.{AreStepsAsked}
 use Rattle.bipr.specs.declared.command_line.StepsArguments.{StepsArguments}
@@ -6,10 +6,15 @@ use Rattle.bipr.proofs.CommandLineLemmas.{if_none}
 use Rattle.bipr.proofs.ProgramLemmas.{first_read, no_first}
 use Rattle.bipr.proofs.command_line.read_steps.Goals as goal
 
+pub returns-in_err-resolver-clause-none : goal.returns-in_err-resolver-clause-none
+returns-in_err-resolver-clause-none c =
+    let none : (asked : StepsArguments) → AreStepsAsked (rows_of (found_of c.args.matches.now)) asked → ⊥ = λ asked is. c.in_err-resolver.ensures.none asked.resolver is.resolver in
+    if_none c.from_residual.result _ none
+
 pub returns-in_err-base-clause-none : goal.returns-in_err-base-clause-none
 returns-in_err-base-clause-none c =
     let none : (asked : StepsArguments) → AreStepsAsked (rows_of (found_of c.args.matches.now)) asked → ⊥ = λ asked is. c.in_err-base.ensures.none asked.base is.base in
-    if_none c.from_residual.result _ none
+    if_none c.from_residual-in_err-base.result _ none
 
 pub returns-in_err-get_str-clause-none : goal.returns-in_err-get_str-clause-none
 returns-in_err-get_str-clause-none c =
@@ -25,6 +30,6 @@ pub returns-clause-some : goal.returns-clause-some
 returns-clause-some c = record {
   model = sym (first_read c.args.matches.now (codes "model") (Some c.in_ok-get_str.field-0.now) c.in_ok-get_str.ensures);
   schedule = sym (first_read c.args.matches.now (codes "schedule") (Some c.in_ok-get_str-2.field-0.now) c.in_ok-get_str-2.ensures);
-  resolver = c.if-not-is_central.ensures.0 refl;
+  resolver = c.in_ok-resolver.ensures.some;
   base = c.in_ok-base.ensures.some;
 }

@@ -1,6 +1,7 @@
 use Rattle.std.proofs.Common.{◌≡◌, ◌+◌, ◌≤◌, ℕ, List, arith, rules, subst}
 use Rattle.bip_schedule.specs.Exploring.{AreExplored, none_explored, one_explored}
-use Rattle.bipr.specs.Explored.{IsAlone, ends_without_memory, told_until}
+use Rattle.bipr.specs.Explored.{ends_without_memory, told_until}
+use Rattle.bipr.specs.Resolvers.{IsSharedAtFirst}
 use Rattle.bipr.specs.Streams.{PutsEach, none_put}
 use Rattle.bipr.proofs.ExploredLemmas.{explored_said, told_lacking, told_more}
 use Rattle.bipr.proofs.StreamLemmas.{puts_each_append}
@@ -56,5 +57,5 @@ returns g c =
     let all : c.loop-done.done ≡ c.args.asked.now.seeds = omega (arith, c.loop-done-test.false) in (
       told_until c.args.asked.now c.args.asked.now.seeds,
       subst (λ (n : ℕ). PutsEach writes c.args.errors.now (told_until c.args.asked.now n) c.loop-done.errors) all so.2,
-      explored_said c.args.plan.now c.args.asked.now so.0 c.said-2.result _ (subst (λ (n : ℕ). AreExplored IsAlone c.args.plan.now 0 c.args.asked.now.events n so.0) all so.1) c.said-2.ensures c.in_ok-seeds_text.ensures,
+      explored_said c.args.plan.now c.args.asked.now so.0 c.said-2.result _ (subst (λ (n : ℕ). AreExplored (IsSharedAtFirst c.args.asked.now.resolver c.args.plan.now) c.args.plan.now 0 c.args.asked.now.events n so.0) all so.1) c.said-2.ensures c.in_ok-seeds_text.ensures,
     )

@@ -19,4 +19,4 @@ pub returns : goal.returns
 returns g c = λ text read has.
     outcome_answered (IsSteps (g.I.Inputs.gives c.args.inputs.now) c.args.asked.now) c.in_ok-answer_schedule.field-0
     (of_two text c.in_ok-schedule.schedule c.args.plan.now c.in_ok-answer_schedule.field-0 c.requires.apart read has c.in_ok-schedule.ensures.read
-    (rw (← c.as_slice.ensures) c.in_ok-answer_schedule.ensures))
+    (rw (← c.as_slice-text.ensures) c.in_ok-answer_schedule.ensures))

@@ -1,0 +1,70 @@
+-- The same again comes to the same.
+use Rattle.std.proofs.Common.{◌≡◌, ℕ, List, length, sym, ap, ap₂, ◌∙◌, subst}
+use Rattle.bip_bank.proofs.CentralLemmas.{stations_same}
+use Rattle.bip_bank.specs.Laws.{MovesInOneWay}
+use Rattle.bip_bank.specs.Sharing.{Sharing, ring, token_at}
+use Rattle.bip_core.proofs.RepeatRunLemmas.{one_new_world, one_run}
+use Rattle.bip_core.specs.Runs.{IsRunOfEvents}
+use Rattle.bip_core.specs.Worlds.{WorldContent}
+use Rattle.bip_core.specs.declared.events.Event.{Event}
+use Rattle.bip_core.specs.declared.runs.Report.{Report}
+use Rattle.bip_forks.proofs.FirstLemmas.{forks_begin_once}
+use Rattle.bip_model.specs.declared.grants.Grant.{Grant}
+use Rattle.bip_model.specs.declared.numbering.InterId.{InterId}
+use Rattle.bip_partition.specs.Plans.{Planned}
+use Rattle.bip_replay.specs.Writing.{text_of}
+use Rattle.bip_schedule.proofs.LawLemmas.{one_schedule, one_seed_trace}
+use Rattle.bip_schedule.specs.Exploring.{IsSeedRun}
+use Rattle.bipr.specs.Laws.{OneStepsAnswer, OneTraceOfASeed}
+use Rattle.bipr.specs.Resolvers.{IsSharedAtFirst}
+use Rattle.bipr.specs.Scheduled.{reporting}
+use Rattle.bipr.specs.Wording.{report_text}
+use Rattle.bipr.specs.declared.resolvers.Resolver.{Resolver}
+use Rattle.bipr.specs.declared.resolvers.Resolver.TheVariants.{Central, Forks, Ring}
+
+-- the stations of a resolver's new bank share one thing, which they move in one way
+shared_once : (resolver : Resolver) (p : Planned) (x y : Sharing) → IsSharedAtFirst resolver p x → IsSharedAtFirst resolver p y → x ≡ y
+shared_once Central p x y one other = one ∙ sym other
+shared_once Ring p x y one other =
+    one.shared ∙ (ap (λ (list : List InterId). ring (length list) (token_at 0)) (stations_same p one.stations other.stations one.listed other.listed) ∙ sym other.shared)
+shared_once Forks p x y one other = forks_begin_once p x y one other
+
+moved_one_way : (resolver : Resolver) (p : Planned) (x : Sharing) → IsSharedAtFirst resolver p x → MovesInOneWay x
+moved_one_way Central p x is = subst MovesInOneWay (sym is) tt
+moved_one_way Ring p x is = subst MovesInOneWay (sym is.shared) tt
+moved_one_way Forks p x is = subst MovesInOneWay (sym is.is) tt
+
+pub one_steps_answer : OneStepsAnswer
+one_steps_answer p base resolver schedule report other a b one two whole so =
+    let events : one.events ≡ two.events = one_schedule p schedule one.events two.events one.says two.says in
+    let worlds : one.first ≡ two.first = one_new_world p base one.first two.first one.new two.new (shared_once resolver p one.first.bank.sharing two.first.bank.sharing one.shared two.shared) in
+    let there : IsRunOfEvents two.events two.first one.last report =
+    subst (λ (w : WorldContent). IsRunOfEvents two.events w one.last report) worlds (subst (λ (es : List Event). IsRunOfEvents es one.first one.last report) events one.ran) in
+    let same = one_run two.events two.first one.last two.last report other (moved_one_way resolver p two.first.bank.sharing two.shared) there two.ran whole so in
+    one.is ∙ (ap₂ (λ (gs : List Grant) (r : Report). reporting (text_of p.model gs) (report_text r)) same.traces same.reports ∙ sym two.is)
+
+-- a run of a seed by what its stations share
+shared_as : (resolver : Resolver) (p : Planned) (count seed n : ℕ) (x : Sharing) → IsSharedAtFirst resolver p x → IsSeedRun (IsSharedAtFirst resolver p) p 0 count seed n → IsSeedRun (λ y. y ≡ x) p 0 count seed n
+shared_as resolver p count seed n x first run = record {
+  trace = run.trace;
+  of_seed = record {
+    first = run.of_seed.first;
+    last = run.of_seed.last;
+    events = run.of_seed.events;
+    report = run.of_seed.report;
+    new = run.of_seed.new;
+    shared = shared_once resolver p run.of_seed.first.bank.sharing x run.of_seed.shared first;
+    seeded = run.of_seed.seeded;
+    is = run.of_seed.is;
+  };
+  whole = run.whole;
+  run = run.run;
+  counted = run.counted;
+}
+
+pub one_trace_of_a_seed : OneTraceOfASeed
+unfolding shared_as
+one_trace_of_a_seed p resolver count seed m n one other =
+    let x = one.of_seed.first.bank.sharing in
+    let first = one.of_seed.shared in
+    one_seed_trace x p 0 count seed m n (moved_one_way resolver p x first) (shared_as resolver p count seed m x first one) (shared_as resolver p count seed n x first other)

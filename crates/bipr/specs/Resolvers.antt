@@ -1,0 +1,20 @@
+-- Resolvers: their names, and what the stations of a new bank share.
+use Rattle.std.specs.Prelude.{◌≡◌, ℕ, List, codes}
+use Rattle.bip_bank.specs.Sharing.{Sharing, alone}
+use Rattle.bip_forks.specs.Opening.{AreForksAtFirst}
+use Rattle.bip_partition.specs.Plans.{Planned}
+use Rattle.bip_ring.specs.Rings.{IsRingAtFirst}
+use Rattle.bipr.specs.declared.resolvers.Resolver.{Resolver}
+use Rattle.bipr.specs.declared.resolvers.Resolver.TheVariants.{Central, Forks, Ring}
+
+-- the name of a resolver
+abbrev pub resolver_name : Resolver → List ℕ
+resolver_name Central = codes "central"
+resolver_name Ring = codes "ring"
+resolver_name Forks = codes "forks"
+
+-- what the stations of a resolver's new bank share: nothing; the token of a ring; or forks
+abbrev pub IsSharedAtFirst : Resolver → Planned → Sharing → Type 0
+IsSharedAtFirst Central p sharing = sharing ≡ alone
+IsSharedAtFirst Ring p sharing = IsRingAtFirst p sharing
+IsSharedAtFirst Forks p sharing = AreForksAtFirst p sharing
