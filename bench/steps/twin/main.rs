@@ -1,82 +1,31 @@
-//! The plain twin of the timing program, on std alone: `MODEL SCHEDULE ROUNDS`, which prints the
-//! same. `record MODEL SEED COUNT` draws a schedule of so many events, and prints it: half of them
-//! hand on one of the messages in flight, the others try an interaction or serve a station.
+//! The plain twin of the timing program, on std alone: `MODEL SCHEDULE ROUNDS RESOLVER`, which
+//! prints the same; the resolver is `central`, `ring` or `forks`, and stands last in what follows
+//! too. `record MODEL SEED COUNT` draws a schedule of so many events, and prints it: half of them
+//! hand on one of the messages in flight, the others try an interaction or are a step of the bank.
 //! `record-busy` leaves those out that do nothing.
 //!
-//! `explore MODEL SEEDS EVENTS` answers what `bipr explore` does. `seeds MODEL SEEDS EVENTS` prints
-//! the report of each seed.
+//! `explore MODEL SEEDS EVENTS` answers what `bipr explore` does. `seeds`, with the same words, says
+//! what the events of each seed come to. `lines MODEL SEED EVENTS` prints the events of a seed, as
+//! `bipr steps` reads them.
 
+mod bank;
 mod model;
 mod run;
+mod schedules;
 mod seeds;
 mod world;
 
+use bank::{Bank, Central, Forks, Ring};
 use model::Model;
+use schedules::{event, line, record};
 use world::{Event, Report, World};
-
-fn digit(byte: u8) -> u16 {
-    u16::from(byte - b'0')
-}
-
-/// The event in four characters: its kind, a class, and the number of what it is about, in base 64.
-fn event(word: &[u8]) -> Event {
-    let number = digit(word[2]) + 64 * digit(word[3]);
-    match word[0] {
-        b'm' => Event::Mail(number as usize),
-        b't' => Event::Try(digit(word[1]), number),
-        _ => Event::Serve(number),
-    }
-}
-
-fn write_event(schedule: &mut String, event: Event) {
-    let (kind, class, number) = match event {
-        Event::Mail(place) => ('m', 0, place as u16),
-        Event::Try(class, inter) => ('t', class, inter),
-        Event::Serve(station) => ('s', 0, station),
-        Event::Other => unreachable!("none is drawn here"),
-    };
-    schedule.push(kind);
-    schedule.extend([class, number % 64, number / 64].map(|it| (b'0' + it as u8) as char));
-}
-
-fn draw(model: &Model, mails: usize, word: usize) -> Event {
-    let inters = model.interactions.len();
-    match (word % 4, word / 4) {
-        (2, rest) => {
-            let inter = rest % inters;
-            Event::Try(model.interactions[inter].class, inter as u16)
-        }
-        (3, rest) => Event::Serve((rest % model.stations.len().max(1)) as u16),
-        (_, rest) => Event::Mail(rest % mails.max(1)),
-    }
-}
-
-/// A schedule that is drawn, and how many messages were in flight on average.
-fn record(model: &Model, seed: u64, count: usize, busy: bool) -> (String, f64) {
-    let mut world = World::new(model);
-    let mut state = seed;
-    let mut schedule = String::new();
-    let mut mails = 0;
-    while schedule.len() < 4 * count {
-        state = state.wrapping_mul(6364136223846793005).wrapping_add(1442695040888963407);
-        let event = draw(model, world.mails(), (state >> 33) as usize);
-        let flying = world.mails();
-        let mut report = Report::default();
-        world.step(event, &mut report);
-        if report.idle == 0 || !busy {
-            write_event(&mut schedule, event);
-            mails += flying;
-        }
-    }
-    (schedule, mails as f64 / count as f64)
-}
 
 fn mix(sum: u64, number: u64) -> u64 {
     (sum ^ number).wrapping_mul(1_099_511_628_211)
 }
 
 /// A sum over the trace of a world.
-fn sum_of(world: &World<'_>) -> u64 {
+fn sum_of<B>(world: &World<'_, B>) -> u64 {
     let mut sum = 0;
     for grant in &world.trace {
         sum = mix(sum, u64::from(grant.inter));
@@ -88,30 +37,46 @@ fn sum_of(world: &World<'_>) -> u64 {
     sum
 }
 
-fn tell(report: &Report) {
-    let Report { events, grants, refusals, idle, skipped, lost } = report;
-    print!("events {events} grants {grants} refusals {refusals} idle {idle} ");
-    println!("skipped {skipped} lost {lost}");
+/// What a round comes to.
+struct Outcome {
+    report: Report,
+    mails: usize,
+    sum: u64,
 }
 
-fn time(model: &Model, events: &[Event], rounds: u32) {
+impl Outcome {
+    fn of<B: Bank>(world: &World<'_, B>, report: Report) -> Outcome {
+        Outcome { report, mails: world.mails(), sum: sum_of(world) }
+    }
+
+    fn say(&self) {
+        let Report { events, grants, refusals, idle, skipped, lost } = self.report;
+        print!("events {events} grants {grants} refusals {refusals} idle {idle} ");
+        println!("skipped {skipped} lost {lost}");
+        println!("in flight {} sum {}", self.mails, self.sum);
+    }
+}
+
+fn time<B: Bank>(model: &Model, events: &[Event], rounds: u32) {
     let mut last = None;
     for _ in 0..rounds {
-        let mut world = World::new(model);
+        let mut world: World<'_, B> = World::new(model);
         let report = world.run(events);
-        last = Some((report, world.mails(), sum_of(&world)));
+        last = Some(Outcome::of(&world, report));
     }
-    let (did, mails, sum) = last.expect("a round");
-    tell(&did);
-    println!("in flight {mails} sum {sum}");
+    last.expect("a round").say();
 }
 
-fn explore(model: &Model, seeds: u32, events: u32, is_told: bool) {
+fn tell_seeds<B: Bank>(model: &Model, seeds: u32, events: u32) {
     for seed in 1..=seeds {
-        let (world, report) = seeds::run(model, u64::from(seed), events);
-        if is_told {
-            tell(&report);
-        }
+        let (world, report) = seeds::run::<B>(model, u64::from(seed), events, |_| {});
+        Outcome::of(&world, report).say();
+    }
+}
+
+fn explore<B: Bank>(model: &Model, seeds: u32, events: u32) {
+    for seed in 1..=seeds {
+        let (world, _) = seeds::run::<B>(model, u64::from(seed), events, |_| {});
         if !run::is_run(model, &world.trace) {
             println!("seed {seed}: not a run");
             return;
@@ -120,24 +85,42 @@ fn explore(model: &Model, seeds: u32, events: u32, is_told: bool) {
     println!("seeds {seeds} runs {seeds}");
 }
 
-fn main() {
-    let words: Vec<String> = std::env::args().skip(1).collect();
-    match words.iter().map(String::as_str).collect::<Vec<_>>()[..] {
+fn carry_out<B: Bank>(words: &[&str]) {
+    match *words {
         [verb @ ("record" | "record-busy"), model, seed, count] => {
-            let seed = seed.parse().expect("a seed");
-            let count = count.parse().expect("a count");
-            let (schedule, mails) = record(&Model::read(model), seed, count, verb == "record-busy");
+            let (seed, count) = (seed.parse().expect("a seed"), count.parse().expect("a count"));
+            let busy = verb == "record-busy";
+            let (schedule, mails) = record::<B>(&Model::read(model), seed, count, busy);
             println!("{schedule} {mails:.1}");
         }
         [verb @ ("explore" | "seeds"), model, seeds, events] => {
-            let seeds = seeds.parse().expect("a count");
+            let model = Model::read(model);
+            let count = seeds.parse().expect("a count");
             let events = events.parse().expect("a count");
-            explore(&Model::read(model), seeds, events, verb == "seeds");
+            match verb {
+                "seeds" => tell_seeds::<B>(&model, count, events),
+                _ => explore::<B>(&model, count, events),
+            }
+        }
+        ["lines", model, seed, events] => {
+            let model = Model::read(model);
+            let (seed, events) = (seed.parse().expect("a seed"), events.parse().expect("a count"));
+            seeds::run::<B>(&model, seed, events, |event| println!("{}", line(&model, event)));
         }
         [model, schedule, rounds] => {
             let events: Vec<Event> = schedule.as_bytes().chunks(4).map(event).collect();
-            time(&Model::read(model), &events, rounds.parse().expect("a count"));
+            time::<B>(&Model::read(model), &events, rounds.parse().expect("a count"));
         }
-        _ => panic!("usage: MODEL SCHEDULE ROUNDS"),
+        _ => panic!("usage: MODEL SCHEDULE ROUNDS RESOLVER"),
+    }
+}
+
+fn main() {
+    let words: Vec<String> = std::env::args().skip(1).collect();
+    match words.iter().map(String::as_str).collect::<Vec<_>>()[..] {
+        [ref words @ .., "central"] => carry_out::<Central>(words),
+        [ref words @ .., "ring"] => carry_out::<Ring>(words),
+        [ref words @ .., "forks"] => carry_out::<Forks>(words),
+        _ => panic!("usage: MODEL SCHEDULE ROUNDS RESOLVER"),
     }
 }

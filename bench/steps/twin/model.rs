@@ -133,6 +133,7 @@ impl Component {
 /// An interaction, and what its class is planned to do with it.
 #[derive(Default)]
 pub struct Interaction {
+    pub name: String,
     pub parts: Vec<(u16, u8)>,
     pub guard: Guard,
     pub transfer: Assignments,
@@ -151,6 +152,7 @@ pub struct Model {
     pub components: Vec<Component>,
     pub interactions: Vec<Interaction>,
     pub classes: usize,
+    pub class_names: Vec<String>,
     /// By component: the classes that touch it.
     pub touching: Vec<Vec<u16>>,
     /// By class: the components that it touches, one bit each.
@@ -253,7 +255,7 @@ impl<'t> Reading<'t> {
                 let pair = (self.interactions[low], self.interactions[high]);
                 self.priorities.push(pair);
             }
-            (["class", _, members @ ..], _) => self.class(members),
+            (["class", name, members @ ..], _) => self.class(name, members),
             _ => {}
         }
     }
@@ -272,7 +274,9 @@ impl<'t> Reading<'t> {
         };
         let (guard, transfer) = clauses(rest, &scope);
         self.interactions.insert(name, self.model.interactions.len());
-        self.model.interactions.push(Interaction { parts, guard, transfer, ..Default::default() });
+        let name = name.to_string();
+        let made = Interaction { name, parts, guard, transfer, ..Default::default() };
+        self.model.interactions.push(made);
     }
 
     fn part(&self, word: &str) -> (u16, u8) {
@@ -281,7 +285,8 @@ impl<'t> Reading<'t> {
         (comp as u16, place(&self.model.components[comp].ports, port) as u8)
     }
 
-    fn class(&mut self, members: &[&str]) {
+    fn class(&mut self, name: &str, members: &[&str]) {
+        self.model.class_names.push(name.to_string());
         for member in members {
             let inter = self.interactions[member];
             self.model.interactions[inter].class = self.model.classes as u16;

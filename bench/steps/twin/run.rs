@@ -48,7 +48,7 @@ impl<'m> Position<'m> {
         let may = self.is_enabled(grant.inter)
             && !it.above.iter().any(|high| self.is_enabled(*high))
             && grant.wants.iter().all(|want| self.is_next(want))
-            && grant.wants.iter().map(|want| (want.comp, want.moved)).eq(it.touched.iter().copied());
+            && grant.wants.iter().map(|it| (it.comp, it.moved)).eq(it.touched.iter().copied());
         if may {
             self.fire(grant);
         }

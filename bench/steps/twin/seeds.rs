@@ -1,5 +1,6 @@
 //! Events by chance, from the words of a PCG generator.
 
+use crate::bank::{Bank, Step};
 use crate::model::Model;
 use crate::world::{Event, Report, World};
 
@@ -28,8 +29,8 @@ impl Words {
     }
 }
 
-/// The event of a word, where so many messages are in flight.
-fn draw(model: &Model, mails: usize, word: u32) -> Event {
+/// The event of a word, in such a world.
+fn draw<B: Bank>(model: &Model, world: &World<'_, B>, word: u32) -> Event {
     let rest = word as usize / 4;
     let inters = model.interactions.len();
     match word % 4 {
@@ -38,19 +39,39 @@ fn draw(model: &Model, mails: usize, word: u32) -> Event {
             let inter = rest % inters;
             Event::Try(model.interactions[inter].class, inter as u16)
         }
-        3 if rest % 4 != 1 || model.stations.is_empty() => Event::Other,
-        3 => Event::Serve((rest / 4 % model.stations.len()) as u16),
-        _ => Event::Mail(rest % mails.max(1)),
+        3 => Event::Bank(draw_step(model.stations.len(), world.bank().in_flight(), rest)),
+        _ => Event::Mail(rest % world.mails().max(1)),
     }
 }
 
-/// The world to which so many events of a seed lead, and their report.
-pub fn run(model: &Model, seed: u64, events: u32) -> (World<'_>, Report) {
+/// The step of a bank with so many stations, and so many things in flight inside.
+fn draw_step(stations: usize, mails: usize, number: usize) -> Step {
+    if stations == 0 {
+        return Step::Deliver(0);
+    }
+    let rest = number / 4;
+    let (one, other) = ((rest % stations) as u16, (rest / stations % stations) as u16);
+    match number % 4 {
+        0 => Step::Deliver(rest % mails.max(1)),
+        1 => Step::Serve(one),
+        2 => Step::Pass(one, other),
+        _ => Step::Ask(one, other),
+    }
+}
+
+/// The world to which so many events of a seed lead, and their report. Each event is told first.
+pub fn run<B: Bank>(
+    model: &Model,
+    seed: u64,
+    events: u32,
+    told: impl Fn(Event),
+) -> (World<'_, B>, Report) {
     let mut world = World::new(model);
     let mut report = Report::default();
     let mut words = Words::new(seed, 1);
     for _ in 0..events {
-        let event = draw(model, world.mails(), words.next());
+        let event = draw(model, &world, words.next());
+        told(event);
         world.step(event, &mut report);
     }
     (world, report)

@@ -1,5 +1,6 @@
-//! The world: component nodes, class nodes, a central bank, and the messages in flight.
+//! The world: component nodes, class nodes, a bank, and the messages in flight.
 
+use crate::bank::{Acted, Bank, Step};
 use crate::model::{Model, Values};
 use std::collections::VecDeque;
 use std::rc::Rc;
@@ -31,15 +32,15 @@ struct Notify {
     port: u8,
 }
 
-struct Request {
-    wants: Rc<[Want]>,
+pub struct Request {
+    pub wants: Rc<[Want]>,
     number: u64,
     class: u16,
-    inter: u16,
+    pub inter: u16,
 }
 
 #[derive(Clone, Copy)]
-enum Decision {
+pub enum Decision {
     #[allow(dead_code)]
     Granted(u64),
     Refused { comp: u16, used: u64 },
@@ -63,9 +64,7 @@ enum Message {
 pub enum Event {
     Mail(usize),
     Try(u16, u16),
-    Serve(u16),
-    /// A step of another bank than the central one.
-    Other,
+    Bank(Step),
 }
 
 #[derive(Clone, Copy, Default)]
@@ -310,65 +309,17 @@ impl ClassNode {
     }
 }
 
-struct Bank {
-    used: Vec<Option<u64>>,
-    waiting: Vec<VecDeque<Request>>,
-    journal: Vec<Grant>,
-}
-
-impl Bank {
-    fn new(model: &Model) -> Bank {
-        let row = |comp: usize| (model.tabled >> comp & 1 == 1).then_some(0);
-        Bank {
-            used: (0..model.components.len()).map(row).collect(),
-            waiting: model.interactions.iter().map(|_| VecDeque::new()).collect(),
-            journal: Vec::new(),
-        }
-    }
-
-    fn decide(&mut self, request: &Request) -> Option<Decision> {
-        let wants = &request.wants;
-        if wants.iter().any(|want| self.used[want.comp as usize].is_none()) {
-            return None;
-        }
-        for want in wants.iter() {
-            let used = self.used[want.comp as usize].unwrap_or(0);
-            if want.number <= used {
-                return Some(Decision::Refused { comp: want.comp, used });
-            }
-        }
-        let serial = self.journal.len() as u64;
-        self.journal.push(Grant { inter: request.inter, wants: Rc::clone(wants) });
-        for want in wants.iter().filter(|want| want.moved) {
-            self.used[want.comp as usize] = Some(want.number);
-        }
-        Some(Decision::Granted(serial))
-    }
-
-    fn serve(&mut self, model: &Model, station: u16) -> Option<(Request, Decision)> {
-        let inter = *model.stations.get(station as usize)? as usize;
-        let request = self.waiting[inter].pop_front()?;
-        match self.decide(&request) {
-            Some(decision) => Some((request, decision)),
-            None => {
-                self.waiting[inter].push_front(request);
-                None
-            }
-        }
-    }
-}
-
-pub struct World<'m> {
+pub struct World<'m, B> {
     model: &'m Model,
     components: Vec<ComponentNode>,
     classes: Vec<ClassNode>,
     mail: VecDeque<Message>,
     pub trace: Vec<Grant>,
-    bank: Bank,
+    bank: B,
 }
 
-impl<'m> World<'m> {
-    pub fn new(model: &'m Model) -> World<'m> {
+impl<'m, B: Bank> World<'m, B> {
+    pub fn new(model: &'m Model) -> World<'m, B> {
         let comps = 0..model.components.len() as u16;
         let classes = 0..model.classes as u16;
         let mut world = World {
@@ -377,7 +328,7 @@ impl<'m> World<'m> {
             classes: classes.map(|class| ClassNode::new(model, class)).collect(),
             mail: VecDeque::new(),
             trace: Vec::new(),
-            bank: Bank::new(model),
+            bank: B::new(model),
         };
         for comp in comps {
             let offer = world.components[comp as usize].offer;
@@ -388,6 +339,10 @@ impl<'m> World<'m> {
 
     pub fn mails(&self) -> usize {
         self.mail.len()
+    }
+
+    pub fn bank(&self) -> &B {
+        &self.bank
     }
 
     /// Does all these events.
@@ -404,8 +359,7 @@ impl<'m> World<'m> {
         let did = match event {
             Event::Mail(place) => self.deliver(place),
             Event::Try(class, inter) => self.try_one(class, inter, report),
-            Event::Serve(station) => self.serve(station, report),
-            Event::Other => None,
+            Event::Bank(step) => self.act(step, report),
         };
         report.idle += u64::from(did.is_none());
     }
@@ -421,9 +375,7 @@ impl<'m> World<'m> {
             Message::Offer(class, offer) => {
                 self.classes.get_mut(class as usize)?.on_offer(self.model, offer);
             }
-            Message::Request(request) => {
-                self.bank.waiting[request.inter as usize].push_back(request);
-            }
+            Message::Request(request) => self.bank.submit(request),
             Message::Reply(reply) => {
                 let class = self.classes.get_mut(reply.class as usize)?;
                 let told = class.on_reply(self.model, &reply);
@@ -452,8 +404,12 @@ impl<'m> World<'m> {
         Some(())
     }
 
-    fn serve(&mut self, station: u16, report: &mut Report) -> Option<()> {
-        let (request, decision) = self.bank.serve(self.model, station)?;
+    fn act(&mut self, step: Step, report: &mut Report) -> Option<()> {
+        let (request, decision) = match self.bank.act(self.model, step) {
+            Acted::Nothing => return None,
+            Acted::Moved => return Some(()),
+            Acted::Answered(request, decision) => (request, decision),
+        };
         let Request { wants, number, class, inter } = request;
         match decision {
             Decision::Granted(_) => {
