@@ -40,9 +40,29 @@ def serve(station):
     return f"s0{station}0"
 
 
+def deliver(place):
+    return f"d0{place}0"
+
+
+def hand(station, other):
+    return f"p{station}{other}0"
+
+
+def ask(station, other):
+    return f"a{station}{other}0"
+
+
 # both ask, the first is granted, and the second refused
-COMPETED = "".join(
-    [mail(0)] * 4 + [attempt(0, 0), attempt(1, 1)] + [mail(0)] * 2 + [serve(0), serve(1)]
+ASKED = "".join([mail(0)] * 4 + [attempt(0, 0), attempt(1, 1)] + [mail(0)] * 2)
+COMPETED = ASKED + serve(0) + serve(1)
+
+# the same the other way round, with stations that share a token, or a fork
+COMPETED_RING = ASKED + "".join(
+    [serve(1), hand(0, 1), serve(0), deliver(0), serve(1), hand(1, 0), deliver(0), serve(0)]
+)
+COMPETED_FORKS = ASKED + "".join(
+    [serve(1), ask(1, 0), deliver(0), hand(0, 1), deliver(0), serve(1)]
+    + [ask(0, 1), deliver(0), hand(1, 0), deliver(0), serve(0)]
 )
 
 # the higher one runs, and then the lower one, which looks at what the higher one moves
