@@ -1,19 +1,19 @@
 -- An interaction stands in one class.
-use Rattle.std.proofs.Common.{◌≡◌, ℕ, zero, suc, ◌+◌, ◌<◌, ◌≤◌, Bool, true, false, cond, eqb, List, [], ◌∷◌, length, get_or, Some, refl, ap, sym, ◌∙◌, arith, inl, inr, eqb-true, eq-eqb}
+use Rattle.std.proofs.Common.{◌≡◌, ℕ, zero, suc, ◌+◌, ◌<◌, ◌≤◌, true, false, cond, eqb, List, [], ◌∷◌, length, get_or, Some, refl, ap, ◌∙◌, arith, inl, inr, eqb-true, eq-eqb}
 use Rattle.std.specs.Prelude.{Contains, position, sum_by, unwrap_or}
-use Rattle.std.specs.List.{list_any}
 use Rattle.std.proofs.lemmas.Bool.{cases_Bool, cases_lt}
 use Rattle.std.proofs.lemmas.Bool.Decides.{nat_tests}
 use Rattle.std.proofs.lemmas.List.{get_or_past}
 use Rattle.std.proofs.lemmas.List.Folds.{Any-from_list_any, list_any-from_Any}
 use Rattle.std.proofs.lemmas.List.Quantifiers.{position-Some}
+use Rattle.std.proofs.lemmas.Option.{slice_get-get_or}
 use Rattle.std.proofs.lemmas.List.Sums.{get_or-le-sum_by, sum_by-cons}
 use Rattle.bip_model.specs.Partitions.{class_in, is_member, times_in}
 use Rattle.bip_model.specs.Priorities.{inter}
 use Rattle.bip_model.specs.declared.numbering.InterId.{InterId}
 use Rattle.bip_model.proofs.ListLemmas.{Contains-none, position_cons}
 use Rattle.bip_partition.specs.Laws.{IsPlanned, StandsInItsClass}
-use Rattle.bip_partition.specs.Plans.{Planned}
+use Rattle.bip_partition.specs.Plans.{Planned, StandsAt}
 
 times-cons : (b : InterId) (bs : List InterId) (a : ℕ) → times_in (b ∷ bs) a ≡ cond (eqb b.0 a) 1 0 + times_in bs a
 times-cons b bs a = sum_by-cons (λ (x : InterId). cond (eqb x.0 a) 1 0) b bs
@@ -81,3 +81,25 @@ stands_in_its_class p planned a within =
       rw is (member_there a (get_or cs first.0 []) here.1),
       λ k at. one_class a cs (omega (arith, once)) k (class_in p.classes a) (class_within a k cs at) (rw is here.0) (there_member a (get_or cs k []) at) (rw is here.1),
     )
+
+-- where a list has an interaction
+some_place : (a : ℕ) (list : List InterId) → is_member a list ≡ true → (k : ℕ) × (position (λ (b : InterId). eqb b.0 a) list ≡ Some k)
+some_place a [] is = absurd (cc)
+some_place a (b ∷ bs) is = elim (cases_Bool (eqb b.0 a)) [
+  | inl here ↦ (0, rw (position_cons (λ (x : InterId). eqb x.0 a) b bs) (rw here refl))
+  | inr other ↦
+      let rest = some_place a bs (rw other at is) in
+      (rest.0 + 1, rw (position_cons (λ (x : InterId). eqb x.0 a) b bs) (rw (other, rest.1) refl))
+]
+
+pub stands_at : (p : Planned) (a : ℕ) → IsPlanned p → a < length p.model.interactions → StandsAt p a (unwrap_or (position (λ (b : InterId). eqb b.0 a) (get_or p.classes.members (class_in p.classes a) [])) 0)
+stands_at p a planned within =
+    let list = get_or p.classes.members (class_in p.classes a) [] in
+    let place = some_place a list (there_member a list (stands_in_its_class p planned a within).0) in
+    let here = position-Some (λ (b : InterId). eqb b.0 a) list place.0 (inter a) place.1 in
+    let same : get_or list place.0 (inter a) ≡ inter a = ap inter (eqb-true (get_or list place.0 (inter a)).0 a here.1) in
+    rw place.1 (slice_get-get_or list place.0 (inter a) here.0 ∙ ap Some same)
+
+-- the class of an interaction is one of them
+pub class_known : (p : Planned) (a : ℕ) → IsPlanned p → a < length p.model.interactions → class_in p.classes a < length p.classes.members
+class_known p a planned within = class_within a (class_in p.classes a) p.classes.members (stands_in_its_class p planned a within).0

@@ -1,16 +1,14 @@
 -- Why the laws of plans hold.
-use Rattle.std.proofs.Common.{◌≡◌, ◌≢◌, ◌⊎◌, ℕ, zero, suc, ◌+◌, ◌<◌, ◌≤◌, Bool, true, false, eqb, List, [], ◌∷◌, length, get_or, Some, refl, ap, sym, ◌∙◌, subst, arith, inl, inr, eqb-true, eq-eqb}
-use Rattle.std.specs.Prelude.{All, Contains, position, slice_get, sum_by, unwrap_or}
+use Rattle.std.proofs.Common.{◌≡◌, ℕ, true, false, eqb, [], get_or, refl, sym, inl, inr, eqb-true, eq-eqb}
 use Rattle.std.specs.List.{list_any}
-use Rattle.std.proofs.lemmas.Bool.{cases_Bool, cases_order, false≢true}
-use Rattle.std.proofs.lemmas.List.Elements.{All-contains, Contains-get_or}
+use Rattle.std.proofs.lemmas.Bool.{cases_Bool}
 use Rattle.std.proofs.lemmas.Option.{slice_get-get_or}
-use Rattle.bip_model.specs.Laws.{Commute, MayRunIsLocal, MoveApart, OthersStay}
-use Rattle.bip_model.specs.Partitions.{AreClassesOf, IsClasses, class_in, is_member, times_in}
-use Rattle.bip_model.specs.Parts.{IsSystem, Participant}
+use Rattle.bip_model.specs.Laws.{MoveApart}
+use Rattle.bip_model.specs.Partitions.{class_in}
+use Rattle.bip_model.specs.Parts.{Participant}
 use Rattle.bip_model.specs.Priorities.{inter}
 use Rattle.bip_model.specs.States.{State}
-use Rattle.bip_model.specs.Steps.{IsLookedAt, MayRun, after, moves}
+use Rattle.bip_model.specs.Steps.{MayRun, after, moves}
 use Rattle.bip_model.specs.declared.numbering.InterId.{InterId}
 use Rattle.bip_model.specs.declared.parts.System.{System}
 use Rattle.bip_model.specs.declared.parts.Interaction.{Interaction}
@@ -20,8 +18,8 @@ use Rattle.std.proofs.lemmas.Bool.{eqb-false}
 use Rattle.std.proofs.lemmas.List.Folds.{Any-from_list_any, list_any-from_Any, list_any_at}
 use Rattle.bip_partition.proofs.ClassLemmas.{stands_in_its_class}
 use Rattle.bip_partition.proofs.TouchLemmas.{touches_known}
-use Rattle.bip_partition.specs.Laws.{ConflictsBothWays, EachMoves, IsClosed, IsPlanned, LocalLooksAtNothing, LocalMeansNone, LocalStaysInItsClass, OneClassWithoutRow, ReservedAreListed, ReservedMeansAll, RowsAreClosed, RowsAreLeast, RunApart, StandsInItsClass, TouchesWithItsClass}
-use Rattle.bip_partition.specs.Plans.{ClassTouches, InConflict, IsReserved, IsTabled, Planned, Touches, beside, looked_at, of_two_classes}
+use Rattle.bip_partition.specs.Laws.{ConflictsBothWays, EachMoves, LocalLooksAtNothing, LocalMeansNone, LocalStaysInItsClass, OneClassWithoutRow, ReservedAreListed, ReservedMeansAll, RowsAreClosed, RowsAreLeast, RunApart, TouchesWithItsClass}
+use Rattle.bip_partition.specs.Plans.{InConflict, Touches, beside, looked_at, of_two_classes}
 
 pub rows_closed : RowsAreClosed
 rows_closed p = record { looked_at = λ a c looked. looked_at looked; of_two_classes = λ k l c differ one other. of_two_classes differ one other; beside = λ a c d own near rest. beside own near rest }

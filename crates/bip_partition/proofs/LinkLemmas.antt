@@ -1,12 +1,12 @@
 -- What is linked to a set of components: steps, and where no interaction leads on.
 use Rattle.std.proofs.Common.{◌≡◌, ℕ, ◌<◌, Bool, true, false, eqb, ◌||◌, not, List, None, Some, inl, inr, sym, ◌∙◌}
-use Rattle.std.specs.Prelude.{All, Any, IsTrue}
+use Rattle.std.specs.Prelude.{All, Any}
 use Rattle.std.specs.List.{list_any}
 use Rattle.std.proofs.lemmas.Bool.{cases_Bool, not-true, not-false, or_cases, or_right, eqb-true}
 use Rattle.std.proofs.lemmas.List.Elements.{All-contains}
 use Rattle.std.proofs.lemmas.List.Folds.{Any-from_list_any, list_any-from_Any}
 use Rattle.bip_model.specs.Sets.{has}
-use Rattle.bip_partition.specs.Tables.{AreTouched, HaveBits, IsLinked, comp, inside, meets, outside_beside, shared}
+use Rattle.bip_partition.specs.Tables.{AreTouched, HaveBits, IsLinked, comp, inside, outside_beside, shared}
 use Rattle.bip_model.specs.declared.numbering.CompId.{CompId}
 use Rattle.bip_model.proofs.ListLemmas.{found_at, not_found}
 

@@ -1,8 +1,7 @@
 -- Lists of what has a property, one number after another.
-use Rattle.std.proofs.Common.{◌≡◌, ◌⊎◌, ◌↔◌, ℕ, ◌+◌, ◌<◌, ◌≤◌, List, [], ◌∷◌, ◌++◌, length, get_or, map, refl, ap, sym, ◌∙◌, subst, arith, inl, inr, length-append, below_more}
+use Rattle.std.proofs.Common.{◌≡◌, ◌⊎◌, ◌↔◌, ℕ, ◌+◌, ◌<◌, List, [], ◌∷◌, ◌++◌, length, get_or, map, ap, sym, ◌∙◌, subst, arith, inl, inr, length-append, below_more}
 use Rattle.std.specs.Prelude.{All, Contains}
 use Rattle.std.specs.List.{AllByRecursion}
-use Rattle.std.specs.List.Sorted.{IsStrictlyIncreasing}
 use Rattle.std.proofs.lemmas.Bool.{cases_order}
 use Rattle.std.proofs.lemmas.List.{get_or_append_left, get_or_push, map_push}
 use Rattle.std.proofs.lemmas.List.Elements.{All-map, Contains-append_cases, Contains-append_left, Contains-append_right, Contains-get_or, recursion_from_All}
@@ -80,12 +79,12 @@ module _ {X : Type 0} (number : X → ℕ) (make : ℕ → X) (same : (n : ℕ) 
     pub exact_in_all : ((n : ℕ) → P n → n < bound) → (n : ℕ) → Contains list (make n) ↔ P n
     exact_in_all all n = (λ at. ((h.exact n).0 at).1, λ has. (h.exact n).1 (all n has, has))
 
--- lists for each number in turn, and one more
-pub one_more_list : {X : Type 0} (Q : ℕ → List X → Type 0) (n : ℕ) (lists : List (List X)) (list : List X) → length lists ≡ n → ((a : ℕ) → a < n → Q a (get_or lists a [])) → Q n list
-    → (length (lists ++ list ∷ []) ≡ n + 1) × ((a : ℕ) → a < n + 1 → Q a (get_or (lists ++ list ∷ []) a []))
-one_more_list Q n lists list each all more = (
-  rw (length-append lists (list ∷ [])) (omega arith),
+-- something for each number in turn, and one more
+pub one_more : {X : Type 0} (Q : ℕ → X → Type 0) (d : X) (n : ℕ) (xs : List X) (x : X) → length xs ≡ n → ((a : ℕ) → a < n → Q a (get_or xs a d)) → Q n x
+    → (length (xs ++ x ∷ []) ≡ n + 1) × ((a : ℕ) → a < n + 1 → Q a (get_or (xs ++ x ∷ []) a d))
+one_more Q d n xs x each all more = (
+  rw (length-append xs (x ∷ [])) (omega arith),
   below_more _ _
-      (λ a below. let within : a < length lists = omega arith in rw (get_or_append_left lists (list ∷ []) [] a within) (all a below))
-      (rw (get_or_push lists list [] n each) more),
+      (λ a below. let within : a < length xs = omega arith in rw (get_or_append_left xs (x ∷ []) d a within) (all a below))
+      (rw (get_or_push xs x d n each) more),
 )

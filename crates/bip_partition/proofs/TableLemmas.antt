@@ -1,22 +1,20 @@
 -- The tables of a plan mean what it says.
-use Rattle.std.proofs.Common.{◌≡◌, ◌≢◌, ◌⊎◌, ◌↔◌, ℕ, zero, suc, ◌+◌, ◌<◌, ◌≤◌, true, List, [], ◌∷◌, length, map, get_or, refl, ap, sym, ◌∙◌, subst, arith, inl, inr}
-use Rattle.std.specs.Prelude.{All, Any, Contains, IsTrue}
+use Rattle.std.proofs.Common.{◌≡◌, ◌≢◌, ◌↔◌, ℕ, ◌<◌, List, [], ◌∷◌, length, map, get_or, ap, sym, ◌∙◌, subst, arith, inl, inr}
+use Rattle.std.specs.Prelude.{All, Contains, IsTrue}
 use Rattle.std.proofs.lemmas.List.{get_or_default}
 use Rattle.std.proofs.lemmas.List.Elements.{Contains-get_or}
 use Rattle.std.proofs.lemmas.List.Folds.{Any-from_list_any, list_any-from_Any}
 use Rattle.bip_model.specs.Parts.{IsSystem}
-use Rattle.bip_model.specs.Priorities.{inter}
 use Rattle.bip_model.specs.Sets.{has}
-use Rattle.bip_model.specs.Steps.{IsLookedAt}
 use Rattle.bip_model.specs.declared.numbering.ClassId.{ClassId}
 use Rattle.bip_model.specs.declared.numbering.CompId.{CompId}
 use Rattle.bip_model.specs.declared.numbering.InterId.{InterId}
 use Rattle.bip_model.specs.declared.parts.System.{System}
 use Rattle.bip_model.proofs.NumberingLemmas.{rises_from_increasing, same_list}
 use Rattle.bip_model.proofs.ListLemmas.{Contains-cases, Contains-none, below_later}
-use Rattle.bip_partition.specs.Plans.{AreStations, ClassTouches, InConflict, IsListTouched, IsReserved, IsTabled, MeetAt, Planned, Touches, TouchesTooMany, beside, looked_at, of_two_classes}
+use Rattle.bip_partition.specs.Plans.{AreStations, ClassTouches, InConflict, IsListTouched, IsReserved, IsTabled, Planned, Touches, TouchesTooMany, beside, looked_at, of_two_classes}
 use Rattle.bip_partition.specs.Tables.{AreListsTouched, AreListsTouching, AreSeedsBelow, AreTabled, AreTouched, HaveBits, IsCountTouched, IsLinked, IsListReservedBy, IsSeed, comp, inside, meets, shared}
-use Rattle.bip_partition.proofs.TouchLemmas.{looking_known, touched_known, touches_known}
+use Rattle.bip_partition.proofs.TouchLemmas.{touched_known, touches_known}
 
 -- the only one of a list
 only : {X : Type 0} (x z : X) → Contains (x ∷ []) z → x ≡ z
@@ -75,13 +73,7 @@ meets_reserved p a tabled list listed rows = (
       list_any-from_Any (λ (c : CompId). has tabled c.0) list (there.0, comp is.comp, there.1, there.2, (rows is.comp).1 is.tabled),
 )
 
--- two interactions meet at one of those that the first one touches where they are in conflict
-pub meets_conflict : (m : System) (a b : ℕ) (list : List CompId) → IsListTouched m a list → Any (λ (c : CompId). MeetAt m a b c.0) list ↔ InConflict m a b
-meets_conflict m a b list listed = (
-  λ at. (at.1.0, at.4),
-  λ is. let there = (listed.exact is.0).1 is.1.0 in (there.0, comp is.0, there.1, there.2, is.1),
-)
-
+-- what is in conflict with something is an interaction of the model
 pub conflict_known : (m : System) (a b : ℕ) → IsSystem m → InConflict m a b → a < length m.interactions
 conflict_known m a b valid is = touches_known m a is.0 valid is.1.0
 

@@ -1,7 +1,5 @@
 -- What is touched is a component of the model, and what touches is an interaction of it.
-use Rattle.std.proofs.Common.{◌≡◌, ◌⊎◌, ◌↔◌, ℕ, ◌<◌, true, false, eqb, eq-eqb, eqb-true, List, [], length, inl, inr, refl, arith}
-use Rattle.std.specs.List.{list_any}
-use Rattle.std.proofs.lemmas.List.Folds.{Any-from_list_any, list_any-from_Any}
+use Rattle.std.proofs.Common.{◌≡◌, ℕ, ◌<◌, true, false, List, [], length, inl, inr, arith}
 use Rattle.bip_model.specs.Parts.{IsSystem}
 use Rattle.bip_model.specs.Priorities.{IsAbove, IsPairOf, declared, through}
 use Rattle.bip_model.specs.Steps.{IsLookedAt, moves}
@@ -13,9 +11,7 @@ use Rattle.std.proofs.lemmas.List.Elements.{All-contains}
 use Rattle.std.proofs.lemmas.Option.{slice_get_cases, slice_get_within}
 use Rattle.std.proofs.lemmas.List.{get_or_past}
 use Rattle.bip_model.proofs.LookLemmas.{looked_known, moves_known}
-use Rattle.bip_model.specs.declared.numbering.InterId.{InterId}
-use Rattle.bip_model.specs.declared.numbering.ClassId.{ClassId}
-use Rattle.bip_partition.specs.Plans.{ClassTouches, IsListTouching, Planned, Touches}
+use Rattle.bip_partition.specs.Plans.{ClassTouches, Planned, Touches}
 
 pub touched_known : (m : System) (a c : ℕ) → IsSystem m → Touches m a c → c < length m.components
 touched_known m a c valid (inl moved) = moves_known m a c valid.so_far moved
@@ -49,15 +45,3 @@ touches_known m a c valid (inr looked) = looking_known m a c valid looked
 -- what a class touches is a component of the model
 pub class_touched_known : (p : Planned) (k c : ℕ) → IsSystem p.model → ClassTouches p k c → c < length p.model.components
 class_touched_known p k c valid at = touched_known p.model at.1.0 c valid at.4
-
--- a class touches a component where it is listed
-pub class_listed : (p : Planned) (k c : ℕ) (list : List ClassId) → IsListTouching p c list → (list_any (λ (l : ClassId). eqb l.0 k) list ≡ true) ↔ ClassTouches p k c
-class_listed p k c list is = (
-  λ any.
-      let at = Any-from_list_any (λ (l : ClassId). eqb l.0 k) list any in
-      let here = (is.exact at.1.0).0 (at.0, at.2, at.3) in
-      rw (← eqb-true at.1.0 k at.4) here,
-  λ touches.
-      let at = (is.exact k).1 touches in
-      list_any-from_Any (λ (l : ClassId). eqb l.0 k) list (at.0, record { 0 = k }, at.1, at.2, eq-eqb k k refl),
-)

@@ -1,5 +1,5 @@
 -- Why a model with classes has no plan; and the numbers and the texts of faults.
-use Rattle.std.specs.Prelude.{◌≡◌, ℕ, ◌<◌, List, ◌++◌, codes}
+use Rattle.std.specs.Prelude.{ℕ, ◌<◌, List, ◌++◌, codes}
 use Rattle.std.specs.Fmt.{decimal}
 use Rattle.bip_model.specs.declared.parts.System.{System}
 use Rattle.bip_partition.specs.Plans.{TouchesTooMany}

@@ -1,5 +1,5 @@
 -- What the definitions mean, in the subject's own words: laws that a reviewer reads.
-use Rattle.std.specs.Prelude.{◌≡◌, ◌≢◌, ◌⊎◌, ◌↔◌, ℕ, ◌<◌, List, [], Bool, IsTrue, length, true}
+use Rattle.std.specs.Prelude.{◌≡◌, ◌≢◌, ◌↔◌, ℕ, ◌<◌, List, [], Bool, IsTrue, length, true}
 use Rattle.std.specs.Prelude.{Contains}
 use Rattle.std.specs.Prelude.{slice_index_or}
 use Rattle.bip_model.specs.Partitions.{AreClassesOf, IsClasses, class_in, is_member}

@@ -1,12 +1,12 @@
 -- The plan of a model whose interactions are parted into classes: what is touched from where, what
 -- has a row in the table, what is reserved, and what is in conflict.
-use Rattle.std.specs.Prelude.{◌≡◌, ◌≢◌, ◌⊎◌, ◌↔◌, ℕ, ◌<◌, ◌+◌, List, [], length, map, true}
-use Rattle.std.specs.Prelude.{Any, Contains, slice_index_or}
+use Rattle.std.specs.Prelude.{◌≡◌, ◌≢◌, ◌⊎◌, ◌↔◌, ℕ, ◌<◌, List, [], length, map, true}
+use Rattle.std.specs.Prelude.{Any, Contains, Some, slice_get, slice_index_or}
 use Rattle.std.specs.List.Sorted.{IsStrictlyIncreasing}
 use Rattle.bip_model.specs.Parties.{AreParties}
 use Rattle.bip_model.specs.Partitions.{class_in}
 use Rattle.bip_model.specs.Priorities.{inter}
-use Rattle.bip_model.specs.Steps.{IsListLookedAt, IsLookedAt, moves, participants_of}
+use Rattle.bip_model.specs.Steps.{IsLookedAt, moves}
 use Rattle.bip_model.specs.declared.messages.Request.{Request}
 use Rattle.bip_model.specs.declared.numbering.ClassId.{ClassId}
 use Rattle.bip_model.specs.declared.numbering.CompId.{CompId}
@@ -27,6 +27,11 @@ Touches m a c = (moves m a c ≡ true) ⊎ IsLookedAt m a c
 abbrev pub ClassTouches : Planned → ℕ → ℕ → Type 0
 ClassTouches p k c =
     Any (λ (a : InterId). Touches p.model a.0 c) (slice_index_or p.classes.members k [])
+
+-- an interaction stands at a place among the members of its class
+abbrev pub StandsAt : Planned → ℕ → ℕ → Type 0
+StandsAt p a place =
+    slice_get (slice_index_or p.classes.members (class_in p.classes a) []) place ≡ Some (inter a)
 
 -- the components with a row in the table, which are the least set that has each one that some
 -- interaction looks at, each one that two classes touch, and with each one all that an interaction

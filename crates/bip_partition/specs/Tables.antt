@@ -1,20 +1,22 @@
--- What contracts of private functions say: the lists that a plan keeps, and its set of components.
+-- What contracts of private functions say: the lists and the sets that a plan keeps.
 use Rattle.std.specs.Prelude.{◌≡◌, ◌⊎◌, ◌↔◌, ℕ, ◌<◌, Bool, true, not, List, [], length, map}
-use Rattle.std.specs.Prelude.{Contains, All, Option, None, IsTrue, find, slice_index_or}
+use Rattle.std.specs.Prelude.{Contains, All, Option, None, IsTrue, find, slice_get, slice_index_or}
 use Rattle.std.specs.Prelude.{if◌then◌else◌}
+use Rattle.std.specs.Option.{option_map_or}
 use Rattle.std.specs.List.{list_any}
 use Rattle.std.specs.List.Sorted.{IsStrictlyIncreasing}
-use Rattle.bip_model.specs.Partitions.{AreClassesOf, IsClasses}
+use Rattle.bip_model.specs.Partitions.{AreClassesOf, IsClasses, class_in}
 use Rattle.bip_model.specs.Parts.{IsSystem}
 use Rattle.bip_model.specs.Priorities.{inter}
 use Rattle.bip_model.specs.Sets.{has}
-use Rattle.bip_model.specs.Steps.{IsLookedAt}
+use Rattle.bip_model.specs.Steps.{IsLookedAt, moves}
 use Rattle.bip_model.specs.declared.numbering.ClassId.{ClassId}
 use Rattle.bip_model.specs.declared.numbering.CompId.{CompId}
 use Rattle.bip_model.specs.declared.numbering.InterId.{InterId}
 use Rattle.bip_model.specs.declared.parts.System.{System}
-use Rattle.bip_partition.specs.Plans.{AreStations, IsListTouched, IsListTouching}
-use Rattle.bip_partition.specs.Plans.{IsTabled, Planned, TouchesTooMany}
+use Rattle.bip_partition.specs.Plans.{AreStations, ClassTouches, IsListTouched, IsListTouching}
+use Rattle.bip_partition.specs.Plans.{IsTabled, Planned, StandsAt, Touches, TouchesTooMany}
+use Rattle.bip_partition.specs.declared.footprints.Footprint.{Footprint}
 use Rattle.bip_partition.specs.declared.tables.Tables.{Tables}
 
 -- the list of what has a property below a bound, in order of number
@@ -91,12 +93,48 @@ IsListReservedBy touches set bound list =
     IsListBelow (λ (a : InterId). a.0) inter
     (λ a. IsTrue (meets set (slice_index_or touches a []))) bound list
 
+-- what is kept of an interaction: the sets of what it touches and moves, its class, and its place
+-- there
+pub record IsFootprint (p : Planned) (a : ℕ) (f : Footprint) : Type 0 where
+  pub touched : (c : ℕ) → IsTrue (has f.touched c) ↔ Touches p.model a c
+  pub moved : (c : ℕ) → has f.moved c ≡ moves p.model a c
+  pub class : f.class.0 ≡ class_in p.classes a
+  pub place : StandsAt p a f.place
+
+-- what is kept of each interaction in turn
+pub record AreFootprints (p : Planned) (count : ℕ) (kept : List Footprint) : Type 0 where
+  pub each : length kept ≡ count
+  pub one : (a : ℕ) (none : Footprint) → a < count
+      → IsFootprint p a (slice_index_or kept a none)
+
+-- whether one of some interactions touches a component, by what is kept of each
+abbrev pub touched_among : List Footprint → List InterId → ℕ → Bool
+touched_among kept members c =
+    list_any
+    (λ (a : InterId). has (option_map_or (λ f. f.touched) (slice_get kept a.0) 0) c)
+    members
+
+-- for each of the first classes in turn the set of what its members touch
+pub record AreSetsTouched (kept : List Footprint) (classes : List (List InterId)) (count : ℕ)
+    (sets : List ℕ) : Type 0 where
+  pub each : length sets ≡ count
+  pub set : (k : ℕ) → k < count → (c : ℕ)
+      → has (slice_index_or sets k 0) c ≡ touched_among kept (slice_index_or classes k []) c
+
+-- for each class in turn the set of the components that it touches
+pub record AreClassSets (p : Planned) (sets : List ℕ) : Type 0 where
+  pub each : length sets ≡ length p.classes.members
+  pub set : (k : ℕ) → k < length sets
+      → (c : ℕ) → IsTrue (has (slice_index_or sets k 0) c) ↔ ClassTouches p k c
+
 -- all that a plan keeps
 pub record ArePlanTables (p : Planned) (t : Tables) : Type 0 where
   pub lists_touched : AreListsTouched p.model (length p.model.interactions) t.touches
   pub lists_touching : AreListsTouching p (length p.model.components) t.touching
   pub rows : AreTabled p t.tabled
   pub stations : AreStations p t.stations
+  pub footprints : AreFootprints p (length p.model.interactions) t.footprints
+  pub class_sets : AreClassSets p t.class_sets
 
 -- a valid model that is parted, of which no interaction touches too many components, with what is
 -- kept

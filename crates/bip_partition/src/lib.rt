@@ -3,6 +3,7 @@
 #![tactic(auto)]
 
 mod faults;
+mod footprints;
 mod laws;
 mod plans;
 mod sets;

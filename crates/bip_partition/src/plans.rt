@@ -1,24 +1,20 @@
 //! Plans, and the questions that they answer without memory.
-ghost use Rattle.std.specs.Prelude.{◌≡◌, ◌<◌, ◌≤◌, ◌↔◌, ◌==◌, ℕ, Any, IfErr, IfNone, IfOk, IfSome};
-ghost use Rattle.std.specs.Prelude.{IsTrue, OnOk, length};
-ghost use Rattle.std.specs.List.{list_any};
+ghost use Rattle.std.specs.Prelude.{◌≡◌, ◌<◌, ◌≤◌, ◌↔◌, ℕ, IfErr, IfNone, IfOk, IfSome, IsTrue};
+ghost use Rattle.std.specs.Prelude.{OnOk, length};
 ghost use Rattle.bip_model.specs.Partitions.{AreClassesOf, IsClasses, class_in};
 ghost use Rattle.bip_model.specs.Parts.{IsSystem};
 ghost use Rattle.bip_model.specs.Steps.{IsListLookedAt, moves, participants_of};
 ghost use Rattle.bip_partition.specs.Faults.{IsLowestTooMany, IsPlanFault};
 ghost use Rattle.bip_partition.specs.Laws.{IsPlanned};
 ghost use Rattle.bip_partition.specs.Plans.{AreStations, ClassTouches, InConflict, IsCountTabled};
-ghost use Rattle.bip_partition.specs.Plans.{IsFit};
-ghost use Rattle.bip_partition.specs.Plans.{IsListTouched};
-ghost use Rattle.bip_partition.specs.Plans.{IsListTouching, IsReserved, IsTabled, Planned};
-ghost use Rattle.bip_partition.specs.Plans.{MeetAt, TouchesTooMany};
-ghost use Rattle.bip_partition.specs.Tables.{IsCountTouched};
-ghost use Rattle.bip_model.specs.declared.numbering.ClassId.{ClassId};
-ghost use Rattle.bip_model.specs.declared.numbering.CompId.{CompId};
+ghost use Rattle.bip_partition.specs.Plans.{IsFit, IsListTouched, IsListTouching, IsReserved};
+ghost use Rattle.bip_partition.specs.Plans.{IsTabled, Planned, StandsAt, TouchesTooMany};
+ghost use Rattle.bip_partition.specs.Tables.{IsCountTouched, IsFootprint};
 
 use crate::PlanFault;
-use crate::sets::has_comp;
-use crate::tables::{Tables, meets, touches};
+use crate::footprints::Footprint;
+use crate::sets::{has_comp, overlap};
+use crate::tables::{Tables, touches};
 use bip_model::{ClassId, Classes, CompId, InterId, MOST_WANTS, Model, PortId, Request};
 use std::alloc::Global;
 use std::marker;
@@ -123,7 +119,15 @@ impl Plan {
         requires { inter.0 < length self.now.model.interactions }
         ensures { result.0 ≡ class_in self.now.classes inter.0 }
     {
-        self.classes.class_of(inter).unwrap_or(ClassId(0))
+        self.tables.footprints.as_slice()[inter.0 as usize].class
+    }
+
+    /// The place of an interaction among the members of its class, which are in order of number.
+    pub fn place_of(&self, inter: InterId) -> usize
+        requires { inter.0 < length self.now.model.interactions }
+        ensures { StandsAt self.now inter.0 result }
+    {
+        self.tables.footprints.as_slice()[inter.0 as usize].place
     }
 
     /// The classes that touch a component, in order of their numbers.
@@ -142,7 +146,10 @@ impl Plan {
         if self.model.components().len() <= comp.0 as usize {
             return false;
         }
-        is_among(self.classes_of(comp), class)
+        match self.tables.class_sets.as_slice().get(class.0 as usize) {
+            Some(set) => has_comp(*set, comp),
+            None => false,
+        }
     }
 
     /// Whether a component has a row in the table; false for a number that the model lacks.
@@ -173,10 +180,10 @@ impl Plan {
         ensures reserved { IsTrue result ↔ IsReserved self.now inter.0 }
         ensures valid { IsSystem self.now.model }
     {
-        if self.model.interactions().len() <= inter.0 as usize {
-            return false;
+        match self.footprint(inter) {
+            Some(one) => overlap(one.touched, self.tables.tabled),
+            None => false,
         }
-        meets(self.touches(inter), self.tables.tabled)
     }
 
     /// The reserved interactions, in order of their numbers: station s decides for the one at place
@@ -191,10 +198,13 @@ impl Plan {
     pub fn conflict(&self, inter: InterId, other: InterId) -> bool
         ensures { IsTrue result ↔ InConflict self.now.model inter.0 other.0 }
     {
-        if self.model.interactions().len() <= inter.0 as usize {
+        let Some(one) = self.footprint(inter) else {
             return false;
-        }
-        meet_at_any(&self.model, inter, other, self.touches(inter))
+        };
+        let Some(two) = self.footprint(other) else {
+            return false;
+        };
+        overlap(one.touched, two.moved) || overlap(one.moved, two.touched)
     }
 
     /// Whether a request fits: its interaction is reserved, and of its class, and it wants just
@@ -207,6 +217,17 @@ impl Plan {
             return false;
         }
         self.model.are_parties(inter, request.wants.as_slice())
+    }
+}
+
+impl Plan {
+    /// What is kept of an interaction; none for a number that the model lacks.
+    fn footprint(&self, inter: InterId) -> Option<&Footprint>
+        ensures some { IfSome result (λ f. IsFootprint self.now inter.0 f.now) }
+        ensures none { IfNone result (length self.now.model.interactions ≤ inter.0) }
+        ensures valid { IsSystem self.now.model }
+    {
+        self.tables.footprints.as_slice().get(inter.0 as usize)
     }
 }
 
@@ -243,27 +264,4 @@ fn count_touched(model: &Model, inter: InterId) -> usize
         }
     }
     count
-}
-
-/// Whether two interactions are in conflict over one of these components.
-fn meet_at_any(model: &Model, inter: InterId, other: InterId, comps: &[CompId]) -> bool
-    ensures { IsTrue result ↔ Any (λ (c : CompId). MeetAt model.now inter.0 other.0 c.0) comps.now }
-{
-    comps.iter().any(|comp| meet_at(model, inter, other, *comp))
-}
-
-/// Whether both touch a component that one of them moves.
-fn meet_at(model: &Model, inter: InterId, other: InterId, comp: CompId) -> bool
-    ensures { IsTrue result ↔ MeetAt model.now inter.0 other.0 comp.0 }
-{
-    touches(model, inter, comp)
-        && touches(model, other, comp)
-        && (model.moves(inter, comp) || model.moves(other, comp))
-}
-
-/// Whether a class is one of these.
-fn is_among(classes: &[ClassId], class: ClassId) -> bool
-    ensures { result ≡ list_any (λ (k : ClassId). k.0 == class.0) classes.now }
-{
-    classes.iter().any(|one| *one == class)
 }

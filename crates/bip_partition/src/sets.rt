@@ -1,5 +1,5 @@
 //! Sets of components, each as the bits of a number.
-ghost use Rattle.std.specs.Prelude.{◌≡◌, ◌<◌, ◌==◌, ◌||◌, ◌&&◌, ℕ, false, nat_lt};
+ghost use Rattle.std.specs.Prelude.{◌≡◌, ◌<◌, ◌==◌, ◌||◌, ◌&&◌, ◌↔◌, ℕ, IsTrue, false, nat_lt};
 ghost use Rattle.bip_model.specs.Sets.{has};
 
 use bip_model::CompId;
@@ -19,4 +19,18 @@ pub(crate) fn with_comp(set: u64, comp: CompId) -> u64
     ensures more { has set comp.0 ≡ false → set < result }
 {
     set | 1u64 << comp.0
+}
+
+/// The set of what two sets have together.
+pub(crate) fn joined(set: u64, other: u64) -> u64
+    ensures { (c : ℕ) → has result c ≡ (has set c || has other c) }
+{
+    set | other
+}
+
+/// Whether two sets have a component in common.
+pub(crate) fn overlap(set: u64, other: u64) -> bool
+    ensures { IsTrue result ↔ ((c : ℕ) × IsTrue (has set c) × IsTrue (has other c)) }
+{
+    set & other != 0
 }

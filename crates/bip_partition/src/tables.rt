@@ -14,18 +14,22 @@ ghost use Rattle.bip_partition.specs.Tables.{AreListsTouched, AreListsTouching, 
 ghost use Rattle.bip_partition.specs.Tables.{ArePlanTables, AreTabled, HaveBits, IsLinked};
 ghost use Rattle.bip_partition.specs.Tables.{IsListReservedBy, IsSeed, meets, outside_beside};
 
+use crate::footprints::{Footprint, list_class_sets, list_footprints};
 use crate::sets::{has_comp, with_comp};
 use bip_model::{ClassId, Classes, CompId, InterId, Model, Seq};
 use std::alloc::{AllocError, Global};
 
 /// What a plan keeps: for each interaction the components that it touches, for each component the
-/// classes that touch it, the set of the components with a row in the table, and the stations.
+/// classes that touch it, the set of the components with a row in the table, the stations; and for
+/// each interaction and each class what answers a question about it at once.
 #[derive(Drop)]
 pub(crate) struct Tables {
     pub touches: Seq<Seq<CompId>>,
     pub touching: Seq<Seq<ClassId>>,
     pub tabled: u64,
     pub stations: Seq<InterId>,
+    pub footprints: Seq<Footprint>,
+    pub class_sets: Seq<u64>,
 }
 
 /// Whether an interaction touches a component; false for numbers that the model lacks.
@@ -181,7 +185,7 @@ fn outside_beside(touched: &[CompId], set: u64) -> Option<CompId>
 }
 
 /// Whether a list has a component of a set.
-pub(crate) fn meets(touched: &[CompId], set: u64) -> bool
+fn meets(touched: &[CompId], set: u64) -> bool
     requires { HaveBits touched.now }
     ensures { result ≡ meets set touched.now }
 {
@@ -225,11 +229,15 @@ impl Tables {
         let touching = lists_touching(alloc, model, classes)?;
         let tabled = linked(touches.as_slice(), seeds(model, touching.as_slice()));
         let stations = list_reserved(alloc, touches.as_slice(), tabled)?;
+        let footprints = list_footprints(alloc, model, classes, touches.as_slice())?;
+        let class_sets = list_class_sets(alloc, classes, footprints.as_slice())?;
         Ok(Tables {
             touches,
             touching,
             tabled,
             stations,
+            footprints,
+            class_sets,
         })
     }
 }

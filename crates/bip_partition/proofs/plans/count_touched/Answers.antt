@@ -1,4 +1,4 @@
-use Rattle.std.proofs.Common.{◌≡◌, ◌∷◌, ◌++◌, ◌+◌, [], length, ap, arith, refl, length-append}
+use Rattle.std.proofs.Common.{◌∷◌, ◌++◌, [], length, ap, arith, refl, length-append}
 use Rattle.std.proofs.lemmas.Bool.{false≢true}
 use Rattle.bip_model.specs.declared.numbering.CompId.{CompId}
 use Rattle.bip_partition.specs.Plans.{Touches}

@@ -1,4 +1,4 @@
-use Rattle.std.proofs.Common.{◌<◌, ltb-true, lt-ltb}
+use Rattle.std.proofs.Common.{ltb-true, lt-ltb}
 use Rattle.bip_partition.proofs.TableLemmas.{too_many}
 use Rattle.bip_partition.proofs.plans.touches_too_many.Goals as goal
 

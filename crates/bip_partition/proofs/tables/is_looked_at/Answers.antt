@@ -1,6 +1,5 @@
-use Rattle.std.proofs.Common.{◌≡◌, ◌<◌, ℕ, length, ap, arith, inl, inr}
+use Rattle.std.proofs.Common.{length, ap, arith, inl, inr}
 use Rattle.std.proofs.lemmas.Bool.{cases_order, false≢true}
-use Rattle.bip_model.specs.Steps.{IsLookedAt}
 use Rattle.bip_partition.proofs.TouchLemmas.{looking_known}
 use Rattle.bip_partition.proofs.tables.is_looked_at.Goals as goal
 

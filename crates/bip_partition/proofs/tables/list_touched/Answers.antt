@@ -1,4 +1,4 @@
-use Rattle.std.proofs.Common.{◌≡◌, length, ap, arith, refl}
+use Rattle.std.proofs.Common.{length, ap, arith, refl}
 use Rattle.std.proofs.lemmas.Bool.{false≢true}
 use Rattle.bip_partition.proofs.TouchLemmas.{touched_known}
 use Rattle.bip_model.specs.declared.numbering.CompId.{CompId}

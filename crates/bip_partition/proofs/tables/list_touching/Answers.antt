@@ -1,4 +1,4 @@
-use Rattle.std.proofs.Common.{◌≡◌, [], get_or, sym, length, arith, refl}
+use Rattle.std.proofs.Common.{◌≡◌, [], get_or, sym, arith, refl}
 use Rattle.std.proofs.lemmas.Bool.{false≢true}
 use Rattle.bip_partition.proofs.TouchLemmas.{touching_known}
 use Rattle.std.proofs.lemmas.Option.{get_or_from_slice_get}

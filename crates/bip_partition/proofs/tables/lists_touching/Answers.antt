@@ -1,7 +1,6 @@
-use Rattle.std.proofs.Common.{◌≡◌, ◌≤◌, ◌<◌, ℕ, length, ap, arith, refl}
-use Rattle.bip_model.specs.declared.numbering.CompId.{CompId}
+use Rattle.std.proofs.Common.{[], ◌≡◌, length, ap, arith, refl}
 use Rattle.bip_partition.specs.Plans.{IsListTouching}
-use Rattle.bip_partition.proofs.ListedLemmas.{one_more_list}
+use Rattle.bip_partition.proofs.ListedLemmas.{one_more}
 use Rattle.bip_partition.proofs.tables.lists_touching.Goals as goal
 
 pub loop-number-init : goal.loop-number-init
@@ -10,7 +9,7 @@ loop-number-init c = rw (c.of-lists.ensures, c.new.ensures.items) (record { each
 pub loop-number-preserved : goal.loop-number-preserved
 loop-number-preserved c =
     let before = c.loop-number.invariant in
-    let more = one_more_list (IsListTouching (record { model = c.args.model.now; classes = c.args.classes.now })) c.loop-number.number c.loop-number.lists c.in_ok-list.list before.each before.list c.in_ok-list.ensures in
+    let more = one_more (IsListTouching (record { model = c.args.model.now; classes = c.args.classes.now })) [] c.loop-number.number c.loop-number.lists c.in_ok-list.list before.each before.list c.in_ok-list.ensures in
     rw c.in_ok-push.ensures.ok (record { each = more.0; list = more.1 })
 
 pub returns : goal.returns
