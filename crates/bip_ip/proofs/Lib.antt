@@ -2,5 +2,6 @@ pub mod AskingLemmas
 pub mod LawLemmas
 pub mod NodeLemmas
 pub mod OwnLemmas
+pub mod RecordLemmas
 pub mod TellLemmas
 pub mod SetLemmas

@@ -28,7 +28,7 @@ use Rattle.bip_observe.specs.Offers.{IsLeftBy, KeptOffers, Observed, nothing_hel
 use Rattle.bip_observe.specs.declared.offers.Receipt.{Receipt}
 use Rattle.bip_observe.specs.declared.offers.Receipt.TheVariants.{Held, Old, Stranger}
 use Rattle.bip_observe.proofs.KeptLemmas.{length_nothings, nothings, read_nothing}
-use Rattle.bip_ip.specs.Nodes.{AreAsked, ClassNode, IsItsRecord, IsKeptNode, IsLeftByRefusal, KeptNode, after_offer, first_node, node_of, told_of, with_grant_known, with_learned, with_record, without}
+use Rattle.bip_ip.specs.Nodes.{AreAsked, ClassNode, IsItsRecord, IsKeptNode, IsLeftByRefusal, IsOwn, KeptNode, after_offer, first_node, node_of, told_of, with_grant_known, with_learned, with_record, without}
 use Rattle.bip_ip.specs.declared.nodes.OpenRecord.{OpenRecord}
 
 -- what the parties of an interaction are its class touches
@@ -166,6 +166,12 @@ record_within xs a e is = elim (cases_lt a (length xs)) [
       let none : None ≡ Some e = sym (get_or_past xs a None past) ∙ is in
       absurd (cc)
 ]
+
+-- an interaction whose record is there is of the class
+pub its_own : (n : KeptNode) (a : ℕ) (e : OpenRecord) → IsKeptNode n → get_or n.pending a None ≡ Some e → IsOwn (node_of n) a
+its_own n a e kept is =
+    let its = kept.records a e is in
+    record { declared = omega (arith, record_within n.pending a e is, kept.each); class = sym (rw its.inter at its.fit.class) ∙ its.class }
 
 -- what is kept of an interaction is its record
 pub record_its : (n : KeptNode) (a : ℕ) (result : Option OpenRecord) → IsKeptNode n → get_or n.pending a None ≡ result → IfSome result (IsItsRecord n a)

@@ -1,13 +1,10 @@
 -- The members of a class are its own interactions.
-use Rattle.std.proofs.Common.{◌≡◌, ℕ, ◌<◌, true, eqb, [], length, get_or, eq-eqb, eqb-true, inl, inr, ap, subst, refl, sym}
+use Rattle.std.proofs.Common.{◌≡◌, ℕ, ◌<◌, true, eqb, [], length, get_or, eqb-true, ap, subst, sym}
 use Rattle.std.specs.Prelude.{Contains}
-use Rattle.std.proofs.lemmas.Bool.{cases_lt}
-use Rattle.std.proofs.lemmas.List.{get_or_past}
-use Rattle.std.proofs.lemmas.List.Folds.{Any-from_list_any, list_any-from_Any}
+use Rattle.std.proofs.lemmas.List.Folds.{Any-from_list_any}
 use Rattle.bip_model.specs.Partitions.{class_in, is_member}
 use Rattle.bip_model.specs.Priorities.{inter}
 use Rattle.bip_model.specs.declared.numbering.InterId.{InterId}
-use Rattle.bip_model.proofs.ListLemmas.{Contains-none}
 use Rattle.bip_partition.specs.Laws.{IsPlanned}
 use Rattle.bip_partition.specs.Plans.{Planned}
 use Rattle.bip_partition.proofs.ClassLemmas.{stands_in_its_class}
@@ -23,14 +20,3 @@ own_member p a k planned within is =
     let same : at.1 ≡ inter a = ap inter number in
     let there : Contains list (inter a) = rw (← same) (at.0, at.2, at.3) in
     (declared, sym ((stands_in_its_class p planned a declared).1 k there))
-
--- an interaction is a member of its class
-pub member_own : (p : Planned) (a k : ℕ) → IsPlanned p → a < length p.model.interactions → class_in p.classes a ≡ k → (k < length p.classes.members) × (is_member a (get_or p.classes.members k []) ≡ true)
-member_own p a k planned declared class =
-    let list = get_or p.classes.members k [] in
-    let there : Contains list (inter a) = subst (λ (n : ℕ). Contains (get_or p.classes.members n []) (inter a)) class (stands_in_its_class p planned a declared).0 in
-    let within : k < length p.classes.members = elim (cases_lt k (length p.classes.members)) [
-      | inl inside ↦ inside
-      | inr past ↦ absurd (Contains-none (inter a) (rw (get_or_past p.classes.members k [] past) at there))
-    ] in
-    (within, list_any-from_Any (λ (b : InterId). eqb b.0 a) list (there.0, inter a, there.1, there.2, eq-eqb a a refl))

@@ -1,3 +1,4 @@
 pub mod Asking
 pub mod Laws
 pub mod Nodes
+pub mod Records

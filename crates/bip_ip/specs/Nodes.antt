@@ -20,6 +20,7 @@ use Rattle.bip_observe.specs.declared.offers.Receipt.{Receipt}
 use Rattle.bip_observe.specs.declared.offers.Receipt.TheVariants.{Held, Old, Stranger}
 use Rattle.bip_observe.specs.declared.verdicts.Verdict.TheVariants.{Ready}
 use Rattle.bip_ip.specs.Asking.{told_by}
+use Rattle.bip_ip.specs.Records.{KeptRecords}
 use Rattle.bip_ip.specs.declared.nodes.OpenRecord.{OpenRecord}
 use Rattle.bip_ip.specs.declared.nodes.Tried.{Tried}
 use Rattle.bip_ip.specs.declared.nodes.WhyNot.{WhyNot}
@@ -218,3 +219,11 @@ pub record IsKeptNode (n : KeptNode) : Type 0 where
 -- a set has the interactions whose requests are open
 abbrev pub AreAsked : ℕ → List (Option OpenRecord) → Type 0
 AreAsked set pending = (a : ℕ) → has set a ≡ is_some (slice_index_or pending a None)
+
+-- what is kept of a node is stored: its open requests as a set too, and its records with those of
+-- the class of its plan
+pub record IsStored (n : KeptNode) (set : ℕ) (records : KeptRecords) : Type 0 where
+  pub kept : IsKeptNode n
+  pub asked : AreAsked set n.pending
+  pub plan : records.plan ≡ n.offers.plan
+  pub class : records.class ≡ n.offers.class

@@ -4,6 +4,7 @@
 mod asking;
 mod laws;
 mod nodes;
+mod records;
 mod sets;
 
 pub use laws::{node_laws, notify_laws};

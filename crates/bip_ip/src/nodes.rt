@@ -1,11 +1,9 @@
 //! The node of a class.
 ghost use Rattle.std.specs.Prelude.{◌≡◌, ◌↔◌, ◌⊎◌, ◌<◌, ℕ, All, IfNone, IfOk, IfSome, IsTrue, None};
-ghost use Rattle.std.specs.Prelude.{OnSome, map};
+ghost use Rattle.std.specs.Prelude.{OnSome};
 ghost use Rattle.std.specs.Option.{option_map};
-ghost use Rattle.std.specs.List.{range_with_len};
 ghost use Rattle.std.specs.List.Sorted.{IsStrictlyIncreasing};
 ghost use Rattle.bip_model.specs.Numbering.{IsLowest, last_number};
-ghost use Rattle.bip_model.specs.Partitions.{is_member};
 ghost use Rattle.bip_model.specs.Wants.{components_of};
 ghost use Rattle.bip_model.specs.declared.wants.Want.{Want};
 ghost use Rattle.bip_partition.specs.Plans.{ClassTouches, InConflict};
@@ -17,6 +15,7 @@ ghost use Rattle.bip_ip.specs.Nodes.{with_learned, without};
 ghost use Rattle.bip_ip.specs.declared.nodes.OpenRecord.{OpenRecord};
 
 use crate::asking::{told_by, wants_by};
+use crate::records::Records;
 use crate::sets::{lowest_inter, with_inter, without_inter};
 use bip_model::{ClassId, Grant, InterId, Notifies, Number, Offer, Reply, Request, Role, Want};
 use bip_observe::{Offers, Receipt, Verdict, decide};
@@ -90,22 +89,22 @@ pub enum Answered {
 #[derive(Drop)]
 pub struct IpNode<'p> {
     offers: Offers<'p>,
-    pending: Vec<Option<OpenRecord>>,
+    records: Records<'p>,
     /// The interactions whose requests are open, a bit each.
     asked: u128,
     next: u128,
 }
 
 impl<'p> marker::Model for IpNode<'p> {
-    ghost use Rattle.bip_ip.specs.Nodes.{AreAsked, IsKeptNode, KeptNode};
+    ghost use Rattle.bip_ip.specs.Nodes.{IsStored, KeptNode};
 
     ghost Value = { KeptNode };
 
-    ghost view = { λ n. record { offers = n.offers; pending = n.pending.items; next = n.next } };
+    ghost view = { λ n. record { offers = n.offers; pending = n.records.pending; next = n.next } };
 
-    ghost invariant = { λ n.
-        IsKeptNode (record { offers = n.offers; pending = n.pending.items; next = n.next })
-        × AreAsked n.asked n.pending.items };
+    ghost invariant = { λ n. IsStored
+        (record { offers = n.offers; pending = n.records.pending; next = n.next })
+        n.asked n.records };
 }
 
 impl<'p> IpNode<'p> {
@@ -124,10 +123,10 @@ impl<'p> IpNode<'p> {
             node_of node ≡ first_node plan.now class.0 base first_request) }
     {
         let offers = Offers::new(alloc, plan, class, base)?;
-        let pending = no_records(alloc, plan.model().interactions().len())?;
+        let records = Records::new(alloc, plan, class)?;
         Ok(IpNode {
             offers,
-            pending,
+            records,
             asked: 0,
             next: first_request as u128,
         })
@@ -203,10 +202,11 @@ impl<'p> IpNode<'p> {
         };
         self.next += 1;
         self.asked = with_inter(self.asked, inter);
-        self.pending[inter.0 as usize] = Some(OpenRecord {
+        let entry = OpenRecord {
             request: request.copy(),
             notifies,
-        });
+        };
+        self.records.put(inter, entry);
         Tried::Sent(request)
     }
 
@@ -235,9 +235,9 @@ impl<'p> IpNode<'p> {
     fn is_own(&self, inter: InterId) -> bool
         ensures { IsTrue result ↔ IsOwn (node_of self.now) inter.0 }
     {
-        let class = self.offers.class();
-        let classes = self.offers.plan().classes();
-        (class.0 as usize) < classes.len() && is_among(classes.members(class), inter)
+        let plan = self.offers.plan();
+        let declared = (inter.0 as usize) < plan.model().interactions().len();
+        declared && plan.class_of(inter) == self.offers.class()
     }
 
     /// The lowest interaction that stands in the way of another.
@@ -269,10 +269,7 @@ impl<'p> IpNode<'p> {
     fn record(&self, inter: InterId) -> Option<&OpenRecord>
         ensures { option_map (λ e. e.now) result ≡ (node_of self.now).pending inter.0 }
     {
-        match self.pending.get(inter.0 as usize) {
-            Some(Some(record)) => Some(record),
-            _ => None,
-        }
+        self.records.get(inter)
     }
 
     /// Takes out the record that waits for a reply.
@@ -293,15 +290,8 @@ impl<'p> IpNode<'p> {
             _ => return None,
         }
         self.asked = without_inter(self.asked, inter);
-        self.pending[inter.0 as usize].take()
+        self.records.take(inter)
     }
-}
-
-/// Room for a record of each of so many interactions, of which none is there.
-fn no_records(alloc: Global, count: usize) -> Result<Vec<Option<OpenRecord>>, AllocError>
-    ensures { IfOk result (λ v. v.items ≡ map (λ k. None) (range_with_len 0 count)) }
-{
-    (0..count).map(|_| None).collect(alloc)
 }
 
 /// Learns the numbers that wants move their components with.
@@ -317,13 +307,6 @@ fn learn(offers: &mut Offers<'_>, wants: &[Want])
             Role::Seen => {}
         }
     }
-}
-
-/// Whether an interaction is one of these.
-fn is_among(inters: &[InterId], inter: InterId) -> bool
-    ensures { result ≡ is_member inter.0 inters.now }
-{
-    inters.iter().any(|one| *one == inter)
 }
 
 fn inter_in(reply: &Reply) -> InterId

@@ -11,7 +11,7 @@ use Rattle.bip_ip.proofs.nodes.IpNode.in_the_way.Goals as goal
 
 pub loop-other-init : goal.loop-other-init
 loop-other-init c =
-    let asked : (b : ℕ) → has c.self.inside.asked b ≡ is_some ((node_of c.args.self.now).pending b) = λ b. c.self.invariant.1 b ∙ ap (λ (n : KeptNode). is_some (get_or n.pending b None)) c.self.view_is in
+    let asked : (b : ℕ) → has c.self.inside.asked b ≡ is_some ((node_of c.args.self.now).pending b) = λ b. c.self.invariant.asked b ∙ ap (λ (n : KeptNode). is_some (get_or n.pending b None)) c.self.view_is in
     record {
       asked = λ b on. sym (asked b) ∙ on;
       none = λ b off stands. absurd (false≢true (sym off ∙ (asked b ∙ stands.0)));
