@@ -20,7 +20,7 @@ use Rattle.bip_bank.proofs.CentralLemmas.{stations_same}
 use Rattle.bip_bank.specs.Banks.{BankContent, CanDecide, DoesStep, HasOldest, IsActed, IsDecided, IsStationOf, Moves, MovesNothing, with_decision}
 use Rattle.bip_bank.specs.ForkSharing.{Arrives, ForkSharing, ForkSide, Parcel, TakesForks, arrived_at, made_dirty}
 use Rattle.bip_bank.specs.Laws.{MovesInOneWay, OneAnswerToAStep, decision_but_serial, acted_but_serial}
-use Rattle.bip_bank.specs.Sharing.{LacksNothing, MovesNothingShared, MovesShared, Sharing, StaysShared, TakesToken, TokenPlace, alone, forks, otherwise, ring, token_at, token_to}
+use Rattle.bip_bank.specs.Sharing.{MovesNothingShared, MovesShared, Sharing, StaysShared, TakesToken, TokenPlace, alone, forks, otherwise, ring, token_at, token_to}
 use Rattle.bip_bank.specs.declared.banks.Acted.TheVariants.{Answered, Moved, Nothing}
 use Rattle.bip_bank.specs.declared.banks.Acted.{Acted}
 use Rattle.bip_bank.specs.declared.banks.BankStep.TheVariants.{Ask, Deliver, Pass, Serve}

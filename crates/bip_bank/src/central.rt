@@ -148,8 +148,30 @@ pub fn decide_first(
     ensures table { OnErr result (table.new ≡ table.old) }
     ensures queues { OnErr result (queues.new.items ≡ queues.old.items) }
 {
-    let Some(request) = queues[place].first() else {
+    if queues[place].first().is_none() {
         return Ok(Acted::Nothing);
+    }
+    decide_waiting(table, queues, place)
+}
+
+/// Decides by a table on the first request in one of the queues, which has one, as `decide_first`
+/// does. It stands apart, since room for a decision is cleared where a function begins.
+fn decide_waiting(
+    table: &mut Table,
+    queues: &mut Vec<Queue<Request>>,
+    place: usize,
+) -> Result<Acted, AllocError>
+    requires known { place < length queues.old.items }
+    requires waits { ¬ (slice_index_or queues.old.items place [] ≡ []) }
+    ensures decided { IfOk result (IsFirstDecided place table.old queues.old.items table.new
+        queues.new.items) }
+    ensures memory { IfErr result (λ e. CannotKeep table.old
+        (slice_index_or queues.old.items place [])) }
+    ensures table { OnErr result (table.new ≡ table.old) }
+    ensures queues { OnErr result (queues.new.items ≡ queues.old.items) }
+{
+    let Some(request) = queues[place].first() else {
+        unreachable!();
     };
     let decision = match table.decide(request) {
         Ok(decision) => decision,
