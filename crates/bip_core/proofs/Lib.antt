@@ -9,6 +9,7 @@ pub mod ListLemmas
 pub mod LocalLemmas
 pub mod MailLemmas
 pub mod NumberLemmas
+pub mod PieceLemmas
 pub mod PutLemmas
 pub mod RepeatLemmas
 pub mod RepeatRunLemmas

@@ -4,6 +4,7 @@ pub mod Events
 pub mod Laws
 pub mod Lists
 pub mod Locals
+pub mod Mailbags
 pub mod Numbers
 pub mod Repeats
 pub mod Runs

@@ -21,6 +21,7 @@ ghost use Rattle.bip_core.specs.declared.messages.Message.TheVariants.{ReplyToCl
 ghost use Rattle.bip_core.specs.declared.messages.Message.TheVariants.{RequestToBank};
 ghost use Rattle.bip_core.specs.declared.outcomes.Kind.TheVariants.{Done};
 
+use crate::mailbags::Mailbag;
 use crate::messages::{Message, Posted};
 use crate::outcomes::{Kind, Outcome, Witness};
 use crate::sending::{send_acted, send_moved, send_told, send_tried};
@@ -40,7 +41,7 @@ pub(crate) struct Machine<'p, B: bip_bank::Bank> {
     plan: &'p Plan,
     components: Vec<SrComponent<'p>>,
     classes: Vec<IpNode<'p>>,
-    mail: Vec<Message>,
+    mail: Mailbag,
     trace: Vec<Grant>,
     bank: B,
 }
@@ -54,7 +55,7 @@ impl<'p, B: bip_bank::Bank> marker::Model for Machine<'p, B> {
       plan = m.plan.now;
       components = m.components.items;
       classes = m.classes.items;
-      mail = m.mail.items;
+      mail = m.mail;
       trace = m.trace.items;
       bank = B.kept m.bank;
     } };
@@ -63,7 +64,7 @@ impl<'p, B: bip_bank::Bank> marker::Model for Machine<'p, B> {
       plan = m.plan.now;
       components = m.components.items;
       classes = m.classes.items;
-      mail = m.mail.items;
+      mail = m.mail;
       trace = m.trace.items;
       bank = B.kept m.bank;
     }) };
@@ -285,7 +286,7 @@ impl<'p, B: bip_bank::Bank> Machine<'p, B> {
             ((q : Request) → ¬ (slice_get self.now.mail place ≡ Some (RequestToBank q))) }
         ensures kept { IsKeptWorld self.now }
     {
-        match &self.mail[place] {
+        match self.mail.get(place) {
             Message::RequestToBank(posted) => Some(posted.request()),
             _ => None,
         }

@@ -5,6 +5,7 @@ ghost use Rattle.bip_core.specs.Events.{kind_decided};
 ghost use Rattle.bip_core.specs.declared.events.What.TheVariants.{Acts, Learns, Moves, Tries};
 ghost use Rattle.bip_core.specs.declared.messages.Message.TheVariants.{OfferTo, RequestToBank};
 
+use crate::mailbags::Mailbag;
 use crate::messages::{Message, Posted};
 use crate::outcomes::{Kind, Outcome};
 use bip_bank::{Acted, Decision, reply_to};
@@ -14,8 +15,8 @@ use bip_model::{ClassId, Notify, Offer, Request};
 use bip_partition::Plan;
 
 /// Puts what an answer to a reply sends last, and says what that comes to.
-pub(crate) fn send_told(plan: &Plan, mail: &mut Vec<Message>, did: &Answered) -> Outcome
-    ensures { IsSending plan.now (Learns did.now) result mail.old.items mail.new.items }
+pub(crate) fn send_told(plan: &Plan, mail: &mut Mailbag, did: &Answered) -> Outcome
+    ensures { IsSending plan.now (Learns did.now) result mail.old mail.new }
 {
     match did {
         Answered::Told(notifies) => Outcome {
@@ -28,9 +29,9 @@ pub(crate) fn send_told(plan: &Plan, mail: &mut Vec<Message>, did: &Answered) ->
 }
 
 /// Puts what an answer to a notification sends last.
-pub(crate) fn send_moved(plan: &Plan, mail: &mut Vec<Message>, did: &Notified) -> Outcome
+pub(crate) fn send_moved(plan: &Plan, mail: &mut Mailbag, did: &Notified) -> Outcome
     requires { SendsWhatFits plan.now (Moves did.now) }
-    ensures { IsSending plan.now (Moves did.now) result mail.old.items mail.new.items }
+    ensures { IsSending plan.now (Moves did.now) result mail.old mail.new }
 {
     match did {
         Notified::Moved(offer) => Outcome {
@@ -43,8 +44,8 @@ pub(crate) fn send_moved(plan: &Plan, mail: &mut Vec<Message>, did: &Notified) -
 }
 
 /// Puts what an answer to a try sends last.
-pub(crate) fn send_tried(plan: &Plan, mail: &mut Vec<Message>, did: &Tried) -> Outcome
-    ensures { IsSending plan.now (Tries did.now) result mail.old.items mail.new.items }
+pub(crate) fn send_tried(plan: &Plan, mail: &mut Mailbag, did: &Tried) -> Outcome
+    ensures { IsSending plan.now (Tries did.now) result mail.old mail.new }
 {
     match did {
         Tried::Foreign => Outcome::of(Kind::Idle),
@@ -63,8 +64,8 @@ pub(crate) fn send_tried(plan: &Plan, mail: &mut Vec<Message>, did: &Tried) -> O
 }
 
 /// Puts what an answer of the bank sends last.
-pub(crate) fn send_acted(plan: &Plan, mail: &mut Vec<Message>, did: &Acted) -> Outcome
-    ensures { IsSending plan.now (Acts did.now) result mail.old.items mail.new.items }
+pub(crate) fn send_acted(plan: &Plan, mail: &mut Mailbag, did: &Acted) -> Outcome
+    ensures { IsSending plan.now (Acts did.now) result mail.old mail.new }
 {
     match did {
         Acted::Nothing => Outcome::of(Kind::Idle),
@@ -87,8 +88,8 @@ fn kind_decided(decision: &Decision) -> Kind
 }
 
 /// Puts a message last, and says how many were lost: it is, where there is no memory for it.
-fn put_last(mail: &mut Vec<Message>, message: Message) -> usize
-    ensures { ArePut (message ∷ []) result mail.old.items mail.new.items }
+fn put_last(mail: &mut Mailbag, message: Message) -> usize
+    ensures { ArePut (message ∷ []) result mail.old mail.new }
 {
     match mail.push(message) {
         Ok(()) => 0,
@@ -97,18 +98,18 @@ fn put_last(mail: &mut Vec<Message>, message: Message) -> usize
 }
 
 /// Puts a request to the bank last, and says how many were lost.
-fn put_request(mail: &mut Vec<Message>, request: &Request) -> usize
-    ensures { ArePut (RequestToBank request.now ∷ []) result mail.old.items mail.new.items }
+fn put_request(mail: &mut Mailbag, request: &Request) -> usize
+    ensures { ArePut (RequestToBank request.now ∷ []) result mail.old mail.new }
 {
-    match Posted::of(*mail.allocator(), request.copy()) {
+    match Posted::of(mail.allocator(), request.copy()) {
         Ok(posted) => put_last(mail, Message::RequestToBank(posted)),
         Err(_) => 1,
     }
 }
 
 /// Puts notifications last, and says how many were lost.
-fn notify_all(mail: &mut Vec<Message>, notifies: &[Notify]) -> usize
-    ensures { ArePut (are_notified notifies.now) result mail.old.items mail.new.items }
+fn notify_all(mail: &mut Mailbag, notifies: &[Notify]) -> usize
+    ensures { ArePut (are_notified notifies.now) result mail.old mail.new }
 {
     let mut lost = 0;
     for notify in notifies {
@@ -118,9 +119,9 @@ fn notify_all(mail: &mut Vec<Message>, notifies: &[Notify]) -> usize
 }
 
 /// Puts an offer to each of these classes last, and says how many were lost.
-pub(crate) fn offer_to_all(mail: &mut Vec<Message>, classes: &[ClassId], offer: &Offer) -> usize
-    ensures { ArePut (map (λ k. OfferTo k offer.now) classes.now) result mail.old.items
-        mail.new.items }
+pub(crate) fn offer_to_all(mail: &mut Mailbag, classes: &[ClassId], offer: &Offer) -> usize
+    ensures { ArePut (map (λ k. OfferTo k offer.now) classes.now) result mail.old
+        mail.new }
 {
     let mut lost = 0;
     for class in classes {

@@ -3,7 +3,7 @@ ghost use Rattle.std.specs.Prelude.{◌≡◌, ◌<◌, IfOk, length, slice_get}
 ghost use Rattle.bip_model.specs.Numbering.{last_number};
 ghost use Rattle.bip_core.specs.Starting.{AreFirstClasses, AreFirstComponents, AreOffersBelow};
 
-use crate::messages::Message;
+use crate::mailbags::Mailbag;
 use crate::sending::offer_to_all;
 use bip_component::SrComponent;
 use bip_ip::IpNode;
@@ -49,12 +49,12 @@ pub(crate) fn first_offers(
     plan: &Plan,
     base: Number,
     components: &[SrComponent<'_>],
-) -> Result<Vec<Message>, AllocError>
+) -> Result<Mailbag, AllocError>
     requires { AreFirstComponents plan.now base components.now }
     ensures { IfOk result (λ mail. AreOffersBelow (length plan.now.model.components) plan.now
-        (λ c. slice_get components.now c) mail.items) }
+        (λ c. slice_get components.now c) mail) }
 {
-    let mut mail = Vec::new(alloc);
+    let mut mail = Mailbag::new(alloc);
     for component in components {
         let Some(offer) = component.offer() else {
             unreachable!();

@@ -3,7 +3,7 @@ use Rattle.bip_core.proofs.SendLemmas.{sends_nothing}
 use Rattle.bip_core.proofs.sending.send_told.Goals as goal
 
 pub returns-in-Dropped : goal.returns-in-Dropped
-returns-in-Dropped c = rw c.in-Dropped.is (sends_nothing c.args.plan.now _ _ c.args.mail.now.items refl c.of.ensures)
+returns-in-Dropped c = rw c.in-Dropped.is (sends_nothing c.args.plan.now _ _ c.args.mail.now refl c.of.ensures)
 
 pub returns-in-Stale : goal.returns-in-Stale
-returns-in-Stale c = rw c.in-Stale.is (sends_nothing c.args.plan.now _ _ c.args.mail.now.items refl c.of-in-Stale.ensures)
+returns-in-Stale c = rw c.in-Stale.is (sends_nothing c.args.plan.now _ _ c.args.mail.now refl c.of-in-Stale.ensures)

@@ -3,13 +3,13 @@ use Rattle.bip_core.proofs.SendLemmas.{sends_nothing}
 use Rattle.bip_core.proofs.sending.send_tried.Goals as goal
 
 pub returns-in-Foreign : goal.returns-in-Foreign
-returns-in-Foreign c = rw c.in-Foreign.is (sends_nothing c.args.plan.now _ _ c.args.mail.now.items refl c.of.ensures)
+returns-in-Foreign c = rw c.in-Foreign.is (sends_nothing c.args.plan.now _ _ c.args.mail.now refl c.of.ensures)
 
 pub returns-in-Pending : goal.returns-in-Pending
-returns-in-Pending c = rw c.in-Pending.is (sends_nothing c.args.plan.now _ _ c.args.mail.now.items refl c.of-in-Pending.ensures)
+returns-in-Pending c = rw c.in-Pending.is (sends_nothing c.args.plan.now _ _ c.args.mail.now refl c.of-in-Pending.ensures)
 
 pub returns-in-Not : goal.returns-in-Not
-returns-in-Not c = rw c.in-Not.is (sends_nothing c.args.plan.now _ _ c.args.mail.now.items refl c.of-in-Not.ensures)
+returns-in-Not c = rw c.in-Not.is (sends_nothing c.args.plan.now _ _ c.args.mail.now refl c.of-in-Not.ensures)
 
 pub returns-in-Ended : goal.returns-in-Ended
-returns-in-Ended c = rw c.in-Ended.is (sends_nothing c.args.plan.now _ _ c.args.mail.now.items refl c.of-in-Ended.ensures)
+returns-in-Ended c = rw c.in-Ended.is (sends_nothing c.args.plan.now _ _ c.args.mail.now refl c.of-in-Ended.ensures)

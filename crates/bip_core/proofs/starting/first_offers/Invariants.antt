@@ -3,4 +3,4 @@ use Rattle.bip_core.specs.Starting.{AreOffersBelow}
 use Rattle.bip_core.proofs.starting.first_offers.Given as goal
 
 abbrev pub invariant-loop-component : goal.invariant-loop-component
-invariant-loop-component l = AreOffersBelow l.component-index l.plan (λ c. slice_get l.components c) l.mail.items
+invariant-loop-component l = AreOffersBelow l.component-index l.plan (λ c. slice_get l.components c) l.mail

@@ -10,14 +10,14 @@ use Rattle.bip_core.proofs.machines.Machine.ask_one.Goals as goal
 
 pub ask-did-requires : goal.ask-did-requires
 ask-did-requires g c =
-    let w = kept_by c.self.inside.plan.now c.self.inside.components.items c.self.inside.classes.items c.self.inside.mail.items c.self.inside.trace.items (g.B.Bank.kept c.self.inside.bank) in
+    let w = kept_by c.self.inside.plan.now c.self.inside.components.items c.self.inside.classes.items c.self.inside.mail c.self.inside.trace.items (g.B.Bank.kept c.self.inside.bank) in
     let within : c.args.class.0 < length w.classes = search rules in
     let is = read_here w.classes c.args.class.0 c.index_mut.result.now within c.index_mut.ensures.value in
     (subst (λ (k : KeptWorld). (node : KeptNode) → slice_get k.classes c.args.class.0 ≡ Some node → CanBeAsked (node_of node) c.args.inter.0) (sym c.self.view_is) c.requires.asked) c.index_mut.result.now is
 
 pub join_tried-requires : goal.join_tried-requires
 join_tried-requires g c =
-    let w = kept_by c.self.inside.plan.now c.self.inside.components.items c.self.inside.classes.items c.self.inside.mail.items c.self.inside.trace.items (g.B.Bank.kept c.self.inside.bank) in
+    let w = kept_by c.self.inside.plan.now c.self.inside.components.items c.self.inside.classes.items c.self.inside.mail c.self.inside.trace.items (g.B.Bank.kept c.self.inside.bank) in
     let old = c.index_mut.result.now in
     let within : c.args.class.0 < length w.classes = search rules in
     let is = read_here w.classes c.args.class.0 old within c.index_mut.ensures.value in
@@ -29,7 +29,7 @@ join_tried-requires g c =
 
 pub invariant_of-self-2 : goal.invariant_of-self-2
 invariant_of-self-2 g c =
-    let w = kept_by c.self.inside.plan.now c.self.inside.components.items c.self.inside.classes.items c.self.inside.mail.items c.self.inside.trace.items (g.B.Bank.kept c.self.inside.bank) in
+    let w = kept_by c.self.inside.plan.now c.self.inside.components.items c.self.inside.classes.items c.self.inside.mail c.self.inside.trace.items (g.B.Bank.kept c.self.inside.bank) in
     let old = c.index_mut.result.now in
     let within : c.args.class.0 < length w.classes = search rules in
     let is = read_here w.classes c.args.class.0 old within c.index_mut.ensures.value in
@@ -40,11 +40,11 @@ invariant_of-self-2 g c =
     let granted = tried_grant (node_of old) c.args.inter.0 did (rw plan c.make_room.ensures.valid) c.ask-did.ensures.tried in
     let fits = subst (λ (p : Planned). SendsWhatFits p (Tries did)) plan (tried_fits (node_of old) c.args.inter.0 did c.ask-did.ensures.tried) in
     let kept = trace_kept (record w { classes = set w.classes c.args.class.0 n }) (grant_tried did) (rw plan at granted) (class_kept w c.args.class.0 n old within is same.0 same.1 c.self.invariant) in
-    rw (c.join_tried.ensures, c.make_room.ensures.same) (sent_kept (record w { classes = set w.classes c.args.class.0 n; trace = trace_with w.trace (grant_tried did) }) (Tries did) c.send_tried-outcome.result c.send_tried-outcome.new.mail.items fits c.send_tried-outcome.ensures kept)
+    rw (c.join_tried.ensures, c.make_room.ensures.same) (sent_kept (record w { classes = set w.classes c.args.class.0 n; trace = trace_with w.trace (grant_tried did) }) (Tries did) c.send_tried-outcome.result c.send_tried-outcome.new.mail fits c.send_tried-outcome.ensures kept)
 
 pub returns-clause-counted : goal.returns-clause-counted
 returns-clause-counted g c =
-    let w = kept_by c.self.inside.plan.now c.self.inside.components.items c.self.inside.classes.items c.self.inside.mail.items c.self.inside.trace.items (g.B.Bank.kept c.self.inside.bank) in
+    let w = kept_by c.self.inside.plan.now c.self.inside.components.items c.self.inside.classes.items c.self.inside.mail c.self.inside.trace.items (g.B.Bank.kept c.self.inside.bank) in
     let old = c.index_mut.result.now in
     let within : c.args.class.0 < length w.classes = search rules in
     let is = read_here w.classes c.args.class.0 old within c.index_mut.ensures.value in

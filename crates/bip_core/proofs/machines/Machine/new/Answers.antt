@@ -19,7 +19,7 @@ invariant_of-result g c = record {
       let first = c.in_ok-classes.ensures.first k node read in
       (ap (λ (v : ClassNode). v.offers.plan) first, ap (λ (v : ClassNode). v.offers.class) first);
   bank = c.requires.unasked.plan;
-  requests = offers_fit _ c.args.plan.now _ c.in_ok-mail.mail.items c.in_ok-mail.ensures;
+  requests = offers_fit _ c.args.plan.now _ c.in_ok-mail.mail c.in_ok-mail.ensures;
   waiting = λ a. rw (ap (λ (f : ℕ → List Request). f a) c.requires.unasked.waiting) (All-nil (λ (q : Request). IsFit c.args.plan.now q));
   grants = rw c.new.ensures.items (All-nil (IsKnownGrant c.args.plan.now.model));
 }

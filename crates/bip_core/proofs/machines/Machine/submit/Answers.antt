@@ -8,7 +8,7 @@ use Rattle.bip_core.proofs.machines.Machine.submit.Goals.{in-Ok, in-Err}
 
 pub invariant_of-self : goal.invariant_of-self
 invariant_of-self g c =
-    let w = kept_by c.self.inside.plan.now c.self.inside.components.items c.self.inside.classes.items c.self.inside.mail.items c.self.inside.trace.items (g.B.Bank.kept c.self.inside.bank) in
+    let w = kept_by c.self.inside.plan.now c.self.inside.components.items c.self.inside.classes.items c.self.inside.mail c.self.inside.trace.items (g.B.Bank.kept c.self.inside.bank) in
     let b = g.B.Bank.kept c.submit.new.self in
     let fit : IsFit w.plan c.args.request = subst (λ (k : KeptWorld). IsFit k.plan c.args.request) (sym c.self.view_is) c.requires in
     elim c.match-submit.branch [
