@@ -28,17 +28,14 @@ row_unknown s q ready up comp first all kept tabled answer =
     (all, (q, rest.0, rest.1, inl (comp, answer.here.0, sym (ap (λ (f : ℕ → Bool). f comp.0) (tabled ∙ ap (λ (t : KeptRows). has_row t.rows) kept)) ∙ answer.here.1)))
 
 -- where each wanted component has a row, and a serial is left, there is no such station
-pub undecided : (stations : List KeptStation) (grants : List Grant) (s : ℕ) (x y later : KeptStation) → CanAnswer stations grants → s < length stations → x ≡ get_or stations s x → y ≡ get_or stations s y → IsReadyToServe x → IsNotServed y later → length grants < end_of_serials → ⊥
-undecided stations grants s x y later can within at other ready not few = elim not [
-  | inl stays ↦ stays.1 (subst IsReadyToServe same ready)
+pub undecided : (stations : List KeptStation) (grants : List Grant) (s : ℕ) (y later : KeptStation) → CanAnswer stations grants → s < length stations → y ≡ get_or stations s y → IsReadyToServe (station_at stations s) → IsNotServed y later → length grants < end_of_serials → ⊥
+undecided stations grants s y later can within at ready not few = elim not [
+  | inl stays ↦ stays.1 (subst IsReadyToServe (sym here) ready)
   | inr left ↦ by_table left.1.0 left.1.1 left.1.2 left.1.3
 ]
   where
     here : y ≡ station_at stations s
-    here = other ∙ get_or_default stations s y no_station within
-
-    same : x ≡ y
-    same = at ∙ (get_or_default stations s x y within ∙ sym other)
+    here = at ∙ get_or_default stations s y no_station within
 
     by_table : (q : Request) (rest : List Request) → y.waiting ≡ q ∷ rest → CannotAnswer y q → ⊥
     by_table q rest oldest (inl (c, wanted, none)) =

@@ -1,6 +1,6 @@
 -- How forks begin: their stations at first, and the bank that they are.
-use Rattle.std.specs.Prelude.{◌≡◌, ◌≢◌, ◌↔◌, ℕ, ◌<◌, List, [], None, Some, Option, Contains, IsTrue}
-use Rattle.std.specs.Prelude.{false, true, length, map, slice_get, slice_index_or}
+use Rattle.std.specs.Prelude.{◌≡◌, ◌≢◌, ◌↔◌, ℕ, ◌<◌, ◌≤◌, List, [], None, Some, Option, Contains}
+use Rattle.std.specs.Prelude.{IsTrue, false, true, length, map, slice_get, slice_index_or}
 use Rattle.std.specs.List.Sorted.{IsStrictlyIncreasing}
 use Rattle.bip_model.specs.declared.numbering.CompId.{CompId}
 use Rattle.bip_model.specs.declared.numbering.InterId.{InterId}
@@ -48,7 +48,11 @@ pub record IsNewForks (p : Planned) (base : ℕ) (b : BankContent) : Type 0 wher
   pub first : AreForksAtFirst p b.sharing
   pub content : b ≡ asked_nothing p base b.sharing
 
--- What contracts of private functions say.
+-- a plan has no station with this number
+pub record LacksStation (p : Planned) (s : ℕ) : Type 0 where
+  pub stations : List InterId
+  pub listed : AreStations p stations
+  pub past : length stations ≤ s
 
 -- what two interactions both touch
 abbrev pub BothTouch : Planned → ℕ → ℕ → ℕ → Type 0
@@ -98,6 +102,16 @@ pub record IsFirstStation (p : Planned) (base : ℕ) (inters : List InterId) (s 
   pub serial : st.table.serial ≡ 0
   pub waiting : st.waiting ≡ []
   pub sides : AreFirstSides p base inters s a (length inters) st.sides
+
+-- the station of a plan with this number at first, among all of that plan
+pub record IsNewStation (p : Planned) (base s : ℕ) (st : KeptStation) : Type 0 where
+  pub stations : List InterId
+  pub listed : AreStations p stations
+  pub inter : InterId
+  pub here : slice_get stations s ≡ Some inter
+  pub first : IsFirstStation p base stations s inter st
+
+-- What contracts of private functions say.
 
 -- the stations before a number at first
 pub record AreFirstStations (p : Planned) (base : ℕ) (inters : List InterId) (count : ℕ)

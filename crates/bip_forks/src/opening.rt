@@ -1,17 +1,44 @@
 //! How forks begin: each station at first, and what it shares.
-ghost use Rattle.std.specs.Prelude.{◌≡◌, ◌↔◌, ◌<◌, ◌≤◌, All, Contains, IfOk, IsTrue, length, map};
+ghost use Rattle.std.specs.Prelude.{◌≡◌, ◌↔◌, ◌<◌, ◌≤◌, All, Contains, IfNone, IfOk, IfSome};
+ghost use Rattle.std.specs.Prelude.{IsTrue, length, map};
 ghost use Rattle.bip_model.specs.declared.numbering.CompId.{CompId};
 ghost use Rattle.bip_model.specs.declared.numbering.InterId.{InterId};
 ghost use Rattle.bip_forks.specs.Opening.{AreFirstSides, AreFirstStations, BothTouch, IsCommon};
-ghost use Rattle.bip_forks.specs.Opening.{IsFirstSide, IsFirstStation, IsListCommon, rows_with};
+ghost use Rattle.bip_forks.specs.Opening.{IsFirstSide, IsFirstStation, IsListCommon};
+ghost use Rattle.bip_forks.specs.Opening.{IsNewStation, LacksStation, rows_with};
 
 use crate::shares::{Fork, Side, pair_of_stations};
 use crate::stations::Station;
-use bip_bank::{StationId, numbered};
+use bip_bank::{StationId, interaction_at, numbered};
 use bip_model::{CompId, InterId, Number, Seq};
 use bip_partition::Plan;
 use bip_table::{Row, Table};
 use std::alloc::{AllocError, Global};
+
+impl Station {
+    /// The station of a plan with this number at first, if the plan has it: no request is open, its
+    /// table has the base for each component that its interaction touches, and it shares what a
+    /// station of new forks does (docs/PROTOCOL.md, "Dining philosophers").
+    pub fn new(
+        alloc: Global,
+        plan: &Plan,
+        number: StationId,
+        base: Number,
+    ) -> Result<Option<Station>, AllocError>
+        ensures some { IfOk result (λ made. IfSome made (IsNewStation plan.now base number.0)) }
+        ensures none { IfOk result (λ made. IfNone made (LacksStation plan.now number.0)) }
+    {
+        plan.recall();
+        let inters = plan.stations();
+        match interaction_at(inters, number) {
+            Some(inter) => {
+                let station = first_station(alloc, plan, inters, number, inter, base)?;
+                Ok(Some(station))
+            }
+            None => Ok(None),
+        }
+    }
+}
 
 /// The stations of a plan at first, in order.
 pub(crate) fn first_stations(
@@ -51,7 +78,7 @@ fn first_station(
     let entries = numbered(alloc, plan.touches(inter), base)?;
     let table = Table::new(alloc, &entries, 0)?;
     let sides = first_sides(alloc, plan, inters, number, inter, base)?;
-    Ok(Station::new(alloc, number, inter, table, sides))
+    Ok(Station::of_parts(alloc, number, inter, table, sides))
 }
 
 /// What a station has at first of what it shares with each station, in order.

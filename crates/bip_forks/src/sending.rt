@@ -173,6 +173,27 @@ fn serve(
     if place >= stations.len() || !stations[place].is_ready() {
         return Ok(Acted::Nothing);
     }
+    decide(stations, grants, station)
+}
+
+/// Decides on the oldest open request of a station that is ready. It stands apart from `serve`,
+/// since room for a decision is cleared where a function begins.
+fn decide(
+    stations: &mut Vec<Station>,
+    grants: &mut Vec<Grant>,
+    station: StationId,
+) -> Result<Acted, AllocError>
+    requires answer { CanAnswer stations.old.items grants.old.items }
+    requires known { station.0 < length stations.old.items }
+    requires ready { IsReadyToServe (station_at stations.old.items station.0) }
+    ensures does { (sent : List Sent) → IfOk result (λ acted. DoesHere
+        (fork_parts stations.old.items sent grants.old.items)
+        (Serve station) acted
+        (fork_parts stations.new.items sent grants.new.items)) }
+    ensures stations { OnErr result (stations.new.items ≡ stations.old.items) }
+    ensures grants { OnErr result (grants.new.items ≡ grants.old.items) }
+{
+    let place = station.0 as usize;
     grants.reserve(1)?;
     match stations[place].serve()? {
         Some((request, decision)) => {

@@ -12,20 +12,20 @@ use bip_table::Row;
 
 /// Two stations that share a fork, the lower and the higher.
 #[derive(Clone, Copy, Debug, PartialEq, Eq)]
-pub(crate) struct Pair {
+pub struct Pair {
     pub low: StationId,
     pub high: StationId,
 }
 
 /// The request token of a fork.
 #[derive(Drop)]
-pub(crate) struct AskToken {
+pub struct AskToken {
     pub pair: Pair,
 }
 
 /// A fork: its two stations, and the number of each component that both touch.
 #[derive(Drop)]
-pub(crate) struct Fork {
+pub struct Fork {
     pub pair: Pair,
     pub rows: Seq<Row>,
 }
@@ -33,7 +33,7 @@ pub(crate) struct Fork {
 /// What a station has of what it shares with another one: whether they share anything; the fork,
 /// if it lies here, and whether it is clean; and whether its request token is here.
 #[derive(Drop)]
-pub(crate) struct Side {
+pub struct Side {
     pub shared: bool,
     pub fork: Option<Fork>,
     pub clean: bool,

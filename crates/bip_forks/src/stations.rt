@@ -21,7 +21,7 @@ use std::marker;
 /// decisions its table keeps no grants. Contracts see what is kept (docs/PROTOCOL.md, "Dining
 /// philosophers").
 #[derive(Drop)]
-pub(crate) struct Station {
+pub struct Station {
     alloc: Global,
     number: StationId,
     inter: InterId,
@@ -50,7 +50,7 @@ impl marker::Model for Station {
 impl Station {
     /// The station of this number and interaction, with a table without grants, no open request,
     /// and this of what it shares.
-    pub fn new(
+    pub(crate) fn of_parts(
         alloc: Global,
         number: StationId,
         inter: InterId,
@@ -229,7 +229,7 @@ impl Station {
     pub fn is_ready(&self) -> bool
         ensures { IsTrue result ↔ IsReadyToServe self.now }
     {
-        has_all(&self.sides) && is_waiting(&self.waiting)
+        is_waiting(&self.waiting) && has_all(&self.sides)
     }
 
     /// Decides on the oldest open request, where the station has all its forks: by its rows raised
