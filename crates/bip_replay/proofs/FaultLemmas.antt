@@ -1,10 +1,10 @@
 -- Faults: what the tests of a grant say.
-use Rattle.std.proofs.Common.{◌≡◌, ℕ, ◌<◌, Bool, true, false, List, length, get_or, refl, sym, ◌∙◌, arith, ◌⊎◌, None, Some, find}
+use Rattle.std.proofs.Common.{◌≡◌, ℕ, ◌<◌, Bool, true, false, List, [], ◌∷◌, length, get_or, refl, sym, ◌∙◌, arith, ◌⊎◌, None, Some, find}
 use Rattle.std.specs.Prelude.{All, Contains, slice_get}
 use Rattle.std.specs.List.{position_or_len}
 use Rattle.std.specs.List.Sorted.{IsStrictlyIncreasing}
 use Rattle.std.proofs.lemmas.Bool.{cases_order, lt-ltb}
-use Rattle.std.proofs.lemmas.List.Elements.{Contains-get_or}
+use Rattle.std.proofs.lemmas.List.Elements.{All-cons, All-nil, Contains-get_or}
 use Rattle.std.proofs.lemmas.List.Folds.{find_at}
 use Rattle.std.proofs.lemmas.List.Quantifiers.{position-Some}
 use Rattle.std.proofs.lemmas.List.Sums.{fails_before_first}
@@ -12,15 +12,16 @@ use Rattle.std.proofs.lemmas.Option.{get_or_from_slice_get, slice_get-get_or, sl
 use Rattle.bip_model.specs.declared.wants.Role.TheVariants.{Moved}
 use Rattle.bip_model.specs.declared.wants.Want.{Want}
 use Rattle.bip_model.specs.Parts.{IsSystem}
-use Rattle.bip_model.specs.Wants.{components_of}
+use Rattle.bip_model.specs.Wants.{components_of, raised}
 use Rattle.bip_model.proofs.ListLemmas.{below_later}
 use Rattle.bip_model.specs.declared.grants.Grant.{Grant}
 use Rattle.bip_model.specs.declared.parts.System.{System}
 use Rattle.bip_model.specs.States.{State}
-use Rattle.bip_model.specs.Steps.{MayRun}
+use Rattle.bip_model.specs.Steps.{MayRun, after}
 use Rattle.bip_model.specs.Parties.{AreParties}
 use Rattle.bip_model.proofs.PartyLemmas.{party_known}
-use Rattle.bip_replay.specs.Runs.{is_wrong, HasNextNumber, IsNext}
+use Rattle.bip_replay.specs.Runs.{is_wrong, HasNextNumber, IsNext, IsRunFrom}
+use Rattle.bip_replay.specs.Writing.{IsGrantOf}
 use Rattle.bip_replay.specs.Faults.{IsLowestWrong, KnownAreRight}
 
 -- a want that isn't wrong, of a component of the model
@@ -74,3 +75,21 @@ all_right m used g valid known has = λ k d within.
 pub next_from_tests : (m : System) (s : State) (used : ℕ → ℕ) (g : Grant) → IsSystem m → MayRun m s g.inter.0 → find (is_wrong (length m.components) used) g.wants ≡ None → AreParties m g.inter.0 g.wants
     → IsNext m s used g
 next_from_tests m s used g valid may found has = record { may = may; numbers = all_right m used g valid (none_wrong m used g.wants found) has; parties = has }
+
+-- a grant that can be next is of the model, and so is each grant of a run
+next_of_model : (m : System) (s : State) (used : ℕ → ℕ) (g : Grant) → IsSystem m
+    → IsNext m s used g → IsGrantOf m g
+next_of_model m s used g valid next = record {
+  inter = rw valid.so_far.interactions_named next.may.enabled.declared;
+  components = λ k d within.
+      rw valid.components_named
+      (party_known m g.inter.0 g.wants (get_or g.wants k d) valid next.parties
+      (Contains-get_or g.wants k d within));
+}
+
+pub run_of_model : (m : System) (s : State) (used : ℕ → ℕ) (gs : List Grant) → IsSystem m
+    → IsRunFrom m s used gs → All (IsGrantOf m) gs
+run_of_model m s used [] valid run = All-nil (IsGrantOf m)
+run_of_model m s used (g ∷ gs) valid run =
+    All-cons (IsGrantOf m) g gs (next_of_model m s used g valid run.0)
+    (run_of_model m (after m s g.inter.0) (raised used g.wants) gs valid run.1)

@@ -59,6 +59,12 @@ StepsAreARun =
     (m : System) (base : ℕ) (gs : List Grant)
     → IsModelRun m base gs → IsRun m (start_of m) (interactions_of gs)
 
+-- each grant of a run is of the model: it has its interaction and its components
+abbrev pub RunsAreOfModel : Type 0
+RunsAreOfModel =
+    (m : System) (base : ℕ) (gs : List Grant)
+    → IsSystem m → IsModelRun m base gs → All (IsGrantOf m) gs
+
 -- a run of grants is a history above its base
 abbrev pub RunsAreHistories : Type 0
 RunsAreHistories =

@@ -58,6 +58,15 @@ impl<'m> Book<'m> {
         self.grants.as_slice()
     }
 
+    /// The grants, the first one first, without the book.
+    pub fn into_grants(self) -> Vec<Grant>
+        ensures grants { result.items ≡ self.entry.grants }
+        ensures run { IsModelRun self.entry.model self.entry.base result.items }
+    {
+        let _opened = &self.position;
+        self.grants
+    }
+
     /// Appends a grant that can be next, and says how many stood before. Any other grant is refused
     /// with its fault, and the book stays as it was; so it does without memory, which is asked for
     /// last. Nothing else keeps a grant out that can be next.

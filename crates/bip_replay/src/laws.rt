@@ -7,7 +7,8 @@ ghost use Rattle.bip_replay.specs.Laws.{GrantsFromTheBack, GrantsLineByLine, IsN
 ghost use Rattle.bip_replay.specs.Laws.{IsRunOrFaulty};
 ghost use Rattle.bip_replay.specs.Laws.{MovesAreNumbered, NamesItsInteraction, NumbersCountMoves};
 ghost use Rattle.bip_replay.specs.Laws.{ReadsGrantLines, RunsAreHistories, RunsMoveOnceEach};
-ghost use Rattle.bip_replay.specs.Laws.{RunsStepByStep, SameGrants, StatesFromTheBack};
+ghost use Rattle.bip_replay.specs.Laws.{RunsAreOfModel, RunsStepByStep, SameGrants};
+ghost use Rattle.bip_replay.specs.Laws.{StatesFromTheBack};
 ghost use Rattle.bip_replay.specs.Laws.{StepsAreARun, TellsFirstLine, WrittenReadsBack};
 
 use bip_model::{history_laws, step_laws};
@@ -15,7 +16,7 @@ use bip_model::{history_laws, step_laws};
 /// Runs from the back: a run goes on by each grant that can be next where it leads, and by no
 /// other. Each grant of a run is a next step after those before it. The k-th move of a component
 /// has the base and k as its number. A run is a history, and moves no component twice with one
-/// number (docs/DEFINITIONS.md, "Runs with exact numbers").
+/// number; each grant of it is of the model (docs/DEFINITIONS.md, "Runs with exact numbers").
 pub fn run_laws()
     ensures ends { (m : System) → EndsAfterItsLast m }
     ensures runs { (m : System) → GoesOnByWhatMayRun m }
@@ -25,6 +26,7 @@ pub fn run_laws()
     ensures beginnings { BeginningsAreRuns }
     ensures by_steps { RunsStepByStep }
     ensures steps { StepsAreARun }
+    ensures of_model { RunsAreOfModel }
     ensures histories { RunsAreHistories }
     ensures once { RunsMoveOnceEach }
     ensures counts { NumbersCountMoves }
