@@ -25,22 +25,22 @@ use Rattle.bip_reader.specs.declared.clauses.Spelling.{Spelling}
 use Rattle.bip_reader.proofs.SpelledLemmas.{IsNoMark, IsVariableWord, value_no_mark}
 
 -- cuts
-cut_front : {M : Type 0} (f : List ℕ → Option M) (front : List (List ℕ)) (word : List ℕ) (mark : M) (back : List (List ℕ)) → All (λ w. f w ≡ None) front → f word ≡ Some mark
+pub cut_front : {M : Type 0} (f : List ℕ → Option M) (front : List (List ℕ)) (word : List ℕ) (mark : M) (back : List (List ℕ)) → All (λ w. f w ≡ None) front → f word ≡ Some mark
     → cut_at f (front ++ word ∷ back) ≡ Some (front, mark, back)
 cut_front f [] word mark back none is = rw is refl
 cut_front f (w ∷ front) word mark back none is =
     rw (All-head (λ v. f v ≡ None) w front none, cut_front f front word mark back (All-tail (λ v. f v ≡ None) w front none) is) refl
 
-cut_none : {M : Type 0} (f : List ℕ → Option M) (words : List (List ℕ)) → All (λ w. f w ≡ None) words → cut_at f words ≡ None
+pub cut_none : {M : Type 0} (f : List ℕ → Option M) (words : List (List ℕ)) → All (λ w. f w ≡ None) words → cut_at f words ≡ None
 cut_none f [] none = refl
 cut_none f (w ∷ words) none = rw (All-head (λ v. f v ≡ None) w words none, cut_none f words (All-tail (λ v. f v ≡ None) w words none)) refl
 
 -- signs and relations
-sign_read : (s : Sign) → sign_of (sign_word s) ≡ Some s
+pub sign_read : (s : Sign) → sign_of (sign_word s) ≡ Some s
 sign_read Plus = refl
 sign_read Minus = refl
 
-relation_read : (r : Relation) → relation_of (relation_word r) ≡ Some r
+pub relation_read : (r : Relation) → relation_of (relation_word r) ≡ Some r
 relation_read relation.Equal = refl
 relation_read relation.NotEqual = refl
 relation_read relation.Less = refl
@@ -74,7 +74,7 @@ inner_relation relation.GreaterOrEqual = record { no_when = refl; no_do = refl; 
 inner_becomes : IsInner (codes ":=")
 inner_becomes = record { no_when = refl; no_do = refl; no_and = refl; no_semicolon = refl; is_word = (refl, refl) }
 
-sign_unrelated : (s : Sign) → relation_of (sign_word s) ≡ None
+pub sign_unrelated : (s : Sign) → relation_of (sign_word s) ≡ None
 sign_unrelated Plus = refl
 sign_unrelated Minus = refl
 

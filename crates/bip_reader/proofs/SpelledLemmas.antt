@@ -75,7 +75,7 @@ pair_no_value [] own is = absurd (grind arith)
 pair_no_value (b ∷ bs) own is = (no_sign b (bs ++ 46 ∷ own) (grind arith)).2
 
 -- numbers
-digits_no_mark : (ds : List ℕ) → 0 < length ds → list_all is_ascii_digit ds ≡ true → IsNoMark ds
+pub digits_no_mark : (ds : List ℕ) → 0 < length ds → list_all is_ascii_digit ds ≡ true → IsNoMark ds
 digits_no_mark [] some all = absurd (omega arith)
 digits_no_mark (d ∷ ds) some all = record { no_when = grind arith; no_do = grind arith; no_and = grind arith; no_semicolon = grind arith; no_relation = grind arith }
 

@@ -13,6 +13,6 @@ mod words;
 mod writing;
 
 pub use faults::{ReadFault, Why};
-pub use laws::meaning_laws;
+pub use laws::{line_laws, meaning_laws};
 pub use texts::read_model;
 pub use writing::write_model;
