@@ -1,0 +1,4 @@
+pub mod BookLemmas
+pub mod MailboxLemmas
+pub mod MergeLemmas
+pub mod ReportLemmas

@@ -1,0 +1,130 @@
+//! The locked book, entries in it, and the report's grants.
+ghost use Rattle.std.specs.Prelude.{◌≡◌, ◌++◌, ◌∷◌, [], false, IfErr, IfOk, IfNone, IfSome};
+ghost use Rattle.std.specs.Prelude.{IsTrue, None, OnSome, Some};
+ghost use Rattle.bip_host.specs.Books.{IsKeptOf, blames_grant};
+ghost use Rattle.bip_host.specs.Reports.{IsWhyNoRun};
+ghost use Rattle.bip_host.specs.declared.faults.HostFault.TheVariants.{NotARun};
+ghost use Rattle.bip_replay.specs.Runs.{IsModelRun};
+ghost use Rattle.bip_replay.specs.declared.faults.BookFault.{BookFault};
+
+use crate::faults::HostFault;
+use bip_model::{Grant, InterId, Model};
+use bip_replay::{Book, BookFault, run_laws};
+use std::alloc::Global;
+use std::marker;
+
+/// That a grant of an interaction was appended to the locked book. Nothing else makes one, so what
+/// asks for an entry is done for grants alone that stand in the book.
+#[derive(Drop)]
+pub(crate) struct Entry {
+    inter: InterId,
+}
+
+impl Entry {
+    pub(crate) fn inter(&self) -> InterId
+        ensures { result ≡ self.now.inter }
+    {
+        self.inter
+    }
+}
+
+/// The book of all grants, with the fault of the first that couldn't be next, and whether memory
+/// was wanted for one. Contracts see all three.
+#[derive(Drop)]
+pub(crate) struct SharedBook<'m> {
+    book: Book<'m>,
+    refused: Option<BookFault>,
+    wanted_memory: bool,
+}
+
+impl<'m> marker::Model for SharedBook<'m> {
+    ghost use Rattle.std.specs.Prelude.{IfSome, IsTrue};
+    ghost use Rattle.bip_host.specs.Books.{SharedContent, blames_grant};
+
+    ghost Value = { SharedContent };
+
+    ghost view = { λ b. record {
+      book = b.book;
+      refused = b.refused;
+      wanted_memory = b.wanted_memory;
+    } };
+
+    ghost invariant = { λ b. IfSome b.refused (λ fault. IsTrue (blames_grant fault)) };
+}
+
+impl<'m> SharedBook<'m> {
+    pub(crate) fn of(book: Book<'m>) -> SharedBook<'m>
+        ensures { result ≡ record { book = book.entry; refused = None; wanted_memory = false } }
+    {
+        SharedBook {
+            book,
+            refused: None,
+            wanted_memory: false,
+        }
+    }
+
+    /// Appends a grant where it can be next. Else the book stays as it was, and its fault is kept
+    /// where it is the first, or that memory was wanted.
+    pub(crate) fn append(&mut self, grant: Grant) -> Option<Entry>
+        ensures entry { IfSome result (λ entry. entry.inter ≡ grant.inter) }
+        ensures some { OnSome result (self.new ≡ record self.old {
+          book = record self.old.book { grants = self.old.book.grants ++ grant ∷ [] };
+        }) }
+        ensures none { IfNone result (IsKeptOf self.old grant self.new) }
+    {
+        let inter = grant.inter;
+        match self.book.append(grant) {
+            Ok(_) => Some(Entry { inter }),
+            Err(BookFault::Memory) => {
+                self.wanted_memory = true;
+                None
+            }
+            Err(fault) => {
+                if self.refused.is_none() {
+                    self.refused = Some(fault);
+                }
+                None
+            }
+        }
+    }
+
+    /// Whether memory was wanted for a grant.
+    pub(crate) fn wanted_memory(&self) -> bool
+        ensures { result ≡ self.now.wanted_memory }
+    {
+        self.wanted_memory
+    }
+
+    /// The grants of the book; or the fault of the first that couldn't be next.
+    pub(crate) fn into_grants(self) -> Result<Vec<Grant>, HostFault>
+        ensures ok { IfOk result (λ grants. (grants.items ≡ self.entry.book.grants)
+            × (self.entry.refused ≡ None)) }
+        ensures refused { IfErr result (λ why. (fault : BookFault) × (why ≡ NotARun fault)
+            × IsTrue (blames_grant fault) × (self.entry.refused ≡ Some fault)) }
+    {
+        let SharedBook { book, refused, .. } = self;
+        match refused {
+            Some(fault) => Err(HostFault::NotARun(fault)),
+            None => Ok(book.into_grants()),
+        }
+    }
+}
+
+/// These grants, where a new book of the model takes them all: they are a run of it then. Else that
+/// they are none, or want of memory.
+pub(crate) fn as_run(
+    alloc: Global,
+    model: &Model,
+    grants: Vec<Grant>,
+) -> Result<Vec<Grant>, HostFault>
+    ensures same { IfOk result (λ run. run.items ≡ grants.items) }
+    ensures run { IfOk result (λ run. IsModelRun model.now 0 run.items) }
+    ensures none { IfErr result (IsWhyNoRun model.now grants.items) }
+{
+    run_laws();
+    let mut book = Book::start(alloc, model, 0)?;
+    for grant in grants {
+        book.append(grant)?;
+    }
+    Ok(book.into_grants())
+}

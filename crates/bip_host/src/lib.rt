@@ -1,0 +1,28 @@
+//! Running hosts: the nodes of a plan as threads, round one locked table and one locked book.
+#![tactic(auto)]
+
+mod books;
+mod classes;
+mod components;
+mod ends;
+mod faults;
+mod forks;
+mod gates;
+mod hosts;
+mod inboxes;
+mod keepers;
+mod layers;
+mod mailboxes;
+mod merging;
+mod messages;
+mod posting;
+mod rests;
+mod rings;
+mod settled;
+mod starting;
+mod stations;
+
+pub use faults::HostFault;
+pub use gates::{Gate, Open, Point};
+pub use hosts::{HostFigures, HostReport, Kind, Limits, Tables, run_host, run_host_counted};
+pub use inboxes::{Inbox, Reader, Writer};

@@ -1,0 +1,166 @@
+//! What the threads of all stations have and do, and the thread of one.
+ghost use Rattle.std.specs.Prelude.{◌≡◌};
+ghost use Rattle.bip_host.specs.Settled.{IsDecidedOn};
+
+use crate::ends::Outlet;
+use crate::forks::ForkStation;
+use crate::keepers::BookKeeper;
+use crate::messages::ToClass;
+use crate::rests::Rest;
+use crate::rings::RingStation;
+use crate::settled::{Decided, Settled, Unsettled};
+use bip_model::{CompId, Grant, Number, Reply, Request};
+use std::sync::Wait;
+
+/// What a station's thread leaves: how many turns it made, how many messages it lost, and whether
+/// it wanted memory.
+#[derive(Clone, Copy, Default)]
+pub(crate) struct StationEnd {
+    pub(crate) turns: u64,
+    pub(crate) lost: u64,
+    pub(crate) wanted_memory: bool,
+}
+
+/// What a turn of a station comes to.
+#[derive(Clone, Copy, PartialEq, Eq)]
+pub(crate) enum StationTurn {
+    Done,
+    Nothing,
+    /// The station ends.
+    Over,
+}
+
+/// A station that runs: of a ring, or one that shares forks.
+#[derive(Drop)]
+pub(crate) enum StationThread<'h, 'm> {
+    Ring(RingStation<'h, 'm>),
+    Forks(ForkStation<'h, 'm>),
+}
+
+impl<'h, 'm> StationThread<'h, 'm> {
+    /// Makes so many turns, or fewer where the station ends before (docs/HOST.md, "Turns").
+    pub(crate) fn run<R: Wait>(mut self, rt: &R, turns: u32) -> StationEnd {
+        let mut rest = Rest::new();
+        let mut made: u64 = 0;
+        for _ in 0..turns {
+            made = made.saturating_add(1);
+            match self.turn(rt) {
+                StationTurn::Done => {}
+                StationTurn::Nothing => rest.give_way(),
+                StationTurn::Over => break,
+            }
+        }
+        let desk = match self {
+            StationThread::Ring(station) => station.desk,
+            StationThread::Forks(station) => station.desk,
+        };
+        desk.end_after(made)
+    }
+
+    fn turn<R: Wait>(&mut self, rt: &R) -> StationTurn {
+        match self {
+            StationThread::Ring(station) => station.turn(rt),
+            StationThread::Forks(station) => station.turn(rt),
+        }
+    }
+}
+
+/// Where a station answers its class: an end of the class's inbox, and its keeper.
+#[derive(Drop)]
+pub(crate) struct Desk<'h, 'm> {
+    class: Outlet<'h, ToClass>,
+    keeper: BookKeeper<'h, 'm>,
+    end: StationEnd,
+}
+
+impl<'h, 'm> Desk<'h, 'm> {
+    pub(crate) fn of(class: Outlet<'h, ToClass>, keeper: BookKeeper<'h, 'm>) -> Desk<'h, 'm> {
+        Desk {
+            class,
+            keeper,
+            end: StationEnd::default(),
+        }
+    }
+
+    /// Counts a message that is lost.
+    pub(crate) fn lose(&mut self) {
+        self.end.lost = self.end.lost.saturating_add(1);
+    }
+
+    /// Notes that memory was wanted.
+    pub(crate) fn lack(&mut self) {
+        self.end.wanted_memory = true;
+    }
+
+    fn end_after(self, turns: u64) -> StationEnd {
+        let Desk { end, .. } = self;
+        StationEnd { turns, ..end }
+    }
+
+    /// Answers a request that was decided on: a grant once it stands in the book, by which is
+    /// settled what decided. None where the book doesn't take it: the station ends.
+    pub(crate) fn answer<R: Wait, T: Drop>(
+        &mut self,
+        rt: &R,
+        request: Request,
+        decided: Decided<T>,
+    ) -> Option<Settled<T>>
+        requires { IsDecidedOn request.inter decided }
+    {
+        match decided {
+            Decided::Granted(unsettled, serial) => self.grant(rt, request, unsettled, serial),
+            Decided::Refused(settled, comp, used) => {
+                self.refuse(rt, &request, comp, used);
+                Some(settled)
+            }
+        }
+    }
+
+    /// Appends a grant to the book, and tells the class of it.
+    fn grant<R: Wait, T: Drop>(
+        &mut self,
+        rt: &R,
+        request: Request,
+        unsettled: Unsettled<T>,
+        serial: u64,
+    ) -> Option<Settled<T>>
+        requires { unsettled.inter ≡ request.inter }
+    {
+        let number = request.request;
+        let grant = Grant {
+            inter: request.inter,
+            wants: request.wants,
+        };
+        let entry = self.keeper.append(rt, grant)?;
+        let settled = unsettled.settle(&entry);
+        self.send(
+            rt,
+            ToClass::Granted {
+                entry,
+                request: number,
+                serial,
+            },
+        );
+        Some(settled)
+    }
+
+    /// Tells the class that its request is refused.
+    fn refuse<R: Wait>(&mut self, rt: &R, request: &Request, comp: CompId, used: Number) {
+        self.send(
+            rt,
+            ToClass::Refused(Reply::Refused {
+                class: request.class,
+                request: request.request,
+                inter: request.inter,
+                comp,
+                used,
+            }),
+        );
+    }
+
+    fn send<R: Wait>(&mut self, rt: &R, message: ToClass) {
+        if self.class.send(rt, message).is_some() {
+            self.lose();
+        }
+    }
+}
