@@ -1,5 +1,5 @@
 -- Answers that were written out are those that the texts have.
-use Rattle.std.proofs.Common.{◌≡◌, ◌≢◌, ℕ, List, sym, ap, ◌∙◌, subst}
+use Rattle.std.proofs.Common.{◌≡◌, ◌≢◌, ◌++◌, ℕ, Bool, false, true, List, sym, ap, ◌∙◌, subst}
 use Rattle.bip_model.specs.declared.parts.System.{System}
 use Rattle.bip_model.specs.declared.partitions.Partition.{Partition}
 use Rattle.bip_reader.specs.Texts.{HasFault, Means}
@@ -9,10 +9,11 @@ use Rattle.bip_replay.specs.Replays.{IsFirstFault, IsRunOf}
 use Rattle.bip_replay.specs.declared.faults.BookFault.{BookFault}
 use Rattle.bip_replay.specs.declared.faults.ReplayFault.{ReplayFault}
 use Rattle.bip_replay.specs.declared.faults.ReplayFault.TheVariants as replay_fault
-use Rattle.bipr.specs.Answers.{AreCountsOf, HasPlan, IsAnswer, IsCheckAnswer, IsRefusedModel, SaysNoGrant, complaining, no_model, no_plan, no_text, no_trace, not_a_run, planned, run, saying}
+use Rattle.bipr.specs.Answers.{AreCountsOf, HasPlan, IsAnswer, IsCheckAnswer, IsCheckShowing, IsRefusedModel, plain, refused, shown, unchecked, SaysNoGrant, complaining, no_model, no_plan, no_text, no_trace, not_a_run, planned, run, saying}
 use Rattle.bipr.specs.Wording.{counts_text, model_refusal, plan_refusal, run_text, trace_refusal, verdict_text}
 use Rattle.bip_partition.specs.Faults.{IsLowestTooMany}
 use Rattle.bip_partition.specs.Plans.{Planned}
+use Rattle.bip_review.specs.Writing.{IsPlanText}
 use Rattle.bipr.specs.declared.wording.Counts.{Counts}
 use Rattle.bipr.specs.declared.answers.Answer.{Answer}
 use Rattle.bipr.specs.declared.answers.Status.TheVariants.{Done, Refused, NotARun}
@@ -43,6 +44,19 @@ has_answered-no_model base text trace answer fault other same has = subst (IsAns
 pub has_answered-planned : (text output : List ℕ) (answer : Answer) (p : Planned) (counts : Counts)
     → answer ≡ saying Done output → output ≡ counts_text counts → HasPlan text p → AreCountsOf p counts → IsCheckAnswer text answer
 has_answered-planned text output answer p counts same written has counted = subst (IsCheckAnswer text) (sym (same ∙ ap (saying Done) written)) (planned p counts has counted)
+
+-- a refusal is what a check answers, whether a plan is asked for or not
+pub refused_check : (text : List ℕ) (with_plan : Bool) (answer : Answer) → IsRefusedModel text answer
+    → IsCheckShowing text with_plan answer
+refused_check text false answer is = plain answer (unchecked answer is)
+refused_check text true answer is = refused answer is
+
+-- a plan that is shown behind its counts
+pub has_shown : (text output : List ℕ) (answer : Answer) (p : Planned) (counts : Counts) (shown_text : List ℕ)
+    → answer ≡ saying Done output → output ≡ counts_text counts ++ shown_text → HasPlan text p
+    → AreCountsOf p counts → IsPlanText p shown_text → IsCheckShowing text true answer
+has_shown text output answer p counts shown_text same written has counted of_plan =
+    subst (IsCheckShowing text true) (sym (same ∙ ap (saying Done) written)) (shown p counts shown_text has counted of_plan)
 
 pub is_refused-no_text : (text : List ℕ) (answer : Answer) (fault : ReadFault)
     → (fault.why ≢ Memory) → answer ≡ complaining Refused (model_refusal fault) → HasFault text fault

@@ -4,7 +4,7 @@ use Rattle.std.specs.Result.{IsErrAnd}
 use Rattle.bipr.specs.Endings.{AllOutcomes, AllOutcomesTelling, Ends, EndsExplaining, EndsTelling, IsOutcome, explaining}
 use Rattle.bipr.specs.Streams.{Puts, none_put, nothing}
 use Rattle.bipr.specs.declared.answers.Status.{Status}
-use Rattle.bipr.specs.declared.answers.Status.TheVariants.{Done, Refused, BadCommandLine, NoMemory, NotARun}
+use Rattle.bipr.specs.declared.answers.Status.TheVariants.{Done, Refused, BadCommandLine, NoMemory, NoThread, NotARun}
 use Rattle.bipr.specs.Stops.{answer_of_stop, out_of_memory}
 use Rattle.bipr.specs.declared.answers.Answer.{Answer}
 use Rattle.bipr.specs.declared.stops.Stop.{Stop}
@@ -56,6 +56,7 @@ explaining-none Done = refl
 explaining-none Refused = refl
 explaining-none BadCommandLine = refl
 explaining-none NoMemory = refl
+explaining-none NoThread = refl
 explaining-none NotARun = refl
 
 -- a command that isn't asked to explain

@@ -1,8 +1,10 @@
+pub mod AheadLemmas
 pub mod AnswerLemmas
 pub mod CheckLemmas
 pub mod CommandLineLemmas
 pub mod EndingLemmas
 pub mod ExploredLemmas
+pub mod HostedLemmas
 pub mod KnownLemmas
 pub mod MarkLemmas
 pub mod OneAnswerLemmas

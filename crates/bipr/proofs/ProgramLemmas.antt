@@ -1,6 +1,5 @@
 -- The program as the library takes it, and what is read of words that it parsed.
 use Rattle.std.proofs.Common.{◌≡◌, ◌∷◌, ◌++◌, ◌||◌, ◌∙◌, List, [], Option, Some, None, true, ap, ap₂, option_map, refl, subst}
-use Rattle.std.specs.Borrow.{Bor}
 use Rattle.std.specs.Box.{box_value}
 use Rattle.std.specs.Prelude.{Box}
 use Rattle.clap.specs.Words.{AddsArg, AddsSubcommand, App, HasKind, HasMatchesOf, Row, Rule, Shape, Text, app_of, fault_of, first_of, first_value, found_of, is_simple, is_simple_and_free, one_of, one_text, rows_of, subcommand_name_of, subcommand_of, subcommand_rows, subcommand_rows_of, with_rule, with_subcommand}
@@ -12,7 +11,8 @@ use Rattle.clap.specs.declared.parser.matches.ArgMatches.TheViews.{out-ArgMatche
 use Rattle.clap.specs.declared.parser.matches.SubCommand.{SubCommand}
 use Rattle.clap.proofs.OnLiterals.{clap_on_literals}
 use Rattle.clap.proofs.WalkLemmas.{first_value-rows, one_text-rows}
-use Rattle.bipr.specs.Program.{HasRule, HasShape, AreResolvers, IsNoParse, IsParse, program}
+use Rattle.bipr.specs.Program.{HasRule, HasShape, AreChoices, IsNoParse, IsParse, program}
+use Rattle.bipr.specs.declared.program.Choices.{Choices}
 
 -- a command with one more argument
 pub has_shape : (old new : Command) (argument : Arg) (shape : Shape) (rule : Rule) → HasShape shape old → HasRule rule argument
@@ -27,30 +27,30 @@ has_command old sub new above shape is has adds =
     adds.shape has.1 ∙ ap₂ with_subcommand is (ap (λ (a : App). a.top) has.0)
 
 -- the library's function gives what the program reads, and which faults there are
-pub program_simple : (resolvers : Bor (List (Bor Text))) → is_simple (program resolvers) ≡ true
+pub program_simple : (choices : Choices) → is_simple (program choices) ≡ true
 unfolding clap_on_literals
-program_simple resolvers = refl
+program_simple choices = refl
 
-pub program_free : (resolvers : Bor (List (Bor Text))) → is_simple_and_free (program resolvers) ≡ true
+pub program_free : (choices : Choices) → is_simple_and_free (program choices) ≡ true
 unfolding clap_on_literals
-program_free resolvers = refl
+program_free choices = refl
 
 -- words that the library takes
-pub parses : (resolvers : Bor (List (Bor Text))) (app : App) (words : List Text) (m : ArgMatches) → app ≡ program resolvers
-    → AreResolvers resolvers → HasMatchesOf app words m → (is_simple_and_free app ≡ true → fault_of app words ≡ [])
+pub parses : (choices : Choices) (app : App) (words : List Text) (m : ArgMatches) → app ≡ program choices
+    → AreChoices choices → HasMatchesOf app words m → (is_simple_and_free app ≡ true → fault_of app words ≡ [])
     → IsParse words (subcommand_rows_of m)
-parses resolvers app words m is alone matches faultless = (
-  resolvers,
+parses choices app words m is alone matches faultless = (
+  choices,
   alone,
-  subst (λ (a : App). fault_of a words ≡ []) is (faultless (ap is_simple_and_free is ∙ program_free resolvers)),
-  (matches (ap is_simple is ∙ program_simple resolvers)).1 ∙ ap (λ (a : App). subcommand_of a words) is,
+  subst (λ (a : App). fault_of a words ≡ []) is (faultless (ap is_simple_and_free is ∙ program_free choices)),
+  (matches (ap is_simple is ∙ program_simple choices)).1 ∙ ap (λ (a : App). subcommand_of a words) is,
 )
 
 -- words that it doesn't take
-pub does_not_parse : (resolvers : Bor (List (Bor Text))) (app : App) (words : List Text) (error : Error) → app ≡ program resolvers
-    → AreResolvers resolvers → (is_simple_and_free app ≡ true → HasKind (fault_of app words) error) → IsNoParse words error
-does_not_parse resolvers app words error is alone fails =
-    (resolvers, alone, subst (λ (a : App). HasKind (fault_of a words) error) is (fails (ap is_simple_and_free is ∙ program_free resolvers)))
+pub does_not_parse : (choices : Choices) (app : App) (words : List Text) (error : Error) → app ≡ program choices
+    → AreChoices choices → (is_simple_and_free app ≡ true → HasKind (fault_of app words) error) → IsNoParse words error
+does_not_parse choices app words error is alone fails =
+    (choices, alone, subst (λ (a : App). HasKind (fault_of a words) error) is (fails (ap is_simple_and_free is ∙ program_free choices)))
 
 -- what a getter says of matches, of the rows of these
 pub first_read : (m : ArgMatches) (name : Text) (read : Option Text) → read ≡ first_value (found_of m) name → read ≡ first_of name (rows_of (found_of m))

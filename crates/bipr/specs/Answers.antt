@@ -1,6 +1,6 @@
 -- The answer to a replay: the one that the text of a model, the text of a trace and a base have.
 -- The answer to a check: the one that the text of a model has.
-use Rattle.std.specs.Prelude.{◌≡◌, ◌≢◌, ℕ, List, [], length, ⊤}
+use Rattle.std.specs.Prelude.{◌≡◌, ◌≢◌, ◌++◌, ℕ, Bool, false, true, List, [], length, ⊤}
 use Rattle.bip_model.specs.declared.parts.System.{System}
 use Rattle.bip_model.specs.declared.partitions.Partition.{Partition}
 use Rattle.bip_model.specs.declared.numbering.InterId.{InterId}
@@ -13,6 +13,7 @@ use Rattle.bip_replay.specs.Replays.{IsFirstFault, IsRunOf}
 use Rattle.bip_replay.specs.declared.faults.BookFault.{BookFault}
 use Rattle.bip_replay.specs.declared.faults.ReplayFault.{ReplayFault}
 use Rattle.bip_replay.specs.declared.faults.ReplayFault.TheVariants as replay_fault
+use Rattle.bip_review.specs.Writing.{IsPlanText}
 use Rattle.bipr.specs.Wording.{counts_text, model_refusal, plan_refusal, run_text, trace_refusal}
 use Rattle.bipr.specs.Wording.{verdict_text}
 use Rattle.bipr.specs.declared.wording.Counts.{Counts}
@@ -21,7 +22,7 @@ use Rattle.bipr.specs.declared.answers.PlanOrRefusal.{PlanOrRefusal}
 use Rattle.bipr.specs.declared.answers.PlanOrRefusal.TheVariants as come
 use Rattle.bipr.specs.declared.answers.Status.{Status}
 use Rattle.bipr.specs.declared.answers.Status.TheVariants.{Done, Refused, BadCommandLine}
-use Rattle.bipr.specs.declared.answers.Status.TheVariants.{NoMemory, NotARun}
+use Rattle.bipr.specs.declared.answers.Status.TheVariants.{NoMemory, NoThread, NotARun}
 
 -- the statuses with which the program ends
 abbrev pub code_of : Status → ℕ
@@ -29,6 +30,7 @@ code_of Done = 0
 code_of Refused = 1
 code_of BadCommandLine = 2
 code_of NoMemory = 3
+code_of NoThread = 3
 code_of NotARun = 4
 
 -- an answer on standard output, and no complaint
@@ -82,6 +84,15 @@ pub data IsCheckAnswer (model : List ℕ) : Answer → Type 0 where
       → IsCheckAnswer model (saying Done (counts_text counts))
   -- it has none
   unchecked : (answer : Answer) → IsRefusedModel model answer → IsCheckAnswer model answer
+
+-- the answer to the check of a model's text, whose plan is shown behind the counts where that is
+-- asked for
+pub data IsCheckShowing (model : List ℕ) : Bool → Answer → Type 0 where
+  plain : (answer : Answer) → IsCheckAnswer model answer → IsCheckShowing model false answer
+  shown : (p : Planned) (counts : Counts) (plan : List ℕ) → HasPlan model p
+      → AreCountsOf p counts → IsPlanText p plan
+      → IsCheckShowing model true (saying Done (counts_text counts ++ plan))
+  refused : (answer : Answer) → IsRefusedModel model answer → IsCheckShowing model true answer
 
 -- the answer to the texts of a model and a trace, from a base
 pub data IsAnswer (base : ℕ) (model trace : List ℕ) : Answer → Type 0 where

@@ -1,13 +1,16 @@
 -- What a command line asks.
 use Rattle.std.specs.Prelude.{◌≡◌, ℕ, ◌<◌, ◌≤◌, ◌^◌, Bool, false, true, List, None, Some, codes}
+use Rattle.std.specs.Prelude.{IfNone, IfSome, Option}
 use Rattle.std.specs.Str.Parse.{IsNumeral, digits_value, without_leading_plus}
 use Rattle.clap.specs.Words.{Row, Text, first_of, one_of}
 use Rattle.bipr.specs.Program.{Parsed}
 use Rattle.bipr.specs.Resolvers.{resolver_name}
 use Rattle.bipr.specs.declared.command_line.Asked.{Asked}
 use Rattle.bipr.specs.declared.command_line.Asked.TheVariants as asks
+use Rattle.bipr.specs.declared.command_line.CheckArguments.{CheckArguments}
 use Rattle.bipr.specs.declared.command_line.ExploreArguments.{ExploreArguments}
 use Rattle.bipr.specs.declared.command_line.ReplayArguments.{ReplayArguments}
+use Rattle.bipr.specs.declared.command_line.RunArguments.{RunArguments}
 use Rattle.bipr.specs.declared.command_line.StepsArguments.{StepsArguments}
 use Rattle.bipr.specs.declared.resolvers.Resolver.{Resolver}
 
@@ -22,6 +25,12 @@ pub record IsNumberAsked (values : List Row) (option : Text) (bits number : ℕ)
   pub numeral : IsNumeral 10 (without_leading_plus spelt)
   pub is : number ≡ digits_value 10 (without_leading_plus spelt)
   pub fits : number < 2 ^ bits
+
+-- values give such a number, which is this one, or none
+pub record MayAskNumber (values : List Row) (option : Text) (bits : ℕ) (asked : Option ℕ)
+    : Type 0 where
+  pub some : IfSome asked (IsNumberAsked values option bits)
+  pub none : IfNone asked ((number : ℕ) → ¬ IsNumberAsked values option bits number)
 
 -- values give a base: there is a number above it
 pub record IsBaseAsked (values : List Row) (base : ℕ) : Type 0 where
@@ -45,6 +54,11 @@ pub data IsExplainAsked (parsed : Parsed) : Bool → Type 0 where
       → IsFlagAsked values (codes "explain") is_set → IsExplainAsked parsed is_set
   of_none : parsed ≡ None → IsExplainAsked parsed false
 
+-- the values behind `check` ask
+pub record IsCheckAsked (values : List Row) (arguments : CheckArguments) : Type 0 where
+  pub model : first_of (codes "model") values ≡ Some arguments.model.now
+  pub plan : IsFlagAsked values (codes "plan") arguments.with_plan
+
 -- the values behind `replay` ask: the paths are the first values of their arguments
 pub record IsAsked (values : List Row) (arguments : ReplayArguments) : Type 0 where
   pub model : first_of (codes "model") values ≡ Some arguments.model.now
@@ -65,12 +79,20 @@ pub record IsExploreAsked (values : List Row) (arguments : ExploreArguments) : T
   pub seeds : IsNumberAsked values (codes "seeds") 32 arguments.seeds
   pub events : IsNumberAsked values (codes "events") 32 arguments.events
   pub progress : IsFlagAsked values (codes "progress") arguments.is_told
+  pub jobs : MayAskNumber values (codes "jobs") 32 arguments.jobs
 
--- words ask to check the model that a path names
-pub record AsksToCheck (parsed : Parsed) (path : Text) : Type 0 where
+-- the values behind `run` ask; of its tables there is one
+pub record IsRunAsked (values : List Row) (arguments : RunArguments) : Type 0 where
+  pub model : first_of (codes "model") values ≡ Some arguments.model.now
+  pub resolver : IsResolverAsked values arguments.resolver
+  pub turns : IsNumberAsked values (codes "turns") 32 arguments.turns
+  pub stats : IsFlagAsked values (codes "stats") arguments.with_stats
+
+-- words ask to check a model
+pub record AsksToCheck (parsed : Parsed) (arguments : CheckArguments) : Type 0 where
   pub values : List Row
   pub named : parsed ≡ Some (codes "check", values)
-  pub asked : first_of (codes "model") values ≡ Some path
+  pub asked : IsCheckAsked values arguments
 
 -- words ask for a replay
 pub record AsksToReplay (parsed : Parsed) (arguments : ReplayArguments) : Type 0 where
@@ -90,12 +112,19 @@ pub record AsksToExplore (parsed : Parsed) (arguments : ExploreArguments) : Type
   pub named : parsed ≡ Some (codes "explore", values)
   pub asked : IsExploreAsked values arguments
 
+-- words ask to run nodes as threads
+pub record AsksToRun (parsed : Parsed) (arguments : RunArguments) : Type 0 where
+  pub values : List Row
+  pub named : parsed ≡ Some (codes "run", values)
+  pub asked : IsRunAsked values arguments
+
 -- what words ask
 abbrev pub Asks : Parsed → Asked → Type 0
-Asks parsed (asks.Check path) = AsksToCheck parsed path.now
+Asks parsed (asks.Check arguments) = AsksToCheck parsed arguments
 Asks parsed (asks.Replay arguments) = AsksToReplay parsed arguments
 Asks parsed (asks.Steps arguments) = AsksForSteps parsed arguments
 Asks parsed (asks.Explore arguments) = AsksToExplore parsed arguments
+Asks parsed (asks.Run arguments) = AsksToRun parsed arguments
 
 -- words ask for nothing that can be done
 abbrev pub AsksNothing : Parsed → Type 0

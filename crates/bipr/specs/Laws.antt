@@ -1,5 +1,6 @@
 -- The laws of answers, and of the replay of texts that are known.
-use Rattle.std.specs.Prelude.{◌≡◌, ◌↔◌, ◌≤◌, ℕ, false, true, List, length}
+use Rattle.std.specs.Prelude.{◌≡◌, ◌↔◌, ◌≤◌, ℕ, Bool, false, true, List, Result, length}
+use Rattle.bip_host.specs.declared.faults.HostFault.{HostFault}
 use Rattle.bip_partition.specs.Plans.{Planned}
 use Rattle.bip_core.specs.Runs.{IsLossless}
 use Rattle.bip_core.specs.declared.runs.Report.{Report}
@@ -14,6 +15,7 @@ use Rattle.bipr.specs.Answers.{HasPlan, IsAnswer, IsCheckAnswer, IsRefusedModel,
 use Rattle.bipr.specs.Answers.{saying}
 use Rattle.bipr.specs.Commands.Replay.{IsModelText, IsReplay, is_joined}
 use Rattle.bipr.specs.Dividing.{AreParts, after_mark, before_mark}
+use Rattle.bipr.specs.Hosted.{IsHostAnswer}
 use Rattle.bipr.specs.Inputs.{IsReading, Named, bytes, most_bytes}
 use Rattle.bipr.specs.Resolvers.{IsSharedAtFirst}
 use Rattle.bipr.specs.Scheduled.{IsScheduleAnswer, IsStepped}
@@ -23,6 +25,7 @@ use Rattle.bipr.specs.declared.answers.Answer.{Answer}
 use Rattle.bipr.specs.declared.answers.Status.{Status}
 use Rattle.bipr.specs.declared.answers.Status.TheVariants.{Done, NotARun, Refused}
 use Rattle.bipr.specs.declared.command_line.ReplayArguments.{ReplayArguments}
+use Rattle.bipr.specs.declared.hosted.Hosted.{Hosted}
 use Rattle.bipr.specs.declared.resolvers.Resolver.{Resolver}
 
 -- two texts in one are parted by lines
@@ -51,6 +54,14 @@ StepsReplay =
     (base : ℕ) (resolver : Resolver) (model schedule : List ℕ) (p : Planned) (answer : Answer)
     → HasPlan model p → IsScheduleAnswer p base resolver schedule answer → answer.status ≡ Done
     → (count : ℕ) × IsAnswer base model answer.output (saying Done (run_text count))
+
+-- and so it is with what `run` writes where it ends as done, from base 0, whatever a host gave
+abbrev pub HostsReplay : Type 0
+HostsReplay =
+    (given : Result Hosted HostFault) (model : List ℕ) (p : Planned) (with_stats : Bool)
+    (answer : Answer) → HasPlan model p → IsHostAnswer (λ gives. gives ≡ given) p with_stats answer
+    → answer.status ≡ Done
+    → (count : ℕ) × IsAnswer 0 model answer.output (saying Done (run_text count))
 
 -- two answers of the same schedule, whose events are done, are one: with each resolver, where no
 -- event was skipped and no message lost

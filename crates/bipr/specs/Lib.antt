@@ -1,9 +1,11 @@
+pub mod Ahead
 pub mod Answers
 pub mod CommandLine
 pub mod Commands
 pub mod Dividing
 pub mod Endings
 pub mod Explored
+pub mod Hosted
 pub mod Inputs
 pub mod Laws
 pub mod Program

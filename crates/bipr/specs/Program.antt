@@ -12,6 +12,7 @@ use Rattle.clap.specs.declared.builder.value_parser.ValueParser.{ValueParser}
 use Rattle.clap.specs.declared.builder.value_parser.ValueParser.TheVariants.{Names, Signed}
 use Rattle.clap.specs.declared.builder.value_parser.ValueParser.TheVariants.{Unsigned}
 use Rattle.clap.specs.declared.error.Error.{Error}
+use Rattle.bipr.specs.declared.program.Choices.{Choices}
 
 -- ---- arguments
 
@@ -49,6 +50,12 @@ base_option = record (option (codes "base") (Unsigned 0 18446744073709551615)) {
 abbrev pub resolver_option : Bor (List (Bor Text)) → Rule
 resolver_option resolvers = needed (codes "resolver") (Names resolvers)
 
+-- one of these ways to share tables, the first where none is given
+abbrev pub table_option : Bor (List (Bor Text)) → Rule
+table_option tables = record (option (codes "table") (Names tables)) {
+  defaults = codes "locked" ∷ [];
+}
+
 -- ---- commands
 
 -- a command with these arguments
@@ -57,7 +64,8 @@ with_arguments name rules = record (new_shape name) { rules = rules }
 
 abbrev pub check_command : Shape
 check_command =
-    with_arguments (codes "check") (path (codes "model") ∷ flag (codes "explain") ∷ [])
+    with_arguments (codes "check")
+    (path (codes "model") ∷ flag (codes "plan") ∷ flag (codes "explain") ∷ [])
 
 abbrev pub replay_command : Shape
 replay_command = with_arguments (codes "replay")
@@ -72,18 +80,32 @@ abbrev pub explore_command : Bor (List (Bor Text)) → Shape
 explore_command resolvers = with_arguments (codes "explore")
     (path (codes "model") ∷ resolver_option resolvers
     ∷ needed (codes "seeds") (numbers 1 1000000) ∷ needed (codes "events") (numbers 0 1000000)
-    ∷ flag (codes "progress") ∷ flag (codes "explain") ∷ [])
+    ∷ flag (codes "progress") ∷ option (codes "jobs") (numbers 1 256) ∷ flag (codes "explain")
+    ∷ [])
 
--- the program: words name one of four commands, or ask for help or the version
-abbrev pub program : Bor (List (Bor Text)) → App
-program resolvers = record {
+abbrev pub run_command : Bor (List (Bor Text)) → Bor (List (Bor Text)) → Shape
+run_command resolvers tables = with_arguments (codes "run")
+    (path (codes "model") ∷ resolver_option resolvers
+    ∷ needed (codes "turns") (numbers 1 1000000) ∷ table_option tables ∷ flag (codes "stats")
+    ∷ flag (codes "explain") ∷ [])
+
+-- the program without its commands
+abbrev pub bare_program : App
+bare_program = record {
   top = record (new_shape (codes "bipr")) {
-    is_leaf = false;
     has_version = true;
     disable_help_subcommand = true;
     subcommand_required = true;
   };
-  subs = check_command ∷ replay_command ∷ steps_command resolvers ∷ explore_command resolvers ∷ [];
+  subs = [];
+}
+
+-- the program: words name one of five commands, or ask for help or the version
+abbrev pub program : Choices → App
+program choices = record {
+  top = record bare_program.top { is_leaf = false };
+  subs = check_command ∷ replay_command ∷ steps_command choices.resolvers
+      ∷ explore_command choices.resolvers ∷ run_command choices.resolvers choices.tables ∷ [];
 }
 
 -- an argument, and a command without commands of its own, as the library has them
@@ -96,11 +118,15 @@ HasShape shape command = (app_of command ≡ record { top = shape; subs = [] })
 
 -- ---- words
 
--- the names of all resolvers
-abbrev pub AreResolvers : Bor (List (Bor Text)) → Type 0
-AreResolvers resolvers =
-    map (λ (name : Bor Text). name.now) resolvers.now
-    ≡ codes "central" ∷ codes "ring" ∷ codes "forks" ∷ []
+-- the texts of names
+abbrev pub names_in : Bor (List (Bor Text)) → List Text
+names_in names = map (λ (name : Bor Text). name.now) names.now
+
+-- the names that options have to choose from
+pub record AreChoices (choices : Choices) : Type 0 where
+  pub resolvers : names_in choices.resolvers
+      ≡ codes "central" ∷ codes "ring" ∷ codes "forks" ∷ []
+  pub tables : names_in choices.tables ≡ codes "locked" ∷ []
 
 -- what words are parsed to: the command that they name, with the values that each of its arguments
 -- has
@@ -109,11 +135,11 @@ Parsed = Option (Text × List Row)
 
 -- words, of which the first is the program's own name, have no fault, and say this
 abbrev pub IsParse : List Text → Parsed → Type 0
-IsParse words parsed = (resolvers : Bor (List (Bor Text))) × AreResolvers resolvers
-    × (fault_of (program resolvers) words ≡ []) × (parsed ≡ subcommand_of (program resolvers) words)
+IsParse words parsed = (choices : Choices) × AreChoices choices
+    × (fault_of (program choices) words ≡ []) × (parsed ≡ subcommand_of (program choices) words)
 
 -- words have a fault, or ask for help or the version, of which the library's error tells; or memory
 -- is out
 abbrev pub IsNoParse : List Text → Error → Type 0
-IsNoParse words error = (resolvers : Bor (List (Bor Text))) × AreResolvers resolvers
-    × HasKind (fault_of (program resolvers) words) error
+IsNoParse words error = (choices : Choices) × AreChoices choices
+    × HasKind (fault_of (program choices) words) error

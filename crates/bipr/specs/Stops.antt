@@ -1,5 +1,6 @@
 -- What stops a command before it has an answer, and what is said of it.
-use Rattle.std.specs.Prelude.{ℕ, List, ◌++◌, ◌==◌, ◌||◌, codes, if◌then◌else◌, map, nat_lt}
+use Rattle.std.specs.Prelude.{ℕ, Bool, List, ◌++◌, ◌&&◌, ◌||◌, codes, if◌then◌else◌, map, nat_le}
+use Rattle.std.specs.Prelude.{chars, encode_utf8_all}
 use Rattle.bipr.specs.Answers.{complaining}
 use Rattle.bipr.specs.Wording.{complaint_text}
 use Rattle.bipr.specs.declared.answers.Answer.{Answer}
@@ -9,13 +10,28 @@ use Rattle.bipr.specs.declared.inputs.InputFault.TheVariants as input_fault
 use Rattle.bipr.specs.declared.stops.Stop.{Stop}
 use Rattle.bipr.specs.declared.stops.Stop.TheVariants as stop
 
--- a byte of a path as it is shown: `?` in place of a control byte
+-- the numbers from one to another
+abbrev is_from : ℕ → ℕ → ℕ → Bool
+is_from low high number = nat_le low number && nat_le number high
+
+-- a character that a terminal may obey: a control, a separator of lines or paragraphs, or a mark
+-- that turns the direction of what stands behind it
+abbrev pub is_obeyed : ℕ → Bool
+is_obeyed c =
+    is_from 0 31 c || is_from 127 159 c || is_from 1564 1564 c || is_from 8206 8207 c
+    || is_from 8232 8238 c || is_from 8294 8297 c
+
+-- a character of a path as it is shown: `?` in place of one that is obeyed
 abbrev pub shown : ℕ → ℕ
-shown byte = if nat_lt byte 32 || (byte == 127) then 63 else byte
+shown c = if is_obeyed c then 63 else c
+
+-- a path as it is shown
+abbrev pub shown_path : List ℕ → List ℕ
+shown_path path = encode_utf8_all (map shown (chars path))
 
 -- a text can't be read, or is too long, by its path
 abbrev pub unread_text : List ℕ → List ℕ
-unread_text path = complaint_text (codes "cannot read " ++ map shown path)
+unread_text path = complaint_text (codes "cannot read " ++ shown_path path)
 
 -- memory is out
 abbrev pub no_memory_text : List ℕ

@@ -1,5 +1,6 @@
 -- What the program writes: verdicts on standard output, complaints on standard error.
-use Rattle.std.specs.Prelude.{ℕ, List, [], ◌∷◌, ◌++◌, ◌-◌, codes, slice_index_or}
+use Rattle.std.specs.Prelude.{ℕ, List, [], ◌∷◌, ◌++◌, ◌-◌, ◌/◌, ◌%◌, codes, length}
+use Rattle.std.specs.Prelude.{slice_index_or}
 use Rattle.std.specs.Fmt.{decimal}
 use Rattle.bip_model.specs.Texts.{line_feed, lines, words}
 use Rattle.bip_model.specs.declared.parts.System.{System}
@@ -13,6 +14,7 @@ use Rattle.bip_replay.specs.declared.faults.BookFault.TheVariants.{NotEnabled, B
 use Rattle.bip_replay.specs.declared.faults.BookFault.TheVariants.{Parties, Memory}
 use Rattle.bip_model.specs.Naming.{name_in}
 use Rattle.bip_replay.specs.declared.faults.ReplayFault.{ReplayFault}
+use Rattle.bipr.specs.declared.hosted.Hosted.{Hosted}
 use Rattle.bipr.specs.declared.wording.Counts.{Counts}
 
 -- `run N`
@@ -87,6 +89,36 @@ losses_text report =
 
 abbrev pub report_text : Report → List ℕ
 report_text report = decisions_text report ++ losses_text report
+
+-- what is counted of a host, and how many seconds it took, to the thousandth
+abbrev pub host_work_text : Hosted → List ℕ
+host_work_text hosted =
+    codes "threads " ++ (decimal hosted.figures.threads
+    ++ (codes " turns " ++ (decimal hosted.figures.turns
+    ++ (codes " grants " ++ decimal (length hosted.report.grants.items)))))
+
+abbrev pub host_end_text : Hosted → List ℕ
+host_end_text hosted =
+    codes " told " ++ (decimal hosted.report.told
+    ++ (codes " lost " ++ (decimal hosted.report.lost ++ codes " seconds ")))
+
+abbrev pub seconds_text : ℕ → List ℕ
+seconds_text milliseconds =
+    decimal (milliseconds / 1000) ++ (codes "." ++ (decimal (milliseconds / 100 % 10)
+    ++ (decimal (milliseconds / 10 % 10)
+    ++ (decimal (milliseconds % 10) ++ line_feed ∷ []))))
+
+abbrev pub stats_text : Hosted → List ℕ
+stats_text hosted =
+    host_work_text hosted ++ (host_end_text hosted ++ seconds_text hosted.milliseconds)
+
+-- a host's book refused a grant
+abbrev pub host_refusal : List ℕ
+host_refusal = complaint_text (codes "not a run")
+
+-- a thread couldn't be made
+abbrev pub no_thread_text : List ℕ
+no_thread_text = complaint_text (codes "no thread")
 
 -- `seeds K runs K`
 abbrev pub seeds_text : ℕ → List ℕ

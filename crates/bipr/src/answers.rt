@@ -1,11 +1,12 @@
 //! Answers: what the program writes for the texts that it is given, and the status with which it
 //! ends.
-ghost use Rattle.std.specs.Prelude.{◌≡◌, ◌≢◌, ◌≤◌, ℕ, List, IfOk};
+ghost use Rattle.std.specs.Prelude.{◌≡◌, ◌≢◌, ◌≤◌, ℕ, List, IfOk, true};
 ghost use Rattle.bip_model.specs.declared.partitions.Partition.{Partition};
 ghost use Rattle.bip_reader.specs.Texts.{Means};
 ghost use Rattle.bip_reader.specs.declared.faults.Why.TheVariants.{Memory};
 ghost use Rattle.bip_model.specs.Partitions.{AreClassesOf};
 ghost use Rattle.bipr.specs.Answers.{AreCountsOf, HasPlan, IsAnswer, IsCheckAnswer};
+ghost use Rattle.bipr.specs.Answers.{IsCheckShowing};
 ghost use Rattle.bipr.specs.Answers.{IsPlanOrRefusal, code_of, complaining, saying};
 ghost use Rattle.bipr.specs.CommandLine.{greatest_base};
 ghost use Rattle.bipr.specs.declared.answers.Status.TheVariants.{Refused};
@@ -19,6 +20,7 @@ use bip_model::{Classes, InterId, Model, Number, Seq};
 use bip_partition::{Plan, first_touching_too_many};
 use bip_reader::{ReadFault, Why, read_model};
 use bip_replay::{ReplayFault, TraceFault, replay};
+use bip_review::write_plan;
 use std::alloc::{AllocError, Global};
 
 /// How a command ends.
@@ -32,6 +34,8 @@ pub enum Status {
     BadCommandLine,
     /// Want of memory.
     NoMemory,
+    /// A thread couldn't be made.
+    NoThread,
     /// The trace is no run of the model.
     NotARun,
 }
@@ -46,6 +50,7 @@ impl Status {
             Status::Refused => 1,
             Status::BadCommandLine => 2,
             Status::NoMemory => 3,
+            Status::NoThread => 3,
             Status::NotARun => 4,
         }
     }
@@ -81,19 +86,20 @@ pub fn answer_replay(
     answer_trace(alloc, explanation, &system, trace, base)
 }
 
-/// The answer to the check of a model's text: the counts of its plan; else the lowest interaction
-/// that touches too many components, or the first fault of the text (docs/ANSWERS.md, "Answers").
-/// The only error is want of memory.
+/// The answer to the check of a model's text: the counts of its plan, and behind them the plan
+/// itself where that is asked for; else the lowest interaction that touches too many components, or
+/// the first fault of the text (docs/ANSWERS.md, "Answers"). The only error is want of memory.
 pub fn answer_check(
     alloc: Global,
     explanation: &mut Explanation,
     model: &[u8],
+    with_plan: bool,
 ) -> Result<Answer, AllocError>
-    ensures { IfOk result (IsCheckAnswer model.now) }
+    ensures { IfOk result (IsCheckShowing model.now with_plan) }
 {
     let given = plan_text(alloc, explanation, model)?;
     match given {
-        PlanOrRefusal::Plan(plan) => answer_counts(alloc, &plan),
+        PlanOrRefusal::Plan(plan) => answer_plan(alloc, &plan, with_plan),
         PlanOrRefusal::Refusal(answer) => Ok(answer),
     }
 }
@@ -159,7 +165,30 @@ fn refuse_plan(
     Ok(complained(alloc, Status::Refused, complaint))
 }
 
-/// The answer to a check where there is a plan.
+/// The answer to a check where there is a plan, which is shown or not.
+fn answer_plan(alloc: Global, plan: &Plan, with_plan: bool) -> Result<Answer, AllocError>
+    ensures { IfOk result (λ answer. (text : List ℕ)
+        → HasPlan text plan.now → IsCheckShowing text with_plan answer) }
+{
+    if with_plan {
+        answer_shown(alloc, plan)
+    } else {
+        answer_counts(alloc, plan)
+    }
+}
+
+/// The counts of a plan, and the plan itself.
+fn answer_shown(alloc: Global, plan: &Plan) -> Result<Answer, AllocError>
+    ensures { IfOk result (λ answer. (text : List ℕ)
+        → HasPlan text plan.now → IsCheckShowing text true answer) }
+{
+    let mut text = counts_text(alloc, &count_plan(plan))?;
+    let shown = write_plan(alloc, plan)?;
+    text.extend_from_slice(shown.as_slice())?;
+    Ok(said(alloc, Status::Done, text))
+}
+
+/// The counts of a plan.
 fn answer_counts(alloc: Global, plan: &Plan) -> Result<Answer, AllocError>
     ensures { IfOk result (λ answer. (text : List ℕ)
         → HasPlan text plan.now → IsCheckAnswer text answer) }

@@ -3,6 +3,7 @@ ghost use Rattle.std.specs.Prelude.{IfNone, IfSome};
 ghost use Rattle.clap.specs.Words.{found_of, rows_of, subcommand_rows_of};
 ghost use Rattle.bipr.specs.CommandLine.{AreStepsAsked, Asks, AsksNothing, IsAsked, IsBaseAsked};
 ghost use Rattle.bipr.specs.CommandLine.{IsExplainAsked, IsExploreAsked, IsResolverAsked};
+ghost use Rattle.bipr.specs.CommandLine.{IsCheckAsked, IsRunAsked};
 
 use crate::resolvers::{Resolver, resolver_named};
 use bip_model::Number;
@@ -10,6 +11,14 @@ use clap::ArgMatches;
 
 /// The greatest base: one number at least is left above it.
 const GREATEST_BASE: Number = 18_446_744_073_709_551_614;
+
+/// What the command line asks: the check of the model that a path names, and whether its plan is
+/// shown.
+#[derive(Drop)]
+pub struct CheckArguments<'a> {
+    pub model: &'a str,
+    pub with_plan: bool,
+}
 
 /// What the command line asks: the replay of a trace on a model, each named by its path, from a
 /// base.
@@ -31,7 +40,8 @@ pub struct StepsArguments<'a> {
 }
 
 /// What the command line asks: to explore the model that a path names, with a resolver's bank, by
-/// the seeds from 1 on, with so many events each; and whether progress is told.
+/// the seeds from 1 on, with so many events each, in so many threads if that is said; and whether
+/// progress is told.
 #[derive(Drop)]
 pub struct ExploreArguments<'a> {
     pub model: &'a str,
@@ -39,16 +49,28 @@ pub struct ExploreArguments<'a> {
     pub seeds: u32,
     pub events: u32,
     pub is_told: bool,
+    pub jobs: Option<u32>,
+}
+
+/// What the command line asks: to run the nodes of the model that a path names as threads, over a
+/// resolver, for so many turns each; and whether what is counted is told.
+#[derive(Drop)]
+pub struct RunArguments<'a> {
+    pub model: &'a str,
+    pub resolver: Resolver,
+    pub turns: u32,
+    pub with_stats: bool,
 }
 
 /// What a command line asks: the check of the model that a path names, a replay, the steps of a
-/// schedule, or to explore.
+/// schedule, to explore, or to run nodes as threads.
 #[derive(Drop)]
 pub enum Asked<'a> {
-    Check(&'a str),
+    Check(CheckArguments<'a>),
     Replay(ReplayArguments<'a>),
     Steps(StepsArguments<'a>),
     Explore(ExploreArguments<'a>),
+    Run(RunArguments<'a>),
 }
 
 /// Whether a command line asks to explain what is refused (docs/ANSWERS.md, "Arguments").
@@ -68,7 +90,7 @@ pub fn read_arguments<'a>(matches: &ArgMatches<'a>) -> Option<Asked<'a>>
     ensures none { IfNone result (AsksNothing (subcommand_rows_of matches.now)) }
 {
     if let Some(check) = matches.subcommand_matches("check") {
-        return Some(Asked::Check(check.get_str("model")?));
+        return Some(Asked::Check(read_check(check)?));
     }
     if let Some(steps) = matches.subcommand_matches("steps") {
         return Some(Asked::Steps(read_steps(steps)?));
@@ -76,8 +98,23 @@ pub fn read_arguments<'a>(matches: &ArgMatches<'a>) -> Option<Asked<'a>>
     if let Some(explore) = matches.subcommand_matches("explore") {
         return Some(Asked::Explore(read_explore(explore)?));
     }
+    if let Some(run) = matches.subcommand_matches("run") {
+        return Some(Asked::Run(read_run(run)?));
+    }
     let replay = read_replay(matches.subcommand_matches("replay")?)?;
     Some(Asked::Replay(replay))
+}
+
+// What the words behind `check` ask.
+fn read_check<'a>(matches: &ArgMatches<'a>) -> Option<CheckArguments<'a>>
+    ensures some { IfSome result (IsCheckAsked (rows_of (found_of matches.now))) }
+    ensures none { IfNone result ((asked : _)
+        → IsCheckAsked (rows_of (found_of matches.now)) asked → ⊥) }
+{
+    Some(CheckArguments {
+        model: matches.get_str("model")?,
+        with_plan: matches.get_flag("plan"),
+    })
 }
 
 // What the words behind `replay` ask.
@@ -123,6 +160,22 @@ fn read_explore<'a>(matches: &ArgMatches<'a>) -> Option<ExploreArguments<'a>>
         seeds: matches.get_one("seeds")?,
         events: matches.get_one("events")?,
         is_told: matches.get_flag("progress"),
+        jobs: matches.get_one("jobs"),
+    })
+}
+
+// What the words behind `run` ask.
+fn read_run<'a>(matches: &ArgMatches<'a>) -> Option<RunArguments<'a>>
+    ensures some { IfSome result (IsRunAsked (rows_of (found_of matches.now))) }
+    ensures none { IfNone result ((asked : _)
+        → IsRunAsked (rows_of (found_of matches.now)) asked → ⊥) }
+{
+    let resolver = read_resolver(matches)?;
+    Some(RunArguments {
+        model: matches.get_str("model")?,
+        resolver,
+        turns: matches.get_one("turns")?,
+        with_stats: matches.get_flag("stats"),
     })
 }
 

@@ -12,15 +12,17 @@ ghost use Rattle.bipr.specs.declared.inputs.InputFault.{InputFault};
 pub mod check;
 pub mod explore;
 pub mod replay;
+pub mod run;
 pub mod steps;
 
 use crate::answers::Status;
 use crate::command_line::{Asked, is_explained, read_arguments};
 use crate::endings::{complain, explain};
+use crate::hosting::Hosting;
 use crate::inputs::Inputs;
-use crate::program::program;
+use crate::program::{Choices, program};
 use crate::refusals::{refuse_base, refuse_parse};
-use crate::resolvers::RESOLVERS;
+use crate::resolvers::{HOSTED_TABLES, RESOLVERS};
 use crate::stops::{NO_MEMORY, Stop};
 use crate::streams::Stream;
 use bip_explain::Explanation;
@@ -29,69 +31,117 @@ use check::check;
 use clap::ArgMatches;
 use explore::explore;
 use replay::replay;
+use run::run;
 use std::alloc::Global;
+use std::sync::Wait;
+use std::thread::Threads;
+use std::time::Clock;
 use steps::steps;
+
+/// What the options of the program have to choose from.
+const CHOICES: Choices<'static> = Choices {
+    resolvers: RESOLVERS,
+    tables: HOSTED_TABLES,
+};
 
 /// Carries out what the words of a command line ask, or says why they ask for nothing, and says
 /// with which status the program ends (docs/ANSWERS.md, "Endings").
-pub fn carry_out<'a, I: Inputs, O: Stream, E: Stream>(
+pub fn carry_out<'a, R: Threads + Wait + Clock + Sync, I: Inputs, H: Hosting, O: Stream, E: Stream>(
+    rt: &R,
     alloc: Global,
     words: &'a [String],
     inputs: &I,
+    hosting: &H,
     output: &mut O,
     errors: &mut E,
 ) -> Status
-    ensures { EndsExplaining (IsCarriedOut (map string_bytes words.now) (I.gives inputs.now))
+    ensures { EndsExplaining
+        (IsCarriedOut (map string_bytes words.now) (I.gives inputs.now) (H.hosts hosting.now))
         (Puts O.writes output.old output.new) E.writes errors.old errors.new result }
 {
-    let Ok(program) = program(alloc, RESOLVERS) else {
+    let Ok(program) = program(alloc, CHOICES) else {
         return complain(output, errors, Status::NoMemory, NO_MEMORY);
     };
     match program.try_get_matches_from(words) {
-        Ok(matches) => carry_out_matches(alloc, &matches, inputs, output, errors),
+        Ok(matches) => carry_out_matches(rt, alloc, &matches, inputs, hosting, output, errors),
         Err(error) => refuse_parse(alloc, output, errors, &error),
     }
 }
 
 // Carries out what a parsed command line asks, and explains what is refused if it asks that too.
-fn carry_out_matches<I: Inputs, O: Stream, E: Stream>(
+fn carry_out_matches<R: Threads + Wait + Clock + Sync, I: Inputs, H: Hosting, O: Stream, E: Stream>(
+    rt: &R,
     alloc: Global,
     matches: &ArgMatches<'_>,
     inputs: &I,
+    hosting: &H,
     output: &mut O,
     errors: &mut E,
 ) -> Status
     ensures { (words : _) → IsParse words (subcommand_rows_of matches.now)
-        → EndsExplaining (IsCarriedOut words (I.gives inputs.now))
+        → EndsExplaining (IsCarriedOut words (I.gives inputs.now) (H.hosts hosting.now))
         (Puts O.writes output.old output.new) E.writes errors.old errors.new result }
 {
     if !is_explained(matches) {
         let mut unasked = Explanation::new(false);
-        return carry_out_asked(alloc, &mut unasked, matches, inputs, output, errors);
+        return carry_out_asked(
+            rt,
+            alloc,
+            &mut unasked,
+            matches,
+            inputs,
+            hosting,
+            output,
+            errors,
+        );
     }
     let mut explanation = Explanation::new(true);
-    let status = carry_out_asked(alloc, &mut explanation, matches, inputs, output, errors);
+    let status = carry_out_asked(
+        rt,
+        alloc,
+        &mut explanation,
+        matches,
+        inputs,
+        hosting,
+        output,
+        errors,
+    );
     explain(errors, status, &explanation);
     status
 }
 
 // Carries out what a parsed command line asks.
-fn carry_out_asked<I: Inputs, O: Stream, E: Stream>(
+fn carry_out_asked<R: Threads + Wait + Clock + Sync, I: Inputs, H: Hosting, O: Stream, E: Stream>(
+    rt: &R,
     alloc: Global,
     explanation: &mut Explanation,
     matches: &ArgMatches<'_>,
     inputs: &I,
+    hosting: &H,
     output: &mut O,
     errors: &mut E,
 ) -> Status
-    ensures { EndsTelling (IsCarriedOutBy (subcommand_rows_of matches.now) (I.gives inputs.now))
+    ensures { EndsTelling
+        (IsCarriedOutBy (subcommand_rows_of matches.now) (I.gives inputs.now) (H.hosts hosting.now))
         (Puts O.writes output.old output.new) E.writes errors.old errors.new result }
 {
     match read_arguments(matches) {
-        Some(Asked::Check(path)) => check(alloc, explanation, inputs, path, output, errors),
+        Some(Asked::Check(asked)) => check(alloc, explanation, inputs, &asked, output, errors),
         Some(Asked::Replay(asked)) => replay(alloc, explanation, inputs, &asked, output, errors),
         Some(Asked::Steps(asked)) => steps(alloc, explanation, inputs, &asked, output, errors),
-        Some(Asked::Explore(asked)) => explore(alloc, explanation, inputs, &asked, output, errors),
+        Some(Asked::Explore(asked)) => {
+            explore(rt, alloc, explanation, inputs, &asked, output, errors)
+        }
+        Some(Asked::Run(asked)) => run(
+            rt,
+            alloc,
+            explanation,
+            inputs,
+            hosting,
+            &asked,
+            output,
+            errors,
+        ),
         None => refuse_base(output, errors),
     }
 }

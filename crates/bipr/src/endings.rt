@@ -72,7 +72,10 @@ fn end_stopped<O: Stream, E: Stream>(
     }
     match why.complaint(alloc) {
         Ok(complaint) => { complain(output, errors, why.status(), complaint.as_slice()) }
-        Err(_) => complain(output, errors, Status::NoMemory, NO_MEMORY),
+        Err(_) => {
+            explanation.say_instead(b"there is no memory to tell what is wrong");
+            complain(output, errors, Status::NoMemory, NO_MEMORY)
+        }
     }
 }
 

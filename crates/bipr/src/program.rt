@@ -1,9 +1,11 @@
 //! The program's commands, their arguments and their help, as the library takes them.
 ghost use Rattle.std.specs.Prelude.{◌≡◌, IfOk, codes, map};
 ghost use Rattle.clap.specs.Words.{app_of};
-ghost use Rattle.bipr.specs.Program.{HasRule, HasShape, base_option, check_command};
-ghost use Rattle.bipr.specs.Program.{explore_command, flag, needed, numbers, path, program};
-ghost use Rattle.bipr.specs.Program.{replay_command, resolver_option, steps_command};
+ghost use Rattle.bipr.specs.Program.{HasRule, HasShape, bare_program, base_option};
+ghost use Rattle.bipr.specs.Program.{check_command};
+ghost use Rattle.bipr.specs.Program.{explore_command, flag, needed, numbers, option, path};
+ghost use Rattle.bipr.specs.Program.{program, replay_command, resolver_option, run_command};
+ghost use Rattle.bipr.specs.Program.{steps_command, table_option};
 
 use clap::{Arg, ArgAction, Command, value_parser};
 use std::alloc::{AllocError, Global};
@@ -57,12 +59,12 @@ its first line at fault:
 With `--explain` one more line says what is wrong, and in which column.
 
 Status: 0 done, 1 an input is refused or the answer can't be written, 2 bad command line,
-3 no memory, 4 the trace is no run.";
+3 no memory or no thread, 4 the trace is no run.";
 
 const CHECK_ABOUT: &str = "Counts what a model's partition costs";
 
 const CHECK_HELP: &str = "\
-The answer is one line:
+The answer is one line, and with --plan one more for each interaction and component:
 
     components C interactions I classes K tabled T reserved R
 
@@ -112,12 +114,47 @@ they lead is checked as `bipr replay` does. Of the model of `bipr --help`,
 
 writes `seeds 3 runs 3`: the traces of all three seeds are runs of the model. Were one
 none, the answer would be `seed S: not a run`, of the lowest such seed. A seed draws the
-same steps each time.";
+same steps each time, and the answer is the same however many threads explore.";
 
-/// The program, whose bank is that of one of these resolvers, as the library takes it
+const RUN_ABOUT: &str = "Runs the nodes of a model as threads, and says which grants they made";
+
+const RUN_HELP: &str = "\
+Each component and each class has a thread, which makes N turns and ends: it takes what it
+was sent, and moves, or tries its next interaction. A reserved one is asked of one table
+behind a lock, or of a station, a thread too, in a token ring or with forks. The trace of all
+grants is written then, and `bipr replay` takes it: that it is a run of the model is proved
+for every order in which threads run. Which grants are made is another one each time. Of the
+model of `bipr --help`,
+
+    bipr run MODEL --resolver central --turns 1000000 --stats
+
+writes `grant x A:1`, and on standard error how many threads made how many turns together,
+the grants, of how many the components were told, how many messages were lost for want of
+memory, and how many seconds it took. These figures are counted, and promise nothing.";
+
+/// What names an option may have: the resolvers, and how threads share a table.
+#[derive(Clone, Copy)]
+pub struct Choices<'a> {
+    pub resolvers: &'a [&'a str],
+    pub tables: &'a [&'a str],
+}
+
+/// The program, whose options have these names to choose from, as the library takes it
 /// (docs/ANSWERS.md, "Words").
-pub fn program<'a>(alloc: Global, resolvers: &'a [&'a str]) -> Result<Command<'a>, AllocError>
-    ensures { IfOk result (λ command. app_of command ≡ program resolvers.entry) }
+pub fn program<'a>(alloc: Global, choices: Choices<'a>) -> Result<Command<'a>, AllocError>
+    ensures { IfOk result (λ command. app_of command ≡ program choices.entry) }
+{
+    bare(alloc)
+        .subcommand(check(alloc)?)?
+        .subcommand(replay(alloc)?)?
+        .subcommand(steps(alloc, choices.resolvers)?)?
+        .subcommand(explore(alloc, choices.resolvers)?)?
+        .subcommand(run(alloc, choices.resolvers, choices.tables)?)
+}
+
+// The program without its commands.
+fn bare<'a>(alloc: Global) -> Command<'a>
+    ensures { app_of result ≡ bare_program }
 {
     Command::new(alloc, "bipr")
         .version("0.1.0")
@@ -125,10 +162,6 @@ pub fn program<'a>(alloc: Global, resolvers: &'a [&'a str]) -> Result<Command<'a
         .after_help(HELP)
         .disable_help_subcommand(true)
         .subcommand_required(true)
-        .subcommand(check(alloc)?)?
-        .subcommand(replay(alloc)?)?
-        .subcommand(steps(alloc, resolvers)?)?
-        .subcommand(explore(alloc, resolvers)?)
 }
 
 fn check<'a>(alloc: Global) -> Result<Command<'a>, AllocError>
@@ -138,6 +171,7 @@ fn check<'a>(alloc: Global) -> Result<Command<'a>, AllocError>
         .about(CHECK_ABOUT)
         .after_help(CHECK_HELP)
         .arg(model(alloc))?
+        .arg(plan(alloc))?
         .arg(explain(alloc))
 }
 
@@ -181,6 +215,25 @@ fn explore<'a>(alloc: Global, resolvers: &'a [&'a str]) -> Result<Command<'a>, A
         .arg(seeds(alloc))?
         .arg(events(alloc))?
         .arg(progress(alloc))?
+        .arg(jobs(alloc))?
+        .arg(explain(alloc))
+}
+
+fn run<'a>(
+    alloc: Global,
+    resolvers: &'a [&'a str],
+    tables: &'a [&'a str],
+) -> Result<Command<'a>, AllocError>
+    ensures { IfOk result (HasShape (run_command resolvers.entry tables.entry)) }
+{
+    Command::new(alloc, "run")
+        .about(RUN_ABOUT)
+        .after_help(RUN_HELP)
+        .arg(model(alloc))?
+        .arg(resolver(alloc, resolvers))?
+        .arg(turns(alloc))?
+        .arg(table(alloc, tables))?
+        .arg(stats(alloc))?
         .arg(explain(alloc))
 }
 
@@ -234,12 +287,61 @@ fn events<'a>(alloc: Global) -> Arg<'a>
         .help("how many steps of each seed: 0 to 1000000")
 }
 
+// The option of how many turns.
+fn turns<'a>(alloc: Global) -> Arg<'a>
+    ensures { HasRule (needed (codes "turns") (numbers 1 1000000)) result }
+{
+    Arg::new(alloc, "turns")
+        .long("turns")
+        .value_name("N")
+        .required(true)
+        .value_parser(value_parser!(u32).range(1..=1_000_000))
+        .help("how many turns each thread makes: 1 to 1000000")
+}
+
+// The option that names how tables are shared.
+fn table<'a>(alloc: Global, tables: &'a [&'a str]) -> Arg<'a>
+    ensures { HasRule (table_option tables.entry) result }
+{
+    Arg::new(alloc, "table")
+        .long("table")
+        .value_name("T")
+        .value_parser(tables)
+        .default_value("locked")
+        .help("how threads share the table: behind a lock")
+}
+
+// The option that shows the plan.
+fn plan<'a>(alloc: Global) -> Arg<'a>
+    ensures { HasRule (flag (codes "plan")) result }
+{
+    flag(alloc, "plan").help("write the plan behind the counts, line by line")
+}
+
+// The option that tells what is counted.
+fn stats<'a>(alloc: Global) -> Arg<'a>
+    ensures { HasRule (flag (codes "stats")) result }
+{
+    flag(alloc, "stats").help("write what is counted in one line on standard error")
+}
+
 // The option that tells progress.
 fn progress<'a>(alloc: Global) -> Arg<'a>
     ensures { HasRule (flag (codes "progress")) result }
 {
     let help = "write `seeds D of K` on standard error with each hundredth that is done";
     flag(alloc, "progress").help(help)
+}
+
+// The option of how many threads.
+fn jobs<'a>(alloc: Global) -> Arg<'a>
+    ensures { HasRule (option (codes "jobs") (numbers 1 256)) result }
+{
+    Arg::new(alloc, "jobs")
+        .long("jobs")
+        .value_name("J")
+        .value_parser(value_parser!(u32).range(1..=256))
+        .help("in how many threads seeds are explored: 1 to 256; else one a processor")
 }
 
 // The option that all commands have.

@@ -25,6 +25,9 @@ const FORKS: &str = "forks";
 /// The names of all resolvers.
 pub const RESOLVERS: &[&str] = &[CENTRAL, RING, FORKS];
 
+/// How tables can be shared by threads.
+pub const HOSTED_TABLES: &[&str] = &["locked"];
+
 /// The resolver of a name, if it has one.
 pub fn resolver_named(name: &str) -> Option<Resolver>
     ensures some { IfSome result (λ resolver. name.now ≡ resolver_name resolver) }

@@ -99,8 +99,8 @@ fn answer_events<B: Bank + Drop>(
     Ok(reported(trace, told))
 }
 
-// A trace on standard output, and a report on standard error.
-fn reported(trace: Vec<u8>, report: Vec<u8>) -> Answer
+/// A trace on standard output, and a report on standard error.
+pub fn reported(trace: Vec<u8>, report: Vec<u8>) -> Answer
     ensures { result ≡ reporting trace.items report.items }
 {
     Answer {

@@ -1,6 +1,8 @@
 //! What stops a command before it has an answer.
 ghost use Rattle.std.specs.Prelude.{◌≡◌, IfOk};
-ghost use Rattle.bipr.specs.Stops.{answer_of_stop, shown, unread, unread_text};
+ghost use Rattle.std.specs.String.{string_bytes};
+ghost use Rattle.bipr.specs.Stops.{answer_of_stop, is_obeyed, shown, shown_path, unread};
+ghost use Rattle.bipr.specs.Stops.{unread_text};
 ghost use Rattle.bipr.specs.declared.stops.Stop.TheVariants.{OutOfMemory};
 
 use crate::answers::Status;
@@ -52,30 +54,45 @@ impl<'a> Stop<'a> {
     }
 }
 
-/// `bipr: cannot read PATH`, where `?` stands for each control byte of the path: a terminal would
-/// obey those.
+/// `bipr: cannot read PATH`, where `?` stands for each character of the path that a terminal would
+/// obey.
 fn unread_text(alloc: Global, path: &str) -> Result<Vec<u8>, AllocError>
     ensures { IfOk result (λ text. text.items ≡ unread_text path.now) }
 {
-    let shown: Vec<u8> = path
-        .as_bytes()
-        .iter()
-        .map(|byte| shown(*byte))
-        .collect(alloc)?;
+    let shown = shown_path(alloc, path)?;
     let mut text = Vec::from_slice(alloc, b"bipr: cannot read ")?;
-    text.extend_from_slice(shown.as_slice())?;
+    text.extend_from_slice(shown.as_bytes())?;
     text.push(b'\n')?;
     Ok(text)
 }
 
-fn shown(byte: u8) -> u8
-    ensures { result ≡ shown byte }
+/// A path as it is shown.
+fn shown_path(alloc: Global, path: &str) -> Result<String, AllocError>
+    ensures { IfOk result (λ text. string_bytes text ≡ shown_path path.now) }
 {
-    if byte < b' ' || byte == 127 {
-        b'?'
-    } else {
-        byte
-    }
+    path.chars().map(shown).collect(alloc)
+}
+
+fn shown(character: char) -> char
+    ensures { result ≡ shown character }
+{
+    if is_obeyed(character) { '?' } else { character }
+}
+
+/// Whether a terminal may obey a character: a control, a separator of lines or paragraphs, or a
+/// mark that turns the direction of what stands behind it.
+fn is_obeyed(character: char) -> bool
+    ensures { result ≡ is_obeyed character }
+{
+    matches!(
+        character,
+        '\0'..='\u{1f}'
+            | '\u{7f}'..='\u{9f}'
+            | '\u{61c}'
+            | '\u{200e}'..='\u{200f}'
+            | '\u{2028}'..='\u{202e}'
+            | '\u{2066}'..='\u{2069}'
+    )
 }
 
 impl From<AllocError> for Stop<'_> {

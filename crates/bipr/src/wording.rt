@@ -5,9 +5,11 @@ ghost use Rattle.bip_model.specs.Naming.{name_in};
 ghost use Rattle.bipr.specs.Wording.{counts_text, interaction_on, model_refusal, plan_refusal};
 ghost use Rattle.bipr.specs.Wording.{decisions_text, losses_text, report_text, run_text};
 ghost use Rattle.bipr.specs.Wording.{progress_text, schedule_refusal, seed_verdict, seeds_text};
-ghost use Rattle.bipr.specs.Wording.{step_text};
+ghost use Rattle.bipr.specs.Wording.{host_refusal, host_work_text, host_end_text, no_thread_text};
+ghost use Rattle.bipr.specs.Wording.{seconds_text, stats_text, step_text};
 ghost use Rattle.bipr.specs.Wording.{trace_refusal, verdict_text};
 
+use crate::hosted::Hosted;
 use bip_core::Report;
 use bip_model::{CompId, InterId, Model, NumberedLines, split_word};
 use bip_reader::ReadFault;
@@ -112,6 +114,55 @@ fn losses_text(alloc: Global, report: &Report) -> Result<String, AllocError>
         ..
     } = *report;
     format!(in alloc; " idle {idle} skipped {skipped} lost {lost}\n")
+}
+
+/// `threads H turns N grants G told T lost L seconds S`, where S has three places behind the point.
+pub fn stats_text(alloc: Global, hosted: &Hosted) -> Result<Vec<u8>, AllocError>
+    ensures { IfOk result (λ text. text.items ≡ stats_text hosted.now) }
+{
+    let mut text = host_work_text(alloc, hosted)?.into_bytes();
+    text.extend_from_slice(host_end_text(alloc, hosted)?.as_bytes())?;
+    text.extend_from_slice(seconds_text(alloc, hosted.milliseconds)?.as_bytes())?;
+    Ok(text)
+}
+
+fn host_work_text(alloc: Global, hosted: &Hosted) -> Result<String, AllocError>
+    ensures { IfOk result (λ text. text.bytes.items ≡ host_work_text hosted.now) }
+{
+    let (threads, turns) = (hosted.figures.threads, hosted.figures.turns);
+    let grants = hosted.report.grants.len();
+    format!(in alloc; "threads {threads} turns {turns} grants {grants}")
+}
+
+fn host_end_text(alloc: Global, hosted: &Hosted) -> Result<String, AllocError>
+    ensures { IfOk result (λ text. text.bytes.items ≡ host_end_text hosted.now) }
+{
+    let (told, lost) = (hosted.report.told, hosted.report.lost);
+    format!(in alloc; " told {told} lost {lost} seconds ")
+}
+
+fn seconds_text(alloc: Global, milliseconds: u64) -> Result<String, AllocError>
+    ensures { IfOk result (λ text. text.bytes.items ≡ seconds_text milliseconds) }
+{
+    let seconds = milliseconds / 1000;
+    let tenth = milliseconds / 100 % 10;
+    let hundredth = milliseconds / 10 % 10;
+    let thousandth = milliseconds % 10;
+    format!(in alloc; "{seconds}.{tenth}{hundredth}{thousandth}\n")
+}
+
+/// The complaint where a host's book refused a grant.
+pub fn host_refusal(alloc: Global) -> Result<Vec<u8>, AllocError>
+    ensures { IfOk result (λ text. text.items ≡ host_refusal) }
+{
+    Vec::from_slice(alloc, b"bipr: not a run\n")
+}
+
+/// The complaint where a thread couldn't be made.
+pub fn no_thread_text(alloc: Global) -> Result<Vec<u8>, AllocError>
+    ensures { IfOk result (λ text. text.items ≡ no_thread_text) }
+{
+    Vec::from_slice(alloc, b"bipr: no thread\n")
 }
 
 /// `seeds K runs K`.

@@ -13,11 +13,13 @@ use crate::stops::Stop;
 use crate::streams::Stream;
 use bip_explain::Explanation;
 use std::alloc::{AllocError, Global};
+use std::thread::Threads;
 
 /// Explores the plan of the model that the path names by so many seeds, with the resolver's bank:
 /// tells progress on standard error where that is asked for, writes the answer, and says with which
 /// status the command ends (docs/ANSWERS.md, "The exploring that is asked for").
-pub fn explore<I: Inputs, O: Stream, E: Stream>(
+pub fn explore<R: Threads + Sync, I: Inputs, O: Stream, E: Stream>(
+    rt: &R,
     alloc: Global,
     explanation: &mut Explanation,
     inputs: &I,
@@ -28,12 +30,13 @@ pub fn explore<I: Inputs, O: Stream, E: Stream>(
     ensures { EndsTelling (IsExplore (I.gives inputs.now) asked.now)
         (Puts O.writes output.old output.new) E.writes errors.old errors.new result }
 {
-    let answer = answer_asked(alloc, explanation, inputs, asked, errors);
+    let answer = answer_asked(rt, alloc, explanation, inputs, asked, errors);
     end(alloc, explanation, output, errors, answer)
 }
 
 // The answer to what is asked, with what is told on the way.
-fn answer_asked<'a, I: Inputs, E: Stream>(
+fn answer_asked<'a, R: Threads + Sync, I: Inputs, E: Stream>(
+    rt: &R,
     alloc: Global,
     explanation: &mut Explanation,
     inputs: &I,
@@ -44,11 +47,13 @@ fn answer_asked<'a, I: Inputs, E: Stream>(
         (IsExplore (I.gives inputs.now) asked.now) }
 {
     let text = read_input(alloc, explanation, inputs, asked.model)?;
-    Ok(answer_text(alloc, explanation, text.as_slice(), asked, errors)?)
+    let text = text.as_slice();
+    Ok(answer_text(rt, alloc, explanation, text, asked, errors)?)
 }
 
 // The answer where the path names this text. The only error is want of memory.
-fn answer_text<E: Stream>(
+fn answer_text<R: Threads + Sync, E: Stream>(
+    rt: &R,
     alloc: Global,
     explanation: &mut Explanation,
     text: &[u8],
@@ -60,7 +65,7 @@ fn answer_text<E: Stream>(
 {
     let given = plan_text(alloc, explanation, text)?;
     match given {
-        PlanOrRefusal::Plan(plan) => answer_explore(alloc, explanation, &plan, asked, errors),
+        PlanOrRefusal::Plan(plan) => answer_explore(rt, alloc, explanation, &plan, asked, errors),
         PlanOrRefusal::Refusal(answer) => Ok(answer),
     }
 }

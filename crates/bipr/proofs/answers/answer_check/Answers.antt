@@ -1,11 +1,12 @@
 use Rattle.std.proofs.lemmas.Result.{IfOk-weaker}
-use Rattle.bipr.specs.Answers.{unchecked}
+use Rattle.bipr.proofs.AnswerLemmas.{refused_check}
 use Rattle.bipr.proofs.answers.answer_check.Goals as goal
 
 pub returns-in-Plan : goal.returns-in-Plan
 returns-in-Plan c =
     let has = rw c.in-Plan.is at c.in_ok-given.ensures in
-    IfOk-weaker c.answer_counts.result _ _ (λ answer is. is c.args.model.now has) c.answer_counts.ensures
+    IfOk-weaker c.answer_plan.result _ _ (λ answer is. is c.args.model.now has) c.answer_plan.ensures
 
 pub returns-in-Refusal : goal.returns-in-Refusal
-returns-in-Refusal c = unchecked _ (rw c.in-Refusal.is at c.in_ok-given.ensures)
+returns-in-Refusal c =
+    refused_check c.args.model.now c.args.with_plan _ (rw c.in-Refusal.is at c.in_ok-given.ensures)

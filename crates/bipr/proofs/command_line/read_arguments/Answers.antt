@@ -1,23 +1,16 @@
-use Rattle.std.proofs.Common.{Some, codes, refl, sym}
-use Rattle.clap.specs.Words.{found_of, rows_of, subcommand_rows_of}
+use Rattle.std.proofs.Common.{codes, refl}
+use Rattle.clap.specs.Words.{subcommand_rows_of}
 use Rattle.bipr.specs.CommandLine.{AsksNothing}
 use Rattle.bipr.proofs.CommandLineLemmas.{check_asks_nothing, if_none, replay_asks_nothing, steps_ask_nothing}
-use Rattle.bipr.proofs.ProgramLemmas.{first_read, names_command, no_first}
+use Rattle.bipr.proofs.ProgramLemmas.{names_command}
 use Rattle.bipr.proofs.command_line.read_arguments.Goals as goal
 
-pub returns-in_err-get_str-clause-none : goal.returns-in_err-get_str-clause-none
-returns-in_err-get_str-clause-none c =
+pub returns-in_err-read_check-clause-none : goal.returns-in_err-read_check-clause-none
+returns-in_err-read_check-clause-none c =
     let m = c.args.matches.now in
     let named = names_command m (codes "check") _ (c.in-Some.ensures.found.0 refl) c.in-Some.ensures.rows in
-    let none : AsksNothing (subcommand_rows_of m) = check_asks_nothing _ _ named (λ path asked. no_first c.in-Some.check.now (codes "model") path c.in_err-get_str.ensures asked) in
+    let none : AsksNothing (subcommand_rows_of m) = check_asks_nothing _ _ named c.in_err-read_check.ensures.none in
     if_none c.from_residual.result _ none
-
-pub returns-in-Some-clause-some : goal.returns-in-Some-clause-some
-returns-in-Some-clause-some c = record {
-  values = rows_of (found_of c.in-Some.check.now);
-  named = names_command c.args.matches.now (codes "check") _ (c.in-Some.ensures.found.0 refl) c.in-Some.ensures.rows;
-  asked = sym (first_read c.in-Some.check.now (codes "model") (Some c.in_ok-get_str.field-0.now) c.in_ok-get_str.ensures);
-}
 
 pub returns-in_err-read_steps-clause-none : goal.returns-in_err-read_steps-clause-none
 returns-in_err-read_steps-clause-none c =

@@ -3,7 +3,7 @@ use Rattle.std.specs.Str.Parse.{ExplainsUnsignedError, HasUnsignedDigitsIfOk, Pa
 use Rattle.clap.specs.Words.{found_of, rows_of}
 use Rattle.bipr.specs.CommandLine.{IsExploreAsked}
 use Rattle.bipr.specs.declared.command_line.ExploreArguments.{ExploreArguments}
-use Rattle.bipr.proofs.CommandLineLemmas.{if_none, no_number_asked, number_asked}
+use Rattle.bipr.proofs.CommandLineLemmas.{if_none, may_ask_number, no_number_asked, number_asked}
 use Rattle.bipr.proofs.ProgramLemmas.{first_read, no_first, one_read}
 use Rattle.bipr.proofs.command_line.read_explore.Goals as goal
 
@@ -37,6 +37,9 @@ returns-clause-some c = record {
   events = number_asked _ (λ bs r. ParsesUnsigned 32 10 bs r × ExplainsUnsignedError 10 bs r × HasUnsignedDigitsIfOk bs r) 32 (rows_of (found_of c.args.matches.now)) (codes "events") (Some c.in_ok-get_one-2.field-0) (λ text r gives. gives.0)
       (λ given. c.in_ok-get_one-2.ensures.none (one_read c.args.matches.now (codes "events") ∙ given))
       (λ text given. c.in_ok-get_one-2.ensures.value text (one_read c.args.matches.now (codes "events") ∙ given));
+  jobs = may_ask_number _ (λ bs r. ParsesUnsigned 32 10 bs r × ExplainsUnsignedError 10 bs r × HasUnsignedDigitsIfOk bs r) 32 (rows_of (found_of c.args.matches.now)) (codes "jobs") c.get_one-3.result (λ text r gives. gives.0)
+      (λ given. c.get_one-3.ensures.none (one_read c.args.matches.now (codes "jobs") ∙ given))
+      (λ text given. c.get_one-3.ensures.value text (one_read c.args.matches.now (codes "jobs") ∙ given));
   progress = record {
     on = λ given. c.get_flag.ensures.value (one_read _ _ ∙ given);
     off = λ given. c.get_flag.ensures.other (one_read _ _ ∙ given);

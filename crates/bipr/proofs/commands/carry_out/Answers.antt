@@ -10,7 +10,7 @@ use Rattle.bipr.proofs.commands.carry_out.Goals as goal
 pub returns-in_default : goal.returns-in_default
 returns-in_default g c =
     let words = map string_bytes c.args.words.now in
-    ends_unexplained (IsCarriedOut words (g.I.Inputs.gives c.args.inputs.now)) _ g.E.Stream.writes _ _ _
+    ends_unexplained (IsCarriedOut words (g.I.Inputs.gives c.args.inputs.now) (g.H.Hosting.hosts c.args.hosting.now)) _ g.E.Stream.writes _ _ _
     (record { told = _; middle = _; on_the_way = none_put; ends = (_, lacking, c.complain.ensures) })
 
 pub returns-in-Ok-try_get_matches_from : goal.returns-in-Ok-try_get_matches_from
@@ -23,7 +23,8 @@ pub returns-in-Err : goal.returns-in-Err
 returns-in-Err g c =
     let words = map string_bytes c.args.words.now in
     let gives = g.I.Inputs.gives c.args.inputs.now in
+    let hosts = g.H.Hosting.hosts c.args.hosting.now in
     let fails = does_not_parse _ _ words c.in-Err.error c.in-Ok.ensures (search rules) c.in-Err.ensures.kinds in
-    ends_unexplained (IsCarriedOut words gives) _ g.E.Stream.writes _ _ _
-    (ends_quietly (IsErrorAnswer c.in-Err.error) (IsCarriedOut words gives false) _ g.E.Stream.writes _ _ _ c.refuse_parse.ensures
+    ends_unexplained (IsCarriedOut words gives hosts) _ g.E.Stream.writes _ _ _
+    (ends_quietly (IsErrorAnswer c.in-Err.error) (IsCarriedOut words gives hosts false) _ g.E.Stream.writes _ _ _ c.refuse_parse.ensures
     (λ answer is. unparsed c.in-Err.error answer fails is))

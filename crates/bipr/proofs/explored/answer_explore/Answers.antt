@@ -3,21 +3,24 @@ use Rattle.bip_schedule.specs.Exploring.{AreExplored, none_explored, one_explore
 use Rattle.bipr.specs.Explored.{ends_without_memory, told_until}
 use Rattle.bipr.specs.Resolvers.{IsSharedAtFirst}
 use Rattle.bipr.specs.Streams.{PutsEach, none_put}
+use Rattle.bipr.proofs.AheadLemmas.{none_ahead}
 use Rattle.bipr.proofs.ExploredLemmas.{explored_said, told_lacking, told_more}
 use Rattle.bipr.proofs.StreamLemmas.{puts_each_append}
 use Rattle.bipr.proofs.explored.answer_explore.Goals as goal
 
 pub loop-done-init : goal.loop-done-init
-loop-done-init g c = (0, none_explored, none_put)
+loop-done-init g c =
+    (0, none_explored, none_put, none_ahead c.args.plan.now c.args.asked.now c.nothing-ahead.result c.nothing-ahead.ensures.none c.nothing-ahead.ensures.sized)
 
 pub loop-done-preserved : goal.loop-done-preserved
 loop-done-preserved g c =
     let writes = g.E.Stream.writes in
     let so = c.loop-done.invariant in (
-      so.0 + c.in-Ok.field-0,
-      one_explored c.loop-done.done so.0 c.in-Ok.field-0 so.1 c.in-Ok.ensures.run,
+      so.0 + c.in-Ok.ensures.run.0,
+      one_explored c.loop-done.done so.0 c.in-Ok.ensures.run.0 so.1 c.in-Ok.ensures.run.1,
       subst (λ (texts : List (List ℕ)). PutsEach writes c.args.errors.now texts c.tell.new.errors) (told_more c.args.asked.now c.loop-done.done)
           (puts_each_append writes c.args.errors.now c.loop-done.errors c.tell.new.errors _ _ so.2 c.in_ok-tell.ensures.ok),
+      c.keep_ahead.ensures,
     )
 
 pub returns-in_err-seed_verdict-in-Err-NotARun : goal.returns-in_err-seed_verdict-in-Err-NotARun

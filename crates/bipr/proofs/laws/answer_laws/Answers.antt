@@ -1,3 +1,4 @@
+use Rattle.bipr.proofs.HostedLemmas.{hosts_replay}
 use Rattle.bipr.proofs.MarkLemmas.{are_parts}
 use Rattle.bipr.proofs.OneAnswerLemmas.{AreExact, has_one_answer}
 use Rattle.bipr.proofs.OneCheckLemmas.{has_one_check}
@@ -14,4 +15,5 @@ returns c =
       one = has_one_answer exact;
       one_check = has_one_check exact;
       replays = steps_replay;
+      hosts = hosts_replay;
     }

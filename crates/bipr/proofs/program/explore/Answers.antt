@@ -1,7 +1,7 @@
 use Rattle.std.proofs.Common.{codes, rules}
 use Rattle.std.proofs.lemmas.Result.{IfOk-weaker}
 use Rattle.clap.specs.Simple.{new_shape}
-use Rattle.bipr.specs.Program.{HasShape, flag, needed, numbers, path, resolver_option}
+use Rattle.bipr.specs.Program.{HasShape, flag, needed, numbers, option, path, resolver_option}
 use Rattle.bipr.proofs.ProgramLemmas.{has_shape}
 use Rattle.bipr.proofs.program.explore.Goals as goal
 
@@ -13,4 +13,5 @@ returns c =
     let three = has_shape _ _ c.seeds.result _ (needed (codes "seeds") (numbers 1 1000000)) two c.seeds.ensures c.in_ok-arg-3.ensures in
     let four = has_shape _ _ c.events.result _ (needed (codes "events") (numbers 0 1000000)) three c.events.ensures c.in_ok-arg-4.ensures in
     let five = has_shape _ _ c.progress.result _ (flag (codes "progress")) four c.progress.ensures c.in_ok-arg-5.ensures in
-    IfOk-weaker c.arg-6.result _ _ (λ command adds. has_shape _ command c.explain.result _ (flag (codes "explain")) five c.explain.ensures adds) c.arg-6.ensures
+    let six = has_shape _ _ c.jobs.result _ (option (codes "jobs") (numbers 1 256)) five c.jobs.ensures c.in_ok-arg-6.ensures in
+    IfOk-weaker c.arg-7.result _ _ (λ command adds. has_shape _ command c.explain.result _ (flag (codes "explain")) six c.explain.ensures adds) c.arg-7.ensures

@@ -24,7 +24,7 @@ returns-in_err-answer_text g c =
       on_the_way = said.1;
       outcomes = outcome_lacking c.from_residual-in_err-answer_text.result (IsExplore (g.I.Inputs.gives c.args.inputs.now) c.args.asked.now said.0)
           c.from_residual-in_err-answer_text.ensures.1
-          (of_text c.in_ok-text.text said.0 _ c.in_ok-text.ensures.read (rw (← c.as_slice.ensures) said.2));
+          (of_text c.in_ok-text.text said.0 _ c.in_ok-text.ensures.read (rw (← c.as_slice-text.ensures) said.2));
     }
 
 pub returns : goal.returns
@@ -34,5 +34,5 @@ returns g c =
       told = said.0;
       on_the_way = said.1;
       outcomes = outcome_answered (IsExplore (g.I.Inputs.gives c.args.inputs.now) c.args.asked.now said.0) c.in_ok-answer_text.field-0
-          (of_text c.in_ok-text.text said.0 c.in_ok-answer_text.field-0 c.in_ok-text.ensures.read (rw (← c.as_slice.ensures) said.2));
+          (of_text c.in_ok-text.text said.0 c.in_ok-answer_text.field-0 c.in_ok-text.ensures.read (rw (← c.as_slice-text.ensures) said.2));
     }

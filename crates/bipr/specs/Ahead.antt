@@ -1,0 +1,31 @@
+-- What is explored ahead of the seed whose turn it is: rounds of blocks of seeds.
+use Rattle.std.specs.Prelude.{ℕ, length, slice_index, ◌%◌, ◌*◌, ◌+◌, ◌-◌, ◌/◌, ◌<◌, ◌≤◌}
+use Rattle.bip_partition.specs.Plans.{Planned}
+use Rattle.bip_schedule.specs.Exploring.{IsSeedRun}
+use Rattle.bipr.specs.Resolvers.{IsSharedAtFirst}
+use Rattle.bipr.specs.declared.ahead.Ahead.{Ahead}
+use Rattle.bipr.specs.declared.command_line.ExploreArguments.{ExploreArguments}
+
+-- a seed is explored, with a resolver's bank: its trace is a run of the model
+abbrev pub IsExplored : Planned → ExploreArguments → ℕ → Type 0
+IsExplored p asked seed = (grants : ℕ)
+    × IsSeedRun (IsSharedAtFirst asked.resolver p) p 0 asked.events seed grants
+
+-- behind so many seeds, so many are explored
+abbrev pub AreExploredBehind : Planned → ExploreArguments → ℕ → ℕ → Type 0
+AreExploredBehind p asked from count =
+    (place : ℕ) → place < count → IsExplored p asked (from + place + 1)
+
+-- blocks stand one behind the other, and of each those seeds are explored that it says
+pub record AreAhead (p : Planned) (asked : ExploreArguments) (ahead : Ahead) : Type 0 where
+  pub sized : 0 < ahead.size
+  pub explored : (block : ℕ) → block < length ahead.explored.items
+      → AreExploredBehind p asked (ahead.from + block * ahead.size)
+      (slice_index ahead.explored.items block)
+
+-- the seed behind so many stands in a block, among those of its first seeds that are explored
+pub record IsAhead (ahead : Ahead) (done : ℕ) : Type 0 where
+  pub behind : ahead.from ≤ done
+  pub within : (done - ahead.from) / ahead.size < length ahead.explored.items
+  pub explored : (done - ahead.from) % ahead.size
+      < slice_index ahead.explored.items ((done - ahead.from) / ahead.size)

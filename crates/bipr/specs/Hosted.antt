@@ -1,0 +1,35 @@
+-- The answer to running the nodes of a plan as threads.
+use Rattle.std.specs.Prelude.{Bool, true, false, List, [], ℕ, Result, Ok, Err, length}
+use Rattle.bip_host.specs.declared.faults.HostFault.TheVariants as host_fault
+use Rattle.bip_host.specs.declared.faults.HostFault.{HostFault}
+use Rattle.bip_partition.specs.Plans.{Planned}
+use Rattle.bip_replay.specs.Replays.{IsRunOf}
+use Rattle.bip_replay.specs.Writing.{text_of}
+use Rattle.bip_replay.specs.declared.faults.BookFault.{BookFault}
+use Rattle.bipr.specs.Answers.{complaining}
+use Rattle.bipr.specs.Scheduled.{reporting}
+use Rattle.bipr.specs.Wording.{host_refusal, no_thread_text, stats_text}
+use Rattle.bipr.specs.declared.answers.Answer.{Answer}
+use Rattle.bipr.specs.declared.answers.Status.TheVariants.{NoThread, NotARun}
+use Rattle.bipr.specs.declared.hosted.Hosted.{Hosted}
+
+-- what is told of a host on standard error: what is counted, where that is asked for
+abbrev pub stats_told : Bool → Hosted → List ℕ
+stats_told true hosted = stats_text hosted
+stats_told false hosted = []
+
+-- the answer to running the nodes of a plan, where that may give this
+pub data IsHostAnswer (gives : Result Hosted HostFault → Type 0) (p : Planned)
+    (with_stats : Bool) : Answer → Type 0 where
+  -- it gave grants: what is written is their trace, which is that of a run of the model
+  hosted : (given : Hosted) → gives (Ok given)
+      → IsRunOf p.model 0 (text_of p.model given.report.grants.items)
+      (length given.report.grants.items)
+      → IsHostAnswer gives p with_stats
+      (reporting (text_of p.model given.report.grants.items) (stats_told with_stats given))
+  -- a grant couldn't be next, and nobody was told of it
+  refused_grant : (fault : BookFault) → gives (Err (host_fault.NotARun fault))
+      → IsHostAnswer gives p with_stats (complaining NotARun host_refusal)
+  -- a thread couldn't be made
+  no_thread : gives (Err host_fault.Thread)
+      → IsHostAnswer gives p with_stats (complaining NoThread no_thread_text)

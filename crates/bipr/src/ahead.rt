@@ -1,0 +1,223 @@
+//! Seeds that are explored ahead of the one whose turn it is, by threads.
+ghost use Rattle.std.specs.Prelude.{◌≡◌, ◌↔◌, ◌+◌, ◌*◌, ◌<◌, ◌≤◌, ◌^◌, IfErr, IfNone, IfOk, IfSome};
+ghost use Rattle.std.specs.Prelude.{IsTrue, OnOk, length};
+ghost use Rattle.bip_schedule.specs.Exploring.{IsSeedRun};
+ghost use Rattle.bip_schedule.specs.declared.exploring.ExploreFault.TheVariants.{Memory};
+ghost use Rattle.bipr.specs.Ahead.{AreAhead, AreExploredBehind, IsAhead, IsExplored};
+ghost use Rattle.bipr.specs.Resolvers.{IsSharedAtFirst};
+
+use crate::command_line::ExploreArguments;
+use crate::resolvers::Resolver;
+use bip_bank::Central;
+use bip_forks::Forks;
+use bip_partition::Plan;
+use bip_ring::Ring;
+use bip_schedule::{ExploreFault, explore_seed};
+use std::alloc::Global;
+use std::thread;
+use std::thread::Threads;
+
+/// The most threads where their number isn't asked for.
+const MOST_JOBS: u32 = 256;
+
+/// The most seeds of a block.
+const LARGEST_BLOCK: u32 = 64;
+
+/// In how many rounds about the seeds that are left are explored, so that no thread waits long for
+/// another one, and progress is told at times.
+const ROUNDS: u32 = 8;
+
+/// What was explored ahead, in a round of blocks: behind the first `from` seeds stands a block of
+/// `size` seeds for each thread, of which so many of the first were explored.
+#[derive(Drop)]
+pub struct Ahead {
+    from: u32,
+    size: u32,
+    explored: Vec<u32>,
+}
+
+impl Ahead {
+    /// Nothing that was explored ahead.
+    pub fn nothing(alloc: Global) -> Ahead
+        ensures none { length result.explored.items ≡ 0 }
+        ensures sized { 0 < result.size }
+    {
+        Ahead {
+            from: 0,
+            size: 1,
+            explored: Vec::new(alloc),
+        }
+    }
+
+    /// Whether the seed behind so many was explored ahead.
+    pub fn reaches(&self, done: u32) -> bool
+        requires { 0 < self.now.size }
+        ensures { IsTrue result ↔ IsAhead self.now done }
+    {
+        let Some(place) = done.checked_sub(self.from) else {
+            return false;
+        };
+        match self.explored.get((place / self.size) as usize) {
+            Some(explored) => place % self.size < *explored,
+            None => false,
+        }
+    }
+}
+
+/// In how many threads seeds are explored: as many as are asked for, and else one a processor, if
+/// the system tells how many there are.
+pub fn jobs_of<R: Threads>(rt: &R, asked: Option<u32>) -> u32
+    ensures asked { IfSome asked (λ jobs. result ≡ jobs) }
+    ensures few { IfNone asked (result ≤ 256) }
+{
+    if let Some(jobs) = asked {
+        return jobs;
+    }
+    match thread::available_parallelism(rt) {
+        Ok(processors) => u32::try_from(processors.get())
+            .unwrap_or(MOST_JOBS)
+            .min(MOST_JOBS),
+        Err(_) => 1,
+    }
+}
+
+/// Explores a round of seeds ahead, from the one behind so many, unless that was explored ahead or
+/// one thread is all. What was explored ahead before is forgotten then.
+pub fn keep_ahead<R: Threads + Sync>(
+    rt: &R,
+    alloc: Global,
+    plan: &Plan,
+    asked: &ExploreArguments<'_>,
+    jobs: u32,
+    ahead: &mut Ahead,
+    done: u32,
+)
+    requires left { done < asked.now.seeds }
+    requires ahead { AreAhead plan.now asked.now ahead.old }
+    ensures { AreAhead plan.now asked.now ahead.new }
+{
+    if jobs > 1 && !ahead.reaches(done) {
+        *ahead = explore_ahead(rt, alloc, plan, asked, jobs, done);
+    }
+}
+
+// Explores a round of seeds behind so many, a block in each thread. Where no thread can be made
+// the blocks are explored one after another; where memory is out for what they say, nothing is
+// explored ahead.
+fn explore_ahead<R: Threads + Sync>(
+    rt: &R,
+    alloc: Global,
+    plan: &Plan,
+    asked: &ExploreArguments<'_>,
+    jobs: u32,
+    done: u32,
+) -> Ahead
+    requires jobs { 0 < jobs }
+    requires left { done < asked.now.seeds }
+    ensures { AreAhead plan.now asked.now result }
+{
+    let left = asked.seeds - done;
+    let blocks = jobs.min(left);
+    let size = block_size(left, blocks);
+    let explore = |block: usize| explore_block_of(alloc, plan, asked, done, size, block as u32);
+    match thread::map_indices(rt, alloc, blocks as usize, &explore) {
+        Ok(explored) => Ahead {
+            from: done,
+            size,
+            explored,
+        },
+        Err(_) => Ahead::nothing(alloc),
+    }
+}
+
+/// What becomes of the seed behind so many: its trace is a run, as was seen ahead or is seen now.
+pub fn outcome(
+    alloc: Global,
+    plan: &Plan,
+    asked: &ExploreArguments<'_>,
+    ahead: &Ahead,
+    done: u32,
+) -> Result<(), ExploreFault>
+    requires left { done < asked.now.seeds }
+    requires ahead { AreAhead plan.now asked.now ahead.now }
+    ensures run { OnOk result (IsExplored plan.now asked.now (done + 1)) }
+    ensures fault { IfErr result (λ fault. fault ≡ Memory) }
+{
+    if !ahead.reaches(done) {
+        explore_one(alloc, plan, asked, done + 1)?;
+    }
+    Ok(())
+}
+
+// How many seeds a block has, of so many that are left for so many blocks.
+fn block_size(left: u32, blocks: u32) -> u32
+    requires some { 0 < blocks }
+    requires enough { blocks ≤ left }
+    ensures some { 0 < result }
+    ensures enough { blocks * result ≤ left }
+{
+    (left / blocks / ROUNDS).clamp(1, LARGEST_BLOCK)
+}
+
+// Explores the block of this number, of those that stand behind so many seeds.
+fn explore_block_of(
+    alloc: Global,
+    plan: &Plan,
+    asked: &ExploreArguments<'_>,
+    from: u32,
+    size: u32,
+    block: u32,
+) -> u32
+    requires { from + block * size + size < 2 ^ 32 }
+    ensures { AreExploredBehind plan.now asked.now (from + block * size) result }
+{
+    explore_block(alloc, plan, asked, from + block * size, size)
+}
+
+// Explores a block of seeds behind so many, one after another, and says how many of the first were
+// explored: all, or those before the first that wasn't.
+fn explore_block(
+    alloc: Global,
+    plan: &Plan,
+    asked: &ExploreArguments<'_>,
+    from: u32,
+    size: u32,
+) -> u32
+    requires { from + size < 2 ^ 32 }
+    ensures few { result ≤ size }
+    ensures explored { AreExploredBehind plan.now asked.now from result }
+{
+    for done in 0..size {
+        let Ok(_) = explore_one(alloc, plan, asked, from + done + 1) else {
+            return done;
+        };
+    }
+    size
+}
+
+// Explores one seed from base 0, with a resolver's new bank, and says how many grants it has.
+fn explore_one(
+    alloc: Global,
+    plan: &Plan,
+    asked: &ExploreArguments<'_>,
+    seed: u32,
+) -> Result<u64, ExploreFault>
+    ensures run { IfOk result (IsSeedRun (IsSharedAtFirst asked.now.resolver plan.now) plan.now 0
+        asked.now.events seed) }
+    ensures fault { IfErr result (λ fault. fault ≡ Memory) }
+{
+    match asked.resolver {
+        Resolver::Central => {
+            let make = || Central::new(alloc, plan, 0);
+            explore_seed(alloc, plan, &make, 0, seed, asked.events)
+        }
+        Resolver::Ring => {
+            let make = || Ring::new(alloc, plan, 0);
+            explore_seed(alloc, plan, &make, 0, seed, asked.events)
+        }
+        Resolver::Forks => {
+            let make = || Forks::new(alloc, plan, 0);
+            explore_seed(alloc, plan, &make, 0, seed, asked.events)
+        }
+    }
+}

@@ -1,0 +1,95 @@
+//! Answers to running nodes as threads.
+ghost use Rattle.std.specs.Prelude.{◌≡◌, IfOk, length};
+ghost use Rattle.bip_replay.specs.Replays.{IsRunOf};
+ghost use Rattle.bip_replay.specs.Runs.{IsModelRun};
+ghost use Rattle.bip_replay.specs.Writing.{text_of};
+ghost use Rattle.bipr.specs.Hosted.{IsHostAnswer, stats_told};
+ghost use Rattle.bipr.specs.Scheduled.{reporting};
+
+use crate::answers::{Answer, Status, complained};
+use crate::command_line::RunArguments;
+use crate::hosting::Hosting;
+use crate::scheduled::reported;
+use crate::wording::{host_refusal, no_thread_text, stats_text};
+use bip_explain::Explanation;
+use bip_host::{HostFault, HostFigures, HostReport};
+use bip_partition::Plan;
+use bip_replay::{BookFault, run_laws, write_trace};
+use std::alloc::{AllocError, Global};
+use std::sync::Wait;
+use std::thread::Threads;
+use std::time::Clock;
+
+/// What a host gave: its report, its threads and their turns, and how long they took.
+#[derive(Drop)]
+pub struct Hosted {
+    pub report: HostReport,
+    pub figures: HostFigures,
+    pub milliseconds: u64,
+}
+
+/// The answer to running the nodes of a plan as threads: the trace of the host's grants, which are
+/// a run of the model, with what is counted where that is asked for; else that a grant was refused,
+/// or that no thread could be made (docs/ANSWERS.md, "Answers"). The only error is want of memory.
+pub fn answer_host<R: Threads + Wait + Clock + Sync, H: Hosting>(
+    rt: &R,
+    alloc: Global,
+    explanation: &mut Explanation,
+    plan: &Plan,
+    hosting: &H,
+    asked: &RunArguments<'_>,
+) -> Result<Answer, AllocError>
+    ensures { IfOk result (IsHostAnswer
+        (H.hosts hosting.now plan.now asked.now.resolver asked.now.turns) plan.now
+        asked.now.with_stats) }
+{
+    match hosting.host(rt, alloc, plan, asked.resolver, asked.turns) {
+        Ok(hosted) => answer_hosted(alloc, plan, &hosted, asked.with_stats),
+        Err(HostFault::NotARun(fault)) => {
+            explain_refused(explanation, &fault);
+            Ok(complained(alloc, Status::NotARun, host_refusal(alloc)?))
+        }
+        Err(HostFault::Thread) => {
+            explanation.say(b"the system makes no more threads");
+            Ok(complained(alloc, Status::NoThread, no_thread_text(alloc)?))
+        }
+        Err(HostFault::Memory) => Err(AllocError),
+    }
+}
+
+// The trace of a host's grants on standard output, and what is told of it on standard error.
+fn answer_hosted(
+    alloc: Global,
+    plan: &Plan,
+    hosted: &Hosted,
+    with_stats: bool,
+) -> Result<Answer, AllocError>
+    requires { IsModelRun plan.now.model 0 hosted.now.report.grants.items }
+    ensures is { IfOk result (λ answer. answer
+        ≡ reporting (text_of plan.now.model hosted.now.report.grants.items)
+        (stats_told with_stats hosted.now)) }
+    ensures run { IfOk result (λ answer. IsRunOf plan.now.model 0 answer.output
+        (length hosted.now.report.grants.items)) }
+{
+    run_laws();
+    plan.recall();
+    let trace = write_trace(alloc, plan.model(), hosted.report.grants.as_slice())?;
+    let told = if with_stats {
+        stats_text(alloc, hosted)?
+    } else {
+        Vec::new(alloc)
+    };
+    Ok(reported(trace, told))
+}
+
+// Explains why the book refused a grant.
+fn explain_refused(explanation: &mut Explanation, fault: &BookFault) {
+    explanation.say(b"the book took a grant for no step, and nobody was told of it: ");
+    explanation.say(match fault {
+        BookFault::NotEnabled => b"it isn't enabled",
+        BookFault::Below(_) => b"what stands above it is enabled",
+        BookFault::Number(_, _) => b"a number isn't its component's next",
+        BookFault::Parties => b"its parties are wrong",
+        BookFault::Memory => b"memory is out",
+    });
+}

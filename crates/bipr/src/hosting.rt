@@ -1,0 +1,95 @@
+//! What runs the nodes of a plan as threads.
+ghost use denote.Param.Send.{IsSync};
+ghost use Rattle.std.specs.Prelude.{◌≡◌, ℕ, IfOk, Result};
+ghost use Rattle.bip_partition.specs.Plans.{Planned};
+ghost use Rattle.bip_host.specs.declared.faults.HostFault.{HostFault};
+ghost use Rattle.bip_replay.specs.Runs.{IsModelRun};
+ghost use Rattle.bipr.specs.declared.hosted.Hosted.{Hosted};
+ghost use Rattle.bipr.specs.declared.resolvers.Resolver.{Resolver};
+
+use crate::hosted::Hosted;
+use crate::resolvers::Resolver;
+use bip_host::{HostFault, Kind, Limits, Open, Tables, run_host_counted};
+use bip_partition::Plan;
+use std::alloc::Global;
+use std::sync::Wait;
+use std::thread::Threads;
+use std::time::{Clock, Instant};
+
+/// What runs the nodes of a plan, each in a thread of its own, which may wait for one another. A
+/// command is proved for every such thing: of what it gives it knows what `host` says.
+pub trait Hosting {
+    /// Running the nodes of a plan over a resolver, for so many turns each, may give this.
+    ghost hosts: { Self → Planned → Resolver → ℕ → Result Hosted HostFault → Type 0 };
+
+    /// Runs the nodes of a plan over a resolver, for so many turns each, in threads that share the
+    /// runtime. The grants are a run of the plan's model.
+    fn host<R: Threads + Wait + Clock + Sync>(
+        &self,
+        rt: &R,
+        alloc: Global,
+        plan: &Plan,
+        resolver: Resolver,
+        turns: u32,
+    ) -> Result<Hosted, HostFault>
+        requires shared { IsSync R.row }
+        ensures gives { hosts self.now plan.now resolver turns result }
+        ensures run { IfOk result (λ hosted.
+            IsModelRun plan.now.model 0 hosted.report.grants.items) };
+}
+
+/// Runs nodes as threads of the process. Tables are behind a lock, or with their stations.
+#[derive(Drop)]
+pub struct Threaded;
+
+impl Hosting for Threaded {
+    ghost use Rattle.std.specs.Prelude.{⊤};
+
+    ghost hosts = { λ _ _ _ _ _. ⊤ };
+
+    fn host<R: Threads + Wait + Clock + Sync>(
+        &self,
+        rt: &R,
+        alloc: Global,
+        plan: &Plan,
+        resolver: Resolver,
+        turns: u32,
+    ) -> Result<Hosted, HostFault> {
+        let start = Instant::now(rt);
+        let (report, figures) = run_host_counted(
+            rt,
+            alloc,
+            plan,
+            kind_of(resolver),
+            Tables::Locked,
+            Limits { turns },
+            &Open,
+        )?;
+        let milliseconds = match start {
+            Ok(start) => milliseconds_since(rt, &start),
+            Err(_) => 0,
+        };
+        Ok(Hosted {
+            report,
+            figures,
+            milliseconds,
+        })
+    }
+}
+
+// The form of the third layer that a resolver names.
+fn kind_of(resolver: Resolver) -> Kind {
+    match resolver {
+        Resolver::Central => Kind::Central,
+        Resolver::Ring => Kind::Ring,
+        Resolver::Forks => Kind::Forks,
+    }
+}
+
+// How long ago a moment was; 0 where the clock can't be read.
+fn milliseconds_since<R: Clock>(rt: &R, start: &Instant) -> u64 {
+    match start.elapsed(rt) {
+        Ok(elapsed) => u64::try_from(elapsed.as_millis()).unwrap_or(u64::MAX),
+        Err(_) => 0,
+    }
+}
