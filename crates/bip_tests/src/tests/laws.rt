@@ -7,7 +7,7 @@ use bip_model::{
 };
 use bip_observe::{offer_laws, verdict_laws};
 use bip_partition::plan_laws;
-use bip_reader::meaning_laws;
+use bip_reader::{line_laws, meaning_laws};
 use bip_replay::{fault_laws, run_laws, trace_laws};
 use bip_table::{lock_laws, table_laws};
 use bip_words::word_laws;
@@ -24,6 +24,7 @@ fn laws_can_be_called(_rt: HostRuntime) {
     offer_laws();
     verdict_laws();
     meaning_laws();
+    line_laws();
     fault_laws();
     run_laws();
     trace_laws();

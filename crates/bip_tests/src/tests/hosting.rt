@@ -1,0 +1,130 @@
+//! Hosts: two classes that meet between their grants and their notifications, and a class that
+//! waits for another one's grant.
+use super::plan;
+use bip_host::{Gate, HostReport, Kind, Limits, Point, Tables, run_host};
+use bip_model::ClassId;
+use bip_replay::write_trace;
+use std::alloc::Global;
+use std::process::Abort;
+use std::sync::Wait;
+use std::sync::atomic::{AtomicU64, Ordering};
+use std::test::*;
+use std::thread;
+use std::thread::Threads;
+
+/// Two components that each move once with a third, in a class each.
+const COMPETE: &str = "bip 1\n\
+    component A\nloc a0\nloc a1\nport s\ntrans s a0 a1\nend\n\
+    component B\nloc b0\nloc b1\nport s\ntrans s b0 b1\nend\n\
+    component R\nvar n 0\nloc r0\nport g\ntrans g r0 r0 when n < 1 do n := n + 1\nend\n\
+    interaction x A.s R.g\ninteraction y B.s R.g\nclass P x\nclass Q y\n";
+
+/// Two components that each move once by themselves, in a class each.
+const APART: &str = "bip 1\n\
+    component A\nloc a0\nloc a1\nport s\ntrans s a0 a1\nend\n\
+    component B\nloc b0\nloc b1\nport s\ntrans s b0 b1\nend\n\
+    interaction x A.s\ninteraction y B.s\nclass P x\nclass Q y\n";
+
+/// How often a gate looks for what it waits for: often, as the other thread may stand behind those
+/// of other programs.
+const LOOKS: u32 = 50_000_000;
+
+const KINDS: [Kind; 3] = [Kind::Central, Kind::Ring, Kind::Forks];
+
+const TURNS: Limits = Limits { turns: 300_000 };
+
+/// Waits until a flag is raised, and says whether it was.
+fn sees(flag: &AtomicU64) -> bool {
+    for _ in 0..LOOKS {
+        if flag.load(Ordering::SeqCst) == 1 {
+            return true;
+        }
+        thread::yield_now();
+    }
+    false
+}
+
+/// At its grant each class raises its flag, and waits for the other's: so two threads are needed.
+#[derive(Drop)]
+struct Meeting {
+    raised: [AtomicU64; 2],
+    met: AtomicU64,
+}
+
+impl Gate for Meeting {
+    fn pass<R: Wait>(&self, _rt: &R, at: Point) {
+        let Point::Told(ClassId(class), _) = at else {
+            return;
+        };
+        let mine = usize::from(class % 2);
+        self.raised[mine].store(1, Ordering::SeqCst);
+        if sees(&self.raised[1 - mine]) {
+            self.met.fetch_add(1, Ordering::SeqCst);
+        }
+    }
+}
+
+/// Runs the nodes of a model by a kind of third layer, with a gate.
+fn host<G: Gate + Sync, R: Threads + Wait + Abort + Sync>(
+    rt: &R,
+    alloc: Global,
+    text: &str,
+    kind: Kind,
+    gate: &G,
+) -> HostReport {
+    let plan = plan(rt, alloc, text);
+    run_host(rt, alloc, &plan, kind, Tables::Locked, TURNS, gate).expect(rt, "a report")
+}
+
+#[test]
+fn two_classes_meet(rt: HostRuntime) -> Result<(), Fail> {
+    for kind in KINDS {
+        let gate = Meeting {
+            raised: [AtomicU64::new(0), AtomicU64::new(0)],
+            met: AtomicU64::new(0),
+        };
+        let report = host(&rt, rt.alloc(), APART, kind, &gate);
+        assert_eq!(rt; gate.met.load(Ordering::SeqCst), 2);
+        assert_eq!(rt; (report.told, report.lost), (2, 0));
+        let mut names = Vec::new(rt.alloc());
+        for grant in report.grants.iter() {
+            names.push(grant.inter.0)?;
+        }
+        names.sort_unstable();
+        assert_eq!(rt; names.as_slice(), [0, 1].as_slice());
+    }
+    Ok(())
+}
+
+/// The first class asks once the second's grant is told.
+#[derive(Drop)]
+struct Behind {
+    told: AtomicU64,
+}
+
+impl Gate for Behind {
+    fn pass<R: Wait>(&self, _rt: &R, at: Point) {
+        match at {
+            Point::Told(ClassId(1), _) => self.told.store(1, Ordering::SeqCst),
+            Point::Asked(ClassId(0), _) => {
+                sees(&self.told);
+            }
+            _ => {}
+        }
+    }
+}
+
+#[test]
+fn one_waits_for_another(rt: HostRuntime) -> Result<(), Fail> {
+    let alloc = rt.alloc();
+    for kind in KINDS {
+        let gate = Behind {
+            told: AtomicU64::new(0),
+        };
+        let report = host(&rt, alloc, COMPETE, kind, &gate);
+        let plan = plan(&rt, alloc, COMPETE);
+        let trace = write_trace(alloc, plan.model(), report.grants.as_slice())?;
+        assert_eq!(rt; trace.as_slice(), b"grant y B:1 R:1\n".as_slice());
+    }
+    Ok(())
+}
