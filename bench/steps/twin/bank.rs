@@ -3,7 +3,10 @@
 use crate::model::Model;
 use crate::world::{Decision, Grant, Request, Want};
 use std::collections::VecDeque;
+#[cfg(not(threads))]
 use std::rc::Rc;
+#[cfg(threads)]
+use std::sync::Arc as Rc;
 
 /// A step of a bank, of stations by number.
 #[derive(Clone, Copy)]
@@ -92,28 +95,28 @@ impl Desk {
 }
 
 /// Used numbers, of the components that have a row.
-struct Table {
+pub struct Table {
     used: Vec<Option<u64>>,
     serial: u64,
 }
 
 impl Table {
-    fn new(model: &Model, rows: u64) -> Table {
+    pub fn new(model: &Model, rows: u64) -> Table {
         let row = |comp: usize| (rows >> comp & 1 == 1).then_some(0);
         Table { used: (0..model.components.len()).map(row).collect(), serial: 0 }
     }
 
-    fn used(&self, comp: u16) -> u64 {
+    pub fn used(&self, comp: u16) -> u64 {
         self.used[comp as usize].unwrap_or(0)
     }
 
-    fn raise(&mut self, comp: u16, number: u64) {
+    pub fn raise(&mut self, comp: u16, number: u64) {
         if let Some(used) = &mut self.used[comp as usize] {
             *used = number.max(*used);
         }
     }
 
-    fn decide(&mut self, wants: &[Want]) -> Option<Decision> {
+    pub fn decide(&mut self, wants: &[Want]) -> Option<Decision> {
         if wants.iter().any(|want| self.used[want.comp as usize].is_none()) {
             return None;
         }
@@ -361,7 +364,7 @@ impl Station {
 }
 
 /// The components that an interaction touches, one bit each.
-fn touched(model: &Model, inter: u16) -> u64 {
+pub fn touched(model: &Model, inter: u16) -> u64 {
     let touched = &model.interactions[inter as usize].touched;
     touched.iter().fold(0, |set, (comp, _)| set | 1 << comp)
 }

@@ -4,14 +4,14 @@ use crate::model::{Model, Values};
 use crate::world::{Grant, Want};
 
 /// Where a run stands: the state of each component, and its used number.
-struct Position<'m> {
+pub struct Position<'m> {
     model: &'m Model,
     locals: Vec<(u8, Values)>,
     used: Vec<u64>,
 }
 
 impl<'m> Position<'m> {
-    fn start(model: &'m Model) -> Position<'m> {
+    pub fn start(model: &'m Model) -> Position<'m> {
         Position {
             model,
             locals: model.components.iter().map(|it| (0, it.start)).collect(),
@@ -43,7 +43,7 @@ impl<'m> Position<'m> {
     }
 
     /// Goes on by a grant, if it can be next.
-    fn step(&mut self, grant: &Grant) -> bool {
+    pub fn step(&mut self, grant: &Grant) -> bool {
         let it = &self.model.interactions[grant.inter as usize];
         let may = self.is_enabled(grant.inter)
             && !it.above.iter().any(|high| self.is_enabled(*high))

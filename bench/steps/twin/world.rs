@@ -3,7 +3,10 @@
 use crate::bank::{Acted, Bank, Step};
 use crate::model::{Model, Values};
 use std::collections::VecDeque;
+#[cfg(not(threads))]
 use std::rc::Rc;
+#[cfg(threads)]
+use std::sync::Arc as Rc;
 
 #[derive(Clone, Copy)]
 pub struct Want {
@@ -18,24 +21,24 @@ pub struct Grant {
 }
 
 #[derive(Clone, Copy)]
-struct Offer {
+pub struct Offer {
     number: u64,
     values: Values,
     comp: u16,
     ports: u16,
 }
 
-struct Notify {
+pub struct Notify {
     number: u64,
     values: Values,
-    comp: u16,
+    pub comp: u16,
     port: u8,
 }
 
 pub struct Request {
     pub wants: Rc<[Want]>,
-    number: u64,
-    class: u16,
+    pub number: u64,
+    pub class: u16,
     pub inter: u16,
 }
 
@@ -46,11 +49,11 @@ pub enum Decision {
     Refused { comp: u16, used: u64 },
 }
 
-struct Reply {
-    class: u16,
-    number: u64,
-    inter: u16,
-    decision: Decision,
+pub struct Reply {
+    pub class: u16,
+    pub number: u64,
+    pub inter: u16,
+    pub decision: Decision,
 }
 
 enum Message {
@@ -77,14 +80,14 @@ pub struct Report {
     pub lost: u128,
 }
 
-struct ComponentNode {
-    offer: Offer,
+pub struct ComponentNode {
+    pub offer: Offer,
     location: u8,
     spent: bool,
 }
 
 impl ComponentNode {
-    fn start(model: &Model, comp: u16) -> ComponentNode {
+    pub fn start(model: &Model, comp: u16) -> ComponentNode {
         let component = &model.components[comp as usize];
         let values = component.start;
         let offer = Offer { number: 1, values, comp, ports: component.offered(0, values) };
@@ -92,7 +95,7 @@ impl ComponentNode {
     }
 
     /// Moves by a notification that is for its next move, and says what it offers then.
-    fn on_notify(&mut self, model: &Model, notify: &Notify) -> Option<Offer> {
+    pub fn on_notify(&mut self, model: &Model, notify: &Notify) -> Option<Offer> {
         let now = &self.offer;
         if self.spent
             || notify.number != now.number
@@ -135,13 +138,13 @@ enum Verdict {
     Below(u16),
 }
 
-enum Tried {
+pub enum Tried {
     Not,
     Local(Rc<[Want]>, Vec<Notify>),
     Sent(Request),
 }
 
-struct ClassNode {
+pub struct ClassNode {
     class: u16,
     known: Vec<u64>,
     held: Vec<Option<Offer>>,
@@ -152,7 +155,7 @@ struct ClassNode {
 }
 
 impl ClassNode {
-    fn new(model: &Model, class: u16) -> ClassNode {
+    pub fn new(model: &Model, class: u16) -> ClassNode {
         ClassNode {
             class,
             known: vec![0; model.components.len()],
@@ -163,7 +166,7 @@ impl ClassNode {
         }
     }
 
-    fn on_offer(&mut self, model: &Model, offer: Offer) {
+    pub fn on_offer(&mut self, model: &Model, offer: Offer) {
         let comp = offer.comp as usize;
         let touches = model.touched[self.class as usize] >> comp & 1 == 1;
         if !touches || !model.components[comp].can_offer(&offer.values, offer.ports) {
@@ -263,7 +266,7 @@ impl ClassNode {
         }
     }
 
-    fn try_one(&mut self, model: &Model, inter: u16) -> Tried {
+    pub fn try_one(&mut self, model: &Model, inter: u16) -> Tried {
         let Some(said) = model.interactions.get(inter as usize) else {
             return Tried::Not;
         };
@@ -290,7 +293,7 @@ impl ClassNode {
     }
 
     /// What the grant of an open request tells.
-    fn on_reply(&mut self, model: &Model, reply: &Reply) -> Vec<Notify> {
+    pub fn on_reply(&mut self, model: &Model, reply: &Reply) -> Vec<Notify> {
         let taken = self.records[reply.inter as usize].take_if(|it| it.number == reply.number);
         let Some(record) = taken else {
             return Vec::new();
