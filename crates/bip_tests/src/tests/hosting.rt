@@ -25,13 +25,15 @@ const APART: &str = "bip 1\n\
     component B\nloc b0\nloc b1\nport s\ntrans s b0 b1\nend\n\
     interaction x A.s\ninteraction y B.s\nclass P x\nclass Q y\n";
 
-/// How often a gate looks for what it waits for: often, as the other thread may stand behind those
-/// of other programs.
-const LOOKS: u32 = 50_000_000;
+/// How often a gate looks for what it waits for.
+const LOOKS: u32 = 100_000;
+
+/// How often it gives way between two looks: the other thread may stand behind other programs.
+const YIELDS: u32 = 20;
 
 const KINDS: [Kind; 3] = [Kind::Central, Kind::Ring, Kind::Forks];
 
-const TURNS: Limits = Limits { turns: 300_000 };
+const TURNS: Limits = Limits { turns: 1_000_000 };
 
 /// Waits until a flag is raised, and says whether it was.
 fn sees(flag: &AtomicU64) -> bool {
@@ -39,9 +41,15 @@ fn sees(flag: &AtomicU64) -> bool {
         if flag.load(Ordering::SeqCst) == 1 {
             return true;
         }
-        thread::yield_now();
+        give_way();
     }
     false
+}
+
+fn give_way() {
+    for _ in 0..YIELDS {
+        thread::yield_now();
+    }
 }
 
 /// At its grant each class raises its flag, and waits for the other's: so two threads are needed.
