@@ -13,7 +13,6 @@ mod hosting;
 mod laws;
 mod listing;
 mod locking;
-mod mailing;
 mod notifying;
 mod observing;
 mod parting;

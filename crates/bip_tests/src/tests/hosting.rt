@@ -3,7 +3,6 @@
 use super::plan;
 use bip_host::{Gate, HostReport, Kind, Limits, Point, Tables, run_host};
 use bip_model::ClassId;
-use bip_replay::write_trace;
 use std::alloc::Global;
 use std::process::Abort;
 use std::sync::Wait;
@@ -124,15 +123,16 @@ impl Gate for Behind {
 
 #[test]
 fn one_waits_for_another(rt: HostRuntime) -> Result<(), Fail> {
-    let alloc = rt.alloc();
     for kind in KINDS {
         let gate = Behind {
             told: AtomicU64::new(0),
         };
-        let report = host(&rt, alloc, COMPETE, kind, &gate);
-        let plan = plan(&rt, alloc, COMPETE);
-        let trace = write_trace(alloc, plan.model(), report.grants.as_slice())?;
-        assert_eq!(rt; trace.as_slice(), b"grant y B:1 R:1\n".as_slice());
+        let report = host(&rt, rt.alloc(), COMPETE, kind, &gate);
+        let mut names = Vec::new(rt.alloc());
+        for grant in report.grants.iter() {
+            names.push(grant.inter.0)?;
+        }
+        assert_eq!(rt; names.as_slice(), [1].as_slice());
     }
     Ok(())
 }
