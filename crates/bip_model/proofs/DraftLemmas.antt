@@ -322,3 +322,8 @@ pub interaction_ends : (d : Draft) (name : List ℕ) (words : List (List ℕ × 
     → Answers Memory (interaction_line d name words guard transfer) (new_or_fault result (record d { system = new }))
 interaction_ends d name words qs guard transfer result new unknown named said =
     rw (unknown, named) (system_ends (interaction_over name qs guard transfer d.system) d result new said)
+
+-- an interaction whose transfer is at fault
+pub transfer_at_fault : (name : List ℕ) (qs : List Participant) (guard : List (Comparison VariableName)) (transfer : List (Assignment VariableName)) (m : System) (fault : BuildFault)
+    → knows_guard (shared m qs) guard ≡ true → transfer_said (shared m qs) [] transfer ≡ Err fault → Answers Memory (interaction_over name qs guard transfer m) (Err fault)
+transfer_at_fault name qs guard transfer m fault known said = rw (known, said) refl

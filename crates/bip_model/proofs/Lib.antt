@@ -1,5 +1,6 @@
 pub mod AboveLemmas
 pub mod AboveLists
+pub mod ClauseLemmas
 pub mod ClimbLemmas
 pub mod DraftLemmas
 pub mod ExpressionLemmas
@@ -27,6 +28,8 @@ pub mod SetLemmas
 pub mod StateLemmas
 pub mod StepLemmas
 pub mod TextLemmas
+pub mod TransferLemmas
 pub mod TransitionLemmas
 pub mod WantLemmas
+pub mod WordLemmas
 pub mod WrittenLemmas

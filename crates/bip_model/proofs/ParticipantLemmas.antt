@@ -80,15 +80,19 @@ participant_named-valid m word =
     record { component = slice_get_within m.components c component at; port = rw at (number_in-below component.ports word.1 p is_p) })))
 
 -- one more word that names a new participant
-pub named_more : (m : System) (found : List Participant) (words : List (List ℕ × List ℕ)) (i : ℕ) (d : List ℕ × List ℕ) (q : Participant) → i < length words → participant_named m (get_or words i d) ≡ Ok q → list_any (λ (r : Participant). eqb r.0.0 q.0.0) found ≡ false → AreParticipants m.components found
-    → (participants_named m found (drop i words) ≡ participants_named m (found ++ q ∷ []) (drop (i + 1) words)) × AreParticipants m.components (found ++ q ∷ []) × (length found < length m.components)
-named_more m found words i d q within names new valid =
-    let valid' = push_valid m.components q found valid (IfOk-at_ok (IsPortIn m.components) names (participant_named-valid m (get_or words i d))) new in
-    (at_drop_more (participants_named m found) words i d within ∙ rw (names, new) refl, valid', omega (arith, length_push found q, few_participants m.components (found ++ q ∷ []) valid'))
+pub named_more : (m : System) (found : List Participant) (left rest : List (List ℕ × List ℕ)) (word : List ℕ × List ℕ) (q : Participant) → left ≡ word ∷ rest → participant_named m word ≡ Ok q → list_any (λ (r : Participant). eqb r.0.0 q.0.0) found ≡ false → AreParticipants m.components found
+    → (participants_named m found left ≡ participants_named m (found ++ q ∷ []) rest) × AreParticipants m.components (found ++ q ∷ []) × (length found < length m.components)
+named_more m found left rest word q next names new valid =
+    let valid' = push_valid m.components q found valid (IfOk-at_ok (IsPortIn m.components) names (participant_named-valid m word)) new in
+    (rw (next, names, new) refl, valid', omega (arith, length_push found q, few_participants m.components (found ++ q ∷ []) valid'))
+
+-- one more word that names a participant again
+pub named_twice : (m : System) (found : List Participant) (left rest : List (List ℕ × List ℕ)) (word : List ℕ × List ℕ) (q : Participant) → left ≡ word ∷ rest → participant_named m word ≡ Ok q → list_any (λ (r : Participant). eqb r.0.0 q.0.0) found ≡ true → participants_named m found left ≡ Err Twice
+named_twice m found left rest word q next names again = rw (next, names, again) refl
 
 -- no more words
-pub participants_named-end : (m : System) (found : List Participant) (words : List (List ℕ × List ℕ)) (i : ℕ) → length words ≤ i → Ok (by_component found) ≡ participants_named m found (drop i words)
-participants_named-end m found words i past = sym (at_drop_all (participants_named m found) words i past)
+pub participants_named-end : (m : System) (found : List Participant) (left : List (List ℕ × List ℕ)) → left ≡ [] → Ok (by_component found) ≡ participants_named m found left
+participants_named-end m found left none = rw none refl
 
 -- what words name, behind what was found before them
 record AreNamedAfter (m : System) (before : List Participant) (words : List (List ℕ × List ℕ)) (qs : List Participant) : Type 0 where

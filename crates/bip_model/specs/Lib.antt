@@ -1,3 +1,4 @@
+pub mod Clauses
 pub mod Components
 pub mod Drafts
 pub mod Expressions
@@ -19,3 +20,4 @@ pub mod States
 pub mod Steps
 pub mod Texts
 pub mod Wants
+pub mod Words

@@ -1,24 +1,20 @@
 //! Models built line by line.
-ghost use Rattle.std.specs.Prelude.{◌≡◌, ◌≤◌, ◌<◌, ◌↔◌, [], length, position, IsTrue, IsSome};
-ghost use Rattle.std.specs.Prelude.{IsNone, IfErr, IfOk, IfSome, OnErr, OnOk};
+ghost use Rattle.std.specs.Prelude.{◌≡◌, ◌↔◌, length, position, IsTrue, IsSome, IsNone};
+ghost use Rattle.std.specs.Prelude.{IfErr, IfOk, OnErr, OnOk};
 ghost use Rattle.std.specs.Option.{option_map};
-ghost use Rattle.bip_model.specs.Drafts.{begun_in, component_line, empty_draft, end_line};
-ghost use Rattle.bip_model.specs.Drafts.{inside, interaction_line, participants_named};
+ghost use Rattle.bip_model.specs.Drafts.{component_line, empty_draft, end_line};
+ghost use Rattle.bip_model.specs.Drafts.{inside, interaction_line};
 ghost use Rattle.bip_model.specs.Drafts.{priority_line, IsEndFault, IsWhole};
 ghost use Rattle.bip_model.specs.Components.{loc_line, port_line, trans_line, var_line};
 ghost use Rattle.bip_model.specs.Naming.{same_text};
+ghost use Rattle.bip_model.specs.Partitions.{IsPartition};
 ghost use Rattle.bip_model.specs.Faults.{Answers, new_or_fault};
 ghost use Rattle.bip_model.specs.Priorities.{IsCyclic};
-ghost use Rattle.bip_model.specs.Scopes.{shared, variable_named};
 ghost use Rattle.bip_model.specs.declared.faults.BuildFault.TheVariants.{Memory};
-ghost use Rattle.bip_model.specs.declared.parts.TheConstants.{MOST_COMPONENTS};
 
 use crate::drafts::Draft;
-use crate::scopes::{shared_variable, variable_named};
-use crate::{
-    Assignment, BuildFault, CompId, Comparison, InterId, Model, Name, Participants, PortId,
-    Variable, VariableName,
-};
+use crate::partitions::are_partition;
+use crate::{Assignments, BuildFault, Guard, InterId, Model, Name, OneOrMore};
 use std::alloc::{AllocError, Global};
 use std::marker;
 
@@ -69,40 +65,13 @@ impl Builder {
         Some(InterId(number as u16))
     }
 
-    /// The variable with this name of the component that is begun; none where it has none, or no
-    /// component is begun. Takes no memory.
-    pub fn own_variable(&self, name: &Name) -> Option<Variable>
-        ensures named { result ≡ variable_named (begun_in self.now).variables 0 name.now }
-        ensures there { IfSome result (λ v. (v.owner ≡ 0) × (v.number.0 < 8)) }
+    /// Whether these classes are a partition of the interactions so far (docs/DEFINITIONS.md,
+    /// "Partitions"). Takes no memory.
+    pub fn are_classes(&self, classes: &[(Name, Vec<InterId>)]) -> bool
+        ensures { IsTrue result ↔ IsPartition (λ c. c.0) (λ c. c.1.items)
+            (length self.now.system.interactions) classes.now }
     {
-        let component = self.draft.begun.as_ref()?;
-        variable_named(&component.variables, 0, name)
-    }
-
-    /// The participants that these words name, each by a component and one of its ports, by
-    /// component: what `interaction` makes of them. By the first word from the left that is at
-    /// fault, Unknown: there is no such component, or it lacks the port; Twice: the component takes
-    /// part already. Takes no memory.
-    pub fn participants(&self, words: &[(Name, Name)]) -> Result<Participants, BuildFault>
-        ensures named { result ≡ participants_named self.now.system [] words.now }
-        ensures few { IfOk result (λ found. length found ≤ MOST_COMPONENTS) }
-    {
-        self.draft.system.participants(self.alloc, words)
-    }
-
-    /// The variable for which a name stands in the guard and the transfer of an interaction of
-    /// these participants; none where no participant has it. Takes no memory.
-    pub fn shared_variable(
-        &self,
-        participants: &[(CompId, PortId)],
-        name: &VariableName,
-    ) -> Option<Variable>
-        requires { length participants.now ≤ MOST_COMPONENTS }
-        ensures named { result ≡ shared self.now.system participants.now name.now }
-        ensures there { IfSome result (λ v.
-            (v.owner < length participants.now) × (v.number.0 < 8)) }
-    {
-        shared_variable(&self.draft.system, participants, name)
+        are_partition(classes, self.draft.system.interactions.len() as u16)
     }
 
     /// `component NAME` begins a component. Twice: a component has this name; then TooMany: there
@@ -169,8 +138,8 @@ impl Builder {
         port: Name,
         source: Name,
         target: Name,
-        guard: &[Comparison<VariableName>],
-        update: &[Assignment<VariableName>],
+        guard: &Guard<'_>,
+        update: &Assignments<'_>,
     ) -> Result<(), BuildFault>
         requires { IsSome self.old.begun }
         ensures said { Answers Memory
@@ -205,19 +174,18 @@ impl Builder {
     pub fn interaction(
         &mut self,
         name: Name,
-        participants: &[(Name, Name)],
-        guard: &[Comparison<VariableName>],
-        transfer: &[Assignment<VariableName>],
+        participants: &OneOrMore<'_, (Name, Name)>,
+        guard: &Guard<'_>,
+        transfer: &Assignments<'_>,
     ) -> Result<(), BuildFault>
-        requires outside { IsNone self.old.begun }
-        requires some { 0 < length participants.now }
+        requires { IsNone self.old.begun }
         ensures said { Answers Memory
             (interaction_line self.old name participants.now guard.now transfer.now)
             (new_or_fault result self.new) }
         ensures err { OnErr result (self.new ≡ self.old) }
     {
         self.draft
-            .interaction(self.alloc, name, participants, guard, transfer)
+            .interaction(self.alloc, name, participants.each(), guard, transfer)
     }
 
     /// `priority LOW < HIGH` puts the second interaction above the first. By the first word from

@@ -12,11 +12,11 @@ ghost use Rattle.bip_model.specs.declared.faults.BuildFault.TheVariants.{Memory}
 
 use crate::expressions::holds;
 use crate::parts::{MOST_LOCATIONS, MOST_PORTS, MOST_TRANSITIONS};
-use crate::scopes::{Scope, are_long_assignments, is_long_guard};
+use crate::scopes::Scope;
 use crate::states::MOST_VALUES;
 use crate::{
-    Assignment, BuildFault, Comparison, Component, LocId, LocalState, Name, Names, PortId, Seq,
-    Transition, Values, VariableName,
+    Assignments, BuildFault, Component, Guard, LocId, LocalState, Name, Names, PortId, Seq,
+    Transition, Values,
 };
 use std::alloc::Global;
 
@@ -94,8 +94,8 @@ impl Component {
         port: PortId,
         source: LocId,
         target: LocId,
-        guard: &[Comparison<VariableName>],
-        update: &[Assignment<VariableName>],
+        guard: &Guard<'_>,
+        update: &Assignments<'_>,
     ) -> Result<(), BuildFault>
         requires { IsComponentSoFar self.old }
         ensures said { Answers Memory
@@ -103,20 +103,17 @@ impl Component {
             (new_or_fault result self.new) }
         ensures err { OnErr result (self.new ≡ self.old) }
     {
-        if MOST_TRANSITIONS <= self.transitions.len()
-            || is_long_guard(guard)
-            || are_long_assignments(update)
-        {
+        if MOST_TRANSITIONS <= self.transitions.len() || guard.are_long() || update.are_long() {
             return Err(BuildFault::TooMany);
         }
         if self.has_start(source, port) {
             return Err(BuildFault::TwoTransitions);
         }
         let scope = Scope::Own(&self.variables);
-        let Ok(guard) = scope.guard(alloc, guard) else {
+        let Ok(guard) = scope.guard(alloc, guard.each()) else {
             return Err(BuildFault::Memory);
         };
-        let Ok(update) = scope.assignments(alloc, update) else {
+        let Ok(update) = scope.assignments(alloc, update.each()) else {
             return Err(BuildFault::Memory);
         };
         let transition = Transition {
@@ -147,8 +144,8 @@ impl Component {
         port: &Name,
         source: &Name,
         target: &Name,
-        guard: &[Comparison<VariableName>],
-        update: &[Assignment<VariableName>],
+        guard: &Guard<'_>,
+        update: &Assignments<'_>,
     ) -> Result<(), BuildFault>
         requires { IsComponentSoFar self.old }
         ensures said { Answers Memory
@@ -166,10 +163,10 @@ impl Component {
             return Err(BuildFault::Unknown);
         };
         let scope = Scope::Own(&self.variables);
-        if !scope.knows_guard(guard) {
+        if !scope.knows_guard(guard.each()) {
             return Err(BuildFault::Unknown);
         }
-        if !scope.knows_assignments(update) {
+        if !scope.knows_assignments(update.each()) {
             return Err(BuildFault::Unknown);
         }
         self.add_transition(

@@ -15,10 +15,10 @@ ghost use Rattle.bip_model.specs.declared.parts.TheConstants.{MOST_COMPONENTS};
 
 use crate::looks::takes_part;
 use crate::parts::{MOST_COMPONENTS, MOST_INTERACTIONS, MOST_PARTICIPANTS, System};
-use crate::scopes::{Scope, are_long_assignments, is_long_guard};
+use crate::scopes::Scope;
 use crate::{
-    Assignment, BuildFault, CompId, Comparison, Component, InterId, Interaction, Name, Names, Pair,
-    PortId, Seq, VariableName,
+    Assignments, BuildFault, CompId, Component, Each, Guard, InterId, Interaction, Name, Names,
+    Pair, PortId, Seq,
 };
 use smallvec::SmallVec;
 use std::alloc::{AllocError, Global};
@@ -34,7 +34,7 @@ pub struct Draft {
 
 /// The participants that a text names, by component, kept in place. Contracts see them as the list.
 #[derive(Drop)]
-pub struct Participants {
+pub(crate) struct Participants {
     participants: SmallVec<(CompId, PortId), 64>,
 }
 
@@ -49,7 +49,7 @@ impl Model for Participants {
 
 impl Participants {
     /// The participants, by component.
-    pub fn as_slice(&self) -> &[(CompId, PortId)]
+    fn as_slice(&self) -> &[(CompId, PortId)]
         ensures { result.now ≡ self.now }
     {
         self.participants.as_slice()
@@ -75,18 +75,18 @@ impl System {
     }
 
     /// The participants that a text names, by component. Takes no memory.
-    pub(crate) fn participants(
+    fn participants(
         &self,
         alloc: Global,
-        words: &[(Name, Name)],
+        words: Each<'_, (Name, Name)>,
     ) -> Result<Participants, BuildFault>
         requires { IsSystemSoFar self.now }
-        ensures named { result ≡ participants_named self.now [] words.now }
+        ensures named { result ≡ participants_named self.now [] words.entry }
         ensures few { IfOk result (λ found. length found ≤ MOST_COMPONENTS) }
     {
         let mut found = SmallVec::new(alloc);
         for word in words {
-            let participant = self.participant(word)?;
+            let participant = self.participant(&word)?;
             if takes_part(found.as_slice(), participant.0) {
                 return Err(BuildFault::Twice);
             }
@@ -102,8 +102,8 @@ impl System {
         &self,
         alloc: Global,
         participants: &[(CompId, PortId)],
-        guard: &[Comparison<VariableName>],
-        transfer: &[Assignment<VariableName>],
+        guard: &Guard<'_>,
+        transfer: &Assignments<'_>,
     ) -> Result<Interaction, AllocError>
         requires system { IsSystemSoFar self.now }
         requires few { length participants.now ≤ MOST_COMPONENTS }
@@ -113,8 +113,8 @@ impl System {
         let scope = Scope::Shared(self, participants);
         Ok(Interaction {
             participants: Seq::of(Vec::from_slice(alloc, participants)?),
-            guard: scope.guard(alloc, guard)?,
-            transfer: scope.assignments(alloc, transfer)?,
+            guard: scope.guard(alloc, guard.each())?,
+            transfer: scope.assignments(alloc, transfer.each())?,
         })
     }
 
@@ -123,8 +123,8 @@ impl System {
         alloc: Global,
         name: Name,
         participants: &[(CompId, PortId)],
-        guard: &[Comparison<VariableName>],
-        transfer: &[Assignment<VariableName>],
+        guard: &Guard<'_>,
+        transfer: &Assignments<'_>,
     ) -> Result<(), BuildFault>
         requires known { is_known name self.old.interaction_names ≡ false }
         requires system { IsSystemSoFar self.old }
@@ -136,8 +136,8 @@ impl System {
     {
         if MOST_INTERACTIONS <= self.interactions.len()
             || MOST_PARTICIPANTS < participants.len()
-            || is_long_guard(guard)
-            || are_long_assignments(transfer)
+            || guard.are_long()
+            || transfer.are_long()
         {
             return Err(BuildFault::TooMany);
         }
@@ -160,8 +160,8 @@ impl System {
         alloc: Global,
         name: Name,
         participants: &[(CompId, PortId)],
-        guard: &[Comparison<VariableName>],
-        transfer: &[Assignment<VariableName>],
+        guard: &Guard<'_>,
+        transfer: &Assignments<'_>,
     ) -> Result<(), BuildFault>
         requires known { is_known name self.old.interaction_names ≡ false }
         requires system { IsSystemSoFar self.old }
@@ -172,10 +172,10 @@ impl System {
         ensures err { OnErr result (self.new ≡ self.old) }
     {
         let scope = Scope::Shared(self, participants);
-        if !scope.knows_guard(guard) {
+        if !scope.knows_guard(guard.each()) {
             return Err(BuildFault::Unknown);
         }
-        match scope.check_transfer(transfer) {
+        match scope.check_transfer(transfer.each()) {
             Err(fault) => Err(fault),
             Ok(()) => self.add_interaction(alloc, name, participants, guard, transfer),
         }
@@ -289,13 +289,13 @@ impl Draft {
         &mut self,
         alloc: Global,
         name: Name,
-        words: &[(Name, Name)],
-        guard: &[Comparison<VariableName>],
-        transfer: &[Assignment<VariableName>],
+        words: Each<'_, (Name, Name)>,
+        guard: &Guard<'_>,
+        transfer: &Assignments<'_>,
     ) -> Result<(), BuildFault>
         requires { IsSystemSoFar self.old.system }
         ensures said { Answers Memory
-            (interaction_line self.old name words.now guard.now transfer.now)
+            (interaction_line self.old name words.entry guard.now transfer.now)
             (new_or_fault result self.new) }
         ensures err { OnErr result (self.new ≡ self.old) }
     {

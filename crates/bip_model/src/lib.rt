@@ -3,6 +3,7 @@
 #![tactic(auto)]
 
 mod building;
+mod clauses;
 mod components;
 mod drafts;
 mod expressions;
@@ -26,9 +27,14 @@ mod states;
 mod steps;
 mod texts;
 mod wants;
+mod words;
 
 pub use building::Builder;
-pub use drafts::{Draft, Participants};
+pub use clauses::{
+    Assignments, Clause, Clauses, Guard, SpelledAssignment, SpelledComparison, Spelling,
+    clauses_of, head_of,
+};
+pub use drafts::Draft;
 pub use expressions::{Assignment, Comparison, Expr, Relation, Sign, Term, Variable};
 pub use faults::{BuildFault, ClassFault, NotNow};
 pub use grants::Grant;
@@ -37,10 +43,12 @@ pub use laws::{
 };
 pub use messages::{MOST_NOTIFIES, Notifies, Notify, Offer, Reply, Request};
 pub use models::Model;
-pub use naming::{Name, Names};
+pub use naming::{Name, Names, is_text};
 pub use numbering::{ClassId, CompId, InterId, LocId, Number, PortId, VarId};
 pub use partitions::{Classes, MOST_CLASSES, Partition};
-pub use parts::{Component, Interaction, MOST_PARTICIPANTS, Pair, System, Transition};
+pub use parts::{
+    Component, Interaction, MOST_CLAUSES, MOST_PARTICIPANTS, MOST_TERMS, Pair, System, Transition,
+};
 pub use scopes::VariableName;
 pub use sequence::Seq;
 pub use sets::has_port;
@@ -50,3 +58,4 @@ pub use texts::{
     split_word, write_word,
 };
 pub use wants::{MOST_WANTS, Role, Want, Wants};
+pub use words::{Each, OneOrMore, PORT_MARK, Word, Words};

@@ -145,10 +145,11 @@ fn is_reserved(text: &[u8]) -> bool
         || is_text(text, b"see")
 }
 
-fn is_text(text: &[u8], word: &[u8]) -> bool
-    ensures { result ≡ same_text text.now word.now }
+/// Whether a word is such a text, byte by byte.
+pub fn is_text(word: &[u8], text: &[u8]) -> bool
+    ensures { result ≡ same_text word.now text.now }
 {
-    text == word
+    word == text
 }
 
 /// A list of names without a name twice, each numbered by its place. Contracts see it as the list.

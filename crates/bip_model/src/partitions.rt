@@ -150,7 +150,8 @@ fn is_member(list: &[InterId], inter: InterId) -> bool
     list.iter().any(|other| *other == inter)
 }
 
-fn are_partition(classes: &[(Name, Vec<InterId>)], count: u16) -> bool
+/// Whether classes are a partition of so many interactions. Takes no memory.
+pub(crate) fn are_partition(classes: &[(Name, Vec<InterId>)], count: u16) -> bool
     requires { count ≤ MOST_INTERACTIONS }
     ensures { IsTrue result ↔ IsPartition (λ c. c.0) (λ c. c.1.items) count classes.now }
 {

@@ -16,10 +16,8 @@ pub const MOST_INTERACTIONS: usize = 128;
 pub const MOST_PARTICIPANTS: usize = 8;
 /// How many terms a sum has at most.
 pub const MOST_TERMS: usize = 16;
-/// How many comparisons a guard has at most.
-pub const MOST_COMPARISONS: usize = 16;
-/// How many assignments an update or a transfer has at most.
-pub const MOST_ASSIGNMENTS: usize = 16;
+/// How many comparisons a guard has at most, and how many assignments an update or a transfer.
+pub const MOST_CLAUSES: usize = 16;
 
 /// A transition: where its guard holds, the component goes with its port from the source to the
 /// target, and its update is done. An empty guard holds.

@@ -1,24 +1,29 @@
 //! The variables for which the names in a text stand, and what a text says with them.
-ghost use Rattle.std.specs.Prelude.{◌≡◌, ◌≤◌, ◌==◌, ◌||◌, ◌<◌, [], length, map, position};
+ghost use Rattle.std.specs.Prelude.{◌≡◌, ◌≤◌, ◌==◌, ◌<◌, ◌+◌, ◌*◌, [], length, map, position};
 ghost use Rattle.std.specs.Prelude.{IfOk, IfSome};
-ghost use Rattle.std.specs.List.{list_all, list_any};
-ghost use Rattle.bip_model.specs.Expressions.{is_same};
-ghost use Rattle.bip_model.specs.Scopes.{IsScope, are_long_assignments, assignment_said};
-ghost use Rattle.bip_model.specs.Scopes.{assignment_with, assignments_with, comparison_with};
-ghost use Rattle.bip_model.specs.Scopes.{guard_with, is_long_guard, is_long_sum};
-ghost use Rattle.bip_model.specs.Scopes.{knows_assignments, knows_guard, knows_sum, knows_term};
-ghost use Rattle.bip_model.specs.Scopes.{shared};
-ghost use Rattle.bip_model.specs.Scopes.{sum_with, term_with, transfer_said, variable_among};
-ghost use Rattle.bip_model.specs.Scopes.{variable_in, variable_named, variable_of};
+ghost use Rattle.std.specs.List.{list_all};
+ghost use Rattle.bip_model.specs.Scopes.{IsScope, assignment_with, assignments_with};
+ghost use Rattle.bip_model.specs.Scopes.{comparison_with, guard_with, knows_assignments};
+ghost use Rattle.bip_model.specs.Scopes.{knows_guard, knows_sum};
+ghost use Rattle.bip_model.specs.Scopes.{knows_term, shared, sum_with, term_with};
+ghost use Rattle.bip_model.specs.Scopes.{transfer_said, variable_among, variable_in};
+ghost use Rattle.bip_model.specs.Scopes.{variable_named, variable_of};
 ghost use Rattle.bip_model.specs.Parts.{IsSystemSoFar, Participant};
 ghost use Rattle.bip_model.specs.declared.parts.TheConstants.{MOST_COMPONENTS};
+ghost use Rattle.bip_model.specs.declared.scopes.TheConstants.{MOST_VARIABLES};
+ghost use Rattle.bip_model.specs.declared.states.TheConstants.{MOST_VALUES};
 
-use crate::parts::{MOST_ASSIGNMENTS, MOST_COMPARISONS, MOST_TERMS, System};
+use crate::clauses::{SpelledSum, SpelledTerms};
+use crate::parts::{MOST_COMPONENTS, System};
+use crate::states::MOST_VALUES;
 use crate::{
-    Assignment, BuildFault, CompId, Comparison, Expr, Name, Names, PortId, Seq, Sign, Term, VarId,
-    Variable,
+    Assignment, Assignments, BuildFault, CompId, Comparison, Expr, Guard, Name, Names, PortId, Seq,
+    Sign, SpelledAssignment, SpelledComparison, Term, VarId, Variable,
 };
 use std::alloc::{AllocError, Global};
+
+/// How many variables all components of a model have at most, 8 each.
+const MOST_VARIABLES: usize = 512;
 
 /// A variable as a text names it: in a component by its name alone, in an interaction by its
 /// component's name and its own.
@@ -93,7 +98,8 @@ impl<'a> Scope<'a> {
     /// The variable for which a name stands; none where it stands for none.
     fn variable(&self, name: &VariableName) -> Option<Variable>
         requires { IsScope self.now }
-        ensures { result ≡ variable_in self.now name.now }
+        ensures named { result ≡ variable_in self.now name.now }
+        ensures there { IfSome result (λ v. (v.owner < MOST_COMPONENTS) × (v.number.0 < 8)) }
     {
         match (self, &name.owner) {
             (Scope::Own(names), None) => variable_named(names, 0, &name.name),
@@ -125,81 +131,56 @@ impl<'a> Scope<'a> {
         }
     }
 
-    fn knows_sum(&self, sum: &Expr<VariableName>) -> bool
+    fn knows_terms(&self, mut terms: SpelledTerms<'_>) -> bool
+        requires { IsScope self.now }
+        ensures { result ≡ list_all (λ (t : Sign × Term VariableName).
+            knows_term (variable_in self.now) t.1) terms.entry }
+    {
+        terms.all(|t| self.knows_term(&t.1))
+    }
+
+    fn knows_sum(&self, sum: &SpelledSum<'_>) -> bool
         requires { IsScope self.now }
         ensures { result ≡ knows_sum (variable_in self.now) sum.now }
     {
-        self.knows_term(&sum.first) && self.knows_terms(sum.rest.as_slice())
-    }
-
-    fn knows_terms(&self, terms: &[(Sign, Term<VariableName>)]) -> bool
-        requires { IsScope self.now }
-        ensures { result ≡ list_all (λ (t : Sign × Term VariableName).
-            knows_term (variable_in self.now) t.1) terms.now }
-    {
-        terms.iter().all(|t| self.knows_term(&t.1))
+        self.knows_term(&sum.first) && self.knows_terms(sum.rest.each())
     }
 
     /// Whether all names of a guard are known.
-    pub(crate) fn knows_guard(&self, guard: &[Comparison<VariableName>]) -> bool
+    pub(crate) fn knows_guard(&self, mut guard: Guard<'_>) -> bool
         requires { IsScope self.now }
-        ensures { result ≡ knows_guard (variable_in self.now) guard.now }
+        ensures { result ≡ knows_guard (variable_in self.now) guard.entry }
     {
-        guard
-            .iter()
-            .all(|c| self.knows_sum(&c.left) && self.knows_sum(&c.right))
+        guard.all(|c| self.knows_sum(&c.left) && self.knows_sum(&c.right))
     }
 
     /// Whether all names of a list of assignments are known.
-    pub(crate) fn knows_assignments(&self, assignments: &[Assignment<VariableName>]) -> bool
+    pub(crate) fn knows_assignments(&self, mut assignments: Assignments<'_>) -> bool
         requires { IsScope self.now }
-        ensures { result ≡ knows_assignments (variable_in self.now) assignments.now }
+        ensures { result ≡ knows_assignments (variable_in self.now) assignments.entry }
     {
-        assignments.iter().all(|a| self.variable(&a.target).is_some() && self.knows_sum(&a.sum))
-    }
-
-    fn is_target(&self, target: Variable, before: &[Assignment<VariableName>]) -> bool
-        requires { IsScope self.now }
-        ensures { result ≡ list_any (λ (b : Assignment VariableName).
-            is_same (variable_of (variable_in self.now) b.target) target) before.now }
-    {
-        before.iter().any(|b| {
-            let other = self.variable_of(&b.target);
-            other.owner == target.owner && other.number == target.number
-        })
-    }
-
-    fn check_assignment(
-        &self,
-        before: &[Assignment<VariableName>],
-        assignment: &Assignment<VariableName>,
-    ) -> Result<(), BuildFault>
-        requires { IsScope self.now }
-        ensures { result ≡ assignment_said (variable_in self.now) before.now assignment.now }
-    {
-        if self.variable(&assignment.target).is_none() {
-            return Err(BuildFault::Unknown);
-        }
-        if self.is_target(self.variable_of(&assignment.target), before) {
-            return Err(BuildFault::Twice);
-        }
-        if !self.knows_sum(&assignment.sum) {
-            return Err(BuildFault::Unknown);
-        }
-        Ok(())
+        assignments.all(|a| self.variable(&a.target).is_some() && self.knows_sum(&a.sum))
     }
 
     /// The first fault of a transfer's words: a name that isn't known, or a second assignment to
-    /// one variable.
-    pub(crate) fn check_transfer(
-        &self,
-        assignments: &[Assignment<VariableName>],
-    ) -> Result<(), BuildFault>
+    /// one variable. Takes no memory.
+    pub(crate) fn check_transfer(&self, transfer: Assignments<'_>) -> Result<(), BuildFault>
         requires { IsScope self.now }
-        ensures { result ≡ transfer_said (variable_in self.now) [] assignments.now }
+        ensures { result ≡ transfer_said (variable_in self.now) [] transfer.entry }
     {
-        for (index, assignment) in assignments.iter().enumerate() {
-            self.check_assignment(&assignments[..index], assignment)?;
+        let mut targets = [false; MOST_VARIABLES];
+        for assignment in transfer {
+            let Some(target) = self.variable(&assignment.target) else {
+                return Err(BuildFault::Unknown);
+            };
+            let place = place_of(target);
+            if targets[place] {
+                return Err(BuildFault::Twice);
+            }
+            if !self.knows_sum(&assignment.sum) {
+                return Err(BuildFault::Unknown);
+            }
+            targets[place] = true;
         }
         Ok(())
     }
@@ -214,24 +195,14 @@ impl<'a> Scope<'a> {
         }
     }
 
-    fn sum(&self, alloc: Global, sum: &Expr<VariableName>) -> Result<Expr<Variable>, AllocError>
-        requires { IsScope self.now }
-        ensures { IfOk result (λ e. e ≡ sum_with (variable_of (variable_in self.now)) sum.now) }
-    {
-        Ok(Expr {
-            first: self.term(&sum.first),
-            rest: self.terms(alloc, sum.rest.as_slice())?,
-        })
-    }
-
     fn terms(
         &self,
         alloc: Global,
-        terms: &[(Sign, Term<VariableName>)],
+        terms: SpelledTerms<'_>,
     ) -> Result<Seq<(Sign, Term<Variable>)>, AllocError>
         requires { IsScope self.now }
         ensures { IfOk result (λ ts. ts ≡ map (λ (t : Sign × Term VariableName).
-            (t.0, term_with (variable_of (variable_in self.now)) t.1)) terms.now) }
+            (t.0, term_with (variable_of (variable_in self.now)) t.1)) terms.entry) }
     {
         let mut all = Vec::new(alloc);
         for term in terms {
@@ -240,10 +211,20 @@ impl<'a> Scope<'a> {
         Ok(Seq::of(all))
     }
 
+    fn sum(&self, alloc: Global, sum: &SpelledSum<'_>) -> Result<Expr<Variable>, AllocError>
+        requires { IsScope self.now }
+        ensures { IfOk result (λ e. e ≡ sum_with (variable_of (variable_in self.now)) sum.now) }
+    {
+        Ok(Expr {
+            first: self.term(&sum.first),
+            rest: self.terms(alloc, sum.rest.each())?,
+        })
+    }
+
     fn comparison(
         &self,
         alloc: Global,
-        comparison: &Comparison<VariableName>,
+        comparison: &SpelledComparison<'_>,
     ) -> Result<Comparison<Variable>, AllocError>
         requires { IsScope self.now }
         ensures { IfOk result (λ c. c
@@ -259,7 +240,7 @@ impl<'a> Scope<'a> {
     fn assignment(
         &self,
         alloc: Global,
-        assignment: &Assignment<VariableName>,
+        assignment: &SpelledAssignment<'_>,
     ) -> Result<Assignment<Variable>, AllocError>
         requires { IsScope self.now }
         ensures { IfOk result (λ a. a
@@ -275,14 +256,14 @@ impl<'a> Scope<'a> {
     pub(crate) fn guard(
         &self,
         alloc: Global,
-        guard: &[Comparison<VariableName>],
+        guard: Guard<'_>,
     ) -> Result<Seq<Comparison<Variable>>, AllocError>
         requires { IsScope self.now }
-        ensures { IfOk result (λ g. g ≡ guard_with (variable_in self.now) guard.now) }
+        ensures { IfOk result (λ g. g ≡ guard_with (variable_in self.now) guard.entry) }
     {
         let mut comparisons = Vec::new(alloc);
         for comparison in guard {
-            comparisons.push(self.comparison(alloc, comparison)?)?;
+            comparisons.push(self.comparison(alloc, &comparison)?)?;
         }
         Ok(Seq::of(comparisons))
     }
@@ -291,50 +272,26 @@ impl<'a> Scope<'a> {
     pub(crate) fn assignments(
         &self,
         alloc: Global,
-        assignments: &[Assignment<VariableName>],
+        assignments: Assignments<'_>,
     ) -> Result<Seq<Assignment<Variable>>, AllocError>
         requires { IsScope self.now }
         ensures { IfOk result (λ g. g
-            ≡ assignments_with (variable_in self.now) assignments.now) }
+            ≡ assignments_with (variable_in self.now) assignments.entry) }
     {
         let mut all = Vec::new(alloc);
         for assignment in assignments {
-            all.push(self.assignment(alloc, assignment)?)?;
+            all.push(self.assignment(alloc, &assignment)?)?;
         }
         Ok(Seq::of(all))
     }
 }
 
-fn is_long_sum(sum: &Expr<VariableName>) -> bool
-    ensures { result ≡ is_long_sum sum.now }
+/// The place of a variable among all that participants can have.
+fn place_of(variable: Variable) -> usize
+    requires owner { variable.owner < MOST_COMPONENTS }
+    requires number { variable.number.0 < 8 }
+    ensures place { result ≡ variable.owner * MOST_VALUES + variable.number.0 }
+    ensures within { result < MOST_VARIABLES }
 {
-    MOST_TERMS <= sum.rest.len()
-}
-
-fn has_long_sum(guard: &[Comparison<VariableName>]) -> bool
-    ensures { result ≡ list_any (λ c. is_long_sum c.left || is_long_sum c.right) guard.now }
-{
-    guard
-        .iter()
-        .any(|c| is_long_sum(&c.left) || is_long_sum(&c.right))
-}
-
-fn assigns_long_sum(assignments: &[Assignment<VariableName>]) -> bool
-    ensures { result ≡ list_any (λ a. is_long_sum a.sum) assignments.now }
-{
-    assignments.iter().any(|a| is_long_sum(&a.sum))
-}
-
-/// Whether a guard has more comparisons, or a sum of more terms, than a model may have.
-pub(crate) fn is_long_guard(guard: &[Comparison<VariableName>]) -> bool
-    ensures { result ≡ is_long_guard guard.now }
-{
-    MOST_COMPARISONS < guard.len() || has_long_sum(guard)
-}
-
-/// Whether assignments are more, or have a sum of more terms, than a model may have.
-pub(crate) fn are_long_assignments(assignments: &[Assignment<VariableName>]) -> bool
-    ensures { result ≡ are_long_assignments assignments.now }
-{
-    MOST_ASSIGNMENTS < assignments.len() || assigns_long_sum(assignments)
+    variable.owner as usize * MOST_VALUES + variable.number.0 as usize
 }
