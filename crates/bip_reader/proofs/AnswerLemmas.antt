@@ -1,5 +1,5 @@
 -- What calls answered, beside what is said.
-use Rattle.std.proofs.Common.{◌≡◌, ◌≢◌, ℕ, Bool, true, false, ◌||◌, List, [], ◌∷◌, length, map, Option, None, Some, Result, Ok, Err, refl, ap, arith}
+use Rattle.std.proofs.Common.{◌≡◌, ◌≢◌, ℕ, Bool, true, false, ◌||◌, List, [], ◌∷◌, length, map, Option, None, Some, Result, Ok, Err, refl, ap, sym, arith}
 use Rattle.std.specs.Prelude.{◌≤◌, is_some}
 use Rattle.std.proofs.lemmas.Bool.Decides.{nat_tests}
 use Rattle.std.specs.List.{list_all, list_any}
@@ -17,8 +17,7 @@ use Rattle.bip_reader.specs.declared.statements.Statement.{Statement}
 use Rattle.bip_reader.specs.declared.statements.Statement.TheVariants as statement
 use Rattle.bip_reader.specs.Faults.{why_of_build}
 use Rattle.bip_reader.specs.Reading.{class_line, draft_of, draft_with, interaction_named, reading_with, with_draft}
-use Rattle.bip_reader.specs.Statements.{stores_words}
-use Rattle.bip_reader.proofs.WordLemmas.{all_are_each}
+use Rattle.bip_model.proofs.WordLemmas.{all_are_each}
 
 -- whether an element's image passes a test
 pub list_any-map : {A B : Type 0} (p : B → Bool) (f : A → B) (xs : List A) → list_any p (map f xs) ≡ list_any (λ x. p (f x)) xs
@@ -38,31 +37,20 @@ pub err_same : {A : Type 0} (x y : Why) → ◌≡◌ {A = Result A Why} (Err x)
 err_same x y e = cc
 
 -- a call that didn't fail led to what is said
-pub led_to : {A : Type 0} (said : Result A Why) (result : Result (Unit {0}) Why) (new : A) → ((why : Why) → result ≡ Err why → ⊥)
-    → (result ≢ Err Memory → said ≡ new_or_fault result new) → said ≡ Ok new
-led_to said (Ok u) new none h = h (λ e. none Memory e)
+pub led_to : {A : Type 0} (said : Result A Why) (result : Result (Unit {0}) Why) (new : A) → ((why : Why) → result ≡ Err why → ⊥) → Answers Memory said (new_or_fault result new) → said ≡ Ok new
 led_to said (Err why) new none h = absurd (none why refl)
+led_to (Ok x) (Ok u) new none h = ap Ok (sym h)
+led_to (Err fault) (Ok u) new none h = absurd h
 
--- what the builder answered to a statement is what is said to the draft, or it wanted memory
-module _ (r : Reading) (s : Statement) (d : Draft) (fault : BuildFault) (is : r.builder ≡ Some d) where
-  pub answered : (◌≢◌ {A = Result (Unit {0}) BuildFault} (Err fault) (Err build_fault.Memory) → ◌≡◌ {A = Result Draft BuildFault} (Err fault) (draft_with s d))
-      → ◌≢◌ {A = Result (Unit {0}) Why} (Err (why_of_build fault)) (Err Memory) → ◌≡◌ {A = Result Reading Why} (Err (why_of_build fault)) (with_draft r (draft_with s (draft_of r)))
-  answered said other =
-      let no_memory : ◌≢◌ {A = Result (Unit {0}) BuildFault} (Err fault) (Err build_fault.Memory) = λ e. other (let same : fault ≡ build_fault.Memory = cc in rw same refl) in
-      rw (is, ← said no_memory) refl
+-- a fault other than want of memory is what is said
+pub told_as_said : {A : Type 0} (said : Result A Why) (why : Why) → Answers Memory said (Err why) → why ≢ Memory → said ≡ Err why
+told_as_said (Ok x) why h other = absurd (other h)
+told_as_said (Err fault) why h other = ap Err (sym h)
 
-  pub wanting : (◌≡◌ {A = Result (Unit {0}) BuildFault} (Err fault) (Err build_fault.Memory) → (f : BuildFault) → draft_with s d ≡ Err f → stores_words s ≡ true)
-      → ◌≡◌ {A = Result (Unit {0}) Why} (Err (why_of_build fault)) (Err Memory) → (why : Why) → with_draft r (draft_with s (draft_of r)) ≡ Err why → stores_words s ≡ true
-  wanting memory e why told = by_said (draft_with s d) refl (rw is at told)
-    where
-      by_fault : (f : BuildFault) → why_of_build f ≡ Memory → f ≡ build_fault.Memory
-      by_fault f e = grind arith
-
-      by_said : (said : Result Draft BuildFault) → draft_with s d ≡ said → with_draft r said ≡ Err why → stores_words s ≡ true
-      by_said (Ok new) at_said wrong = cc
-      by_said (Err f) at_said told' =
-          let same : fault ≡ build_fault.Memory = by_fault fault cc in
-          memory (rw same refl) f at_said
+-- what the builder answered to a statement, said to the reading
+pub answered : (r : Reading) (said : Result Draft BuildFault) (fault : BuildFault) → Answers build_fault.Memory said (Err fault) → Answers Memory (with_draft r said) (Err (why_of_build fault))
+answered r (Ok d) fault h = ap why_of_build h
+answered r (Err f) fault h = ap why_of_build h
 
 -- a statement that is neither `bip 1` nor a class is said to the draft
 pub is_said_to_draft : (s : Statement) (r : Reading) → (s ≡ statement.Header → ⊥) → ((name : List ℕ) (interactions : List (List ℕ)) → s ≡ statement.Class name interactions → ⊥)

@@ -23,7 +23,7 @@ use Rattle.bip_model.proofs.WrittenLemmas.{IsWord, name-word, position-name, unk
 use Rattle.bip_reader.specs.Reading.{ClassList, class_line, empty_reading, interaction_named}
 use Rattle.bip_reader.specs.Statements.{class_form, keyword_of, priority_form}
 use Rattle.bip_reader.specs.Texts.{IsParted, Means}
-use Rattle.bip_reader.specs.Words.{each_of, name_of}
+use Rattle.bip_model.specs.Words.{each_of, name_of}
 use Rattle.bip_reader.specs.Writing.{CanBeSpelled, line_of_class, line_of_priority, text_of_model}
 use Rattle.bip_reader.specs.declared.statements.Keyword.TheVariants as keyword
 use Rattle.bip_reader.specs.declared.statements.Statement.TheVariants as statement

@@ -1,9 +1,9 @@
 -- The faults that a statement can have in its place.
-use Rattle.std.proofs.Common.{◌≡◌, ◌≢◌, None, ℕ, Bool, true, false, List, [], ◌∷◌, ◌++◌, Option, Some, Result, Ok, Err, refl, sym, arith}
+use Rattle.std.proofs.Common.{◌≡◌, ◌≢◌, None, ℕ, Bool, true, false, List, [], ◌∷◌, ◌++◌, Option, Some, Result, Ok, Err, refl, sym, arith, subst, ◌∙◌}
 use Rattle.std.proofs.lemmas.Grind.{common_steps}
-use Rattle.std.specs.Prelude.{IfSome}
-use Rattle.std.specs.Option.{option_map, option_zip}
-use Rattle.bip_model.specs.Faults.{◌>>=◌, Answers, new_or_fault}
+use Rattle.std.specs.Prelude.{IsOk}
+use Rattle.std.specs.Option.{ok_or}
+use Rattle.bip_model.specs.Faults.{◌>>=◌, Answers}
 use Rattle.bip_model.specs.Scopes.{assignment_said, shared, transfer_said}
 use Rattle.bip_model.specs.declared.expressions.Assignment.{Assignment}
 use Rattle.bip_model.specs.declared.expressions.Comparison.{Comparison}
@@ -16,14 +16,11 @@ use Rattle.bip_model.specs.declared.faults.BuildFault.{BuildFault}
 use Rattle.bip_model.specs.declared.faults.BuildFault.TheVariants as build_fault
 use Rattle.bip_model.specs.declared.parts.System.{System}
 use Rattle.bip_reader.specs.Faults.{why_of_build}
-use Rattle.bip_reader.specs.Reading.{class_line, draft_of, draft_with, reading_with}
+use Rattle.bip_model.specs.Texts.{words_said}
+use Rattle.bip_reader.specs.Reading.{class_line, draft_of, draft_with, reading_after, reading_after_words, reading_with, statement_in}
 use Rattle.bip_reader.specs.declared.faults.Why.{Why}
 use Rattle.bip_reader.specs.declared.faults.Why.TheVariants.{Syntax, PriorityCycle, NotAPartition, Memory}
 use Rattle.bip_reader.specs.declared.reading.Reading.{Reading}
-use Rattle.bip_reader.specs.Clauses.{ClauseList, assignment_words, guard_words, has_clauses, head_of}
-use Rattle.bip_reader.specs.Statements.{class_form, end_form, header_form, priority_form, three_names, var_form, is_of_list, statement_of, stores_words, trans_form}
-use Rattle.bip_reader.specs.declared.statements.Keyword.{Keyword}
-use Rattle.bip_reader.specs.declared.statements.Keyword.TheVariants as keyword
 use Rattle.bip_reader.specs.declared.statements.Statement.{Statement}
 use Rattle.bip_reader.specs.declared.statements.Statement.TheVariants as statement
 
@@ -96,41 +93,29 @@ pub fair_more : (why : Why) → is_of_statement why ≡ true → is_of_text why 
 fair_more Memory h = h
 fair_more why h = refl
 
--- a statement that stores words is that of a line that lists them
-stores_listed : (k : Keyword) (rest : List (List ℕ)) (s : Statement) → statement_of k rest ≡ Some s → stores_words s ≡ true → is_of_list k rest ≡ true
-unfolding trans_form header_form var_form end_form priority_form class_form
-stores_listed keyword.Interaction rest s is stores = refl
-stores_listed keyword.Trans rest s is stores = by_words (guard_words rest) (assignment_words rest) refl refl
-  where
-    by_names : (names : Option (List ℕ × (List ℕ × List ℕ))) → option_map {U = Statement} (λ (t : (List ℕ × (List ℕ × List ℕ)) × ClauseList). statement.Trans t.0.0 t.0.1.0 t.0.1.1 t.1.0 t.1.1) (option_zip names (Some ([], []))) ≡ Some s → has_clauses rest ≡ true
-    by_names None is' = cc
-    by_names (Some n) is' = let same : statement.Trans n.0 n.1.0 n.1.1 [] [] ≡ s = cc in let wrong = rw (← same) at stores in cc
-
-    by_words : (g a : Option (List (List ℕ))) → guard_words rest ≡ g → assignment_words rest ≡ a → has_clauses rest ≡ true
-    by_words (Some g) a e f = rw e refl
-    by_words None (Some a) e f = rw (e, f) refl
-    by_words None None e f = by_names (three_names (head_of rest)) (rw (e, f) at is)
-stores_listed k rest s is stores = grind arith
-
--- what was read of a line that lists no words stores none
-pub listed_by : (k : Keyword) (rest : List (List ℕ)) (o : Option Statement) → o ≡ statement_of k rest → IfSome o (λ s. stores_words s ≡ true → is_of_list k rest ≡ true)
-listed_by k rest None is = tt
-listed_by k rest (Some s) is = λ stores. stores_listed k rest s (sym is) stores
-
 -- a fault of a statement in its place is none of syntax
 pub not_of_syntax : (s : Statement) (r : Reading) (why : Why) → reading_with s r ≡ Err why → why ≢ Syntax
 not_of_syntax s r why is = let fair = rw is at (reading_faults s r) in λ e. let wrong = rw e at fair in cc
 
--- want of memory hides no fault of a class
-pub class_told : (s : Statement) (r new : Reading) (result : Result (Unit {0}) Why) (why : Why) → Answers Memory (reading_with s r) (new_or_fault result new) → result ≡ Err Memory → reading_with s r ≡ Err why → ⊥
-class_told s r new result why h is said =
-    let fair = rw said at (reading_faults s r) in
-    let told : Memory ≡ why = rw (said, is) at h in
-    let wrong = rw (← told) at fair in cc
+-- want of memory is no fault of a line
+pub line_fair : (line : List ℕ) (r : Reading) → is_among is_of_text (reading_after line r) ≡ true
+unfolding reading_after
+line_fair line r = by_words (words_said line)
+  where
+    by_result : (said : Result Reading Why) → is_among is_of_statement said ≡ true → is_among is_of_text said ≡ true
+    by_result (Ok new) fair = refl
+    by_result (Err why) fair = fair_more why fair
 
--- nor of what is said to the draft
-pub draft_told : (s : Statement) (d new : Draft) (result : Result (Unit {0}) BuildFault) (fault : BuildFault) → Answers build_fault.Memory (draft_with s d) (new_or_fault result new) → result ≡ Err build_fault.Memory → draft_with s d ≡ Err fault → ⊥
-draft_told s d new result fault h is said =
-    let fair = rw said at (draft_faults s d) in
-    let told : build_fault.Memory ≡ fault = rw (said, is) at h in
-    let wrong = rw (← told) at fair in cc
+    by_statement : (o : Option Statement) → is_among is_of_text (ok_or o Syntax >>= λ s. reading_with s r) ≡ true
+    by_statement None = refl
+    by_statement (Some s) = by_result (reading_with s r) (reading_faults s r)
+
+    by_words : (words : Option (List (List ℕ))) → is_among is_of_text (reading_after_words words r) ≡ true
+    by_words None = refl
+    by_words (Some []) = refl
+    by_words (Some (word ∷ rest)) = by_statement (statement_in word rest r)
+
+-- so memory is wanting only where a line has no fault
+pub lacks_fairly : (said : Result Reading Why) (why : Why) → is_among is_of_text said ≡ true → Answers Memory said (Err why) → why ≡ Memory → IsOk said
+lacks_fairly (Ok r) why fair h is = refl
+lacks_fairly (Err fault) why fair h is = let wrong : is_of_text Memory ≡ true = subst (λ (w : Why). is_of_text w ≡ true) (sym h ∙ is) fair in cc

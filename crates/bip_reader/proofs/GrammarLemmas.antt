@@ -8,13 +8,13 @@ use Rattle.std.proofs.lemmas.List.Elements.{All-append, All-cons, All-nil, All-w
 use Rattle.bip_model.specs.declared.expressions.Assignment.{Assignment}
 use Rattle.bip_model.specs.declared.expressions.Comparison.{Comparison}
 use Rattle.bip_model.specs.declared.scopes.VariableName.{VariableName}
-use Rattle.bip_reader.specs.Clauses.{ClauseList, assignment_form, assignment_words, clauses_form, comparison_form, guard_words, head_of, list_form, parts_at, words_after, words_before}
+use Rattle.bip_model.specs.Clauses.{ClauseList, assignment_form, assignment_words, clauses_form, comparison_form, guard_words, head_of, list_form, parts_at, words_after, words_before}
 use Rattle.bip_reader.specs.Grammar.{IsWithClauses, SpellsAssignment, SpellsComparison}
-use Rattle.bip_reader.specs.Words.{and_of, cut_at, do_of, each_of, semicolon_of, when_of}
+use Rattle.bip_model.specs.Words.{and_of, cut_at, do_of, each_of, semicolon_of, when_of}
 use Rattle.bip_reader.specs.Writing.{words_of_list}
-use Rattle.bip_reader.specs.declared.clauses.Spelling.{Spelling}
-use Rattle.bip_reader.specs.declared.words.Do.{Do}
-use Rattle.bip_reader.specs.declared.words.When.{When}
+use Rattle.bip_model.specs.declared.clauses.Spelling.{Spelling}
+use Rattle.bip_model.specs.declared.words.Do.{Do}
+use Rattle.bip_model.specs.declared.words.When.{When}
 use Rattle.bip_reader.proofs.ReadBackLemmas.{cut_front, cut_none}
 use Rattle.bip_reader.proofs.SpellingLemmas.{IsUnmarked, assignment_back, assignment_is, assignment_unmarked, both_some, comparison_back, comparison_is, comparison_unmarked, cut_says, made_some, same_word}
 

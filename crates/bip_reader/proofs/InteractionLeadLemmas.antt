@@ -23,9 +23,9 @@ use Rattle.bip_model.specs.declared.scopes.VariableName.{VariableName}
 use Rattle.bip_model.proofs.ParticipantLemmas.{names_participants}
 use Rattle.bip_model.proofs.WrittenLemmas.{IsWord, names-word, position-name, unknown_before_it}
 use Rattle.bip_reader.specs.Statements.{interaction_form, keyword_of, name_and_words}
-use Rattle.bip_reader.specs.Words.{each_of, participant_of}
+use Rattle.bip_model.specs.Words.{each_of, participant_of}
 use Rattle.bip_reader.specs.Writing.{CanBeSpelled, IsSpelledInteraction, component_in, interaction_in, line_of_interaction, lines_of_interactions, own_word, participant_word, shared_word, words_of_assignments, words_of_guard}
-use Rattle.bip_reader.specs.declared.clauses.Spelling.TheVariants.{Shared}
+use Rattle.bip_model.specs.declared.clauses.Spelling.TheVariants.{Shared}
 use Rattle.bip_reader.specs.declared.statements.Keyword.TheVariants as keyword
 use Rattle.bip_reader.specs.declared.statements.Statement.TheVariants as statement
 use Rattle.bip_reader.proofs.ComponentLeadLemmas.{ports_apart, take-next, variables_apart}

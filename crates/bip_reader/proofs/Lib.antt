@@ -1,6 +1,4 @@
 pub mod AnswerLemmas
-pub mod BuildLemmas
-pub mod ClauseLemmas
 pub mod CanonicalLemmas
 pub mod ComponentLeadLemmas
 pub mod DecisionLemmas
@@ -23,7 +21,5 @@ pub mod SpellingLemmas
 pub mod StatementLemmas
 pub mod TextLemmas
 pub mod ToldLemmas
-pub mod TransferLemmas
 pub mod ValidLemmas
-pub mod WordLemmas
 pub mod WritingLemmas

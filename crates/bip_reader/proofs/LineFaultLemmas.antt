@@ -27,7 +27,7 @@ use Rattle.bip_reader.specs.Faults.{why_of_build}
 use Rattle.bip_reader.specs.Reading.{class_line, draft_of, interaction_named, interactions_named, reading_with, with_draft}
 use Rattle.bip_reader.specs.LineFaults.{fault_if, faults_of_guard, faults_of_interaction, faults_of_name, faults_of_participant, faults_of_trans, faults_of_transfer, faults_of_update, from_left, has_priority, has_transition, is_own_variable, is_shared_variable, line_faults}
 use Rattle.bip_reader.specs.Laws.{FaultsInOrder}
-use Rattle.bip_reader.specs.Words.{each_of}
+use Rattle.bip_model.specs.Words.{each_of}
 use Rattle.bip_reader.specs.declared.faults.Why.{Why}
 use Rattle.bip_reader.specs.declared.faults.Why.TheVariants.{Missing, TooMany, Twice, TwoTransitions, Unknown}
 use Rattle.bip_reader.specs.declared.reading.Reading.{Reading}

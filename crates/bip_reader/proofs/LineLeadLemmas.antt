@@ -22,7 +22,7 @@ use Rattle.bip_model.proofs.WrittenLemmas.{IsWord, decimal-word, name-word, posi
 use Rattle.bip_reader.specs.Reading.{ClassList, empty_reading}
 use Rattle.bip_reader.specs.Statements.{end_form, header_form, keyword_of, one_name, three_names, trans_form, var_form}
 use Rattle.bip_reader.specs.Writing.{IsSpelledTransition, line_of_name, line_of_transition, line_with, own_word, words_of_assignments, words_of_ends, words_of_guard}
-use Rattle.bip_reader.specs.declared.clauses.Spelling.TheVariants.{Own}
+use Rattle.bip_model.specs.declared.clauses.Spelling.TheVariants.{Own}
 use Rattle.bip_reader.specs.declared.reading.Reading.{Reading}
 use Rattle.bip_reader.specs.declared.statements.Keyword.TheVariants as keyword
 use Rattle.bip_reader.specs.declared.statements.Statement.TheVariants as statement

@@ -18,10 +18,10 @@ use Rattle.bip_model.specs.declared.expressions.Term.TheVariants.{Value, Of}
 use Rattle.bip_model.specs.declared.expressions.Variable.{Variable}
 use Rattle.bip_model.specs.declared.scopes.VariableName.{VariableName}
 use Rattle.bip_model.proofs.WrittenLemmas.{IsWord, decimal-word, value_said-decimal}
-use Rattle.bip_reader.specs.Clauses.{assignment_form, clauses_form, comparison_form, head_of, list_form, pairs_form, parts_at, relation_of, sign_of, signed_term_form, sum_form, term_form, words_after, words_before}
-use Rattle.bip_reader.specs.Words.{and_of, cut_at, do_of, each_of, semicolon_of, when_of}
+use Rattle.bip_model.specs.Clauses.{assignment_form, clauses_form, comparison_form, head_of, list_form, pairs_form, parts_at, relation_of, sign_of, signed_term_form, sum_form, term_form, words_after, words_before}
+use Rattle.bip_model.specs.Words.{and_of, cut_at, do_of, each_of, semicolon_of, when_of}
 use Rattle.bip_reader.specs.Writing.{AreSpelledAssignments, IsSpelledComparison, IsSpelledGuard, IsSpelledSum, IsSpelledTerm, relation_word, sign_word, term_word, words_of_assignment, words_of_assignments, words_of_comparison, words_of_guard, words_of_list, words_of_signed, words_of_sum}
-use Rattle.bip_reader.specs.declared.clauses.Spelling.{Spelling}
+use Rattle.bip_model.specs.declared.clauses.Spelling.{Spelling}
 use Rattle.bip_reader.proofs.SpelledLemmas.{IsNoMark, IsVariableWord, value_no_mark}
 
 -- cuts

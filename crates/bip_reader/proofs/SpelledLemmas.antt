@@ -9,11 +9,11 @@ use Rattle.bip_model.specs.Naming.{IsName, is_name_byte, is_name_start, same_tex
 use Rattle.bip_model.specs.Texts.{value_said}
 use Rattle.bip_model.specs.declared.scopes.VariableName.{VariableName}
 use Rattle.bip_model.proofs.WrittenLemmas.{IsWord, digits-decimal, is_name-from, name-word, names-word, pair_of-name}
-use Rattle.bip_reader.specs.Clauses.{relation_of, variable_form}
-use Rattle.bip_reader.specs.Words.{and_of, do_of, name_of, participant_of, semicolon_of, when_of}
+use Rattle.bip_model.specs.Clauses.{relation_of, variable_form}
+use Rattle.bip_model.specs.Words.{and_of, do_of, name_of, participant_of, semicolon_of, when_of}
 use Rattle.bip_reader.specs.Writing.{pair_word}
-use Rattle.bip_reader.specs.declared.clauses.Spelling.{Spelling}
-use Rattle.bip_reader.specs.declared.clauses.Spelling.TheVariants.{Own, Shared}
+use Rattle.bip_model.specs.declared.clauses.Spelling.{Spelling}
+use Rattle.bip_model.specs.declared.clauses.Spelling.TheVariants.{Own, Shared}
 
 -- no word between parts
 pub record IsNoMark (word : List ℕ) : Type 0 where

@@ -20,12 +20,12 @@ use Rattle.bip_model.specs.declared.expressions.Sign.TheVariants.{Plus, Minus}
 use Rattle.bip_model.specs.declared.expressions.Term.{Term}
 use Rattle.bip_model.specs.declared.expressions.Term.TheVariants.{Value, Of}
 use Rattle.bip_model.specs.declared.scopes.VariableName.{VariableName}
-use Rattle.bip_reader.specs.Clauses.{assignment_form, comparison_form, pairs_form, relation_of, sign_of, signed_term_form, sum_form, term_form, variable_form}
+use Rattle.bip_model.specs.Clauses.{assignment_form, comparison_form, pairs_form, relation_of, sign_of, signed_term_form, sum_form, term_form, variable_form}
 use Rattle.bip_reader.specs.Grammar.{SpellsAssignment, SpellsComparison, SpellsSigned, SpellsSum, SpellsTerm, SpellsVariable}
-use Rattle.bip_reader.specs.Words.{and_of, cut_at, do_of, dot, name_of, participant_of, semicolon_of, two_names, when_of}
+use Rattle.bip_model.specs.Words.{and_of, cut_at, do_of, dot, name_of, participant_of, semicolon_of, two_names, when_of}
 use Rattle.bip_reader.specs.Writing.{pair_word, relation_word, sign_word}
-use Rattle.bip_reader.specs.declared.clauses.Spelling.{Spelling}
-use Rattle.bip_reader.specs.declared.clauses.Spelling.TheVariants.{Own, Shared}
+use Rattle.bip_model.specs.declared.clauses.Spelling.{Spelling}
+use Rattle.bip_model.specs.declared.clauses.Spelling.TheVariants.{Own, Shared}
 use Rattle.bip_reader.proofs.ReadBackLemmas.{cut_front, relation_read, sign_read, sign_unrelated}
 use Rattle.bip_reader.proofs.SpelledLemmas.{IsNoMark, IsVariableWord, digits_no_mark, own_spelled, shared_spelled}
 

@@ -11,20 +11,20 @@ use Rattle.bip_model.specs.Texts.{value_said}
 use Rattle.bip_model.specs.declared.expressions.Assignment.{Assignment}
 use Rattle.bip_model.specs.declared.expressions.Comparison.{Comparison}
 use Rattle.bip_model.specs.declared.scopes.VariableName.{VariableName}
-use Rattle.bip_reader.specs.Clauses.{ClauseList, clauses_form, head_of}
+use Rattle.bip_model.specs.Clauses.{ClauseList, clauses_form, head_of}
 use Rattle.bip_reader.specs.Grammar.{AreTwoNames, IsLineOf, IsWithClauses}
 use Rattle.bip_reader.specs.Statements.{class_form, end_form, header_form, interaction_form, keyword_in, keyword_of, name_and_words, one_name, priority_form, statement_of, three_names, trans_form, var_form}
-use Rattle.bip_reader.specs.Words.{each_of, name_of, participant_of, two_names}
+use Rattle.bip_model.specs.Words.{each_of, name_of, participant_of, two_names}
 use Rattle.bip_reader.specs.Writing.{pair_word}
-use Rattle.bip_reader.specs.declared.clauses.Spelling.{Spelling}
-use Rattle.bip_reader.specs.declared.clauses.Spelling.TheVariants.{Own, Shared}
+use Rattle.bip_model.specs.declared.clauses.Spelling.{Spelling}
+use Rattle.bip_model.specs.declared.clauses.Spelling.TheVariants.{Own, Shared}
 use Rattle.bip_reader.specs.declared.statements.Keyword.{Keyword}
 use Rattle.bip_reader.specs.declared.statements.Keyword.TheVariants as keyword
 use Rattle.bip_reader.specs.declared.statements.Statement.{Statement}
 use Rattle.bip_reader.specs.declared.statements.Statement.TheVariants as statement
 use Rattle.bip_reader.proofs.GrammarLemmas.{clauses_are, clauses_back, each_is}
 use Rattle.bip_reader.proofs.SpelledLemmas.{name_no_mark, name_read, pair_no_mark, pair_read}
-use Rattle.bip_reader.proofs.WordLemmas.{as_many}
+use Rattle.bip_model.proofs.WordLemmas.{as_many}
 use Rattle.bip_reader.proofs.SpellingLemmas.{IsUnmarked, both_some, made_some, name_is, pair_is, passed_some, same_word, unmarked}
 
 -- the word of a keyword

@@ -9,7 +9,7 @@ use Rattle.bip_model.proofs.LineLemmas.{AreLeft, all_read, line_read, none_read}
 use Rattle.bip_reader.specs.declared.faults.ReadFault.{ReadFault}
 use Rattle.bip_reader.specs.declared.faults.Why.{Why}
 use Rattle.bip_reader.specs.declared.reading.Reading.{Reading}
-use Rattle.bip_reader.specs.Reading.{MayBeHidden, at_line, empty_reading, reading_after, reading_after_lines}
+use Rattle.bip_reader.specs.Reading.{at_line, empty_reading, reading_after, reading_after_lines}
 use Rattle.bip_reader.specs.Texts.{IsReached, MayLackMemory, reading_of}
 
 reading-after : (n : ℕ) (x : List ℕ) (xs ys : List (List ℕ)) (said : Result Reading ReadFault)
@@ -86,15 +86,12 @@ unfolding reading_of
 lacks_last text r e =
     let long : length (lines text) ≤ last_line text = omega arith in
     let all : reading_after_lines 1 (take (last_line text) (lines text)) empty_reading ≡ Ok r = rw (take_all (last_line text) (lines text) long) e in
-    record {
-      reached = last_reached text r e;
-      hidden = λ fault f. absurd (let both = rw all at f in cc);
-      saying = inl refl;
-    }
+    record { first = omega arith; last = omega arith; clear = rw all refl; saying = inl refl }
 
--- the fault of lines with but one is that of the line
-only_fault : (n : ℕ) (said : Result Reading Why) (fault : ReadFault) → at_line n said >>= reading_after_lines (n + 1) [] ≡ Err fault → said ≡ Err fault.why
-only_fault n said fault e = grind arith
+-- lines that go on with one that has no fault have none
+ok_with : (n : ℕ) (said : Result Reading Why) → IsOk said → IsOk (at_line n said >>= reading_after_lines (n + 1) [])
+ok_with n (Ok r) ok = refl
+ok_with n (Err why) ok = cc
 
 seam : (xs ys : List (List ℕ)) (y : List ℕ) → slice_get (xs ++ y ∷ ys) (length xs) ≡ Some y
 seam [] ys y = refl
@@ -102,13 +99,12 @@ seam (x ∷ xs) ys y = seam xs ys y
 
 -- memory may be wanting for the next line
 pub lacks_next : (text : List ℕ) (last n : ℕ) (r : Reading) (line : List ℕ) (left after : List (ℕ × List ℕ)) → IsAt text last r left → left ≡ (n, line) ∷ after
-    → ((why : Why) → reading_after line r ≡ Err why → MayBeHidden line why) → IsTrue (says_something (words_said line)) → MayLackMemory text n
-lacks_next text last n r line left after h next hides says =
+    → IsOk (reading_after line r) → IsTrue (says_something (words_said line)) → MayLackMemory text n
+lacks_next text last n r line left after h next ok says =
     let is = line_read text h.front left after n line h.are_left next in
     let back : n - 1 ≡ length h.front = omega (arith, is.number) in
     let many : length (lines text) ≡ length h.front + length (line ∷ is.rest) = ap length is.split ∙ length-append h.front (line ∷ is.rest) in
     let here : slice_get (lines text) (n - 1) ≡ Some line = rw (back, is.split) (seam h.front is.rest line) in
-    let front : take (n - 1) (lines text) ≡ h.front = rw (back, is.split) (take-append_seam h.front (line ∷ is.rest)) in
     let parts : lines text ≡ (h.front ++ line ∷ []) ++ is.rest = is.split ∙ sym (append_assoc h.front (line ∷ []) is.rest) in
     let count : n ≡ length (h.front ++ line ∷ []) = omega (arith, is.number, length-append h.front (line ∷ [])) in
     let down_to : take n (lines text) ≡ h.front ++ line ∷ [] = rw (count, parts) (take-append_seam (h.front ++ line ∷ []) is.rest) in
@@ -116,7 +112,8 @@ lacks_next text last n r line left after h next hides says =
     rw down_to (reading-append 1 h.front (line ∷ []) empty_reading ∙ rw h.said refl)
     in
     record {
-      reached = record { first = omega (arith, is.number); last = omega (arith, is.number, many); clear = rw (front, h.said) refl };
-      hidden = λ fault f. rw here (hides fault.why (only_fault (1 + length h.front) (reading_after line r) fault (sym said ∙ f)));
+      first = omega (arith, is.number);
+      last = omega (arith, is.number, many);
+      clear = rw said (ok_with (1 + length h.front) (reading_after line r) ok);
       saying = inr (rw here says);
     }

@@ -20,13 +20,13 @@ use Rattle.bip_model.specs.declared.faults.BuildFault.{BuildFault}
 use Rattle.bip_model.proofs.DraftLemmas.{component_keeps, end_keeps, inside_keeps, interaction_keeps, loc_keeps, port_keeps, priority_keeps, trans_keeps, var_keeps}
 use Rattle.std.proofs.lemmas.Bool.{false≢true}
 use Rattle.bip_model.proofs.PartitionLemmas.{classes_of_partition}
-use Rattle.bip_reader.proofs.WordLemmas.{as_many}
+use Rattle.bip_model.proofs.WordLemmas.{as_many}
 use Rattle.bip_reader.proofs.FaultLemmas.{fair_more, is_of_text, reading_faults}
-use Rattle.bip_reader.specs.Clauses.{ClauseList, clauses_form, head_of}
-use Rattle.bip_reader.specs.declared.clauses.Spelling.TheVariants.{Own, Shared}
+use Rattle.bip_model.specs.Clauses.{ClauseList, clauses_form, head_of}
+use Rattle.bip_model.specs.declared.clauses.Spelling.TheVariants.{Own, Shared}
 use Rattle.bip_reader.specs.declared.faults.ReadFault.{ReadFault}
 use Rattle.bip_reader.specs.Laws.{MeansValid, NoWantOfMemory}
-use Rattle.bip_reader.specs.Words.{each_of, name_of, participant_of}
+use Rattle.bip_model.specs.Words.{each_of, name_of, participant_of}
 use Rattle.bip_reader.specs.Reading.{at_line, can_follow, class_line, draft_of, draft_with, empty_reading, has_place, is_of_header, reading_after, reading_after_lines, reading_after_words, reading_with, statement_in, with_draft}
 use Rattle.bip_reader.specs.Statements.{class_form, end_form, header_form, interaction_form, keyword_in, keyword_of, name_and_words, one_name, priority_form, statement_of, three_names, trans_form, var_form}
 use Rattle.bip_reader.specs.Texts.{HasFault, IsFaultAtEnd, classes_of, reading_of, system_of}

@@ -11,8 +11,8 @@ use Rattle.bip_model.specs.declared.expressions.Term.{Term}
 use Rattle.bip_model.specs.declared.expressions.Term.TheVariants.{Value, Of}
 use Rattle.bip_model.specs.declared.scopes.VariableName.{VariableName}
 use Rattle.bip_reader.specs.Writing.{pair_word, relation_word, sign_word, words_of_list}
-use Rattle.bip_reader.specs.declared.clauses.Spelling.{Spelling}
-use Rattle.bip_reader.specs.declared.clauses.Spelling.TheVariants.{Own, Shared}
+use Rattle.bip_model.specs.declared.clauses.Spelling.{Spelling}
+use Rattle.bip_model.specs.declared.clauses.Spelling.TheVariants.{Own, Shared}
 use Rattle.bip_reader.specs.declared.statements.Statement.{Statement}
 use Rattle.bip_reader.specs.declared.statements.Statement.TheVariants.{Header, Component, Var, Loc}
 use Rattle.bip_reader.specs.declared.statements.Statement.TheVariants.{Port, Trans, End}

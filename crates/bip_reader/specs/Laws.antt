@@ -18,7 +18,7 @@ use Rattle.bip_reader.specs.Reading.{empty_reading, has_place, reading_after, re
 use Rattle.bip_reader.specs.Reading.{reading_with}
 use Rattle.bip_reader.specs.Statements.{keyword_in, keyword_of, statement_of}
 use Rattle.bip_reader.specs.Texts.{HasFault, IsReached, Means, reading_of}
-use Rattle.bip_reader.specs.Words.{name_of}
+use Rattle.bip_model.specs.Words.{name_of}
 use Rattle.bip_reader.specs.Writing.{CanBeSpelled, text_of_model}
 
 -- a text has at most one meaning

@@ -1,11 +1,8 @@
-pub mod Clauses
 pub mod Faults
 pub mod Grammar
 pub mod Laws
 pub mod LineFaults
 pub mod Reading
-pub mod Scopes
 pub mod Statements
 pub mod Texts
-pub mod Words
 pub mod Writing

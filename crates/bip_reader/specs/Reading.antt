@@ -1,5 +1,5 @@
 -- What the lines of a model's text say, one after another.
-use Rattle.std.specs.Prelude.{◌≢◌, ℕ, ◌+◌, ◌++◌, Bool, false, true, IsTrue, not, nat_le, List, []}
+use Rattle.std.specs.Prelude.{ℕ, ◌+◌, ◌++◌, Bool, false, true, not, nat_le, List, []}
 use Rattle.std.specs.Prelude.{◌∷◌, length, Option, None, Some, Result, Ok, Err, is_some}
 use Rattle.std.specs.Prelude.{option_and_then, position, unwrap_or, if◌then◌else◌}
 use Rattle.std.specs.List.{list_all, list_any}
@@ -24,8 +24,8 @@ use Rattle.bip_reader.specs.declared.statements.Statement.TheVariants.{Header, C
 use Rattle.bip_reader.specs.declared.statements.Statement.TheVariants.{Port, Trans, End}
 use Rattle.bip_reader.specs.declared.statements.Statement.TheVariants.{Interaction, Priority, Class}
 use Rattle.bip_reader.specs.Faults.{why_of_build}
-use Rattle.bip_reader.specs.Statements.{keyword_of, lists_words, statement_of}
-use Rattle.bip_reader.specs.Words.{each_of}
+use Rattle.bip_reader.specs.Statements.{keyword_of, statement_of}
+use Rattle.bip_model.specs.Words.{each_of}
 
 -- classes as a text names them: a name, and the numbers of interactions
 abbrev pub ClassList : Type 0
@@ -139,9 +139,3 @@ abbrev pub reading_after_lines : ℕ → List (List ℕ) → Reading → Result 
 reading_after_lines n [] r = Ok r
 reading_after_lines n (line ∷ rest) r =
     at_line n (reading_after line r) >>= reading_after_lines (n + 1) rest
-
--- a fault that want of memory may hide at its line: none of syntax, so the line has its form and
--- its place; and it lists words that may be stored before all are looked up
-pub record MayBeHidden (line : List ℕ) (why : Why) : Type 0 where
-  pub meaning : why ≢ Syntax
-  pub listing : IsTrue (option_map_or lists_words (words_said line) false)

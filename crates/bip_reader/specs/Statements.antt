@@ -1,12 +1,11 @@
 -- The forms of the lines of a model's text: from the words of a line to what it states.
-use Rattle.std.specs.Prelude.{ℕ, Bool, false, true, List, [], ◌∷◌, Option, None, Some, codes}
-use Rattle.std.specs.Prelude.{if◌then◌else◌, not, length, ◌==◌, ◌||◌}
-use Rattle.std.specs.Option.{option_map, option_map_or, option_zip}
+use Rattle.std.specs.Prelude.{ℕ, List, [], ◌∷◌, Option, None, Some, codes, if◌then◌else◌}
+use Rattle.std.specs.Option.{option_map, option_zip}
 use Rattle.bip_model.specs.Naming.{same_text}
 use Rattle.bip_model.specs.Texts.{value_said}
-use Rattle.bip_reader.specs.Clauses.{clauses_form, has_clauses, head_of}
-use Rattle.bip_reader.specs.Words.{name_of, one_or_more_of, participant_of, two_names}
-use Rattle.bip_reader.specs.declared.clauses.Spelling.TheVariants.{Own, Shared}
+use Rattle.bip_model.specs.Clauses.{clauses_form, head_of}
+use Rattle.bip_model.specs.Words.{name_of, one_or_more_of, participant_of, two_names}
+use Rattle.bip_model.specs.declared.clauses.Spelling.TheVariants.{Own, Shared}
 use Rattle.bip_reader.specs.declared.statements.Keyword.{Keyword}
 use Rattle.bip_reader.specs.declared.statements.Keyword.TheVariants as keyword
 use Rattle.bip_reader.specs.declared.statements.Statement.{Statement}
@@ -41,25 +40,6 @@ keyword_in End = keyword.End
 keyword_in (Interaction name participants guard transfer) = keyword.Interaction
 keyword_in (Priority low high) = keyword.Priority
 keyword_in (Class name interactions) = keyword.Class
-
--- whether a line lists words that may be stored before all are looked up, by its keyword and the
--- words that follow: an interaction's does, and a transition's with a guard or assignments
-abbrev pub is_of_list : Keyword → List (List ℕ) → Bool
-is_of_list keyword.Trans rest = has_clauses rest
-is_of_list keyword.Interaction rest = true
-is_of_list k rest = false
-
-abbrev pub lists_words : List (List ℕ) → Bool
-lists_words [] = false
-lists_words (word ∷ rest) = option_map_or (λ k. is_of_list k rest) (keyword_of word) false
-
--- whether some of what a statement lists may be stored before it is looked up: an interaction's
--- participants, its guard and its assignments, and a transition's guard and assignments
-abbrev pub stores_words : Statement → Bool
-stores_words (Trans port source target guard update) =
-    not (length guard == 0) || not (length update == 0)
-stores_words (Interaction name participants guard transfer) = true
-stores_words s = false
 
 -- `1`
 unfoldable pub header_form : List (List ℕ) → Option Statement

@@ -14,7 +14,7 @@ use Rattle.bip_reader.specs.declared.faults.ReadFault.{ReadFault}
 use Rattle.bip_reader.specs.declared.faults.Why.{Why}
 use Rattle.bip_reader.specs.declared.faults.Why.TheVariants.{Missing, PriorityCycle, NotAPartition}
 use Rattle.bip_reader.specs.declared.reading.Reading.{Reading}
-use Rattle.bip_reader.specs.Reading.{ClassList, MayBeHidden, draft_of, empty_reading}
+use Rattle.bip_reader.specs.Reading.{ClassList, draft_of, empty_reading}
 use Rattle.bip_reader.specs.Reading.{reading_after_lines}
 
 -- what the lines of a text say, all in all; or their first fault
@@ -87,11 +87,16 @@ pub record IsReached (text : List ℕ) (line : ℕ) : Type 0 where
   pub last : line ≤ last_line text
   pub clear : IsOk (reading_down_to (line - 1) text)
 
--- memory may be wanting at a line: reading comes to it, a fault of the line itself is one that may
--- be hidden, and the line says something or is the last
+-- whether the line with this number says something
+abbrev pub SaysSomething : List ℕ → ℕ → Type 0
+SaysSomething text line =
+    IsSomeAnd (slice_get (lines text) (line - 1)) (λ bytes.
+    IsTrue (says_something (words_said bytes)))
+
+-- memory may be wanting at a line: it is one of the text, neither it nor a line before it is at
+-- fault, and it says something or is the last
 pub record MayLackMemory (text : List ℕ) (line : ℕ) : Type 0 where
-  pub reached : IsReached text line
-  pub hidden : (fault : ReadFault) → reading_down_to line text ≡ Err fault
-      → IsSomeAnd (slice_get (lines text) (line - 1)) (λ bytes. MayBeHidden bytes fault.why)
-  pub saying : (line ≡ last_line text) ⊎ IsSomeAnd (slice_get (lines text) (line - 1)) (λ bytes.
-      IsTrue (says_something (words_said bytes)))
+  pub first : 1 ≤ line
+  pub last : line ≤ last_line text
+  pub clear : IsOk (reading_down_to line text)
+  pub saying : (line ≡ last_line text) ⊎ SaysSomething text line

@@ -25,7 +25,7 @@ use Rattle.bip_model.specs.declared.parts.Interaction.{Interaction}
 use Rattle.bip_model.specs.declared.parts.Pair.{Pair}
 use Rattle.bip_model.specs.declared.parts.System.{System}
 use Rattle.bip_model.specs.declared.parts.Transition.{Transition}
-use Rattle.bip_reader.specs.Words.{dot}
+use Rattle.bip_model.specs.Words.{dot}
 use Rattle.bip_reader.specs.declared.writing.Speller.{Speller}
 use Rattle.bip_reader.specs.declared.writing.Speller.TheVariants.{Own, Shared}
 

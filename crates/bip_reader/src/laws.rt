@@ -12,7 +12,7 @@ ghost use Rattle.bip_reader.specs.Laws.{SaysItsStatement, SyntaxIsNoLine};
 /// blanks between words or in a last line feed mean the same model and classes. A word is taken as
 /// a name exactly where it is one. The canonical text of a model means it (docs/ANSWERS.md, "Model
 /// texts").
-#[tactic(auto, unfolding(crate::specs::Words::name_of))]
+#[tactic(auto, unfolding(bip_model::specs::Words::name_of))]
 pub fn meaning_laws()
     ensures meaning { OneMeaning }
     ensures fault { OneFault }

@@ -2,14 +2,11 @@
 #![tactic(auto)]
 
 mod building;
-mod clauses;
 mod faults;
 mod laws;
 mod reading;
-mod scopes;
 mod statements;
 mod texts;
-mod words;
 mod writing;
 
 pub use faults::{ReadFault, Why};

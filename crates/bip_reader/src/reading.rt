@@ -9,19 +9,20 @@ ghost use Rattle.bip_model.specs.Priorities.{IsCyclic};
 ghost use Rattle.bip_model.specs.Texts.{says_something, words, words_said};
 ghost use Rattle.bip_reader.specs.declared.faults.Why.{Why};
 ghost use Rattle.bip_reader.specs.declared.faults.Why.TheVariants.{Memory, Syntax};
-ghost use Rattle.bip_reader.specs.Reading.{MayBeHidden, are_interactions, can_follow, class_line};
+ghost use Rattle.bip_reader.specs.Reading.{are_interactions, can_follow, class_line};
 ghost use Rattle.bip_reader.specs.Reading.{draft_of, empty_reading, has_place};
 ghost use Rattle.bip_reader.specs.Reading.{interaction_named, interactions_named, reading_after};
 ghost use Rattle.bip_reader.specs.Reading.{reading_after_words};
 ghost use Rattle.bip_reader.specs.Reading.{reading_with, statement_in};
-ghost use Rattle.bip_reader.specs.Statements.{keyword_in, lists_words, stores_words};
+ghost use Rattle.bip_reader.specs.Statements.{keyword_in};
 ghost use Rattle.bip_reader.specs.Texts.{IsFaultAtEnd, IsWholeReading, system_of};
 
 use crate::Why;
 use crate::building::build;
 use crate::statements::{Keyword, Statement, keyword_of, read_statement};
-use crate::words::{Each, OneOrMore, Words};
-use bip_model::{Builder, InterId, Line, MOST_CLASSES, Model, Name, Seq, read_words};
+use bip_model::{
+    Builder, Each, InterId, Line, MOST_CLASSES, Model, Name, OneOrMore, Seq, Words, read_words,
+};
 use std::alloc::{AllocError, Global};
 use std::marker;
 
@@ -95,15 +96,12 @@ impl Reading {
         }
     }
 
-    /// Reads one more line. Want of memory hides no fault of its syntax, which is told before
-    /// anything is stored, and another one only where it lists words that are stored before all are
-    /// looked up. A line that says nothing wants none.
+    /// Reads one more line. Want of memory hides none of its faults: nothing is stored before all
+    /// is looked up. A line that says nothing wants none.
     #[tactic(auto, unfolding(crate::specs::Reading::reading_after))]
     pub(crate) fn read_line(&mut self, alloc: Global, line: &[u8]) -> Result<(), Why>
-        ensures said { result ≢ Err Memory
-            → reading_after line.now self.old ≡ new_or_fault result self.new }
-        ensures memory { result ≡ Err Memory
-            → (why : Why) → reading_after line.now self.old ≡ Err why → MayBeHidden line.now why }
+        ensures said { Answers Memory (reading_after line.now self.old)
+            (new_or_fault result self.new) }
         ensures says { result ≡ Err Memory → IsTrue (says_something (words_said line.now)) }
     {
         match read_words(line) {
@@ -116,11 +114,8 @@ impl Reading {
     /// Takes what the words of a line say.
     #[tactic(auto, using(crate::proofs::FaultLemmas::reading_faults))]
     fn take_words(&mut self, alloc: Global, word: &[u8], rest: &[u8]) -> Result<(), Why>
-        ensures said { result ≢ Err Memory → new_or_fault result self.new
-            ≡ reading_after_words (Some (word.now ∷ words rest.now)) self.old }
-        ensures memory { result ≡ Err Memory → (why : Why)
-            → reading_after_words (Some (word.now ∷ words rest.now)) self.old ≡ Err why
-            → (why ≢ Syntax) × IsTrue (lists_words (word.now ∷ words rest.now)) }
+        ensures { let said = reading_after_words (Some (word.now ∷ words rest.now)) self.old
+            in Answers Memory said (new_or_fault result self.new) }
     {
         let Some(statement) = self.statement_in(word, rest) else {
             return Err(Why::Syntax);
@@ -133,8 +128,6 @@ impl Reading {
     fn statement_in<'a>(&self, word: &[u8], rest: &'a [u8]) -> Option<Statement<'a>>
         ensures said { result ≡ statement_in word.now (words rest.now) self.now }
         ensures place { IfSome result (λ s. IsTrue (has_place (keyword_in s) self.now)) }
-        ensures listing { IfSome result (λ s. IsTrue (stores_words s)
-            → IsTrue (lists_words (word.now ∷ words rest.now))) }
     {
         let keyword = keyword_of(word)?;
         if !self.has_place(keyword) {
@@ -156,11 +149,8 @@ impl Reading {
     /// Takes a statement in its place.
     fn take(&mut self, alloc: Global, statement: Statement<'_>) -> Result<(), Why>
         requires { IsTrue (has_place (keyword_in statement) self.old) }
-        ensures said { result ≢ Err Memory
-            → new_or_fault result self.new ≡ reading_with statement.entry self.old }
-        ensures memory { result ≡ Err Memory → (why : Why)
-            → reading_with statement.entry self.old ≡ Err why
-            → IsTrue (stores_words statement.entry) }
+        ensures { let said = reading_with statement.entry self.old
+            in Answers Memory said (new_or_fault result self.new) }
     {
         match statement {
             Statement::Header => {
@@ -170,7 +160,7 @@ impl Reading {
             Statement::Class { name, interactions } => { self.class(alloc, name, &interactions) }
             statement => match &mut self.builder {
                 None => unreachable!(),
-                Some(builder) => Ok(build(alloc, builder, statement)?),
+                Some(builder) => Ok(build(builder, statement)?),
             },
         }
     }

@@ -7,9 +7,10 @@ ghost use Rattle.bip_reader.specs.Statements.{keyword_in, keyword_of, name_and_w
 ghost use Rattle.bip_reader.specs.Statements.{priority_form, statement_of, three_names, trans_form};
 ghost use Rattle.bip_reader.specs.Statements.{var_form};
 
-use crate::clauses::{Assignments, Guard, Spelling, clauses_of, head_of};
-use crate::words::{OneOrMore, Word, Words, is_text};
-use bip_model::{Name, parse_value};
+use bip_model::{
+    Assignments, Guard, Name, OneOrMore, Spelling, Word, Words, clauses_of, head_of, is_text,
+    parse_value,
+};
 
 /// The word that a line begins with.
 #[derive(Clone, Copy)]

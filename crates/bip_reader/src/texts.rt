@@ -16,10 +16,9 @@ use std::alloc::Global;
 
 /// The model and the classes that a text means, or its first fault: the one of the lowest line, and
 /// of a line the first by the order of faults (docs/ANSWERS.md, "Model texts"). Nothing is read
-/// past a fault. Want of memory names a line that says something, or the last one for what is made
-/// at the end, and comes only where no line before it has a fault. It hides no fault of syntax of
-/// its own line, and another one only where that is an `interaction` line, or a `trans` line with
-/// `when` or `do`; and at the last line what the text lacks as a whole.
+/// past a fault. Want of memory hides no fault of a line: it names a line that says something, or
+/// the last one for what is made at the end, where neither that line nor one before it has a fault.
+/// At the last line it may hide what the text lacks as a whole.
 pub fn read_model(alloc: Global, text: &[u8]) -> Result<(Model, Classes), ReadFault>
     // What is read is meant.
     ensures model { IfOk result (λ read. Means text.now read.0 read.1) }

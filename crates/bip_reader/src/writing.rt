@@ -28,10 +28,9 @@ ghost use Rattle.bip_reader.specs.Writing.{IsSpelledComparison, IsSpelledCompone
 ghost use Rattle.bip_reader.specs.Writing.{IsSpelledGuard, IsSpelledInteraction, IsSpelledStart};
 ghost use Rattle.bip_reader.specs.Writing.{IsSpelledSum, IsSpelledTerm, IsSpelledTransition};
 
-use crate::words::PORT_MARK;
 use bip_model::{
     Assignment, ClassId, Classes, CompId, Comparison, Component, Expr, InterId, Interaction, Model,
-    Name, Pair, PortId, Relation, Sign, Term, Transition, Variable, write_word,
+    Name, PORT_MARK, Pair, PortId, Relation, Sign, Term, Transition, Variable, write_word,
 };
 use itoa::Buffer;
 use std::alloc::{AllocError, Global};

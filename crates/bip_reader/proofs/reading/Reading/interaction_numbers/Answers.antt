@@ -1,10 +1,10 @@
 use Rattle.std.proofs.lemmas.Result.{err_from_is_err_and}
 use Rattle.bip_reader.specs.Reading.{draft_of, interaction_named}
-use Rattle.bip_reader.specs.Words.{each_of}
+use Rattle.bip_model.specs.Words.{each_of}
 use Rattle.bip_reader.specs.declared.faults.Why.TheVariants.{Unknown}
 use Rattle.bip_reader.proofs.AnswerLemmas.{ok_said, want_told}
 use Rattle.std.proofs.Common.{◌≡◌, ◌∙◌, Some, refl, sym}
-use Rattle.bip_reader.proofs.WordLemmas.{all_are_each, one_more_read}
+use Rattle.bip_model.proofs.WordLemmas.{all_are_each, one_more_read}
 use Rattle.bip_reader.proofs.reading.Reading.interaction_numbers.Goals as goal
 
 pub loop-name-preserved : goal.loop-name-preserved
