@@ -1,6 +1,11 @@
+pub mod AfterLemmas
 pub mod ClosingLemmas
 pub mod DecideLemmas
 pub mod LawLemmas
+pub mod LendLemmas
 pub mod LockLawLemmas
+pub mod MeetLemmas
 pub mod PassLemmas
+pub mod RaiseLemmas
+pub mod RaisedLemmas
 pub mod RowLemmas

@@ -1,6 +1,7 @@
 pub mod Closing
 pub mod Faults
 pub mod Laws
+pub mod Lending
 pub mod Locks
 pub mod Passes
 pub mod Reservations

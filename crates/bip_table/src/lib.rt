@@ -6,6 +6,7 @@ mod closing;
 mod counted;
 mod faults;
 mod laws;
+mod lending;
 mod locks;
 mod passes;
 mod reservations;
@@ -14,6 +15,7 @@ mod rows;
 
 pub use faults::TableFault;
 pub use laws::{lock_laws, table_laws};
+pub use lending::RowLender;
 pub use locks::{CloseFault, TableLock};
 pub use passes::{Pass, Tally};
 pub use reservations::{Decision, Table};

@@ -1,0 +1,187 @@
+//! Rows that are lent together, each for as long as the slice was; and what wants meet in rows.
+ghost use Rattle.std.specs.Prelude.{◌≡◌, ◌+◌, ◌<◌, ◌∷◌, ◌++◌, None, drop, length};
+ghost use Rattle.std.specs.Prelude.{if◌then◌else◌, map, slice_set, take};
+ghost use Rattle.std.specs.Borrow.{Array, LendsBoth, sem};
+ghost use Rattle.std.specs.List.Sorted.{IsStrictlyIncreasing};
+ghost use Rattle.bip_model.specs.Wants.{components_of};
+ghost use Rattle.bip_table.specs.Lending.{are_fresh, first_met, met, raising, renewed, renewed_by};
+ghost use Rattle.bip_table.specs.Rows.{row_components};
+ghost use Rattle.bip_table.specs.contracts.rows.Row.{the_row};
+
+use crate::Row;
+use crate::rows::{Rows, place_of};
+use bip_model::{CompId, Number, Role, Want};
+use std::mem;
+
+/// Lends rows by component, in rising order: each stays lent for as long as the slice was, so that
+/// several are held at once (docs/PROTOCOL.md, "The reservation table").
+#[derive(Drop)]
+pub struct RowLender<'t> {
+    rows: &'t mut [Row],
+    from: usize,
+    ghost rising: { IsStrictlyIncreasing (row_components rows.now) },
+}
+
+impl<'t> RowLender<'t> {
+    ghost use Rattle.std.specs.Prelude.{◌↔◌, ◌≤◌, IfNone, IfSome, IsSome, IsTrue, max};
+    ghost use Rattle.bip_table.specs.Rows.{has_row, place_in};
+
+    /// A lender of these rows, whose components rise. It was asked nothing yet.
+    pub fn over(rows: &'t mut [Row]) -> RowLender<'t>
+        requires { IsStrictlyIncreasing (row_components rows.old) }
+        ensures same { result.rows.ghost_name ≡ rows.entry.ghost_name }
+        ensures rows { result.rows.now ≡ rows.old }
+        ensures from { result.from ≡ 0 }
+    {
+        RowLender { rows, from: 0 }
+    }
+
+    /// The row of a component, lent for as long as the slice was; rows that were lent earlier stay
+    /// lent. None where there is no such row, or the component isn't above all that were asked
+    /// before.
+    pub fn next(&mut self, comp: CompId) -> Option<&'t mut Row>
+        ensures some { IsSome result ↔ ((self.old.from ≤ comp.0)
+            × IsTrue (has_row self.old.rows.now comp.0)) }
+        ensures lent { IfSome result (λ row. self.old.rows.now
+            ≡ take (place_in self.old.rows.now comp.0) self.old.rows.now
+            ++ row.now ∷ self.new.rows.now) }
+        ensures none { IfNone result (self.new.rows.now ≡ self.old.rows.now) }
+        ensures kept { IfNone result (self.new.rows.ghost_name ≡ self.old.rows.ghost_name) }
+        ensures from { self.new.from ≡ max self.old.from (comp.0 + 1) }
+    {
+        let wanted = comp.0 as usize;
+        let from = self.from;
+        if wanted < from {
+            return None;
+        }
+        self.from = wanted + 1;
+        let rows = mem::take(&mut self.rows);
+        let Some(place) = place_of(rows, from, comp) else {
+            self.rows = rows;
+            return None;
+        };
+        let (row, rest) = lend(rows, place);
+        self.rows = rest;
+        Some(row)
+    }
+}
+
+/// Lends the row at a place, and the rows behind it. Once both are given back, the rows are the old
+/// ones with these as they were written.
+fn lend(rows: &mut [Row], place: usize) -> (&mut Row, &mut [Row])
+    requires { place < length rows.old }
+    ensures* writes_back { sem 𝓛 (LendsBoth (Array the_row 0) the_row (Array the_row 0) rows.entry
+        result (λ x ys. slice_set (take (place + 1) rows.old) place x ++ ys)) }
+    ensures value { rows.old ≡ take place rows.old ++ result.0.now ∷ result.1.now }
+    ensures rest { result.1.now ≡ drop (place + 1) rows.old }
+{
+    let (front, rest) = rows.split_at_mut(place + 1);
+    (&mut front[place], rest)
+}
+
+/// What wants meet in rows.
+#[derive(Clone, Copy, Debug, PartialEq, Eq)]
+pub(crate) enum Met {
+    /// Each has a row, and is fresh.
+    Fresh,
+    /// Each has a row, and the first that isn't fresh is of this component.
+    Stale(CompId),
+    /// The first without a row is of this component.
+    Unknown(CompId),
+}
+
+/// The component of the first want that isn't fresh: of one before, or of this one.
+fn first_met(before: Option<CompId>, want: Want, used: Number) -> Option<CompId>
+    ensures { result ≡ first_met before want used }
+{
+    match before {
+        Some(comp) => Some(comp),
+        None if want.number <= used => Some(want.comp),
+        None => None,
+    }
+}
+
+/// Looks up what wants meet in rows, behind a want of this component that isn't fresh, if there is
+/// one.
+pub(crate) fn look_up(rows: &[Row], wants: &[Want], before: Option<CompId>) -> Met
+    requires { IsStrictlyIncreasing (row_components rows.now) }
+    ensures { result ≡ met rows.now wants.now before }
+{
+    let mut stale = before;
+    for want in wants {
+        let Some(place) = place_of(rows, 0, want.comp) else {
+            return Met::Unknown(want.comp);
+        };
+        stale = first_met(stale, *want, rows[place].used);
+    }
+    match stale {
+        Some(comp) => Met::Stale(comp),
+        None => Met::Fresh,
+    }
+}
+
+/// Uses up a want's number in its row, where all wants are fresh.
+fn write_back(row: &mut Row, want: Want, met: Met)
+    ensures { row.new ≡ (if are_fresh met then renewed_by want row.old else row.old) }
+{
+    if matches!(met, Met::Fresh) && want.role == Role::Moved {
+        row.used = row.used.max(want.number);
+    }
+}
+
+/// Takes the row of each want and holds all of them, tests them all, and where all are fresh writes
+/// on the way back. Behind one that isn't fresh, rows are only looked up. The rows are those of
+/// components from this number on.
+fn meet_lent(rows: &mut [Row], from: usize, wants: &[Want]) -> Met
+    requires rows { IsStrictlyIncreasing (row_components rows.old) }
+    requires wants { IsStrictlyIncreasing (components_of wants.now) }
+    ensures met { result ≡ met rows.old wants.now None }
+    ensures rows { rows.new ≡ (if are_fresh result then map (renewed wants.now) rows.old
+        else rows.old) }
+{
+    let [want, later @ ..] = wants else {
+        return Met::Fresh;
+    };
+    let Some(place) = place_of(rows, from, want.comp) else {
+        return Met::Unknown(want.comp);
+    };
+    let (row, rest) = lend(rows, place);
+    if want.number <= row.used {
+        return look_up(rest, later, Some(want.comp));
+    }
+    let met = meet_lent(rest, want.comp.0 as usize + 1, later);
+    write_back(row, *want, met);
+    met
+}
+
+/// What wants meet in rows; where all are fresh, their numbers are used up.
+pub(crate) fn meet(rows: &mut Rows, wants: &[Want]) -> Met
+    requires rows { IsStrictlyIncreasing (row_components rows.old) }
+    requires wants { IsStrictlyIncreasing (components_of wants.now) }
+    ensures met { result ≡ met rows.old wants.now None }
+    ensures rows { rows.new ≡ (if are_fresh result then map (renewed wants.now) rows.old
+        else rows.old) }
+{
+    meet_lent(rows.as_mut_slice(), 0, wants)
+}
+
+/// Raises the number of a component's row, if it has one, to at least this one.
+fn raise_lent(rows: &mut [Row], comp: CompId, number: Number)
+    requires { IsStrictlyIncreasing (row_components rows.old) }
+    ensures { rows.new ≡ map (renewed (raising comp number)) rows.old }
+{
+    let Some(place) = place_of(rows, 0, comp) else {
+        return;
+    };
+    let (row, _) = lend(rows, place);
+    let role = Role::Moved;
+    write_back(row, Want { number, comp, role }, Met::Fresh);
+}
+
+/// The same in rows that are kept.
+pub(crate) fn raise_one(rows: &mut Rows, comp: CompId, number: Number)
+    requires { IsStrictlyIncreasing (row_components rows.old) }
+    ensures { rows.new ≡ map (renewed (raising comp number)) rows.old }
+{
+    raise_lent(rows.as_mut_slice(), comp, number);
+}
