@@ -4,7 +4,9 @@ ghost use Rattle.bip_model.specs.Numbering.{last_number};
 ghost use Rattle.bip_model.specs.States.{IsLocalStateOf, local_of};
 ghost use Rattle.bip_component.specs.Components.{IsFirst, IsFirstOffer, IsNodeAfter, IsNotified};
 ghost use Rattle.bip_component.specs.Components.{IsOffered, CanMoveBy, led_by};
+ghost use Rattle.bip_frame.specs.Views.{notify_shown};
 
+use bip_frame::NotifyFrame;
 use bip_model::{CompId, LocId, Notify, Number, Offer, Values, has_port};
 use bip_partition::Plan;
 use std::marker;
@@ -100,6 +102,16 @@ impl<'p> SrComponent<'p> {
         }
         self.offer = model.offer(self.offer.comp, self.offer.number + 1, location, &values);
         Notified::Moved(self.offer)
+    }
+
+    /// Takes a notification's frame: does as `on_notify` does with the notification that the frame
+    /// shows, whose values are read where they lie (docs/FRAMES.md, "What is read, and what is
+    /// lent").
+    pub fn on_notify_frame(&mut self, frame: &NotifyFrame<'_>) -> Notified
+        ensures answer { IsNotified self.old (notify_shown frame.now) result }
+        ensures after { IsNodeAfter self.old (notify_shown frame.now) result self.new }
+    {
+        self.on_notify(&frame.notify())
     }
 
     /// Whether the component moves by a notification.
