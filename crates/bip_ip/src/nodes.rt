@@ -8,6 +8,7 @@ ghost use Rattle.bip_model.specs.Wants.{components_of};
 ghost use Rattle.bip_model.specs.declared.wants.Want.{Want};
 ghost use Rattle.bip_partition.specs.Plans.{ClassTouches, InConflict};
 ghost use Rattle.bip_observe.specs.Offers.{IsReceipt, observed};
+ghost use Rattle.bip_frame.specs.Views.{offer_shown, reply_shown};
 ghost use Rattle.bip_ip.specs.Nodes.{Awaits, CanBeAsked, IsAnswered, IsItsRecord, IsLeftByReply};
 ghost use Rattle.bip_ip.specs.Nodes.{IsOwn, IsReplyTo, IsTried, StandsInTheWay, after_offer};
 ghost use Rattle.bip_ip.specs.Nodes.{after_try, first_node, inter_in, node_of, tried_of};
@@ -17,6 +18,7 @@ ghost use Rattle.bip_ip.specs.declared.nodes.OpenRecord.{OpenRecord};
 use crate::asking::{told_by, wants_by};
 use crate::records::Records;
 use crate::sets::{lowest_inter, with_inter, without_inter};
+use bip_frame::{OfferFrame, ReplyFrame};
 use bip_model::{ClassId, Grant, InterId, Notifies, Number, Offer, Reply, Request, Role, Want};
 use bip_observe::{Offers, Receipt, Verdict, decide};
 use bip_partition::Plan;
@@ -141,6 +143,16 @@ impl<'p> IpNode<'p> {
         self.offers.hold(offer)
     }
 
+    /// Takes an offer's frame: does as `on_offer` does with the offer that the frame shows, whose
+    /// values are read where they lie (docs/FRAMES.md, "What is read, and what is lent").
+    pub fn on_offer_frame(&mut self, frame: &OfferFrame<'_>) -> Receipt
+        ensures receipt { IsReceipt (observed self.old.offers) (offer_shown frame.now) result }
+        ensures left { node_of self.new
+            ≡ after_offer (offer_shown frame.now) result (node_of self.old) }
+    {
+        self.on_offer(frame.offer())
+    }
+
     /// Tries an interaction, by the offers that the node holds. A local one that is ready is
     /// granted at once, and its moved numbers are known then; a reserved one is asked for, and
     /// recorded with what its grant will tell. Else all stays as it was: the interaction isn't of
@@ -227,6 +239,15 @@ impl<'p> IpNode<'p> {
         }
         learn(&mut self.offers, record.request.wants.as_slice());
         Answered::Told(record.notifies)
+    }
+
+    /// Takes a reply's frame: does as `on_reply` does with the reply that the frame shows.
+    pub fn on_reply_frame(&mut self, frame: &ReplyFrame<'_>) -> Answered
+        ensures answered { IsAnswered (node_of self.old) (reply_shown frame.now) result }
+        ensures left { IsLeftByReply (reply_shown frame.now) result (node_of self.old)
+            (node_of self.new) }
+    {
+        self.on_reply(&frame.reply())
     }
 }
 
