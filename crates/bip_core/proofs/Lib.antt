@@ -1,3 +1,4 @@
+pub mod AcceptingLemmas
 pub mod AgreementLemmas
 pub mod BeginLemmas
 pub mod BookLemmas

@@ -1,0 +1,102 @@
+-- Why bytes are dropped is one fault, by the laws of frames; ports as bits; and how many values the
+-- bytes that a view lends hold.
+use Rattle.std.proofs.Common.{◌≡◌, ◌∙◌, ℕ, ◌+◌, ◌/◌, ◌%◌, ◌^◌, ◌<◌, ◌≤◌, List, Err, ap, arith}
+use Rattle.std.proofs.Common.{inl, inr, length, refl, subst, sym, true, ◌-◌, ◌*◌}
+use Rattle.std.specs.Int.{bit_at}
+use Rattle.std.proofs.lemmas.Bool.{cases_lt, false≢true}
+use Rattle.std.proofs.lemmas.Nat.{div-add-mod', pow_pos}
+use Rattle.std.proofs.lemmas.Nat.Bits.{bit_at-lt, bit_at-zero, bit_at_above, bit_at_cat_high}
+use Rattle.std.proofs.lemmas.Nat.Bits.{same_from_bits}
+use Rattle.bip_model.specs.Sets.{has}
+use Rattle.bip_partition.specs.Plans.{Planned}
+use Rattle.bip_frame.proofs.LawLemmas.{not_both, one_fault}
+use Rattle.bip_frame.proofs.LentLemmas.{values_counted}
+use Rattle.bip_frame.proofs.ReadingLemmas.{one_message}
+use Rattle.bip_frame.specs.Frames.{IsFrame, Message}
+use Rattle.bip_frame.specs.Views.{notify_lent, notify_shown, offer_lent, offer_shown}
+use Rattle.bip_frame.specs.declared.frames.NotifyFrame.{NotifyFrame}
+use Rattle.bip_frame.specs.declared.frames.OfferFrame.{OfferFrame}
+use Rattle.bip_core.specs.Accepting.{FitsAddressee, IsAccepted, IsDropped, IsJudged, IsKnown}
+use Rattle.bip_core.specs.declared.accepting.Address.{Address}
+use Rattle.bip_core.specs.declared.accepting.DropFault.TheVariants.{Frame, Misfit, Unknown}
+use Rattle.bip_core.specs.declared.accepting.DropFault.{DropFault}
+
+-- what is accepted isn't dropped
+pub not_dropped : (p : Planned) (to : Address) (bytes : List ℕ) (m : Message) (fault : DropFault)
+    → IsFrame m bytes → IsAccepted p to m → IsDropped p to bytes fault → ⊥
+not_dropped p to bytes m (Frame fault) frame accepted dropped = not_both m fault bytes frame dropped
+not_dropped p to bytes m Unknown frame accepted dropped =
+    dropped.2 (subst (λ x. IsKnown p to x) (one_message m dropped.0 bytes frame dropped.1) accepted.known)
+not_dropped p to bytes m Misfit frame accepted dropped =
+    dropped.3 (subst (λ x. FitsAddressee p to x) (one_message m dropped.0 bytes frame dropped.1) accepted.fits)
+
+-- a message that isn't accepted is dropped
+pub judged_dropped : (p : Planned) (to : Address) (bytes : List ℕ) (m : Message) (fault : DropFault)
+    → IsFrame m bytes → IsJudged p to m (Err fault) → IsDropped p to bytes fault
+judged_dropped p to bytes m (Frame fault) frame judged = absurd judged
+judged_dropped p to bytes m Unknown frame judged = (m, frame, judged)
+judged_dropped p to bytes m Misfit frame judged = (m, frame, judged.0, judged.1)
+
+-- bytes are dropped for one fault
+pub one_drop : (p : Planned) (to : Address) (bytes : List ℕ) (one other : DropFault)
+    → IsDropped p to bytes one → IsDropped p to bytes other → one ≡ other
+one_drop p to bytes (Frame f) (Frame g) is also = ap Frame (one_fault f g bytes is also)
+one_drop p to bytes (Frame f) Unknown is also = absurd (not_both also.0 f bytes also.1 is)
+one_drop p to bytes (Frame f) Misfit is also = absurd (not_both also.0 f bytes also.1 is)
+one_drop p to bytes Unknown (Frame g) is also = absurd (not_both is.0 g bytes is.1 also)
+one_drop p to bytes Unknown Unknown is also = refl
+one_drop p to bytes Unknown Misfit is also =
+    absurd (is.2 (subst (λ x. IsKnown p to x) (one_message also.0 is.0 bytes also.1 is.1) also.2))
+one_drop p to bytes Misfit (Frame g) is also = absurd (not_both is.0 g bytes is.1 also)
+one_drop p to bytes Misfit Unknown is also =
+    absurd (also.2 (subst (λ x. IsKnown p to x) (one_message is.0 also.0 bytes is.1 also.1) is.2))
+one_drop p to bytes Misfit Misfit is also = refl
+
+-- a port that isn't on
+off : (x p : ℕ) → bit_at x p ≡ 0 → has x p ≡ true → ⊥
+off x p none on = false≢true (rw none at on)
+
+-- no port has a number of 16 or more
+pub ports_few : (x count : ℕ) → x < 2 ^ 16 → 16 ≤ count → (p : ℕ) → has x p ≡ true → p < count
+ports_few x count small many p on =
+    elim (cases_lt p count) [
+      | inl within ↦ within
+      | inr past ↦ absurd (off x p (bit_at_above x 16 p small (omega arith)) on)
+    ]
+
+-- nothing is on from a number on where nothing is left behind that many ports
+pub ports_within : (x count : ℕ) → x / 2 ^ count ≡ 0 → (p : ℕ) → has x p ≡ true → p < count
+ports_within x count none p on =
+    let low : x < 2 ^ count = omega (arith, rw none at (div-add-mod' x (2 ^ count)), pow_pos count) in
+    elim (cases_lt p count) [
+      | inl within ↦ within
+      | inr past ↦ absurd (off x p (bit_at_above x count p low past) on)
+    ]
+
+pub ports_none : (x count : ℕ) → ((p : ℕ) → has x p ≡ true → p < count) → x / 2 ^ count ≡ 0
+ports_none x count within = same_from_bits (x / 2 ^ count) 0 (λ i. behind i ∙ sym (bit_at-zero i))
+  where
+    none : (p : ℕ) → count ≤ p → bit_at x p ≡ 0
+    none p past =
+        elim (cases_lt (bit_at x p) 1) [
+          | inl low ↦ omega arith
+          | inr high ↦
+              let one : bit_at x p ≡ 1 = omega (arith, bit_at-lt x p) in
+              let on : has x p ≡ true = rw one refl in
+              absurd (omega (arith, within p on))
+        ]
+
+    behind : (i : ℕ) → bit_at (x / 2 ^ count) i ≡ 0
+    behind i =
+        let small : x % 2 ^ count < 2 ^ count = omega (arith, pow_pos count) in
+        let whole : x / 2 ^ count * 2 ^ count + x % 2 ^ count ≡ x = div-add-mod' x (2 ^ count) in
+        let cut : count + i - count ≡ i = omega arith in
+        let same = bit_at_cat_high (x / 2 ^ count) count (x % 2 ^ count) (count + i) small (omega arith) in
+        sym (rw (whole, cut) at same) ∙ none (count + i) (omega arith)
+
+-- the bytes that a view lends are four for each value
+pub offer_counted : (f : OfferFrame) → length (offer_lent f) / 4 ≡ length (offer_shown f).values
+offer_counted f = omega (arith, f.whole, values_counted f.count f.vars.now)
+
+pub notify_counted : (f : NotifyFrame) → length (notify_lent f) / 4 ≡ length (notify_shown f).values
+notify_counted f = omega (arith, f.whole, values_counted f.count f.vars.now)

@@ -1,0 +1,18 @@
+use Rattle.std.proofs.Common.{Err, ap}
+use Rattle.bip_frame.specs.Views.{message_shown}
+use Rattle.bip_core.proofs.AcceptingLemmas.{judged_dropped, not_dropped, one_drop}
+use Rattle.bip_core.specs.declared.accepting.DropFault.TheVariants.{Frame}
+use Rattle.bip_core.proofs.accepting.accept.Goals as goal
+
+pub returns-in-Err-clause-each : goal.returns-in-Err-clause-each
+returns-in-Err-clause-each c = λ fault dropped.
+    ap (λ f. Err f) (one_drop c.args.plan.now c.args.to c.args.bytes.now (Frame c.in-Err.fault) fault c.in-Err.ensures.first dropped)
+
+pub returns-in-Ok-judge-clause-each : goal.returns-in-Ok-judge-clause-each
+returns-in-Ok-judge-clause-each c = λ fault dropped.
+    absurd (not_dropped c.args.plan.now c.args.to c.args.bytes.now (message_shown c.in-Ok.frame) fault c.in-Ok.ensures.found c.in-Ok-judge.ensures dropped)
+
+pub returns-in-Err-judge-clause-each : goal.returns-in-Err-judge-clause-each
+returns-in-Err-judge-clause-each c = λ fault dropped.
+    let first = judged_dropped c.args.plan.now c.args.to c.args.bytes.now (message_shown c.in-Ok.frame) c.in-Err-judge.fault c.in-Ok.ensures.found c.in-Err-judge.ensures in
+    ap (λ f. Err f) (one_drop c.args.plan.now c.args.to c.args.bytes.now c.in-Err-judge.fault fault first dropped)
