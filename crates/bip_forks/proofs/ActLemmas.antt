@@ -45,7 +45,7 @@ use Rattle.bip_forks.specs.Laws.{content, sharing_of}
 use Rattle.bip_bank.specs.Sharing.{forks}
 use Rattle.bip_model.specs.Priorities.{inter}
 use Rattle.bip_partition.specs.Plans.{IsReserved}
-use Rattle.bip_forks.specs.Machines.{Applies, IsForkStep, AreForks, HasAll, IsListed, LyingFork, Machine, grants_after, used_by_all}
+use Rattle.bip_forks.specs.Machines.{Applies, IsForkStep, AreForks, HasAll, IsListed, LyingFork, Machine, grants_after, used_by_all, waiting_for}
 use Rattle.bip_forks.proofs.StepLemmas.{taken_in}
 use Rattle.bip_model.specs.Numbering.{put}
 use Rattle.bip_forks.specs.Stations.{AllLie, IsServedHere, KeptStation, LiesHere, nothing_shared, pair_of_stations, renumbered, rewritten, side_with}
@@ -275,16 +275,22 @@ pub acted_stays : (k : KeptForks) (p : ForkParts) (r : Result Acted AllocError) 
 acted_stays k p (Ok did) a b c = tt
 acted_stays k p (Err e) a b c = ap (λ (r : ForkParts). content_of (kept_forks (with_all k r))) (same_parts p k.parts a b c)
 
+pub acted_same : (k : KeptForks) (p : ForkParts) (r : Result Acted AllocError) → OnErr r (p.stations ≡ k.parts.stations) → OnErr r (p.flight ≡ k.parts.flight) → OnErr r (p.grants ≡ k.parts.grants) → OnErr r (with_all k p ≡ k)
+acted_same k p (Ok did) a b c = tt
+acted_same k p (Err e) a b c = ap (with_all k) (same_parts p k.parts a b c)
+
 -- a request that is submitted
 pub record TakesOn (k : KeptForks) (q : Request) (later : KeptForks) : Type 0 where
   pub kept : IsKeptForks later
   pub content : content_of (kept_forks later) ≡ with_request q (content_of (kept_forks k))
+  pub machine : machine_of later ≡ waiting_for q (machine_of k)
 
 pub takes_on : (k : KeptForks) (s : ℕ) (q : Request) → IsKeptForks k → IsFit k.plan q → s < length k.parts.stations → (station_at k.parts.stations s).inter.0 ≡ q.inter.0
     → TakesOn k q (with_parts k (set k.parts.stations s (record (station_at k.parts.stations s) { waiting = (station_at k.parts.stations s).waiting ++ q ∷ [] })) k.parts.flight k.parts.grants)
 takes_on k s q is fits within same = record {
   kept = kept;
   content = content_is later kept ∙ (ap content machine ∙ ap (with_request q) (sym (content_is k is)));
+  machine = machine;
 }
   where
     later : KeptForks
@@ -334,6 +340,15 @@ submitted_is k s q x y (Err e) is fits within same at ok = tt
 pub submitted_stays : {A B : Type 0} (k : KeptForks) (s : ℕ) (x y : KeptStation) (r : Result A B) → s < length k.parts.stations → x ≡ get_or k.parts.stations s x → OnErr r (y ≡ x) → OnErr r (content_of (kept_forks (after_submit k s y)) ≡ content_of (kept_forks k))
 submitted_stays k s x y (Ok u) within at err = tt
 submitted_stays k s x y (Err e) within at err = ap (λ (j : KeptForks). content_of (kept_forks j)) (set_there k s x y within at err)
+
+pub submitted_machine : {A B : Type 0} (k : KeptForks) (s : ℕ) (q : Request) (x y : KeptStation) (r : Result A B) → IsKeptForks k → IsFit k.plan q → s < length k.parts.stations → (station_at k.parts.stations s).inter.0 ≡ q.inter.0 → x ≡ get_or k.parts.stations s x → OnOk r (y ≡ record x { waiting = x.waiting ++ q ∷ [] })
+    → OnOk r (machine_of (after_submit k s y) ≡ waiting_for q (machine_of k))
+submitted_machine k s q x y (Ok u) is fits within same at ok = (submitted_ok k s q x y is fits within same at ok).machine
+submitted_machine k s q x y (Err e) is fits within same at ok = tt
+
+pub submitted_same : {A B : Type 0} (k : KeptForks) (s : ℕ) (x y : KeptStation) (r : Result A B) → s < length k.parts.stations → x ≡ get_or k.parts.stations s x → OnErr r (y ≡ x) → OnErr r (after_submit k s y ≡ k)
+submitted_same k s x y (Ok u) within at err = tt
+submitted_same k s x y (Err e) within at err = set_there k s x y within at err
 
 -- without grants all used numbers are the base
 pub unused : (k : KeptForks) → IsKeptForks k → k.parts.grants ≡ [] → used_above k.base (kept_forks k).rows ≡ (λ c. k.base)

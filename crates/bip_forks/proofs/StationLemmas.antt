@@ -7,10 +7,10 @@ use Rattle.bip_model.specs.declared.grants.Grant.{Grant}
 use Rattle.bip_model.specs.declared.messages.Request.{Request}
 use Rattle.bip_model.specs.declared.numbering.CompId.{CompId}
 use Rattle.bip_table.specs.Reservations.{IsTableAnswer, KeptRows, end_of_serials}
-use Rattle.bip_table.specs.Rows.{has_row}
+use Rattle.bip_table.specs.Rows.{has_row, used_at}
 use Rattle.bip_table.specs.declared.faults.TableFault.TheVariants.{UnknownRow}
 use Rattle.bip_forks.specs.Kept.{CanAnswer, no_station, station_at}
-use Rattle.bip_forks.specs.Stations.{AllLie, CannotAnswer, IsNotServed, IsReadyToServe, KeptStation}
+use Rattle.bip_forks.specs.Stations.{AllLie, CannotAnswer, IsNotServed, IsRaisedAlone, IsReadyToServe, KeptStation, raised_by, rows_here}
 
 -- the first of a list, and the others
 pub first_there : (xs : List Request) (q : Request) → slice_get xs 0 ≡ Some q → (rest : List Request) × (xs ≡ q ∷ rest)
@@ -27,11 +27,21 @@ row_unknown s q ready up comp first all kept tabled answer =
     let rest = first_there s.waiting q first in
     (all, (q, rest.0, rest.1, inl (comp, answer.here.0, sym (ap (λ (f : ℕ → Bool). f comp.0) (tabled ∙ ap (λ (t : KeptRows). has_row t.rows) kept)) ∙ answer.here.1)))
 
+-- a station whose rows were raised, and whose table then decided nothing
+pub raised_alone : (s later : KeptStation) (ready up left : KeptRows) → ready ≡ record s.table { room = ready.room } → used_at up.rows ≡ raised_by (rows_here s.sides) (has_row ready.rows) (used_at ready.rows) → has_row up.rows ≡ has_row ready.rows
+    → up.serial ≡ ready.serial → left ≡ up → later ≡ record s { table = left } → IsRaisedAlone s later
+raised_alone s later ready up left kept used tabled serial same others = record {
+  used = ap (λ (z : KeptStation). used_at z.table.rows) others ∙ (ap (λ (t : KeptRows). used_at t.rows) same ∙ (used ∙ ap (λ (t : KeptRows). raised_by (rows_here s.sides) (has_row t.rows) (used_at t.rows)) kept));
+  tabled = ap (λ (z : KeptStation). has_row z.table.rows) others ∙ (ap (λ (t : KeptRows). has_row t.rows) same ∙ (tabled ∙ ap (λ (t : KeptRows). has_row t.rows) kept));
+  serial = ap (λ (z : KeptStation). z.table.serial) others ∙ (ap (λ (t : KeptRows). t.serial) same ∙ (serial ∙ ap (λ (t : KeptRows). t.serial) kept));
+  others = others ∙ ap (λ (t : KeptRows). record s { table = t }) (sym (ap (λ (z : KeptStation). z.table) others));
+}
+
 -- where each wanted component has a row, and a serial is left, there is no such station
 pub undecided : (stations : List KeptStation) (grants : List Grant) (s : ℕ) (y later : KeptStation) → CanAnswer stations grants → s < length stations → y ≡ get_or stations s y → IsReadyToServe (station_at stations s) → IsNotServed y later → length grants < end_of_serials → ⊥
 undecided stations grants s y later can within at ready not few = elim not [
   | inl stays ↦ stays.1 (subst IsReadyToServe (sym here) ready)
-  | inr left ↦ by_table left.1.0 left.1.1 left.1.2 left.1.3
+  | inr left ↦ by_table left.1.1.0 left.1.1.1 left.1.1.2 left.1.1.3
 ]
   where
     here : y ≡ station_at stations s

@@ -1,8 +1,7 @@
 -- What the fork machine means, in the subject's own words: laws that a reviewer reads.
-use Rattle.std.specs.Prelude.{◌≡◌, ◌↔◌, ℕ, ◌<◌, List, [], ◌∷◌, ◌++◌, Option, None, Some, Bool}
+use Rattle.std.specs.Prelude.{◌≡◌, ◌↔◌, ℕ, ◌<◌, List, [], Option, None, Some, Bool}
 use Rattle.std.specs.Prelude.{true, false, map, if◌then◌else◌}
 use Rattle.std.specs.List.{range_with_len}
-use Rattle.bip_model.specs.Numbering.{put}
 use Rattle.bip_model.specs.declared.messages.Request.{Request}
 use Rattle.bip_partition.specs.Plans.{IsFit}
 use Rattle.bip_bank.specs.Banks.{BankContent, DoesStep, IsActed}
@@ -13,7 +12,7 @@ use Rattle.bip_bank.specs.declared.banks.Acted.{Acted}
 use Rattle.bip_bank.specs.declared.banks.BankStep.{BankStep}
 use Rattle.bip_forks.specs.Machines.{AreForks, AtBoth, AtStation, IsForkStep, IsNet, LyingFork}
 use Rattle.bip_forks.specs.Machines.{Machine, Sending, ShareFork, sent_fork, sent_token}
-use Rattle.bip_forks.specs.Machines.{used_by_all}
+use Rattle.bip_forks.specs.Machines.{used_by_all, waiting_for}
 
 -- a fork as it is at first: with the lower of its stations, dirty, its numbers the base
 pub record IsForkAtFirst (m : Machine) (s t : ℕ) (f : LyingFork) : Type 0 where
@@ -40,9 +39,7 @@ pub record AreNew (m : Machine) : Type 0 where
 pub data LeadOn : Machine → Machine → Type 0 where
   at_rest : {m : Machine} → LeadOn m m
   asked : {m later : Machine} (q : Request) → IsFit m.net.plan q
-      → LeadOn (record m { waiting = put m.waiting q.inter.0 (m.waiting q.inter.0 ++ q ∷ []) })
-      later
-      → LeadOn m later
+      → LeadOn (waiting_for q m) later → LeadOn m later
   stepped : {m next later : Machine} (step : BankStep) (did : Acted) → IsForkStep m step did next
       → LeadOn next later → LeadOn m later
 

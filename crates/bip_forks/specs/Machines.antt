@@ -151,6 +151,11 @@ pub record IsServed (m : Machine) (s : ℕ) (q : Request) (d : Decision)
         waiting = put m.waiting (m.net.inter s) rest;
       }
 
+-- with one more open request, the newest of its interaction
+abbrev pub waiting_for : Request → Machine → Machine
+waiting_for q m =
+    record m { waiting = put m.waiting q.inter.0 (m.waiting q.inter.0 ++ q ∷ []) }
+
 -- a fork is sent: its station has the request token, and the fork is dirty
 pub record IsPassed (m : Machine) (s t : ℕ) (later : Machine) : Type 0 where
   pub fork : LyingFork

@@ -131,13 +131,20 @@ CannotAnswer s q =
     × (has_row s.table.rows c.0 ≡ false))
     ⊎ (IsFresh (raised_here s.table s.sides) q.wants × (s.table.serial ≡ end_of_serials))
 
+-- a station raised its rows to the forks that lie here, and nothing else of it changed
+pub record IsRaisedAlone (s later : KeptStation) : Type 0 where
+  pub used : used_at later.table.rows ≡ raised_here s.table s.sides
+  pub tabled : has_row later.table.rows ≡ has_row s.table.rows
+  pub serial : later.table.serial ≡ s.table.serial
+  pub others : later ≡ record s { table = later.table }
+
 -- what a station that is served and doesn't decide leaves: it can't serve, and all stays; or its
--- table can't decide
+-- table can't decide, and its rows are raised
 abbrev pub IsNotServed : KeptStation → KeptStation → Type 0
 IsNotServed s later =
     ((later ≡ s) × ¬ IsReadyToServe s)
-    ⊎ (AllLie s.sides × ((q : Request) × (rest : List Request) × (s.waiting ≡ q ∷ rest)
-    × CannotAnswer s q))
+    ⊎ (IsRaisedAlone s later × (AllLie s.sides × ((q : Request) × (rest : List Request)
+    × (s.waiting ≡ q ∷ rest) × CannotAnswer s q)))
 
 -- a station can take what arrives from another one: they share a fork, and what arrives isn't here
 abbrev pub CanTakeFork : KeptStation → StationId → Type 0

@@ -4,7 +4,7 @@ ghost use Rattle.std.specs.Prelude.{ℕ};
 ghost use Rattle.bip_bank.specs.Banks.{CanWantMemory, DoesStep, IsActed, content_of, with_request};
 ghost use Rattle.bip_forks.specs.Kept.{kept_forks, machine_of, station_at};
 ghost use Rattle.bip_forks.specs.Laws.{AreNew};
-ghost use Rattle.bip_forks.specs.Machines.{AreForks, IsForkStep};
+ghost use Rattle.bip_forks.specs.Machines.{AreForks, IsForkStep, waiting_for};
 ghost use Rattle.bip_forks.specs.Opening.{IsNewForks};
 
 use crate::opening::first_stations;
@@ -93,7 +93,18 @@ impl<'p> Bank for Forks<'p> {
 
     ghost kept = { kept_forks };
 
-    fn submit(&mut self, request: Request) -> Result<(), (Request, AllocError)> {
+    /// Takes a request, as any bank does. Without memory nothing at all changes.
+    fn submit(&mut self, request: Request) -> Result<(), (Request, AllocError)>
+        requires { IsFit (content_of (kept_forks self.old)).plan request }
+        ensures ok { OnOk result (content_of (kept_forks self.new)
+            ≡ with_request request (content_of (kept_forks self.old))) }
+        ensures machine { OnOk result (machine_of self.new
+            ≡ waiting_for request (machine_of self.old)) }
+        ensures err { OnErr result (content_of (kept_forks self.new)
+            ≡ content_of (kept_forks self.old)) }
+        ensures back { IfErr result (λ refused. refused.0 ≡ request) }
+        ensures same { OnErr result (self.new ≡ self.old) }
+    {
         let Some(place) = place_of(&self.stations, request.inter) else {
             unreachable!();
         };
@@ -111,6 +122,7 @@ impl<'p> Bank for Forks<'p> {
         ensures memory { IfErr result (λ e. CanWantMemory (content_of (kept_forks self.old)) step) }
         ensures err { OnErr result (content_of (kept_forks self.new)
             ≡ content_of (kept_forks self.old)) }
+        ensures same { OnErr result (self.new ≡ self.old) }
     {
         do_step(&mut self.stations, &mut self.flight, &mut self.grants, step)
     }

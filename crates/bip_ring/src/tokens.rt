@@ -1,7 +1,8 @@
 //! The token of a ring.
 ghost use Rattle.std.specs.Prelude.{◌≡◌, IfOk};
 ghost use Rattle.bip_bank.specs.Opening.{IsOpening};
-ghost use Rattle.bip_table.specs.Reservations.{IsTableAfter, IsTableAnswer};
+ghost use Rattle.bip_table.specs.Reservations.{IsTableAnswer, reservations};
+ghost use Rattle.bip_ring.specs.Tokens.{IsTokenAfter, with_cut};
 
 use bip_bank::first_table;
 use bip_model::{Grant, Number, Request};
@@ -12,6 +13,7 @@ use std::alloc::{AllocError, Global};
 /// The token of a ring, in which the one table travels.
 #[derive(Drop)]
 pub struct Token {
+    alloc: Global,
     pub(crate) table: Table,
 }
 
@@ -22,15 +24,32 @@ impl Token {
         ensures { IfOk result (λ token. IsOpening plan.now base token.table) }
     {
         let table = first_table(alloc, plan, base)?;
-        Ok(Token { table })
+        Ok(Token { alloc, table })
     }
 
-    /// Decides on a request, as its table does.
+    /// Decides on a request, as its table does, and keeps no grant: that is with who asked, and the
+    /// table's used numbers are its floor then. So a token that goes round doesn't grow.
     pub fn decide(&mut self, request: &Request) -> Result<Decision, TableFault>
         ensures answer { IsTableAnswer self.old.table request.now.wants result }
-        ensures left { IsTableAfter request.now result self.old.table self.new.table }
+        ensures left { IsTokenAfter request.now result self.old.table self.new.table }
     {
-        self.table.decide(request)
+        match self.table.decide(request) {
+            Ok(Decision::Granted(serial)) => {
+                self.let_go();
+                Ok(Decision::Granted(serial))
+            }
+            Ok(Decision::Refused { comp, used }) => Ok(Decision::Refused { comp, used }),
+            Err(fault) => Err(fault),
+        }
+    }
+
+    /// Lets the grants of the table go, whose room stays.
+    fn let_go(&mut self)
+        ensures { reservations self.new.table ≡ with_cut (reservations self.old.table) }
+    {
+        let mut granted = self.table.cut(Vec::new(self.alloc));
+        granted.clear();
+        let _none = self.table.cut(granted);
     }
 
     /// The grants, in order of decision.

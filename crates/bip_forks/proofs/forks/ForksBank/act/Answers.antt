@@ -2,7 +2,7 @@ use Rattle.std.proofs.Common.{◌≡◌, subst}
 use Rattle.std.specs.Prelude.{IfErr, IfOk, OnErr}
 use Rattle.bip_bank.specs.Banks.{CanWantMemory, DoesStep, IsActed, content_of}
 use Rattle.bip_forks.proofs.ActLemmas.{acted_does, acted_is, acted_kept, acted_stays, acted_wants}
-use Rattle.bip_forks.proofs.ActLemmas.{acted_machine, can_answer, may_arrive}
+use Rattle.bip_forks.proofs.ActLemmas.{acted_machine, acted_same, can_answer, may_arrive}
 use Rattle.bip_forks.specs.Kept.{KeptForks, kept_forks, machine_of}
 use Rattle.bip_forks.specs.Machines.{IsForkStep}
 use Rattle.bip_forks.proofs.forks.ForksBank.act.Goals as goal
@@ -115,3 +115,17 @@ returns-clause-err c =
     } in
     subst (λ (j : KeptForks). OnErr c.do_step.result (content_of (kept_forks (record k { parts = (record { stations = c.do_step.new.stations.items; flight = c.do_step.new.flight.items; grants = c.do_step.new.grants.items }) })) ≡ content_of (kept_forks j))) c.self.view_is
     (acted_stays k (record { stations = c.do_step.new.stations.items; flight = c.do_step.new.flight.items; grants = c.do_step.new.grants.items }) c.do_step.result c.do_step.ensures.stations c.do_step.ensures.flight c.do_step.ensures.grants)
+
+pub returns-clause-same : goal.returns-clause-same
+returns-clause-same c =
+    let k : KeptForks = record {
+      plan = c.self.inside.plan.now;
+      base = c.self.inside.base;
+      parts = record {
+        stations = c.self.inside.stations.items;
+        flight = c.self.inside.flight.items;
+        grants = c.self.inside.grants.items;
+      };
+    } in
+    subst (λ (j : KeptForks). OnErr c.do_step.result ((record k { parts = (record { stations = c.do_step.new.stations.items; flight = c.do_step.new.flight.items; grants = c.do_step.new.grants.items }) }) ≡ j)) c.self.view_is
+    (acted_same k (record { stations = c.do_step.new.stations.items; flight = c.do_step.new.flight.items; grants = c.do_step.new.grants.items }) c.do_step.result c.do_step.ensures.stations c.do_step.ensures.flight c.do_step.ensures.grants)
