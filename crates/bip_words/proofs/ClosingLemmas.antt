@@ -1,5 +1,5 @@
 -- What the last state of a table says.
-use Rattle.std.proofs.Common.{◌≡◌, ◌≢◌, ℕ, zero, suc, ◌+◌, ◌/◌, ◌<◌, ◌≤◌, List, [], ◌∷◌, ◌++◌, length, set, take, drop, append_assoc, refl, sym, ap, ◌∙◌, subst, ⊎_elim, inl, arith}
+use Rattle.std.proofs.Common.{◌≡◌, ◌≢◌, ℕ, zero, suc, ◌+◌, ◌/◌, ◌<◌, ◌≤◌, max, List, [], ◌∷◌, ◌++◌, length, set, take, drop, append_assoc, refl, sym, ap, ◌∙◌, subst, ⊎_elim, inl, arith}
 use Rattle.std.specs.Prelude.{slice_index, slice_get}
 use Rattle.std.proofs.lemmas.Bool.Decides.{nat_tests}
 use mathlib.Core.Option.{some, some-injective}
@@ -10,18 +10,20 @@ use Rattle.bip_model.specs.Wants.{moved_in}
 use Rattle.bip_model.specs.declared.grants.Grant.{Grant}
 use Rattle.bip_model.specs.declared.numbering.CompId.{CompId}
 use Rattle.atomic_table.proofs.Lists.{at_set}
-use Rattle.std.specs.List.{AllByRecursion}
+use Rattle.std.specs.List.{AllByRecursion, flat_map}
 use Rattle.bip_model.specs.declared.messages.Request.{Request}
+use Rattle.bip_words.proofs.LawLemmas.{seen_most}
 use Rattle.bip_words.proofs.OwedLemmas.{none_due}
 use Rattle.bip_words.proofs.Passes.{OwesGranted, Stands, count_of, grants_of}
 use Rattle.bip_words.proofs.RuleLemmas.{ordered}
 use Rattle.bip_words.proofs.Totals.{total_at, total_set}
-use Rattle.bip_words.specs.Closing.{IsClosedBy, IsUsedRow, LacksGrants, parts_of, rows_by}
-use Rattle.bip_words.specs.Knowledge.{grants_at, nobody}
+use Rattle.bip_words.specs.Closing.{IsClosedBy, IsExplained, IsUsedRow, LacksGrants, notes_of, parts_of, rows_by}
+use Rattle.bip_words.specs.Knowledge.{grants_at, nobody, seen_in}
 use Rattle.bip_words.specs.Rows.{floor_of, row_comps, with_number}
-use Rattle.bip_words.specs.Rule.{IsNotDue, IsPlaced, by_order, from_serial, owed_of, total}
+use Rattle.bip_words.specs.Rule.{IsCountedIn, IsNotDue, IsPlaced, by_order, from_serial, owed_of, total}
 use Rattle.bip_words.specs.Tables.{Seated}
 use Rattle.bip_words.specs.declared.knowledge.Knowledge.{Knowledge}
+use Rattle.bip_words.specs.declared.knowledge.Note.{Note}
 
 none_granted : (k : ℕ) (views : List Knowledge) → total count_of views ≡ 0 → total (grants_of k) views ≡ 0
 none_granted k [] none = refl
@@ -55,24 +57,48 @@ used_rows floor log k words (e ∷ es) all = (
 pub most_listed : (key : List (CompId × ℕ)) (s : State Request Knowledge) (id : ℕ) (v : Knowledge) → Stands key s → get_elem? s.views id ≡ some v → length v.grants ≤ slice_index s.words 0
 most_listed key s id v h at = let most = total_at count_of s.views id v at in let all = h.second.counts in let is = h.second.ticket in omega (arith, most, all, is)
 
-pub is_missing : (key : List (CompId × ℕ)) (s : State Request Knowledge) (id n : ℕ) (v : Knowledge) → Stands key s → get_elem? s.views id ≡ some v → slice_index s.words 0 ≡ length v.grants + n → 0 < n → LacksGrants key v.grants n
-is_missing key s id n v h at count some_left = record {
+seen_append : (r : ℕ) (xs ys : List Note) → seen_in r (xs ++ ys) ≡ max (seen_in r xs) (seen_in r ys)
+seen_append r [] ys = omega arith
+seen_append r (x ∷ xs) ys = let ih = seen_append r xs ys in omega (arith, ih)
+
+-- what explains the notes of all seats explains those of each
+explained_each : (key : List (CompId × ℕ)) (log : List Grant) (seats : List Seated) → ((r c : ℕ) → get_elem? (row_comps key) r ≡ some c → seen_in r (notes_of seats) ≤ used_by (floor_of key) log c) → AllByRecursion (IsExplained key log) seats
+explained_each key log [] most = tt
+explained_each key log (s ∷ ss) most = (
+  λ r c there. (let m = most r c there in let two = seen_append r s.knows.notes (notes_of ss) in omega (arith, m, two)),
+  explained_each key log ss (λ r c there. let m = most r c there in let two = seen_append r s.knows.notes (notes_of ss) in omega (arith, m, two)),
+)
+
+-- all that was noted is explained
+explained : (key : List (CompId × ℕ)) (s : State Request Knowledge) (id : ℕ) (v : Knowledge) (seats : List Seated) → (h : Stands key s) → get_elem? s.views id ≡ some v → v.notes ≡ notes_of seats → AllByRecursion (IsExplained key h.log) seats
+explained key s id v seats h at notes =
+    explained_each key h.log seats (λ r c there.
+    let seen = seen_most s.words r v.notes (h.first.known id v at).1 in
+    let used = h.second.used r c there in
+    let here : seen_in r v.notes ≡ seen_in r (notes_of seats) = ap (seen_in r) notes in
+    omega (arith, seen, used, here))
+
+pub is_missing : (key : List (CompId × ℕ)) (s : State Request Knowledge) (id n : ℕ) (v : Knowledge) (seats : List Seated) → Stands key s → get_elem? s.views id ≡ some v → v.grants ≡ parts_of seats → v.notes ≡ notes_of seats → slice_index s.words 0 ≡ length v.grants + n → 0 < n → LacksGrants key seats n
+is_missing key s id n v seats h at list notes count some_left = record {
   log = h.log;
   some_left = some_left;
-  count = sym h.second.ticket ∙ count;
+  count = sym h.second.ticket ∙ (count ∙ ap (λ (l : List (ℕ × Grant)). length l + n) list);
   history = h.second.history;
-  placed = h.second.placed id v at;
+  placed = subst (AllByRecursion (IsPlaced h.log)) list (h.second.placed id v at);
+  seen = explained key s id v seats h at notes;
 }
 
-pub is_closed : (key : List (CompId × ℕ)) (s : State Request Knowledge) (id : ℕ) (v : Knowledge) → Stands key s → get_elem? s.views id ≡ some v → v.claims ≡ [] → slice_index s.words 0 ≡ length v.grants
-    → IsClosedBy key v.grants (rows_by 0 s.words key) (slice_index s.words 0)
-is_closed key s id v h at idle count = record {
-  all = count;
-  history = subst (IsHistory (floor_of key)) (sym same) h.second.history;
-  in_order = subst (λ (log : List Grant). AllByRecursion (IsPlaced log) v.grants) (sym same) (h.second.placed id v at);
-  same_rows = same_comps 0 s.words key;
-  used = subst (λ (log : List Grant). AllByRecursion (IsUsedRow (floor_of key) log) (rows_by 0 s.words key)) (sym same) (used_rows (floor_of key) h.log 0 s.words key each);
-}
+pub is_closed : (key : List (CompId × ℕ)) (s : State Request Knowledge) (id : ℕ) (v : Knowledge) (seats : List Seated) → Stands key s → get_elem? s.views id ≡ some v → v.claims ≡ [] → v.grants ≡ parts_of seats → v.notes ≡ notes_of seats → slice_index s.words 0 ≡ length v.grants
+    → IsClosedBy key seats (rows_by 0 s.words key) (slice_index s.words 0)
+is_closed key s id v seats h at idle list notes count =
+    let log = sym (ap by_order (sym list) ∙ same) in record {
+      all = count ∙ ap length list;
+      history = subst (IsHistory (floor_of key)) log h.second.history;
+      in_order = subst (λ (l : List Grant). AllByRecursion (IsPlaced l) (parts_of seats)) log (subst (AllByRecursion (IsPlaced h.log)) list (h.second.placed id v at));
+      same_rows = same_comps 0 s.words key;
+      used = subst (λ (l : List Grant). AllByRecursion (IsUsedRow (floor_of key) l) (rows_by 0 s.words key)) log (used_rows (floor_of key) h.log 0 s.words key each);
+      seen = subst (λ (l : List Grant). AllByRecursion (IsExplained key l) seats) log (explained key s id v seats h at notes);
+    }
   where
     others : List Knowledge
     others = set s.views id nobody
@@ -108,10 +134,13 @@ is_closed key s id v h at idle count = record {
         let e : 0 + r ≡ r = omega arith in
         ap (λ (i : ℕ). slice_index s.words (suc i) / 2) e ∙ omega (arith, t, z, mine, u)
 
-pub parts_snoc : (ps : List Seated) (p : Seated) (rest : List (ℕ × Grant)) → parts_of (ps ++ p ∷ []) ++ rest ≡ parts_of ps ++ (p.knows.grants ++ rest)
-parts_snoc [] p rest = append_assoc p.knows.grants [] rest
-parts_snoc (x ∷ xs) p rest =
-    append_assoc x.knows.grants (parts_of (xs ++ p ∷ [])) rest ∙ (ap (λ (l : List (ℕ × Grant)). x.knows.grants ++ l) (parts_snoc xs p rest) ∙ sym (append_assoc x.knows.grants (parts_of xs) (p.knows.grants ++ rest)))
+-- a seat with all grants counted them all
+pub all_counted : (key : List (CompId × ℕ)) (s : State Request Knowledge) (id n : ℕ) (v : Knowledge) → Stands key s → get_elem? s.views id ≡ some v → v.counts ≡ n ∷ [] → length v.grants ≤ n → slice_index s.words 0 ≡ length v.grants → n ≡ slice_index s.words 0
+all_counted key s id n v h at counts least all = let most = (subst (AllByRecursion (IsCountedIn s.words)) counts (h.first.known id v at).2).0 in omega (arith, most, least, all)
+
+pub gathered : {A : Type 0} (f : Seated → List A) (ps : List Seated) (p : Seated) (rest : List A) → flat_map f (ps ++ p ∷ []) ++ rest ≡ flat_map f ps ++ (f p ++ rest)
+gathered f [] p rest = append_assoc (f p) [] rest
+gathered f (x ∷ xs) p rest = append_assoc (f x) (flat_map f (xs ++ p ∷ [])) rest ∙ (ap (λ l. f x ++ l) (gathered f xs p rest) ∙ sym (append_assoc (f x) (flat_map f xs) (f p ++ rest)))
 
 pub each_split : {A : Type 0} (P : A → Type 0) (xs : List A) (x : A) → AllByRecursion P (xs ++ x ∷ []) → AllByRecursion P xs × P x
 each_split P [] x all = (tt, all.0)

@@ -2,7 +2,7 @@
 use Rattle.std.proofs.Common.{◌≡◌, ◌≢◌, ℕ, zero, suc, ◌+◌, ◌<◌, ◌≤◌, List, [], ◌∷◌, ◌++◌, length, length-append, set, refl, sym, ap, ◌∙◌, subst, ⊎_elim, inl, inr, arith}
 use mathlib.Core.Option.{some}
 use lib.ListN.{get_elem?}
-use Rattle.atomic_table.proofs.Lists.{at_set, at_snoc, set_again}
+use Rattle.atomic_table.proofs.Lists.{at_set, at_snoc}
 use Rattle.bip_model.proofs.HistoryLemmas.{used_by-push}
 use Rattle.bip_model.specs.Grants.{used_by}
 use Rattle.bip_model.specs.Wants.{moved_in}
@@ -11,7 +11,7 @@ use Rattle.std.specs.List.{AllByRecursion}
 use Rattle.bip_words.proofs.OwedLemmas.{alone, none_due, unclaimed}
 use Rattle.bip_words.proofs.Passes.{AllFlyAlone, IsClaimed, IsLogged}
 use Rattle.bip_words.proofs.Totals.{on_row, total_two}
-use Rattle.bip_words.specs.Knowledge.{asked_by, both_of, claims_on, knows, nobody}
+use Rattle.bip_words.specs.Knowledge.{asked_by, both_of, claims_on, knows, nobody, that_counted}
 use Rattle.bip_words.specs.Rule.{FliesAlone, IsClaimIn, IsDue, IsNotDue, IsUsedBy, but_serial, claims_of}
 use Rattle.bip_words.specs.Steps.{IsCovered, all_due}
 use Rattle.bip_words.specs.declared.knowledge.Claim.{Claim}
@@ -44,18 +44,15 @@ module _ (comps : List ℕ) (floor : ℕ → ℕ) where
     subst (AllByRecursion (IsUsedBy comps floor (but_serial f.0.0 log))) (sym leaves) (subst (AllByRecursion (IsUsedBy comps floor (but_serial f.0.0 log))) has f.5).1,
   )
 
-  pub flies_opened : (views : List Knowledge) (log : List Grant) (id : ℕ) (v : Knowledge) → AllFlyAlone comps floor views log → get_elem? views id ≡ some v → AllFlyAlone comps floor (set views id v ++ nobody ∷ []) log
-  flies_opened views log id v h at j u there = ⊎_elim
-      (λ (x : get_elem? (set views id v) j ≡ some u). h j u (subst (λ (l : List Knowledge). get_elem? l j ≡ some u) (set_again views id v at) x))
-      (λ (is : nobody ≡ u). subst (FliesAlone comps floor log) is (inl tt))
-      (at_snoc (set views id v) nobody u j there)
+  pub flies_opened : (views : List Knowledge) (log : List Grant) (ns : List ℕ) → AllFlyAlone comps floor views log → AllFlyAlone comps floor (views ++ that_counted ns ∷ []) log
+  flies_opened views log ns h j u there = ⊎_elim (h j u) (λ (is : that_counted ns ≡ u). subst (FliesAlone comps floor log) is (inl tt)) (at_snoc views (that_counted ns) u j there)
 
   pub flies_joined : (views : List Knowledge) (log : List Grant) (id other : ℕ) (v w : Knowledge) → AllFlyAlone comps floor views log → v.claims ≡ [] → get_elem? views id ≡ some v → get_elem? (set views id (both_of v w)) other ≡ some w → AllFlyAlone comps floor (set (set views id (both_of v w)) other nobody) log
   flies_joined views log id other v w h idle at there =
       flies_set (set views id (both_of v w)) log other w nobody (flies_set views log id v (both_of v w) h at (λ _. inl (subst (AllByRecursion IsNotDue) (sym idle) tt))) there (λ _. inl tt)
 
   pub flies_drawn : (words : List ℕ) (views : List Knowledge) (log : List Grant) (id n : ℕ) (v w : Knowledge) → AllFlyAlone comps floor views log → IsLogged comps floor words views log → IsClaimed (length comps) words views → get_elem? views id ≡ some v → n ≡ length log
-      → AllByRecursion IsNotDue v.claims → AllByRecursion (IsCovered comps v.claims) v.asked.wants → w ≡ knows (all_due v.claims) v.notes v.asked ((n, asked_by v.asked) ∷ v.grants) → AllFlyAlone comps floor (set views id w) (log ++ asked_by v.asked ∷ [])
+      → AllByRecursion IsNotDue v.claims → AllByRecursion (IsCovered comps v.claims) v.asked.wants → w ≡ knows (all_due v.claims) v.notes v.asked ((n, asked_by v.asked) ∷ v.grants) v.counts → AllFlyAlone comps floor (set views id w) (log ++ asked_by v.asked ∷ [])
   flies_drawn words views log id n v w h l k at is idle covers new j u there = ⊎_elim
       (λ (x : (j ≡ id) × (w ≡ u)). subst (FliesAlone comps floor (log ++ asked_by v.asked ∷ [])) (sym new ∙ x.1) mine)
       (λ (x : (j ≢ id) × (get_elem? views j ≡ some u)). others x.0 x.1 (h j u x.1))
@@ -82,7 +79,7 @@ module _ (comps : List ℕ) (floor : ℕ → ℕ) where
       dues [] = tt
       dues (c ∷ cs) = (refl, dues cs)
 
-      mine : FliesAlone comps floor (log ++ asked_by v.asked ∷ []) (knows (all_due v.claims) v.notes v.asked ((n, asked_by v.asked) ∷ v.grants))
+      mine : FliesAlone comps floor (log ++ asked_by v.asked ∷ []) (knows (all_due v.claims) v.notes v.asked ((n, asked_by v.asked) ∷ v.grants) v.counts)
       mine = inr ((n, asked_by v.asked), v.grants, refl, dues v.claims, omega (arith, longer), mine_each v.claims (k.known id v at).0 (λ r. omega arith))
 
       other_each : j ≢ id → get_elem? views j ≡ some u → (i : ℕ) → i < length log → (cs : List Claim) → AllByRecursion (IsClaimIn (length comps) words) cs → ((r : ℕ) → claims_on r cs ≤ claims_of r u) → AllByRecursion (IsUsedBy comps floor (but_serial i log)) cs → AllByRecursion (IsUsedBy comps floor (but_serial i (log ++ asked_by v.asked ∷ []))) cs

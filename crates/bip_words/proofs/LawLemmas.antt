@@ -47,7 +47,7 @@ claim_used comps floor log rows words r c (x ∷ xs) row some_claim all used = d
     ap (row_word words) (sym e) ∙ omega (arith, u, w))
     (λ ne. claim_used comps floor log rows words r c xs row (let o = off_row r x xs ne in omega (arith, o, some_claim)) all.1 used.1)
 
-seen_most : (words : List ℕ) (r : ℕ) (ns : List Note) → AllByRecursion (IsSeenIn words) ns → seen_in r ns ≤ row_word words r / 2
+pub seen_most : (words : List ℕ) (r : ℕ) (ns : List Note) → AllByRecursion (IsSeenIn words) ns → seen_in r ns ≤ row_word words r / 2
 seen_most words r [] all = omega arith
 seen_most words r (n ∷ ns) all =
     let rest = seen_most words r ns all.1 in
@@ -69,6 +69,7 @@ reads rows s h = record {
   odd = λ r c there odd. k.first.claims r (at_below comps r c there) ∙ odd;
   claimer = claimer;
   seen = λ r j v at. seen_most s.words r v.notes (h.known j v at).1;
+  counted = λ j v at. (h.known j v at).2;
 }
   where
     comps : List ℕ

@@ -6,7 +6,7 @@ use mathlib.Core.Option.{some, some-injective}
 use mathlib.Core.Logic.{dite}
 use native.Mathlib.Decide.{ℕ_discrete}
 use lib.ListN.{get_elem?}
-use Rattle.atomic_table.proofs.Lists.{at_set, at_snoc, set_again, set_else, set_here}
+use Rattle.atomic_table.proofs.Lists.{at_set, at_snoc, set_else, set_here}
 use Rattle.bip_model.proofs.HistoryLemmas.{IsHistory-append, moved_above, used_by-push}
 use Rattle.bip_model.specs.Grants.{used_by}
 use Rattle.bip_model.specs.Wants.{moved_in, IsFresh}
@@ -17,7 +17,7 @@ use Rattle.bip_model.specs.declared.messages.Request.{Request}
 use Rattle.bip_words.proofs.OwedLemmas.{alone, due_claims, due_owed, each_all, moved_small, nobody_owes, none_due, none_on, owed_else, owed_here, placed_last, placed_longer, unclaimed, weight_rises}
 use Rattle.bip_words.proofs.Passes.{IsClaimed, IsLogged, OwesGranted, count_of, grants_of}
 use Rattle.bip_words.proofs.Totals.{each_append, each_weaker, on_row, total_at, total_kept, total_set, total_snoc, word_else, word_same}
-use Rattle.bip_words.specs.Knowledge.{asked_by, both_of, claims_on, grants_at, knows, nobody}
+use Rattle.bip_words.specs.Knowledge.{asked_by, both_of, claims_on, grants_at, knows, nobody, that_counted}
 use Rattle.bip_words.specs.Rule.{IsClaimIn, IsNotDue, IsPlaced, claims_of, owed_of, owed_on, row_word, total}
 use Rattle.bip_words.specs.Steps.{IsCovered, IsSmall, all_due, owing}
 use Rattle.bip_words.specs.declared.knowledge.Claim.{Claim}
@@ -122,7 +122,7 @@ pub drawn_log : (comps : List ℕ) (floor : ℕ → ℕ) (words : List ℕ) (vie
     → get_elem? views id ≡ some v → n ≡ length log
     → AllByRecursion IsNotDue v.claims → AllByRecursion (IsCovered comps v.claims) v.asked.wants → AllByRecursion IsSmall v.asked.wants
     → (r : ℕ) (d : ℕ) → get_elem? comps r ≡ some d → 0 < moved_in v.asked.wants d
-    → w ≡ knows (all_due v.claims) v.notes v.asked ((n, asked_by v.asked) ∷ v.grants)
+    → w ≡ knows (all_due v.claims) v.notes v.asked ((n, asked_by v.asked) ∷ v.grants) v.counts
     → IsLogged comps floor (set words 0 (n + 1)) (set views id w) (log ++ asked_by v.asked ∷ [])
 drawn_log comps floor words views id n v w log h k k' at is idle covers small row d comp moves new = record {
   apart = h.apart;
@@ -247,23 +247,24 @@ drawn_log comps floor words views id n v w log h k k' at is idle covers small ro
         step : (i n : ℕ) → (if nat_lt i n then 1 else 0) + (if n == i then 1 else 0) ≡ (if nat_lt i (n + 1) then 1 else 0)
         step i n = grind (arith, nat_tests)
 
-pub opened_log : (comps : List ℕ) (floor : ℕ → ℕ) (words : List ℕ) (views : List Knowledge) (id : ℕ) (v : Knowledge) (log : List Grant) → IsLogged comps floor words views log → get_elem? views id ≡ some v
-    → IsLogged comps floor words (set views id v ++ nobody ∷ []) log
-opened_log comps floor words views id v log h at =
-    subst (λ (l : List Knowledge). IsLogged comps floor words (l ++ nobody ∷ []) log) (sym (set_again views id v at)) (record {
-      apart = h.apart;
-      few = h.few;
-      opening = h.opening;
-      ticket = h.ticket;
-      history = h.history;
-      used = λ r c there. h.used r c there ∙ ap (λ (k : ℕ). max (row_word words r / 2) k) (sym (total_snoc (owed_of r c) views nobody ∙ omega arith));
-      small = h.small;
-      rises = h.rises;
-      serials = λ k. total_snoc (grants_of k) views nobody ∙ (let s = h.serials k in omega (arith, s));
-      counts = total_snoc count_of views nobody ∙ (let s = h.counts in omega (arith, s));
-      placed = λ j u there. ⊎_elim (h.placed j u) (λ (is : nobody ≡ u). subst (λ (y : Knowledge). AllByRecursion (IsPlaced log) y.grants) is tt) (at_snoc views nobody u j there);
-      flight = λ j u there. ⊎_elim (h.flight j u) (λ (is : nobody ≡ u). subst OwesGranted is (inl tt)) (at_snoc views nobody u j there);
-    })
+pub opened_log : (comps : List ℕ) (floor : ℕ → ℕ) (words : List ℕ) (views : List Knowledge) (ns : List ℕ) (log : List Grant) → IsLogged comps floor words views log → IsLogged comps floor words (views ++ that_counted ns ∷ []) log
+opened_log comps floor words views ns log h = record {
+  apart = h.apart;
+  few = h.few;
+  opening = h.opening;
+  ticket = h.ticket;
+  history = h.history;
+  used = λ r c there. h.used r c there ∙ ap (λ (k : ℕ). max (row_word words r / 2) k) (sym (total_snoc (owed_of r c) views new ∙ omega arith));
+  small = h.small;
+  rises = h.rises;
+  serials = λ k. total_snoc (grants_of k) views new ∙ (let s = h.serials k in omega (arith, s));
+  counts = total_snoc count_of views new ∙ (let s = h.counts in omega (arith, s));
+  placed = λ j u there. ⊎_elim (h.placed j u) (λ (is : new ≡ u). subst (λ (y : Knowledge). AllByRecursion (IsPlaced log) y.grants) is tt) (at_snoc views new u j there);
+  flight = λ j u there. ⊎_elim (h.flight j u) (λ (is : new ≡ u). subst OwesGranted is (inl tt)) (at_snoc views new u j there);
+}
+  where
+    new : Knowledge
+    new = that_counted ns
 
 pub grants_append : (k : ℕ) (xs ys : List (ℕ × Grant)) → grants_at k (xs ++ ys) ≡ grants_at k xs + grants_at k ys
 grants_append k [] ys = omega arith

@@ -79,7 +79,7 @@ opens key valid small =
       serials = λ k. grind (arith, nat_tests);
       history = tt;
       claims = λ r lt. sym (even_at key (floors key) r lt);
-      known = alone_at (IsKnownIn (length key) words) (tt, tt);
+      known = alone_at (IsKnownIn (length key) words) (tt, tt, tt);
       used = λ r c there. let f = floor_at key (floors key) r c rises there in omega (arith, f);
       flight = alone_at (FliesAlone (row_comps key) (floor_of key) []) (inl tt);
       in_order = alone_at (λ (v : Knowledge). AllByRecursion (IsPlaced []) v.grants) tt;

@@ -19,7 +19,7 @@ use native.Mathlib.Decide.{ℕ_discrete}
 use Rattle.bip_words.proofs.ClaimLemmas.{noted}
 use Rattle.bip_words.proofs.Totals.{each_append, each_weaker, off_row}
 use Rattle.bip_words.specs.Knowledge.{change_count, claim, claims_on, look_count, note, seen_in, with_note}
-use Rattle.bip_words.specs.Reserving.{Answered, Covers, FoundBusy, FoundUsed, HasWrittenRow, IsAttempt, IsFree, IsGrantedWith, IsWantedBelow, Noted, NotedChange, TriedOnce, claims_after, is_granted}
+use Rattle.bip_words.specs.Reserving.{Answered, Covers, FoundBusy, FoundFresh, FoundFreshBelow, FoundUsed, HasWrittenRow, IsAttempt, IsFree, IsGrantedWith, IsRefusedIn, IsWantedBelow, LookedInOrder, Noted, NotedChange, TriedOnce, claims_after, is_granted, tried_wants, up_to}
 use Rattle.bip_words.specs.Rows.{HasRow, IsRowOf, WantsWithoutRow, is_row_of, row_comps}
 use Rattle.bip_words.specs.Steps.{IsBelow, IsCovered, IsSeenMost, all_due, owing}
 use Rattle.bip_words.specs.declared.knowledge.Claim.{Claim}
@@ -286,6 +286,44 @@ look_counts comps row c r n at = dite (ℕ_discrete row r)
     (λ e. rw (eq-eqb row r e, row_is comps r c (subst (λ (i : ℕ). IsRowOf comps i c) e at)) (omega arith))
     (λ ne. rw (ne_eqb row r ne) (omega arith))
 
+-- up to the first want there is no other
+first_alone : (w : Want) (more : List Want) → up_to w.comp.0 (w ∷ more) ≡ w ∷ []
+first_alone w more = rw (eq-eqb w.comp.0 w.comp.0 refl) refl
+
+-- who is refused at a later want has tried the first one
+pub tried_more : (answer : Attempt) (wants done rest more : List Want) (w : Want) → IsStrictlyIncreasing (components_of wants) → wants ≡ done ++ rest → rest ≡ w ∷ more → IsRefusedIn answer more → tried_wants answer (w ∷ more) ≡ w ∷ tried_wants answer more
+tried_more answer wants done rest more w rising whole is within = tried answer within
+  where
+    apart : (c : ℕ) (ws : List Want) → AllByRecursion (λ y. w.comp.0 < y) (components_of ws) → Any (λ (v : Want). v.comp.0 ≡ c) ws → w.comp.0 ≢ c
+    apart c [] above (i, v, below, at, on) e = omega (arith, below)
+    apart c (x ∷ xs) above (zero, v, below, at, on) e = let head = above.0 in let same = ap (λ (u : Want). u.comp.0) at in omega (arith, head, same, on, e)
+    apart c (x ∷ xs) above (suc i, v, below, at, on) e = apart c xs above.1 (i, v, omega (arith, below), at, on) e
+
+    goes_on : (c : ℕ) → Any (λ (v : Want). v.comp.0 ≡ c) more → up_to c (w ∷ more) ≡ w ∷ up_to c more
+    goes_on c later = let rises = rises_later done (w ∷ more) (subst (λ (l : List Want). Rises (components_of l)) (whole ∙ ap (λ (l : List Want). done ++ l) is) (rises_from_increasing (components_of wants) rising)) in rw (ne_eqb w.comp.0 c (apart c more rises.0 later)) refl
+
+    tried : (a : Attempt) → IsRefusedIn a more → tried_wants a (w ∷ more) ≡ w ∷ tried_wants a more
+    tried (Granted s) within = refl
+    tried (Used c u) within = goes_on c.0 within
+    tried (Busy c) within = goes_on c.0 within
+    tried (Unknown c) within = absurd within
+
+-- who is refused at one of the later wants is so at one of all
+pub refused_later : (answer : Attempt) (rest more : List Want) (w : Want) → rest ≡ w ∷ more → IsRefusedIn answer more → IsRefusedIn answer rest
+refused_later answer rest more w is within = subst (IsRefusedIn answer) (sym is) (refused answer within)
+  where
+    longer : (c : ℕ) → Any (λ (v : Want). v.comp.0 ≡ c) more → Any (λ (v : Want). v.comp.0 ≡ c) (w ∷ more)
+    longer c l = (suc l.0, l.1, omega (arith, l.2), l.3, l.4)
+
+    refused : (a : Attempt) → IsRefusedIn a more → IsRefusedIn a (w ∷ more)
+    refused (Granted s) within = tt
+    refused (Used c u) within = longer c.0 within
+    refused (Busy c) within = longer c.0 within
+    refused (Unknown c) within = absurd within
+
+pub refused_here : (rest more : List Want) (w : Want) → rest ≡ w ∷ more → Any (λ (v : Want). v.comp.0 ≡ w.comp.0) rest
+refused_here rest more w is = subst (Any (λ (v : Want). v.comp.0 ≡ w.comp.0)) (sym is) (any_middle (λ (v : Want). v.comp.0 ≡ w.comp.0) [] more w refl)
+
 no_looks : (b : Bool) → ◌≡◌ {A = ℕ} (if b then 0 else 0) 0
 no_looks true = refl
 no_looks false = refl
@@ -298,22 +336,23 @@ module _ (comps : List ℕ) where
     changes = rw same (omega arith);
   }
 
-  pub once_looked : (rest more : List Want) (w : Want) (answer : Attempt) (row word own : ℕ) (old new : Knowledge) → rest ≡ w ∷ more → IsRowOf comps row w.comp.0 → new.notes ≡ note row word own Look ∷ old.notes → TriedOnce comps rest answer old new
-  once_looked rest more w answer row word own old new is at notes = record {
+  -- a call that ends at the first want tries no other
+  pub once_looked : (rest more : List Want) (w : Want) (answer : Attempt) (row word own : ℕ) (old new : Knowledge) → rest ≡ w ∷ more → tried_wants answer (w ∷ more) ≡ up_to w.comp.0 (w ∷ more) → IsRowOf comps row w.comp.0 → new.notes ≡ note row word own Look ∷ old.notes → TriedOnce comps rest answer old new
+  once_looked rest more w answer row word own old new is ends at notes = record {
     keeps = (note row word own Look ∷ [], notes);
-    looks = λ r. let l = look_counts comps row w.comp.0 r 0 at in rw (is, notes) (omega (arith, l));
+    looks = λ r. let l = look_counts comps row w.comp.0 r 0 at in let tried = ap (tried_wants answer) is ∙ (ends ∙ first_alone w more) in rw (tried, notes) (omega (arith, l));
     changes = rw notes (omega arith);
   }
 
-  pub once_changed : (rest more : List Want) (w : Want) (c : CompId) (row word own found again : ℕ) (old new : Knowledge) → rest ≡ w ∷ more → IsRowOf comps row w.comp.0 → new.notes ≡ note row found again Changed ∷ note row word own Look ∷ old.notes → TriedOnce comps rest (Busy c) old new
-  once_changed rest more w c row word own found again old new is at notes = record {
+  pub once_changed : (rest more : List Want) (w : Want) (row word own found again : ℕ) (old new : Knowledge) → rest ≡ w ∷ more → IsRowOf comps row w.comp.0 → new.notes ≡ note row found again Changed ∷ note row word own Look ∷ old.notes → TriedOnce comps rest (Busy w.comp) old new
+  once_changed rest more w row word own found again old new is at notes = record {
     keeps = (note row found again Changed ∷ note row word own Look ∷ [], notes);
-    looks = λ r. let l = look_counts comps row w.comp.0 r 0 at in let z = no_looks (row == r) in rw (is, notes) (omega (arith, l, z));
+    looks = λ r. let l = look_counts comps row w.comp.0 r 0 at in let z = no_looks (row == r) in let tried = ap (up_to w.comp.0) is ∙ first_alone w more in rw (tried, notes) (omega (arith, l, z));
     changes = rw notes (omega arith);
   }
 
-  pub once_around : (rest more : List Want) (w : Want) (answer : Attempt) (row word own last mine : ℕ) (old mid inner new : Knowledge) → rest ≡ w ∷ more → IsRowOf comps row w.comp.0 → mid.notes ≡ note row word own Look ∷ old.notes → new.notes ≡ note row last mine Wrote ∷ inner.notes → TriedOnce comps more answer mid inner → TriedOnce comps rest answer old new
-  once_around rest more w answer row word own last mine old mid inner new is at begin end once = record {
+  pub once_around : (rest more : List Want) (w : Want) (answer : Attempt) (row word own last mine : ℕ) (old mid inner new : Knowledge) → rest ≡ w ∷ more → tried_wants answer (w ∷ more) ≡ w ∷ tried_wants answer more → IsRowOf comps row w.comp.0 → mid.notes ≡ note row word own Look ∷ old.notes → new.notes ≡ note row last mine Wrote ∷ inner.notes → TriedOnce comps more answer mid inner → TriedOnce comps rest answer old new
+  once_around rest more w answer row word own last mine old mid inner new is later at begin end once = record {
     keeps = (
       note row last mine Wrote ∷ (once.keeps.0 ++ note row word own Look ∷ []),
       end ∙ ap (λ (l : List Note). note row last mine Wrote ∷ l) (once.keeps.1 ∙ (ap (λ (l : List Note). once.keeps.0 ++ l) begin ∙ sym (append_assoc once.keeps.0 (note row word own Look ∷ []) old.notes))),
@@ -323,7 +362,8 @@ module _ (comps : List ℕ) where
         let z = no_looks (row == r) in
         let i = once.looks r in
         let b = ap (look_count r) begin in
-        rw (is, end) (omega (arith, l, z, i, b));
+        let tried = ap (tried_wants answer) is ∙ later in
+        rw (tried, end) (omega (arith, l, z, i, b));
     changes =
         let i = once.changes in
         let b = ap change_count begin in
@@ -360,10 +400,41 @@ written_more comps (Used c u) rest more w row used number mine inner new is at n
 written_more comps (Busy c) rest more w row used number mine inner new is at number_is notes written = tt
 written_more comps (Unknown c) rest more w row used number mine inner new is at number_is notes written = tt
 
--- nothing was done
-pub once_unknown : (comps : List ℕ) (wants : List Want) (c : CompId) (old new : Knowledge) → new ≡ old → TriedOnce comps wants (Unknown c) old new
-once_unknown comps wants c old new same = record {
-  keeps = ([], ap (λ (v : Knowledge). v.notes) same);
-  looks = λ r. rw same (omega arith);
-  changes = rw same (omega arith);
-}
+-- wants are looked at by component
+
+none_lower : (P : Want → Type 0) (c : ℕ) (ws : List Want) → AllByRecursion (λ y. c < y) (components_of ws) → AllByRecursion (λ (v : Want). v.comp.0 < c → P v) ws
+none_lower P c [] above = tt
+none_lower P c (v ∷ vs) above = ((λ less. absurd (let up = above.0 in omega (arith, less, up))), none_lower P c vs above.1)
+
+-- of the rest of the wants, none is of a lower component than the first
+pub refused_first : (P : Want → Type 0) (wants done rest more : List Want) (w : Want) → IsStrictlyIncreasing (components_of wants) → wants ≡ done ++ rest → rest ≡ w ∷ more → AllByRecursion (λ (v : Want). v.comp.0 < w.comp.0 → P v) rest
+refused_first P wants done rest more w rising whole is =
+    let rises = rises_later done (w ∷ more) (subst (λ (l : List Want). Rises (components_of l)) (whole ∙ ap (λ (l : List Want). done ++ l) is) (rises_from_increasing (components_of wants) rising)) in
+    subst (AllByRecursion (λ (v : Want). v.comp.0 < w.comp.0 → P v)) (sym is) ((λ less. absurd (omega (arith, less))), none_lower P w.comp.0 more rises.0)
+
+-- the row of one more want was found fresh
+pub in_order : (comps : List ℕ) (answer : Attempt) (rest more : List Want) (w : Want) (row found own : ℕ) (last : Note) (old mid inner new : Knowledge) → rest ≡ w ∷ more → IsRowOf comps row w.comp.0 → 2 * (found / 2) ≡ found → own ≡ 0 → found / 2 < w.number
+    → mid.notes ≡ note row found own Look ∷ old.notes → new.notes ≡ last ∷ inner.notes → ((made : List Note) × (inner.notes ≡ made ++ mid.notes)) → LookedInOrder comps more answer mid inner → LookedInOrder comps rest answer old new
+in_order comps answer rest more w row found own last old mid inner new is at even free less begin end keeps order = subst (λ (ws : List Want). LookedInOrder comps ws answer old new) (sym is) (each answer order)
+  where
+    here : FoundFresh comps old new w
+    here = (
+      row,
+      found / 2,
+      at,
+      less,
+      (
+        last ∷ keeps.0,
+        [],
+        end ∙ ap (λ (l : List Note). last ∷ l) (keeps.1 ∙ ap (λ (l : List Note). keeps.0 ++ l) (begin ∙ (ap (λ (k : ℕ). note row found k Look ∷ old.notes) free ∙ ap (λ (n : ℕ). note row n 0 Look ∷ old.notes) (sym even)))),
+      ),
+    )
+
+    out : (v : Want) → FoundFresh comps mid inner v → FoundFresh comps old new v
+    out v f = (f.0, f.1, f.2, f.3, outer (note f.0 (2 * f.1) 0 Look) (note row found own Look) last old mid inner new begin end f.4)
+
+    each : (a : Attempt) → LookedInOrder comps more a mid inner → LookedInOrder comps (w ∷ more) a old new
+    each (Granted s) all = (here, each_weaker (FoundFresh comps mid inner) (FoundFresh comps old new) out more all)
+    each (Used c u) all = ((λ _. here), each_weaker (FoundFreshBelow comps c.0 mid inner) (FoundFreshBelow comps c.0 old new) (λ v f below. out v (f below)) more all)
+    each (Busy c) all = ((λ _. here), each_weaker (FoundFreshBelow comps c.0 mid inner) (FoundFreshBelow comps c.0 old new) (λ v f below. out v (f below)) more all)
+    each (Unknown c) all = tt

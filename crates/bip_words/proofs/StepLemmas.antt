@@ -1,11 +1,11 @@
 -- Each kind of step keeps the rule.
-use Rattle.std.proofs.Common.{◌≡◌, ◌≢◌, ℕ, suc, pred, add-one, ◌+◌, ◌*◌, ◌/◌, ◌%◌, ◌<◌, ◌≤◌, ◌^◌, max, false, List, [], ◌∷◌, ◌++◌, length, set, refl, sym, ap, ◌∙◌, subst, ⊎_elim, inl, arith}
+use Rattle.std.proofs.Common.{◌≡◌, ◌≢◌, ℕ, suc, pred, add-one, ◌+◌, ◌*◌, ◌/◌, ◌%◌, ◌<◌, ◌≤◌, ◌^◌, max, false, List, [], ◌∷◌, ◌++◌, length, set, refl, sym, ap, ◌∙◌, subst, inl, arith}
 use Rattle.std.specs.Prelude.{slice_index, ◌==◌}
 use mathlib.Core.Option.{some, none, some-injective}
 use prog.Atomic.{either}
 use lib.ListN.{get_elem?}
 use Rattle.atomic_table.specs.Table.{State, Me, Act, keeps, step, stepped, Allows, Splits, Joins, Enters, Valid, carried_after}
-use Rattle.atomic_table.proofs.Lists.{at_snoc, exchanged}
+use Rattle.atomic_table.proofs.Lists.{exchanged, set_again}
 use Rattle.bip_model.specs.Wants.{moved_in}
 use Rattle.bip_model.specs.Grants.{used_by}
 use Rattle.bip_model.specs.declared.numbering.CompId.{CompId}
@@ -16,13 +16,13 @@ use Rattle.bip_words.proofs.ClaimLemmas.{drawn, noted, opened, taken_in, wrote}
 use Rattle.bip_words.proofs.FlightLemmas.{flies_drawn, flies_given, flies_joined, flies_opened, flies_set}
 use Rattle.bip_words.proofs.LogLemmas.{claimed_log, drawn_log, given_log, opened_log, taken_in_log, unmoved_words}
 use Rattle.bip_words.proofs.OwedLemmas.{due_claims, placed_below, weight_below}
-use Rattle.bip_words.proofs.Passes.{IsClaimed, IsLogged, OwesGranted, Stands, count_of, grants_of}
+use Rattle.bip_words.proofs.Passes.{IsClaimed, IsLogged, Stands, count_of}
 use Rattle.bip_words.proofs.RuleLemmas.{kept, length_comps, stands}
-use Rattle.bip_words.proofs.Totals.{claims_stay, each_weaker, notes_stay, off_row, on_row, total_at, total_snoc, word_again, word_same}
-use Rattle.bip_words.specs.Knowledge.{asked_by, both_of, claim, claims_on, knows, nobody, note, with_note}
+use Rattle.bip_words.proofs.Totals.{claims_stay, counts_stay, each_weaker, notes_stay, off_row, on_row, row_written, total_at, word_again, word_same}
+use Rattle.bip_words.specs.Knowledge.{asked_by, both_of, claim, claims_on, knows, nobody, note, that_counted, with_note}
 use Rattle.bip_words.specs.Rows.{floor_of, row_comps}
-use Rattle.bip_words.specs.Rule.{FliesAlone, IsClaimIn, IsKept, IsKnownIn, IsNotDue, IsPlaced, IsSeenIn, claims_of, owed_of, row_word}
-use Rattle.bip_words.specs.Steps.{Claims, Draws, IsGivenBack, IsBelow, IsCovered, IsSeenMost, IsSmall, Looks, OpensSeat, all_due, owing, rest_of}
+use Rattle.bip_words.specs.Rule.{IsClaimIn, IsCountedIn, IsKept, IsKnownIn, IsNotDue, IsPlaced, IsSeenIn, claims_of, row_word}
+use Rattle.bip_words.specs.Steps.{Claims, Counts, Draws, IsGivenBack, IsBelow, IsCovered, IsSeenMost, IsSmall, Looks, OpensSeat, all_due, owing, rest_of, with_count}
 use Rattle.bip_words.specs.declared.knowledge.Claim.{Claim}
 use Rattle.bip_words.specs.declared.knowledge.Knowledge.{Knowledge}
 use Rattle.bip_words.specs.declared.knowledge.Note.{Note}
@@ -35,7 +35,7 @@ noted_step key s id r n m x h at is seen =
     let same : set s.words (suc r) n ≡ s.words = ap (set s.words (suc r)) is ∙ word_again s.words (suc r) in
     let known = h.first.known id m.0 at in record {
       log = h.log;
-      first = subst (λ (l : List ℕ). IsClaimed (length (row_comps key)) l (set s.views id w)) (sym same) (noted (length (row_comps key)) s.words s.views id m.0 w h.first at (λ k. refl) (known.0, (seen, known.1)));
+      first = subst (λ (l : List ℕ). IsClaimed (length (row_comps key)) l (set s.views id w)) (sym same) (noted (length (row_comps key)) s.words s.views id m.0 w h.first at (λ k. refl) (known.0, (seen, known.1), known.2));
       second = subst (λ (l : List ℕ). IsLogged (row_comps key) (floor_of key) l (set s.views id w) h.log) (sym same) (unmoved_words (row_comps key) (floor_of key) s.words s.views id m.0 w h.log h.second at (λ r c. refl) refl (h.second.flight id m.0 at));
       third = flies_set (row_comps key) (floor_of key) s.views h.log id m.0 w h.third at (λ f. f);
     }
@@ -63,7 +63,7 @@ takes_stands key slots id r u g m lt idle s h homes at fits = exchanged (slice_i
     hit : slice_index s.words (suc r) ≡ 2 * u → Wins key slots id r u g m s (2 * u + 1)
     hit e =
         let rows : ℕ = length (row_comps key) in
-        let w : Knowledge = knows (claim r (slice_index s.words (suc r) / 2) false ∷ m.0.claims) m.0.notes g m.0.grants in
+        let w : Knowledge = knows (claim r (slice_index s.words (suc r) / 2) false ∷ m.0.claims) m.0.notes g m.0.grants m.0.counts in
         let words : List ℕ = set s.words (suc r) (2 * u + 1) in
         let size = h.first.size in
         let long : suc r < length s.words = omega (arith, size, lt) in
@@ -76,6 +76,7 @@ takes_stands key slots id r u g m lt idle s h homes at fits = exchanged (slice_i
         let mine : IsKnownIn rows words w = (
           ((lt, new ∙ omega (arith, e)), claims_stay rows r (2 * u + 1) s.words m.0.claims none_mine known.0),
           notes_stay r (2 * u + 1) s.words m.0.notes long (omega (arith, e)) known.1,
+          counts_stay s.words words m.0.counts (row_written s.words r (2 * u + 1)) known.2,
         ) in (
           w,
           keeps,
@@ -86,7 +87,7 @@ takes_stands key slots id r u g m lt idle s h homes at fits = exchanged (slice_i
             second = claimed_log (row_comps key) (floor_of key) s.words s.views id r (2 * u + 1) m.0 w h.log h.second at long lt (omega (arith, e)) idle (refl, idle) refl;
             third = flies_set (row_comps key) (floor_of key) s.views h.log id m.0 w h.third at (λ f. inl (refl, idle));
           },
-          ((λ _ g' is. ap (λ (k : Request). (knows (claim r (slice_index s.words (suc r) / 2) false ∷ m.0.claims) m.0.notes k m.0.grants, m.1)) (some-injective g g' is)), λ ne. absurd (ne e)),
+          ((λ _ g' is. ap (λ (k : Request). (knows (claim r (slice_index s.words (suc r) / 2) false ∷ m.0.claims) m.0.notes k m.0.grants m.0.counts, m.1)) (some-injective g g' is)), λ ne. absurd (ne e)),
         )
 
     miss : slice_index s.words (suc r) ≢ 2 * u → Wins key slots id r u g m s (slice_index s.words (suc r))
@@ -103,7 +104,7 @@ draws_stands : (key : List (CompId × ℕ)) (slots id r d : ℕ) (m : Me Request
     → Allows (Stands key) slots id m 0 (λ n. (n + 1) % 2 ^ 64) (Draws (step slots 0 1 0 none) m)
 draws_stands key slots id r d m idle covers small row moves s h homes at fits =
     let n : ℕ = slice_index s.words 0 in
-    let w : Knowledge = knows (all_due m.0.claims) m.0.notes m.0.asked ((n, asked_by m.0.asked) ∷ m.0.grants) in
+    let w : Knowledge = knows (all_due m.0.claims) m.0.notes m.0.asked ((n, asked_by m.0.asked) ∷ m.0.grants) m.0.counts in
     let l = h.second in
     let is : n ≡ length h.log = l.ticket in
     let a = l.rises in
@@ -113,7 +114,7 @@ draws_stands key slots id r d m idle covers small row moves s h homes at fits =
     let known = h.first.known id m.0 at in
     let mine = total_at count_of s.views id m.0 at in
     let all = l.counts in
-    let first = drawn (length (row_comps key)) s.words s.views id (n + 1) m.0 w h.first at (λ k. due_claims k m.0.claims) (all_claimed m.0.claims known.0, known.1) in (
+    let first = drawn (length (row_comps key)) s.words s.views id (n + 1) m.0 w h.first at (omega arith) (λ k. due_claims k m.0.claims) (all_claimed m.0.claims known.0, known.1, known.2) in (
       w,
       keeps,
       tt,
@@ -136,7 +137,7 @@ gives_stands : (key : List (CompId × ℕ)) (slots id r d y : ℕ) (x : Claim) (
     → Allows (Stands key) slots id m (suc r) (λ _. 2 * y) (λ _. IsGivenBack (step slots (suc r) (2 * y) 0 none) m (2 * y))
 gives_stands key slots id r d y x rest m has on comp is s h homes at fits =
     let rows : ℕ = length (row_comps key) in
-    let w : Knowledge = knows (rest_of m.0.claims) (note r (2 * y) (claims_on r m.0.claims) Wrote ∷ m.0.notes) m.0.asked m.0.grants in
+    let w : Knowledge = knows (rest_of m.0.claims) (note r (2 * y) (claims_on r m.0.claims) Wrote ∷ m.0.notes) m.0.asked m.0.grants m.0.counts in
     let known = h.first.known id m.0 at in
     let each = subst (AllByRecursion (IsClaimIn rows s.words)) has known.0 in
     let lt : r < rows = subst (λ (k : ℕ). k < rows) on each.0.0 in
@@ -154,6 +155,7 @@ gives_stands key slots id r d y x rest m has on comp is s h homes at fits =
     let mine : IsKnownIn rows (set s.words (suc r) (2 * y)) w = (
       subst (AllByRecursion (IsClaimIn rows (set s.words (suc r) (2 * y)))) (sym leaves) (claims_stay rows r (2 * y) s.words rest none_left each.1),
       (omega (arith, new), notes_stay r (2 * y) s.words m.0.notes long up known.1),
+      counts_stay s.words (set s.words (suc r) (2 * y)) m.0.counts (row_written s.words r (2 * y)) known.2,
     ) in
     let first = wrote rows s.words s.views id r (2 * y) m.0 w h.first at lt (omega (arith, left, one, none_left, word)) (λ k ne. ap (claims_on k) leaves ∙ (sym (off_row k x rest (λ e. ne (sym e ∙ on))) ∙ sym (ap (claims_on k) has))) (omega (arith, one, none_left, word)) up mine in (
       w,
@@ -168,12 +170,35 @@ gives_stands key slots id r d y x rest m has on comp is s h homes at fits =
       refl,
     )
 
-splits_stands : (key : List (CompId × ℕ)) (id : ℕ) (v : Knowledge) → Splits (Stands key) id v v nobody
-splits_stands key id v s h at = record {
+-- the grants are counted
+counts_stands : (key : List (CompId × ℕ)) (slots id : ℕ) (m : Me Request Knowledge) → Allows (Stands key) slots id m 0 (λ n. n) (Counts (step slots 0 0 0 none) m)
+counts_stands key slots id m s h homes at fits =
+    let n : ℕ = slice_index s.words 0 in
+    let w : Knowledge = with_count n m.0 in
+    let same : set s.words 0 n ≡ s.words = word_again s.words 0 in
+    let known = h.first.known id m.0 at in
+    let mine = total_at count_of s.views id m.0 at in
+    let all = h.second.counts in
+    let is = h.second.ticket in (
+      w,
+      keeps,
+      tt,
+      record {
+        log = h.log;
+        first = subst (λ (l : List ℕ). IsClaimed (length (row_comps key)) l (set s.views id w)) (sym same) (noted (length (row_comps key)) s.words s.views id m.0 w h.first at (λ k. refl) (known.0, known.1, (omega arith, known.2)));
+        second = subst (λ (l : List ℕ). IsLogged (row_comps key) (floor_of key) l (set s.views id w) h.log) (sym same) (unmoved_words (row_comps key) (floor_of key) s.words s.views id m.0 w h.log h.second at (λ r c. refl) refl (h.second.flight id m.0 at));
+        third = flies_set (row_comps key) (floor_of key) s.views h.log id m.0 w h.third at (λ f. f);
+      },
+      (refl, omega (arith, mine, all, is)),
+    )
+
+-- one more seat
+opened_stands : (key : List (CompId × ℕ)) (s : State Request Knowledge) (ns : List ℕ) → Stands key s → AllByRecursion (IsCountedIn s.words) ns → Stands key (record { words = s.words; homes = s.homes; views = s.views ++ that_counted ns ∷ [] })
+opened_stands key s ns h counted = record {
   log = h.log;
-  first = opened (length (row_comps key)) s.words s.views id v h.first at;
-  second = opened_log (row_comps key) (floor_of key) s.words s.views id v h.log h.second at;
-  third = flies_opened (row_comps key) (floor_of key) s.views h.log id v h.third at;
+  first = opened (length (row_comps key)) s.words s.views ns h.first counted;
+  second = opened_log (row_comps key) (floor_of key) s.words s.views ns h.log h.second;
+  third = flies_opened (row_comps key) (floor_of key) s.views h.log ns h.third;
 }
 
 joins_stands : (key : List (CompId × ℕ)) (id : ℕ) (v : Knowledge) (other : ℕ) (w : Knowledge) → v.claims ≡ [] → w.claims ≡ [] → Joins (Stands key) id v other w (both_of v w) nobody
@@ -187,36 +212,6 @@ joins_stands key id v other w free idle s h at apart there = record {
 -- the row of a word
 pub row_back : (r : ℕ) → pred (r + 1) ≡ r
 row_back r = ap pred (add-one r)
-
--- a seat is opened by a load
-enters_stands : (key : List (CompId × ℕ)) (slots : ℕ) → Enters (Stands key) slots 0 (λ n w. OpensSeat (step slots 0 0 0 none) (nobody, []) n (w, []))
-enters_stands key slots s h homes fits = (
-  nobody,
-  record {
-    log = h.log;
-    first = record {
-      size = h.first.size;
-      claims = λ r lt. total_snoc (claims_of r) s.views nobody ∙ (let c = h.first.claims r lt in omega (arith, c));
-      known = λ j u there. ⊎_elim (h.first.known j u) (λ (is : nobody ≡ u). subst (IsKnownIn (length (row_comps key)) s.words) is (tt, tt)) (at_snoc s.views nobody u j there);
-    };
-    second = record {
-      apart = h.second.apart;
-      few = h.second.few;
-      opening = h.second.opening;
-      ticket = h.second.ticket;
-      history = h.second.history;
-      used = λ r c there. h.second.used r c there ∙ ap (λ (k : ℕ). max (row_word s.words r / 2) k) (sym (total_snoc (owed_of r c) s.views nobody ∙ omega arith));
-      small = h.second.small;
-      rises = h.second.rises;
-      serials = λ k. total_snoc (grants_of k) s.views nobody ∙ (let x = h.second.serials k in omega (arith, x));
-      counts = total_snoc count_of s.views nobody ∙ (let x = h.second.counts in omega (arith, x));
-      placed = λ j u there. ⊎_elim (h.second.placed j u) (λ (is : nobody ≡ u). subst (λ (y : Knowledge). AllByRecursion (IsPlaced h.log) y.grants) is tt) (at_snoc s.views nobody u j there);
-      flight = λ j u there. ⊎_elim (h.second.flight j u) (λ (is : nobody ≡ u). subst OwesGranted is (inl tt)) (at_snoc s.views nobody u j there);
-    };
-    third = λ j u there. ⊎_elim (h.third j u) (λ (is : nobody ≡ u). subst (FliesAlone (row_comps key) (floor_of key) h.log) is (inl tt)) (at_snoc s.views nobody u j there);
-  },
-  refl,
-)
 
 -- what keeps the passes keeps the rule
 allows : (key : List (CompId × ℕ)) (slots id i : ℕ) (m : Me Request Knowledge) (f : ℕ → ℕ) (then : ℕ → Me Request Knowledge → Type 0) → Allows (Stands key) slots id m i f then → Allows (IsKept key) slots id m i f then
@@ -244,14 +239,26 @@ pub gives : (key : List (CompId × ℕ)) (slots id r d y : ℕ) (x : Claim) (res
 gives key slots id r d y x rest m has on comp is =
     allows key slots id (suc r) m (λ _. 2 * y) (λ _. IsGivenBack (step slots (suc r) (2 * y) 0 none) m (2 * y)) (gives_stands key slots id r d y x rest m has on comp is)
 
+pub counts : (key : List (CompId × ℕ)) (slots id : ℕ) (m : Me Request Knowledge) → Allows (IsKept key) slots id m 0 (λ n. n) (Counts (step slots 0 0 0 none) m)
+counts key slots id m = allows key slots id 0 m (λ n. n) (Counts (step slots 0 0 0 none) m) (counts_stands key slots id m)
+
+opens_seat : (key : List (CompId × ℕ)) (s : State Request Knowledge) (ns : List ℕ) → IsKept key s → AllByRecursion (IsCountedIn s.words) ns → IsKept key (record { words = s.words; homes = s.homes; views = s.views ++ that_counted ns ∷ [] })
+opens_seat key s ns h counted = kept key (record { words = s.words; homes = s.homes; views = s.views ++ that_counted ns ∷ [] }) h.valid (opened_stands key s ns (stands key s h) counted)
+
+splits_into : (key : List (CompId × ℕ)) (id : ℕ) (v : Knowledge) (ns : List ℕ) → ((words : List ℕ) → AllByRecursion (IsCountedIn words) v.counts → AllByRecursion (IsCountedIn words) ns) → Splits (IsKept key) id v v (that_counted ns)
+splits_into key id v ns fewer s h at =
+    subst (λ (l : List Knowledge). IsKept key (record { words = s.words; homes = s.homes; views = l ++ that_counted ns ∷ [] })) (sym (set_again s.views id v at)) (opens_seat key s ns h (fewer s.words (h.known id v at).2))
+
 pub splits : (key : List (CompId × ℕ)) (id : ℕ) (v : Knowledge) → Splits (IsKept key) id v v nobody
-splits key id v s h at = kept key (record { words = s.words; homes = s.homes; views = set s.views id v ++ nobody ∷ [] }) h.valid (splits_stands key id v s (stands key s h) at)
+splits key id v = splits_into key id v [] (λ words all. tt)
+
+-- a seat opens that knows what another one counted
+pub witnesses : (key : List (CompId × ℕ)) (id : ℕ) (v : Knowledge) → Splits (IsKept key) id v v (that_counted v.counts)
+witnesses key id v = splits_into key id v v.counts (λ words all. all)
 
 pub joins : (key : List (CompId × ℕ)) (id : ℕ) (v : Knowledge) (other : ℕ) (w : Knowledge) → v.claims ≡ [] → w.claims ≡ [] → Joins (IsKept key) id v other w (both_of v w) nobody
 joins key id v other w free idle s h at apart there =
     kept key (record { words = s.words; homes = s.homes; views = set (set s.views id (both_of v w)) other nobody }) h.valid (joins_stands key id v other w free idle s (stands key s h) at apart there)
 
 pub enters : (key : List (CompId × ℕ)) (slots : ℕ) → Enters (IsKept key) slots 0 (λ n w. OpensSeat (step slots 0 0 0 none) (nobody, []) n (w, []))
-enters key slots s h homes fits =
-    let x = enters_stands key slots s (stands key s h) homes fits in
-    (x.0, kept key (record { words = s.words; homes = s.homes; views = s.views ++ x.0 ∷ [] }) h.valid x.1, x.2)
+enters key slots s h homes fits = (nobody, opens_seat key s [] h tt, refl)

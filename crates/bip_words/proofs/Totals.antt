@@ -7,7 +7,7 @@ use native.Mathlib.Decide.{ℕ_discrete}
 use lib.ListN.{get_elem?}
 use Rattle.std.specs.List.{AllByRecursion}
 use Rattle.bip_words.specs.Knowledge.{claims_on}
-use Rattle.bip_words.specs.Rule.{IsClaimIn, IsSeenIn, row_word, total}
+use Rattle.bip_words.specs.Rule.{IsClaimIn, IsCountedIn, IsSeenIn, row_word, total}
 use Rattle.bip_words.specs.declared.knowledge.Claim.{Claim}
 use Rattle.bip_words.specs.declared.knowledge.Knowledge.{Knowledge}
 use Rattle.bip_words.specs.declared.knowledge.Note.{Note}
@@ -76,6 +76,14 @@ claims_stay rows r n words (c ∷ cs) none all = dite (ℕ_discrete c.row r)
     (λ ne.
     let rest = off_row r c cs ne in
     ((all.0.0, word_else words (suc r) (suc c.row) n (λ e. ne (omega (arith, e))) ∙ all.0.1), claims_stay rows r n words cs (sym rest ∙ none) all.1))
+
+-- what was counted stays so, where the ticket doesn't fall
+pub counts_stay : (words later : List ℕ) (ns : List ℕ) → slice_index words 0 ≤ slice_index later 0 → AllByRecursion (IsCountedIn words) ns → AllByRecursion (IsCountedIn later) ns
+counts_stay words later [] up all = tt
+counts_stay words later (n ∷ ns) up all = (omega (arith, up, all.0), counts_stay words later ns up all.1)
+
+pub row_written : (words : List ℕ) (r n : ℕ) → slice_index words 0 ≤ slice_index (set words (suc r) n) 0
+row_written words r n = let same = word_else words (suc r) 0 n (λ e. omega (arith, e)) in omega (arith, same)
 
 -- what was seen stays so, where the number doesn't fall
 pub notes_stay : (r n : ℕ) (words : List ℕ) (ns : List Note) → suc r < length words → row_word words r / 2 ≤ n / 2 → AllByRecursion (IsSeenIn words) ns → AllByRecursion (IsSeenIn (set words (suc r) n)) ns

@@ -1,5 +1,5 @@
--- What a seat knows: its claims, what it saw, what it asked for last, and its grants with their
--- serials.
+-- What a seat knows: its claims, what it saw, what it asked for last, its grants with their
+-- serials, and how many grants there were when it counted them.
 use Rattle.std.specs.Prelude.{ℕ, ◌+◌, ◌/◌, max, Bool, true, false, ◌==◌, if◌then◌else◌}
 use Rattle.std.specs.Prelude.{List, [], ◌∷◌, ◌++◌}
 use Rattle.bip_model.specs.declared.grants.Grant.{Grant}
@@ -18,13 +18,22 @@ no_request = record { wants = []; request = 0; class = record { 0 = 0 }; inter =
 abbrev pub asked_by : Request → Grant
 asked_by q = record { inter = q.inter; wants = q.wants }
 
-abbrev pub knows : List Claim → List Note → Request → List (ℕ × Grant) → Knowledge
-knows claims notes asked grants =
-    record { claims = claims; notes = notes; asked = asked; grants = grants }
+abbrev pub knows : List Claim → List Note → Request → List (ℕ × Grant) → List ℕ → Knowledge
+knows claims notes asked grants counts = record {
+  claims = claims;
+  notes = notes;
+  asked = asked;
+  grants = grants;
+  counts = counts;
+}
+
+-- a seat that knows what was counted, and has done nothing yet
+abbrev pub that_counted : List ℕ → Knowledge
+that_counted counts = knows [] [] no_request [] counts
 
 -- a seat that has done nothing yet
 abbrev pub nobody : Knowledge
-nobody = knows [] [] no_request []
+nobody = that_counted []
 
 abbrev pub claim : ℕ → ℕ → Bool → Claim
 claim row used due = record { row = row; used = used; due = due }
@@ -34,7 +43,7 @@ note row word own kind = record { row = row; word = word; own = own; kind = kind
 
 -- with one note more
 abbrev pub with_note : Note → Knowledge → Knowledge
-with_note n v = knows v.claims (n ∷ v.notes) v.asked v.grants
+with_note n v = knows v.claims (n ∷ v.notes) v.asked v.grants v.counts
 
 -- how many of the claims are on row r
 abbrev pub claims_on : ℕ → List Claim → ℕ
@@ -72,6 +81,6 @@ abbrev pub grants_at : ℕ → List (ℕ × Grant) → ℕ
 grants_at k [] = 0
 grants_at k (p ∷ ps) = (if p.0 == k then 1 else 0) + grants_at k ps
 
--- what two seats know
+-- what a seat knows that takes over what another one saw, and its grants
 abbrev pub both_of : Knowledge → Knowledge → Knowledge
-both_of v w = knows v.claims (w.notes ++ v.notes) v.asked (w.grants ++ v.grants)
+both_of v w = knows v.claims (w.notes ++ v.notes) v.asked (w.grants ++ v.grants) v.counts

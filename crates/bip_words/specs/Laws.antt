@@ -4,6 +4,7 @@ use Rattle.std.specs.Prelude.{if◌then◌else◌, List, [], ◌∷◌, slice_in
 use mathlib.Core.Option.{some}
 use lib.ListN.{get_elem?}
 use Rattle.atomic_table.specs.Table.{State}
+use Rattle.std.specs.List.{AllByRecursion}
 use Rattle.bip_model.specs.Grants.{IsHistory, used_by}
 use Rattle.bip_model.specs.declared.grants.Grant.{Grant}
 use Rattle.bip_model.specs.declared.numbering.CompId.{CompId}
@@ -32,7 +33,8 @@ others_log v log = but_first (is_drawn v.claims) v.grants log
 -- what the rule says: the serials of all views are those below the ticket, each once; the grants in
 -- that order are a history above the opening numbers; an even word has no claim, and its half is
 -- the used number; an odd one has one claim; where a seat has it, the word is that of the number
--- that all grants explain but the seat's own in flight; and no row is below what was seen of it
+-- that all grants explain but the seat's own in flight; no row is below what was seen of it; and
+-- the ticket isn't below any count of grants
 pub record WordsSay (rows : List (CompId × ℕ)) (s : State Request Knowledge) : Type 0 where
   pub serials : (k : ℕ)
       → grants_at k (all_grants s.views) ≡ (if nat_lt k (slice_index s.words 0) then 1 else 0)
@@ -47,6 +49,8 @@ pub record WordsSay (rows : List (CompId × ℕ)) (s : State Request Knowledge) 
       → row_word s.words r ≡ 2 * used_by (floor_of rows) (others_log v (log_of s)) c + 1
   pub seen : (r j : ℕ) (v : Knowledge) → get_elem? s.views j ≡ some v
       → seen_in r v.notes ≤ row_word s.words r / 2
+  pub counted : (j : ℕ) (v : Knowledge) → get_elem? s.views j ≡ some v
+      → AllByRecursion (λ n. n ≤ slice_index s.words 0) v.counts
 
 abbrev pub RuleSays : Type 0
 RuleSays =

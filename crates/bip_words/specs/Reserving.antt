@@ -1,6 +1,6 @@
 -- What an attempt to reserve comes to.
-use Rattle.std.specs.Prelude.{◌≡◌, ◌≢◌, ◌⊎◌, ℕ, ◌+◌, ◌*◌, ◌%◌, ◌≤◌, ◌^◌, Bool, true, false}
-use Rattle.std.specs.Prelude.{if◌then◌else◌, List, ◌∷◌, ◌++◌, length, Any}
+use Rattle.std.specs.Prelude.{◌≡◌, ◌≢◌, ◌⊎◌, ℕ, ◌+◌, ◌*◌, ◌%◌, ◌<◌, ◌≤◌, ◌^◌, Bool, true, false}
+use Rattle.std.specs.Prelude.{◌==◌, if◌then◌else◌, List, [], ◌∷◌, ◌++◌, length, Any}
 use Rattle.std.specs.List.{AllByRecursion}
 use Rattle.bip_model.specs.Numbering.{IsLowest}
 use Rattle.bip_model.specs.Wants.{is_moved}
@@ -86,14 +86,50 @@ is_busy (Used c u) = false
 is_busy (Busy c) = true
 is_busy (Unknown c) = false
 
--- a row was looked at as often at most as a want is of it, which is once at most; an exchange that
--- found another word ended the call; and what was known of rows is kept
+-- the wants up to that of component c
+abbrev pub up_to : ℕ → List Want → List Want
+up_to c [] = []
+up_to c (w ∷ ws) = w ∷ (if w.comp.0 == c then [] else up_to c ws)
+
+-- the wants whose rows a call looks at: all where it is granted, else up to that at which it ends
+abbrev pub tried_wants : Attempt → List Want → List Want
+tried_wants (Granted serial) ws = ws
+tried_wants (Used c u) ws = up_to c.0 ws
+tried_wants (Busy c) ws = up_to c.0 ws
+tried_wants (Unknown c) ws = []
+
+-- a row was looked at as often at most as a tried want is of it, which is once at most; an exchange
+-- that found another word ended the call; and what was known of rows is kept
 pub record TriedOnce (cs : List ℕ) (ws : List Want) (a : Attempt) (v w : Knowledge) : Type 0 where
-  pub looks : (r : ℕ) → look_count r w.notes ≤ wanted_at cs r ws + look_count r v.notes
+  pub looks : (r : ℕ)
+      → look_count r w.notes ≤ wanted_at cs r (tried_wants a ws) + look_count r v.notes
   pub changes : change_count w.notes ≤ (if is_busy a then 1 else 0) + change_count v.notes
   pub keeps : (made : List Note) × (w.notes ≡ made ++ v.notes)
 
+-- a look of this call found the want's row without a claim, with a number below the want's
+abbrev pub FoundFresh : List ℕ → Knowledge → Knowledge → Want → Type 0
+FoundFresh comps old new w =
+    (r u : ℕ) × IsRowOf comps r w.comp.0 × (u < w.number) × Noted (note r (2 * u) 0 Look) old new
+
+abbrev pub FoundFreshBelow : List ℕ → ℕ → Knowledge → Knowledge → Want → Type 0
+FoundFreshBelow comps c old new w = w.comp.0 < c → FoundFresh comps old new w
+
+-- wants are looked at by component: where the call is refused at one, those of lower components
+-- were found fresh before; where it is granted, all were
+abbrev pub LookedInOrder : List ℕ → List Want → Attempt → Knowledge → Knowledge → Type 0
+LookedInOrder comps ws (Granted serial) old new = AllByRecursion (FoundFresh comps old new) ws
+LookedInOrder comps ws (Used c u) old new = AllByRecursion (FoundFreshBelow comps c.0 old new) ws
+LookedInOrder comps ws (Busy c) old new = AllByRecursion (FoundFreshBelow comps c.0 old new) ws
+LookedInOrder comps ws (Unknown c) old new = Unit {0}
+
 -- What contracts of private functions say.
+
+-- where it is refused, it is at one of these wants
+abbrev pub IsRefusedIn : Attempt → List Want → Type 0
+IsRefusedIn (Granted serial) ws = Unit {0}
+IsRefusedIn (Used c u) ws = Any (λ w. w.comp.0 ≡ c.0) ws
+IsRefusedIn (Busy c) ws = Any (λ w. w.comp.0 ≡ c.0) ws
+IsRefusedIn (Unknown c) ws = ⊥
 
 -- the wants before the rest are covered by claims
 abbrev pub Covers : List ℕ → List Claim → List Want → List Want → Type 0

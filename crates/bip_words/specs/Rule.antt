@@ -44,9 +44,14 @@ IsClaimIn rows words c = (c.row < rows) × (row_word words c.row ≡ 2 * c.used 
 abbrev pub IsSeenIn : List ℕ → Note → Type 0
 IsSeenIn words n = n.word / 2 ≤ row_word words n.row / 2
 
+-- the ticket isn't below what it was when grants were counted
+abbrev pub IsCountedIn : List ℕ → ℕ → Type 0
+IsCountedIn words n = n ≤ slice_index words 0
+
 abbrev pub IsKnownIn : ℕ → List ℕ → Knowledge → Type 0
 IsKnownIn rows words v =
     AllByRecursion (IsClaimIn rows words) v.claims × AllByRecursion (IsSeenIn words) v.notes
+    × AllByRecursion (IsCountedIn words) v.counts
 
 -- the grant of the first pair with serial k
 abbrev pub grant_with : ℕ → List (ℕ × Grant) → Grant
@@ -126,7 +131,8 @@ pub record IsKept (rows : List (CompId × ℕ)) (s : State Request Knowledge) : 
   pub serials : (k : ℕ)
       → grants_at k (all_grants s.views) ≡ (if nat_lt k (slice_index s.words 0) then 1 else 0)
   pub history : IsHistory (floor_of rows) (log_of s)
-  -- a row has as many claims as its word says, with its number; no row is below what was seen
+  -- a row has as many claims as its word says, with its number; no row is below what was seen, and
+  -- the ticket not below what was counted
   pub claims : (r : ℕ) → r < length rows → total (claims_of r) s.views ≡ row_word s.words r % 2
   pub known : (j : ℕ) (v : Knowledge) → get_elem? s.views j ≡ some v
       → IsKnownIn (length rows) s.words v

@@ -40,7 +40,8 @@ Looks s m n w =
 
 -- a row is claimed, with the number of its word, for what is announced
 abbrev pub with_claim : ℕ → ℕ → Request → Knowledge → Knowledge
-with_claim row word q v = knows (claim row (word / 2) false ∷ v.claims) v.notes q v.grants
+with_claim row word q v =
+    knows (claim row (word / 2) false ∷ v.claims) v.notes q v.grants v.counts
 
 -- a claim: the exchange found the word, and the row is claimed; or it found another one, which is
 -- noted
@@ -56,7 +57,7 @@ all_due cs = map (λ c. claim c.row c.used true) cs
 -- what is asked for is granted, with this serial
 abbrev pub with_ticket : ℕ → Knowledge → Knowledge
 with_ticket serial v =
-    knows (all_due v.claims) v.notes v.asked ((serial, asked_by v.asked) ∷ v.grants)
+    knows (all_due v.claims) v.notes v.asked ((serial, asked_by v.asked) ∷ v.grants) v.counts
 
 abbrev pub IsBelow : ℕ → ℕ × Grant → Type 0
 IsBelow n p = p.0 < n
@@ -78,11 +79,19 @@ rest_of (c ∷ cs) = cs
 abbrev pub with_row_back : ℕ → ℕ → Knowledge → Knowledge
 with_row_back row word v =
     knows (rest_of v.claims) (note row word (claims_on row v.claims) Wrote ∷ v.notes) v.asked
-    v.grants
+    v.grants v.counts
 
 -- commit and release
 abbrev pub IsGivenBack : Step Request → Mine → ℕ → Mine → Type 0
 IsGivenBack s m n w = w ≡ (with_row_back (row_of s) n m.0, m.1)
+
+-- the grants are counted, which are so many
+abbrev pub with_count : ℕ → Knowledge → Knowledge
+with_count n v = knows v.claims v.notes v.asked v.grants (n ∷ v.counts)
+
+-- a count: the ticket is noted, and the seat has no more grants than it says
+abbrev pub Counts : Step Request → Mine → ℕ → Mine → Type 0
+Counts s m n w = (w ≡ (with_count n m.0, m.1)) × (length m.0.grants ≤ n)
 
 -- a seat opens
 abbrev pub OpensSeat : Step Request → Mine → ℕ → Mine → Type 0

@@ -26,10 +26,12 @@ pub struct Note {
 }
 
 /// What a seat knows: its claims, the one made last first; what it saw, the newest first; what it
-/// asked for last; and its grants with their serials, the newest first.
+/// asked for last; its grants with their serials, the newest first; and how many grants there were
+/// when it counted them, the newest count first.
 pub struct Knowledge {
     pub claims: LinkedList<Claim>,
     pub notes: LinkedList<Note>,
     pub asked: Request,
     pub grants: LinkedList<(u64, Grant)>,
+    pub counts: LinkedList<u64>,
 }

@@ -9,7 +9,8 @@ ghost use Rattle.bip_model.specs.declared.wants.Want.{Want};
 ghost use Rattle.std.specs.List.Sorted.{IsStrictlyIncreasing};
 ghost use Rattle.bip_words.specs.Knowledge.{asked_by};
 ghost use Rattle.bip_words.specs.Reserving.{Answered, Covers, IsAttempt, IsFree, IsGrantedWith};
-ghost use Rattle.bip_words.specs.Reserving.{HasWrittenRow, TriedOnce, claims_after, is_granted};
+ghost use Rattle.bip_words.specs.Reserving.{HasWrittenRow, LookedInOrder, TriedOnce};
+ghost use Rattle.bip_words.specs.Reserving.{IsRefusedIn, claims_after, is_granted};
 ghost use Rattle.bip_words.specs.Rows.{HasRow, IsRowOf, WantsWithoutRow, row_comps};
 ghost use Rattle.bip_words.specs.Rule.{IsNotDue};
 ghost use Rattle.bip_words.specs.Steps.{IsBelow, IsCovered, IsSeenMost, IsSmall, owing};
@@ -27,8 +28,9 @@ use bip_model::{CompId, Number, Request, Role, Want};
 
 impl WordTable {
     /// Tries once to reserve what a request wants, with numbers below 2^58. Unknown, tested first,
-    /// names the lowest wanted component without a row, and no step was made. Else rows are claimed
-    /// in rising order. Used: this component's number isn't above the used one that a look of this
+    /// names the lowest wanted component without a row, and no step was made. Else rows are looked
+    /// at and claimed in rising order, so that before a refusal all wants of lower components were
+    /// found fresh. Used: this component's number isn't above the used one that a look of this
     /// call found, which is at least what the seat had seen of the row. Busy: a look found the
     /// claim of another seat on this component's row, or the exchange behind it another word. Both
     /// give the claims back. Granted: the seat has one grant more, with a serial above all its
@@ -40,6 +42,8 @@ impl WordTable {
         ensures seat { IsSeatOf self.now seat.new }
         ensures answer { IsAttempt self.now.rows (asked_by request.now) result seat.old.knows
             seat.new.knows }
+        ensures order { LookedInOrder (row_comps self.now.rows) request.now.wants result
+            seat.old.knows seat.new.knows }
         ensures once { TriedOnce (row_comps self.now.rows) request.now.wants result seat.old.knows
             seat.new.knows }
         ensures unclaimed { seat.new.knows.claims ≡ [] }
@@ -94,6 +98,9 @@ impl WordTable {
             token.old.me.0 token.new.me.0 }
         ensures written { IsGrantedWith result (AllByRecursion (HasWrittenRow
             (row_comps self.now.rows) token.new.me.0.notes) rest.now) }
+        ensures order { LookedInOrder (row_comps self.now.rows) rest.now result token.old.me.0
+            token.new.me.0 }
+        ensures within { IsRefusedIn result rest.now }
         ensures once { TriedOnce (row_comps self.now.rows) rest.now result token.old.me.0
             token.new.me.0 }
     {

@@ -1,4 +1,5 @@
-//! The kinds of step that are made on the words. Each is made by the seat that a call was handed.
+//! The kinds of step that are made on the words. Each is made by the seat that a call was handed,
+//! or by one that `close` opened.
 use crate::knowledge::Knowledge;
 use atomic_table::{Join, Play, Split};
 use bip_model::Request;
@@ -39,6 +40,15 @@ impl Play<Request, Knowledge> for Give {
     ghost then = { IsGivenBack };
 }
 
+/// The grants are counted: the ticket is loaded.
+pub(crate) struct Count;
+
+impl Play<Request, Knowledge> for Count {
+    ghost use Rattle.bip_words.specs.Steps.{Counts};
+
+    ghost then = { Counts };
+}
+
 /// A seat opens by a load of the ticket.
 pub(crate) struct Open;
 
@@ -59,7 +69,18 @@ impl Split<Knowledge> for Halves {
     ghost right = { λ v. nobody };
 }
 
-/// A seat takes over what another one knows.
+/// A seat opens beside another one, and knows what that one counted.
+pub(crate) struct Witness;
+
+impl Split<Knowledge> for Witness {
+    ghost use Rattle.bip_words.specs.Knowledge.{that_counted};
+
+    ghost left = { λ v. v };
+
+    ghost right = { λ v. that_counted v.counts };
+}
+
+/// A seat takes over what another one saw, and its grants.
 pub(crate) struct Both;
 
 impl Join<Knowledge> for Both {

@@ -9,9 +9,9 @@ use Rattle.bip_words.specs.declared.knowledge.Kind.TheVariants.{Look, Changed, W
 use Rattle.std.specs.List.{AllByRecursion}
 use Rattle.bip_model.specs.declared.numbering.CompId.{CompId}
 use Rattle.bip_model.specs.declared.messages.Request.{Request}
-use Rattle.bip_words.proofs.ReservingLemmas.{Moves, answered_out, any_middle, busy_change, busy_look, claims_head, covers_all, covers_more, each_middle, empty_is, free_more, granted_map, moved_here, moves_row, no_row, nothing_moves, number_is, number_small, once_around, once_changed, once_drawn, once_looked, rises_later, used_look, written_more}
+use Rattle.bip_words.proofs.ReservingLemmas.{Moves, answered_out, any_middle, busy_change, busy_look, claims_head, covers_all, covers_more, each_middle, empty_is, free_more, granted_map, in_order, moved_here, moves_row, no_row, nothing_moves, number_is, number_small, once_around, once_changed, once_drawn, once_looked, refused_first, refused_here, refused_later, rises_later, tried_more, used_look, written_more}
 use Rattle.bip_words.specs.Knowledge.{asked_by, claim, claims_on, knows, note, with_note}
-use Rattle.bip_words.specs.Reserving.{Covers, IsFree, IsWantedBelow, claims_after, is_granted}
+use Rattle.bip_words.specs.Reserving.{Covers, FoundFresh, IsFree, IsWantedBelow, claims_after, is_granted}
 use Rattle.bip_words.specs.Rows.{HasRow, IsRowOf, row_comps}
 use Rattle.bip_words.specs.Rule.{IsNotDue}
 use Rattle.bip_words.specs.Steps.{IsCovered, IsSmall, owing}
@@ -79,7 +79,7 @@ returns-then-found-eq1-clause-once t c =
     let comps = row_comps c.args.self.now.rows in
     let row = c.in-Some-row_of.row in
     let here : IsRowOf comps row c.in-Some.want.now.comp.0 = subst (λ (rows : List (CompId × ℕ)). IsRowOf (row_comps rows) c.in-Some-row_of.row c.in-Some.want.now.comp.0) (c.as_slice.ensures.rows ∙ ap (λ (v : Tabled). v.rows) c.self.view_is) c.in-Some-row_of.ensures.row in
-    once_looked comps c.args.rest.now c.in-Some.more.now c.in-Some.want.now (Busy c.in-Some.want.now.comp) row c.look_at-found.result (claims_on row c.args.token.now.me.0.claims) c.args.token.now.me.0 c.look_at-found.new.token.me.0 c.in-Some.ensures.cases.0 here (ap (λ m. m.0.notes) c.look_at-found.ensures.noted)
+    once_looked comps c.args.rest.now c.in-Some.more.now c.in-Some.want.now (Busy c.in-Some.want.now.comp) row c.look_at-found.result (claims_on row c.args.token.now.me.0.claims) c.args.token.now.me.0 c.look_at-found.new.token.me.0 c.in-Some.ensures.cases.0 refl here (ap (λ m. m.0.notes) c.look_at-found.ensures.noted)
 
 pub returns-then-want-used-clause-answer : goal.returns-then-want-used-clause-answer
 returns-then-want-used-clause-answer t c =
@@ -104,7 +104,7 @@ returns-then-want-used-clause-once t c =
     let comps = row_comps c.args.self.now.rows in
     let row = c.in-Some-row_of.row in
     let here : IsRowOf comps row c.in-Some.want.now.comp.0 = subst (λ (rows : List (CompId × ℕ)). IsRowOf (row_comps rows) c.in-Some-row_of.row c.in-Some.want.now.comp.0) (c.as_slice.ensures.rows ∙ ap (λ (v : Tabled). v.rows) c.self.view_is) c.in-Some-row_of.ensures.row in
-    once_looked comps c.args.rest.now c.in-Some.more.now c.in-Some.want.now (Used c.in-Some.want.now.comp (c.look_at-found.result / 2)) row c.look_at-found.result (claims_on row c.args.token.now.me.0.claims) c.args.token.now.me.0 c.look_at-found.new.token.me.0 c.in-Some.ensures.cases.0 here (ap (λ m. m.0.notes) c.look_at-found.ensures.noted)
+    once_looked comps c.args.rest.now c.in-Some.more.now c.in-Some.want.now (Used c.in-Some.want.now.comp (c.look_at-found.result / 2)) row c.look_at-found.result (claims_on row c.args.token.now.me.0.claims) c.args.token.now.me.0 c.look_at-found.new.token.me.0 c.in-Some.ensures.cases.0 refl here (ap (λ m. m.0.notes) c.look_at-found.ensures.noted)
 
 pub returns-then-claim_at-found-clause-answer : goal.returns-then-claim_at-found-clause-answer
 returns-then-claim_at-found-clause-answer t c =
@@ -133,7 +133,7 @@ returns-then-claim_at-found-clause-once t c =
     let odd = c.if-found-eq1.false in
     let ne : k ≢ n = c.if-claim_at-found.true in
     let own : ℕ = claims_on row c.look_at-found.new.token.me.0.claims in
-    once_changed comps c.args.rest.now c.in-Some.more.now c.in-Some.want.now c.in-Some.want.now.comp row n (claims_on row c.args.token.now.me.0.claims) k own c.args.token.now.me.0 c.claim_at.new.token.me.0 c.in-Some.ensures.cases.0 here
+    once_changed comps c.args.rest.now c.in-Some.more.now c.in-Some.want.now row n (claims_on row c.args.token.now.me.0.claims) k own c.args.token.now.me.0 c.claim_at.new.token.me.0 c.in-Some.ensures.cases.0 here
     (ap (λ m. m.0.notes) (c.claim_at.ensures.miss (λ e. ne (omega (arith, e, odd)))) ∙ ap (λ m. note row k own Changed ∷ m.0.notes) c.look_at-found.ensures.noted)
 
 pub reserve_rest-answer-requires : goal.reserve_rest-answer-requires
@@ -151,7 +151,7 @@ reserve_rest-answer-requires t c =
     let here : get_elem? comps row ≡ some w.comp.0 = subst (λ (rows : List (CompId × ℕ)). IsRowOf (row_comps rows) c.in-Some-row_of.row c.in-Some.want.now.comp.0) (c.as_slice.ensures.rows ∙ ap (λ (v : Tabled). v.rows) c.self.view_is) c.in-Some-row_of.ensures.row in
     let cases = c.in-Some.ensures.cases in
     let looked : c.look_at-found.new.token.me.0 ≡ with_note (note row n (claims_on row c.args.token.now.me.0.claims) Look) c.args.token.now.me.0 = ap (λ m. m.0) c.look_at-found.ensures.noted in
-    let hit : c.claim_at.new.token.me.0 ≡ knows (claim row (c.claim_at.result / 2) false ∷ c.look_at-found.new.token.me.0.claims) c.look_at-found.new.token.me.0.notes c.args.asked.now c.look_at-found.new.token.me.0.grants = ap (λ m. m.0) (c.claim_at.ensures.hit (omega (arith, same, odd))) in
+    let hit : c.claim_at.new.token.me.0 ≡ knows (claim row (c.claim_at.result / 2) false ∷ c.look_at-found.new.token.me.0.claims) c.look_at-found.new.token.me.0.notes c.args.asked.now c.look_at-found.new.token.me.0.grants c.look_at-found.new.token.me.0.counts = ap (λ m. m.0) (c.claim_at.ensures.hit (omega (arith, same, odd))) in
     let claims : c.claim_at.new.token.me.0.claims ≡ claim row u false ∷ c.args.token.now.me.0.claims =
     ap (λ (v : Knowledge). v.claims) hit ∙ (ap (λ (l : List Claim). claim row (c.claim_at.result / 2) false ∷ l) (ap (λ (v : Knowledge). v.claims) looked) ∙ ap (λ (k : ℕ). claim row (k / 2) false ∷ c.args.token.now.me.0.claims) same) in
     let covers = covers_more comps c.args.token.now.me.0.claims (claim row u false) w c.args.asked.now.wants more (subst (Covers comps c.args.token.now.me.0.claims c.args.asked.now.wants) cases.0 r.covers) here (omega (arith, less)) in
@@ -233,7 +233,9 @@ returns-clause-once t c =
     let odd = c.if-found-eq1.false in
     let same = c.if-claim_at-found.false in
     let hit = ap (λ m. m.0.notes) (c.claim_at.ensures.hit (omega (arith, same, odd))) in
-    once_around comps c.args.rest.now c.in-Some.more.now c.in-Some.want.now c.reserve_rest-answer.result row n (claims_on row c.args.token.now.me.0.claims) (2 * c.number_after-number.result) (claims_on row c.reserve_rest-answer.new.token.me.0.claims) c.args.token.now.me.0 c.claim_at.new.token.me.0 c.reserve_rest-answer.new.token.me.0 c.give_at.new.token.me.0 c.in-Some.ensures.cases.0 here
+    once_around comps c.args.rest.now c.in-Some.more.now c.in-Some.want.now c.reserve_rest-answer.result row n (claims_on row c.args.token.now.me.0.claims) (2 * c.number_after-number.result) (claims_on row c.reserve_rest-answer.new.token.me.0.claims) c.args.token.now.me.0 c.claim_at.new.token.me.0 c.reserve_rest-answer.new.token.me.0 c.give_at.new.token.me.0 c.in-Some.ensures.cases.0
+    (tried_more c.reserve_rest-answer.result c.args.asked.now.wants c.requires.covers.0 c.args.rest.now c.in-Some.more.now c.in-Some.want.now c.requires.wants.rising c.requires.covers.1 c.in-Some.ensures.cases.0 c.reserve_rest-answer.ensures.within)
+    here
     (hit ∙ ap (λ m. m.0.notes) c.look_at-found.ensures.noted)
     (ap (λ m. m.0.notes) c.give_at.ensures.given)
     c.reserve_rest-answer.ensures.once
@@ -247,3 +249,46 @@ returns-clause-written t c =
     let row = c.in-Some-row_of.row in
     let here : IsRowOf comps row c.in-Some.want.now.comp.0 = subst (λ (rows : List (CompId × ℕ)). IsRowOf (row_comps rows) c.in-Some-row_of.row c.in-Some.want.now.comp.0) (c.as_slice.ensures.rows ∙ ap (λ (v : Tabled). v.rows) c.self.view_is) c.in-Some-row_of.ensures.row in
     written_more comps c.reserve_rest-answer.result c.args.rest.now c.in-Some.more.now c.in-Some.want.now row (c.look_at-found.result / 2) c.number_after-number.result (claims_on row c.reserve_rest-answer.new.token.me.0.claims) c.reserve_rest-answer.new.token.me.0 c.give_at.new.token.me.0 c.in-Some.ensures.cases.0 here c.number_after-number.ensures (ap (λ m. m.0.notes) c.give_at.ensures.given) c.reserve_rest-answer.ensures.written
+
+pub returns-then-found-eq1-clause-order : goal.returns-then-found-eq1-clause-order
+returns-then-found-eq1-clause-order t c = refused_first (FoundFresh (row_comps c.args.self.now.rows) c.args.token.now.me.0 c.look_at-found.new.token.me.0) c.args.asked.now.wants c.requires.covers.0 c.args.rest.now c.in-Some.more.now c.in-Some.want.now c.requires.wants.rising c.requires.covers.1 c.in-Some.ensures.cases.0
+
+pub returns-then-want-used-clause-order : goal.returns-then-want-used-clause-order
+returns-then-want-used-clause-order t c = refused_first (FoundFresh (row_comps c.args.self.now.rows) c.args.token.now.me.0 c.look_at-found.new.token.me.0) c.args.asked.now.wants c.requires.covers.0 c.args.rest.now c.in-Some.more.now c.in-Some.want.now c.requires.wants.rising c.requires.covers.1 c.in-Some.ensures.cases.0
+
+pub returns-then-claim_at-found-clause-order : goal.returns-then-claim_at-found-clause-order
+returns-then-claim_at-found-clause-order t c = refused_first (FoundFresh (row_comps c.args.self.now.rows) c.args.token.now.me.0 c.claim_at.new.token.me.0) c.args.asked.now.wants c.requires.covers.0 c.args.rest.now c.in-Some.more.now c.in-Some.want.now c.requires.wants.rising c.requires.covers.1 c.in-Some.ensures.cases.0
+
+pub returns-in_default-clause-order : goal.returns-in_default-clause-order
+returns-in_default-clause-order t c = subst (AllByRecursion (FoundFresh (row_comps c.args.self.now.rows) c.args.token.now.me.0 c.draw.new.token.me.0)) (sym (empty_is c.args.rest.now c.in_default.ensures.cases)) tt
+
+pub returns-clause-order : goal.returns-clause-order
+returns-clause-order t c =
+    let comps = row_comps c.args.self.now.rows in
+    let row = c.in-Some-row_of.row in
+    let claims = c.args.token.now.me.0.claims in
+    let here : IsRowOf comps row c.in-Some.want.now.comp.0 = subst (λ (rows : List (CompId × ℕ)). IsRowOf (row_comps rows) c.in-Some-row_of.row c.in-Some.want.now.comp.0) (c.as_slice.ensures.rows ∙ ap (λ (v : Tabled). v.rows) c.self.view_is) c.in-Some-row_of.ensures.row in
+    let free = (subst (AllByRecursion (IsFree comps claims)) c.in-Some.ensures.cases.0 c.requires.free).0 row here in
+    let n = c.look_at-found.result in
+    let odd = c.if-found-eq1.false in
+    let less = c.if-want-used.false in
+    let same = c.if-claim_at-found.false in
+    let hit = ap (λ m. m.0.notes) (c.claim_at.ensures.hit (omega (arith, same, odd))) in
+    in_order comps c.reserve_rest-answer.result c.args.rest.now c.in-Some.more.now c.in-Some.want.now row n (claims_on row claims) (note row (2 * c.number_after-number.result) (claims_on row c.reserve_rest-answer.new.token.me.0.claims) Wrote) c.args.token.now.me.0 c.claim_at.new.token.me.0 c.reserve_rest-answer.new.token.me.0 c.give_at.new.token.me.0
+    c.in-Some.ensures.cases.0 here (omega (arith, odd)) free (omega (arith, less))
+    (hit ∙ ap (λ m. m.0.notes) c.look_at-found.ensures.noted)
+    (ap (λ m. m.0.notes) c.give_at.ensures.given)
+    c.reserve_rest-answer.ensures.once.keeps
+    c.reserve_rest-answer.ensures.order
+
+pub returns-then-found-eq1-clause-within : goal.returns-then-found-eq1-clause-within
+returns-then-found-eq1-clause-within t c = refused_here c.args.rest.now c.in-Some.more.now c.in-Some.want.now c.in-Some.ensures.cases.0
+
+pub returns-then-want-used-clause-within : goal.returns-then-want-used-clause-within
+returns-then-want-used-clause-within t c = refused_here c.args.rest.now c.in-Some.more.now c.in-Some.want.now c.in-Some.ensures.cases.0
+
+pub returns-then-claim_at-found-clause-within : goal.returns-then-claim_at-found-clause-within
+returns-then-claim_at-found-clause-within t c = refused_here c.args.rest.now c.in-Some.more.now c.in-Some.want.now c.in-Some.ensures.cases.0
+
+pub returns-clause-within : goal.returns-clause-within
+returns-clause-within t c = refused_later c.reserve_rest-answer.result c.args.rest.now c.in-Some.more.now c.in-Some.want.now c.in-Some.ensures.cases.0 c.reserve_rest-answer.ensures.within

@@ -5,7 +5,7 @@ use Rattle.std.specs.List.{AllByRecursion}
 use Rattle.bip_model.specs.declared.numbering.CompId.{CompId}
 use Rattle.bip_words.proofs.ReservingLemmas.{all_free, attempted, none_after}
 use Rattle.bip_words.specs.Knowledge.{asked_by}
-use Rattle.bip_words.specs.Reserving.{Answered, HasWrittenRow, IsGrantedWith, TriedOnce}
+use Rattle.bip_words.specs.Reserving.{Answered, HasWrittenRow, IsGrantedWith, LookedInOrder, TriedOnce}
 use Rattle.bip_words.specs.Rows.{HasRow, row_comps}
 use Rattle.bip_words.specs.Steps.{IsSmall}
 use Rattle.bip_words.specs.Tables.{Seated, Tabled}
@@ -30,6 +30,7 @@ returns-in_default-answer c =
     record {
       seat = e.same.0 ∙ (ap (λ (v : Seated). v.table) c.seat.view_is ∙ c.requires.seat);
       answer = attempted c.args.self.now.rows (asked_by q) answer c.args.seat.now.knows new have (subst (λ (v : Knowledge). Answered comps (asked_by q) answer v new) before e.answer) (subst (λ (ws : List Want). IsGrantedWith answer (AllByRecursion (HasWrittenRow comps new.notes) ws)) c.as_slice-wants.ensures.wants e.written);
+      order = subst (λ (v : Knowledge). LookedInOrder comps q.wants answer v new) before (subst (λ (ws : List Want). LookedInOrder comps ws answer c.seat.inside.token.me.0 new) c.as_slice-wants.ensures.wants e.order);
       once = subst (λ (v : Knowledge). TriedOnce comps q.wants answer v new) before (subst (λ (ws : List Want). TriedOnce comps ws answer c.seat.inside.token.me.0 new) c.as_slice-wants.ensures.wants e.once);
       unclaimed = e.claims ∙ none_after answer c.seat.inside.token.me.0.claims c.seat.invariant.1;
     }
