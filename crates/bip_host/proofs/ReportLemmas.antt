@@ -1,5 +1,5 @@
 -- Why grants aren't known to be a run.
-use Rattle.std.proofs.Common.{◌≡◌, ◌<◌, zero, suc, Bool, List, [], ◌∷◌, ◌++◌, None, Some, ap, arith, drop, get_or, length, map, refl, subst, sym, take}
+use Rattle.std.proofs.Common.{◌≡◌, ◌<◌, suc, Bool, List, [], ◌∷◌, ◌++◌, None, Some, ap, arith, drop, get_or, length, map, refl, subst, sym, take}
 use Rattle.std.proofs.lemmas.Grind.{common_steps}
 use Rattle.std.specs.Prelude.{IsTrue}
 use Rattle.bip_host.specs.Books.{SharedContent, blames_grant}

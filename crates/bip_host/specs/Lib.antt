@@ -3,6 +3,7 @@ pub mod Keepers
 pub mod Mailboxes
 pub mod Merges
 pub mod Merging
+pub mod Movers
 pub mod Posting
 pub mod Reports
 pub mod Settled

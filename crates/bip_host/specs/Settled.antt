@@ -1,19 +1,25 @@
--- What comes of decisions: of which interaction a grant is that isn't known to stand in the book.
+-- What comes of decisions: of which grant it isn't known that it stands in the book.
 use Rattle.std.specs.Prelude.{◌≡◌, ⊤}
-use Rattle.bip_forks.specs.declared.stations.Station.{Station}
+use Rattle.bip_host.specs.Movers.{mover_in}
 use Rattle.bip_host.specs.declared.settled.Decided.TheVariants.{Granted, Refused}
 use Rattle.bip_host.specs.declared.settled.Decided.{Decided}
 use Rattle.bip_host.specs.declared.settled.Served.TheVariants.{Answered, Nothing}
 use Rattle.bip_host.specs.declared.settled.Served.{Served}
-use Rattle.bip_model.specs.declared.numbering.InterId.{InterId}
+use Rattle.bip_host.specs.declared.settled.Unsettled.{Unsettled}
+use Rattle.bip_model.specs.declared.messages.Request.{Request}
 
 module _ {T : Type 0} where
-  -- a grant is of this interaction
-  abbrev pub IsDecidedOn : InterId → Decided T → Type 0
-  IsDecidedOn inter (Granted unsettled serial) = unsettled.inter ≡ inter
-  IsDecidedOn inter (Refused settled comp used) = ⊤
+  -- what decided is settled by the grant of this request, and by no other one
+  pub record IsUnsettledBy (q : Request) (unsettled : Unsettled T) : Type 0 where
+    pub inter : unsettled.inter ≡ q.inter
+    pub mover : unsettled.mover ≡ mover_in q.wants
 
--- what a turn answers, if anything, is of the interaction that was asked for
+  -- a grant is of this request
+  abbrev pub IsDecidedOn : Request → Decided T → Type 0
+  IsDecidedOn q (Granted unsettled serial) = IsUnsettledBy q unsettled
+  IsDecidedOn q (Refused settled comp used) = ⊤
+
+-- what a turn answers, if anything, is of the request that was asked for
 abbrev pub IsAnswerOfTurn : Served → Type 0
 IsAnswerOfTurn (Nothing station) = ⊤
-IsAnswerOfTurn (Answered decided request) = IsDecidedOn request.inter decided
+IsAnswerOfTurn (Answered decided request) = IsDecidedOn request decided

@@ -1,23 +1,49 @@
 //! The locked book, entries in it, and the report's grants.
-ghost use Rattle.std.specs.Prelude.{◌≡◌, ◌++◌, ◌∷◌, [], false, IfErr, IfOk, IfNone, IfSome};
+ghost use Rattle.std.specs.Prelude.{◌≡◌, ◌↔◌, ◌++◌, ◌∷◌, [], false, IfErr, IfOk, IfNone, IfSome};
 ghost use Rattle.std.specs.Prelude.{IsTrue, None, OnSome, Some};
 ghost use Rattle.bip_host.specs.Books.{IsKeptOf, blames_grant};
+ghost use Rattle.bip_host.specs.Keepers.{IsEntryOf};
+ghost use Rattle.bip_host.specs.Movers.{CanTell, mover_in};
 ghost use Rattle.bip_host.specs.Reports.{IsWhyNoRun};
 ghost use Rattle.bip_host.specs.declared.faults.HostFault.TheVariants.{NotARun};
 ghost use Rattle.bip_replay.specs.Runs.{IsModelRun};
 ghost use Rattle.bip_replay.specs.declared.faults.BookFault.{BookFault};
 
 use crate::faults::HostFault;
-use bip_model::{Grant, InterId, Model};
+use bip_model::{CompId, Grant, InterId, Model, Notifies, Number, Role, Wants};
 use bip_replay::{Book, BookFault, run_laws};
 use std::alloc::Global;
 use std::marker;
 
-/// That a grant of an interaction was appended to the locked book. Nothing else makes one, so what
-/// asks for an entry is done for grants alone that stand in the book.
+/// The first component that a grant moves, with its number there. A run has one such grant.
+#[derive(Clone, Copy)]
+pub(crate) struct Mover {
+    comp: CompId,
+    number: Number,
+}
+
+impl Mover {
+    /// The mover of a grant with these wants.
+    pub(crate) fn of(wants: &Wants) -> Option<Mover>
+        ensures { result ≡ mover_in wants.now }
+    {
+        let first = wants
+            .as_slice()
+            .iter()
+            .find(|want| want.role == Role::Moved)?;
+        Some(Mover {
+            comp: first.comp,
+            number: first.number,
+        })
+    }
+}
+
+/// That a grant of an interaction, with this mover, was appended to the locked book. Nothing else
+/// makes one, so what asks for an entry is done for grants alone that stand in the book.
 #[derive(Drop)]
 pub(crate) struct Entry {
     inter: InterId,
+    mover: Option<Mover>,
 }
 
 impl Entry {
@@ -25,6 +51,18 @@ impl Entry {
         ensures { result ≡ self.now.inter }
     {
         self.inter
+    }
+
+    /// Whether notifications can be those of the grant: the first is for its mover.
+    pub(crate) fn can_tell(&self, notifies: &Notifies) -> bool
+        ensures { IsTrue result ↔ CanTell self.now notifies.now }
+    {
+        match (self.mover, notifies.as_slice().first()) {
+            (Some(mover), Some(first)) => {
+                mover.comp == first.comp && mover.number == first.number
+            }
+            _ => false,
+        }
     }
 }
 
@@ -66,15 +104,16 @@ impl<'m> SharedBook<'m> {
     /// Appends a grant where it can be next. Else the book stays as it was, and its fault is kept
     /// where it is the first, or that memory was wanted.
     pub(crate) fn append(&mut self, grant: Grant) -> Option<Entry>
-        ensures entry { IfSome result (λ entry. entry.inter ≡ grant.inter) }
+        ensures entry { IfSome result (IsEntryOf grant) }
         ensures some { OnSome result (self.new ≡ record self.old {
           book = record self.old.book { grants = self.old.book.grants ++ grant ∷ [] };
         }) }
         ensures none { IfNone result (IsKeptOf self.old grant self.new) }
     {
         let inter = grant.inter;
+        let mover = Mover::of(&grant.wants);
         match self.book.append(grant) {
-            Ok(_) => Some(Entry { inter }),
+            Ok(_) => Some(Entry { inter, mover }),
             Err(BookFault::Memory) => {
                 self.wanted_memory = true;
                 None

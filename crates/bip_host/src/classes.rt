@@ -7,23 +7,13 @@ use crate::gates::{Gate, Point};
 use crate::keepers::BookKeeper;
 use crate::layers::ThirdLayer;
 use crate::messages::ToClass;
+use crate::nodes::NodeEnd;
 use crate::rests::Rest;
 use bip_ip::{Answered, IpNode, Tried};
 use bip_model::{ClassId, CompId, Grant, InterId, Notifies, Notify, Reply, Request};
 use bip_table::TableFault;
 use std::sync::Wait;
 use std::sync::ledger::Ledger;
-
-/// What a class's thread leaves.
-#[derive(Clone, Copy)]
-pub(crate) struct ClassEnd {
-    pub(crate) turns: u64,
-    /// Of how many grants it went on to send the notifications.
-    pub(crate) told: u64,
-    pub(crate) lost: u64,
-    /// Whether the table wanted memory.
-    pub(crate) wanted_memory: bool,
-}
 
 /// A class's node with the ends that it holds: its own inbox, and one of each component that it
 /// touches; of whom it asks for reserved interactions, and its keeper.
@@ -38,7 +28,7 @@ pub(crate) struct ClassThread<'h, 'p, 'm, L: Ledger> {
     pub(crate) outlets: Vec<(CompId, Outlet<'h, Notify>)>,
     pub(crate) layer: ThirdLayer<'h, L>,
     pub(crate) keeper: BookKeeper<'h, 'm>,
-    pub(crate) end: ClassEnd,
+    pub(crate) end: NodeEnd,
 }
 
 /// What a turn comes to.
@@ -52,7 +42,7 @@ enum Turn {
 
 impl<'h, 'p, 'm, L: Ledger> ClassThread<'h, 'p, 'm, L> {
     /// Makes so many turns, or fewer where the node ends before (docs/HOST.md, "Turns").
-    pub(crate) fn run<R: Wait, G: Gate>(mut self, rt: &R, gate: &G, turns: u32) -> ClassEnd {
+    pub(crate) fn run<R: Wait, G: Gate>(mut self, rt: &R, gate: &G, turns: u32) -> NodeEnd {
         let mut rest = Rest::new();
         for _ in 0..turns {
             self.end.turns = self.end.turns.saturating_add(1);
@@ -183,7 +173,8 @@ impl<'h, 'p, 'm, L: Ledger> ClassThread<'h, 'p, 'm, L> {
         Turn::Done
     }
 
-    /// Sends the notifications of a grant that stands in the book.
+    /// Sends the notifications of a grant that stands in the book. The node ends where they are
+    /// another one's.
     fn tell<R: Wait, G: Gate>(
         &mut self,
         rt: &R,
@@ -191,6 +182,9 @@ impl<'h, 'p, 'm, L: Ledger> ClassThread<'h, 'p, 'm, L> {
         entry: Entry,
         notifies: Notifies,
     ) -> Turn {
+        if !entry.can_tell(&notifies) {
+            return Turn::Over;
+        }
         gate.pass(rt, Point::Told(self.class, entry.inter()));
         self.end.told = self.end.told.saturating_add(1);
         for notify in notifies.as_slice() {

@@ -1,17 +1,11 @@
 //! The thread of a component.
 use crate::ends::{Intake, Outlet};
 use crate::messages::ToClass;
+use crate::nodes::NodeEnd;
 use crate::rests::Rest;
 use bip_component::{Notified, SrComponent};
 use bip_model::{Notify, Offer};
 use std::sync::Wait;
-
-/// What a component's thread leaves: how many turns it made, and how many messages it lost.
-#[derive(Clone, Copy)]
-pub(crate) struct ComponentEnd {
-    pub(crate) turns: u64,
-    pub(crate) lost: u64,
-}
 
 /// A component's node with the ends that it holds: its own inbox, and one of each class that
 /// touches it.
@@ -25,7 +19,7 @@ pub(crate) struct ComponentThread<'h, 'p> {
 
 impl<'h, 'p> ComponentThread<'h, 'p> {
     /// Sends the first offer, and makes so many turns (docs/HOST.md, "Turns").
-    pub(crate) fn run<R: Wait>(mut self, rt: &R, turns: u32) -> ComponentEnd {
+    pub(crate) fn run<R: Wait>(mut self, rt: &R, turns: u32) -> NodeEnd {
         if let Some(offer) = self.node.offer() {
             self.offer_to_all(rt, &offer);
         }
@@ -35,9 +29,10 @@ impl<'h, 'p> ComponentThread<'h, 'p> {
                 rest.give_way();
             }
         }
-        ComponentEnd {
+        NodeEnd {
             turns: u64::from(turns),
             lost: self.lost,
+            ..NodeEnd::default()
         }
     }
 

@@ -11,7 +11,7 @@ pub enum HostFault {
     /// A grant couldn't be next in the book: the first that was refused. It is never for want of
     /// memory.
     NotARun(BookFault),
-    /// Want of memory: of a table, of the book, or before any thread was started.
+    /// Want of memory: of a table, of the book, before any thread was started, or for the report.
     Memory,
     /// A thread couldn't be started.
     Thread,

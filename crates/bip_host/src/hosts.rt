@@ -5,8 +5,6 @@ ghost use Rattle.bip_host.specs.Mailboxes.{AreEndsOfEach};
 ghost use Rattle.bip_host.specs.Reports.{IsHostFault, IsReportOf, IsWhyNone};
 
 use crate::books::{SharedBook, as_run};
-use crate::classes::{ClassEnd, ClassThread};
-use crate::components::{ComponentEnd, ComponentThread};
 use crate::ends::{join_all, part_all};
 use crate::faults::HostFault;
 use crate::forks::{fork_mailboxes, start_forks};
@@ -15,11 +13,11 @@ use crate::inboxes::Inbox;
 use crate::layers::Layers;
 use crate::mailboxes::{LooseEnds, Mailbox};
 use crate::messages::{ToClass, ToStation};
+use crate::nodes::{NodeEnd, NodeThread, add_classes, add_components, add_stations};
 use crate::rings::{ring_mailboxes, start_ring};
 use crate::starting::{
     Commons, class_mailboxes, component_mailboxes, start_classes, start_components,
 };
-use crate::stations::{StationEnd, StationThread};
 use bip_bank::first_table;
 use bip_model::{Grant, Notify};
 use bip_partition::Plan;
@@ -84,25 +82,13 @@ struct Totals {
 }
 
 impl Totals {
-    fn add_component(&mut self, end: ComponentEnd) {
-        self.add_thread(end.turns, end.lost);
-    }
-
-    fn add_class(&mut self, end: ClassEnd) {
-        self.add_thread(end.turns, end.lost);
-        self.told = self.told.saturating_add(end.told);
-        self.wanted_memory = self.wanted_memory || end.wanted_memory;
-    }
-
-    fn add_station(&mut self, end: StationEnd) {
-        self.add_thread(end.turns, end.lost);
-        self.wanted_memory = self.wanted_memory || end.wanted_memory;
-    }
-
-    fn add_thread(&mut self, turns: u64, lost: u64) {
+    /// Adds what a thread left.
+    fn add(&mut self, end: NodeEnd) {
         self.figures.threads = self.figures.threads.saturating_add(1);
-        self.figures.turns = self.figures.turns.saturating_add(turns);
-        self.lost = self.lost.saturating_add(lost);
+        self.figures.turns = self.figures.turns.saturating_add(end.turns);
+        self.told = self.told.saturating_add(end.told);
+        self.lost = self.lost.saturating_add(end.lost);
+        self.wanted_memory = self.wanted_memory || end.wanted_memory;
     }
 }
 
@@ -234,8 +220,10 @@ fn run_nodes<'h, 'm, L: Ledger + Send + Sync, G: Gate + Sync, R: Threads + Wait 
         &mut notice_outlets,
         layers,
     )?;
-    let stations = Vec::new(alloc);
-    run_threads(rt, alloc, components, classes, stations, turns, gate)
+    let mut nodes = Vec::with_capacity(alloc, components.len())?;
+    add_components(&mut nodes, components)?;
+    add_classes(&mut nodes, classes)?;
+    run_threads(rt, alloc, nodes, turns, gate)
 }
 
 /// Which stations there are.
@@ -327,16 +315,18 @@ fn run_station_nodes<'h, 'm, L: Ledger + Send + Sync, G: Gate + Sync, R: Threads
     };
     let layers = Layers::<L>::Stations(station_outlets);
     let classes = start_classes(alloc, plan, book, gathering, &mut notice_outlets, layers)?;
-    run_threads(rt, alloc, components, classes, stations, turns, gate)
+    let mut nodes = Vec::with_capacity(alloc, components.len())?;
+    add_components(&mut nodes, components)?;
+    add_classes(&mut nodes, classes)?;
+    add_stations(&mut nodes, stations)?;
+    run_threads(rt, alloc, nodes, turns, gate)
 }
 
-/// Starts all threads, up to the first that can't be, and joins those that were started.
+/// Starts a thread for each node, up to the first that can't be, and joins those that were started.
 fn run_threads<'h, 'p, 'm, L: Ledger + Send + Sync, G: Gate + Sync, R: Threads + Wait + Sync>(
     rt: &R,
     alloc: Global,
-    components: Vec<ComponentThread<'h, 'p>>,
-    classes: Vec<ClassThread<'h, 'p, 'm, L>>,
-    stations: Vec<StationThread<'h, 'm>>,
+    nodes: Vec<NodeThread<'h, 'p, 'm, L>>,
     turns: u32,
     gate: &G,
 ) -> Result<Totals, AllocError> {
@@ -345,44 +335,18 @@ fn run_threads<'h, 'p, 'm, L: Ledger + Send + Sync, G: Gate + Sync, R: Threads +
         rt,
         |scope| -> Result<Totals, AllocError> {
             let mut totals = Totals::default();
-            let mut moving = Vec::with_capacity(alloc, components.len())?;
-            let mut asking = Vec::with_capacity(alloc, classes.len())?;
-            let mut deciding = Vec::with_capacity(alloc, stations.len())?;
-            for component in components {
-                match scope.spawn(move || component.run(rt, turns)) {
-                    Ok(handle) => moving.push(handle)?,
+            let mut running = Vec::with_capacity(alloc, nodes.len())?;
+            for node in nodes {
+                match scope.spawn(move || node.run(rt, gate, turns)) {
+                    Ok(handle) => running.push(handle)?,
                     Err(_) => {
                         totals.is_short = true;
                         break;
                     }
                 }
             }
-            for class in classes {
-                if totals.is_short {
-                    break;
-                }
-                match scope.spawn(move || class.run(rt, gate, turns)) {
-                    Ok(handle) => asking.push(handle)?,
-                    Err(_) => totals.is_short = true,
-                }
-            }
-            for station in stations {
-                if totals.is_short {
-                    break;
-                }
-                match scope.spawn(move || station.run(rt, turns)) {
-                    Ok(handle) => deciding.push(handle)?,
-                    Err(_) => totals.is_short = true,
-                }
-            }
-            for handle in deciding {
-                totals.add_station(handle.join(rt));
-            }
-            for handle in asking {
-                totals.add_class(handle.join(rt));
-            }
-            for handle in moving {
-                totals.add_component(handle.join(rt));
+            for handle in running {
+                totals.add(handle.join(rt));
             }
             Ok(totals)
         },

@@ -1,5 +1,6 @@
 //! The keeper of a class, which appends its grants to the locked book.
-ghost use Rattle.std.specs.Prelude.{◌≡◌, IfSome};
+ghost use Rattle.std.specs.Prelude.{IfSome};
+ghost use Rattle.bip_host.specs.Keepers.{IsEntryOf};
 
 use crate::books::{Entry, SharedBook};
 use bip_model::Grant;
@@ -21,7 +22,7 @@ impl<'h, 'm> BookKeeper<'h, 'm> {
 
     /// Appends a grant to the locked book; none where that doesn't take it.
     pub(crate) fn append<R: Wait>(&self, rt: &R, grant: Grant) -> Option<Entry>
-        ensures { IfSome result (λ entry. entry.inter ≡ grant.inter) }
+        ensures { IfSome result (IsEntryOf grant) }
     {
         self.book.lock(rt).append(grant)
     }

@@ -1,4 +1,5 @@
-//! Running hosts: the nodes of a plan as threads, round one locked table and one locked book.
+//! Running hosts: the nodes of a plan as threads, over a locked table, a token ring or forks, round
+//! one locked book.
 #![tactic(auto)]
 
 mod books;
@@ -15,6 +16,7 @@ mod layers;
 mod mailboxes;
 mod merging;
 mod messages;
+mod nodes;
 mod posting;
 mod rests;
 mod rings;

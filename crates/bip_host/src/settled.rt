@@ -2,7 +2,7 @@
 ghost use Rattle.std.specs.Prelude.{◌≡◌, IfOk};
 ghost use Rattle.bip_host.specs.Settled.{IsDecidedOn, IsAnswerOfTurn};
 
-use crate::books::Entry;
+use crate::books::{Entry, Mover};
 use bip_bank::StationId;
 use bip_forks::{AskToken, Fork, Station};
 use bip_model::{CompId, InterId, Number, Request};
@@ -18,17 +18,20 @@ pub(crate) struct Settled<T> {
     decider: T,
 }
 
-/// What has granted this interaction. The entry of that grant settles it, and nothing else.
+/// What has granted this interaction, with this mover. The entry of that grant settles it, and
+/// nothing else.
 #[derive(Drop)]
 pub(crate) struct Unsettled<T> {
     decider: T,
-    pub(crate) inter: InterId,
+    inter: InterId,
+    mover: Option<Mover>,
 }
 
 impl<T> Unsettled<T> {
     /// Settles what decides, by the entry of the grant.
     pub(crate) fn settle(self, _entry: &Entry) -> Settled<T>
-        requires { _entry.now.inter ≡ self.inter }
+        requires inter { _entry.now.inter ≡ self.inter }
+        requires mover { _entry.now.mover ≡ self.mover }
     {
         Settled {
             decider: self.decider,
@@ -46,12 +49,23 @@ pub(crate) enum Decided<T> {
 }
 
 impl<T> Decided<T> {
-    /// What comes of this decision on a request of an interaction.
-    fn of(decider: T, inter: InterId, decision: Decision) -> Decided<T>
-        ensures { IsDecidedOn inter result }
+    /// What comes of this decision on a request.
+    fn of(decider: T, request: &Request, decision: Decision) -> Decided<T>
+        ensures { IsDecidedOn request.now result }
     {
+        let inter = request.inter;
+        let mover = Mover::of(&request.wants);
         match decision {
-            Decision::Granted(serial) => Decided::Granted(Unsettled { decider, inter }, serial),
+            Decision::Granted(serial) => {
+                Decided::Granted(
+                    Unsettled {
+                        decider,
+                        inter,
+                        mover,
+                    },
+                    serial,
+                )
+            }
             Decision::Refused { comp, used } => Decided::Refused(Settled { decider }, comp, used),
         }
     }
@@ -66,11 +80,11 @@ impl Settled<Token> {
 
     /// Decides on a request. Where nothing is decided, the token goes with it.
     pub(crate) fn decide(self, request: &Request) -> Result<Decided<Token>, TableFault>
-        ensures { IfOk result (IsDecidedOn request.now.inter) }
+        ensures { IfOk result (IsDecidedOn request.now) }
     {
         let Settled { mut decider } = self;
         let decision = decider.decide(request)?;
-        Ok(Decided::of(decider, request.inter, decision))
+        Ok(Decided::of(decider, request, decision))
     }
 }
 
@@ -132,7 +146,7 @@ impl Settled<Station> {
         let Settled { mut decider } = self;
         match decider.serve()? {
             Some((request, decision)) => {
-                let decided = Decided::of(decider, request.inter, decision);
+                let decided = Decided::of(decider, &request, decision);
                 Ok(Served::Answered(decided, request))
             }
             None => Ok(Served::Nothing(Settled { decider })),

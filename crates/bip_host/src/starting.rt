@@ -2,7 +2,7 @@
 ghost use Rattle.std.specs.Prelude.{◌≡◌, ◌<◌, IfOk, length};
 
 use crate::books::SharedBook;
-use crate::classes::{ClassEnd, ClassThread};
+use crate::classes::ClassThread;
 use crate::components::ComponentThread;
 use crate::ends::{Intake, Outlet, Outlets};
 use crate::inboxes::Inbox;
@@ -10,6 +10,7 @@ use crate::keepers::BookKeeper;
 use crate::layers::Layers;
 use crate::mailboxes::Mailbox;
 use crate::messages::ToClass;
+use crate::nodes::NodeEnd;
 use bip_component::SrComponent;
 use bip_ip::IpNode;
 use bip_model::{ClassId, CompId, InterId, Notify};
@@ -152,12 +153,7 @@ pub(crate) fn start_classes<'h, 'p, 'm, L: Ledger>(
             outlets: component_outlets(alloc, plan, class, notices)?,
             layer,
             keeper: BookKeeper::of(book),
-            end: ClassEnd {
-                turns: 0,
-                told: 0,
-                lost: 0,
-                wanted_memory: false,
-            },
+            end: NodeEnd::default(),
         })?;
         number += 1;
     }

@@ -1,25 +1,17 @@
 //! What the threads of all stations have and do, and the thread of one.
 ghost use Rattle.std.specs.Prelude.{◌≡◌};
-ghost use Rattle.bip_host.specs.Settled.{IsDecidedOn};
+ghost use Rattle.bip_host.specs.Settled.{IsDecidedOn, IsUnsettledBy};
 
 use crate::ends::Outlet;
 use crate::forks::ForkStation;
 use crate::keepers::BookKeeper;
 use crate::messages::ToClass;
+use crate::nodes::NodeEnd;
 use crate::rests::Rest;
 use crate::rings::RingStation;
 use crate::settled::{Decided, Settled, Unsettled};
 use bip_model::{CompId, Grant, Number, Reply, Request};
 use std::sync::Wait;
-
-/// What a station's thread leaves: how many turns it made, how many messages it lost, and whether
-/// it wanted memory.
-#[derive(Clone, Copy, Default)]
-pub(crate) struct StationEnd {
-    pub(crate) turns: u64,
-    pub(crate) lost: u64,
-    pub(crate) wanted_memory: bool,
-}
 
 /// What a turn of a station comes to.
 #[derive(Clone, Copy, PartialEq, Eq)]
@@ -39,7 +31,7 @@ pub(crate) enum StationThread<'h, 'm> {
 
 impl<'h, 'm> StationThread<'h, 'm> {
     /// Makes so many turns, or fewer where the station ends before (docs/HOST.md, "Turns").
-    pub(crate) fn run<R: Wait>(mut self, rt: &R, turns: u32) -> StationEnd {
+    pub(crate) fn run<R: Wait>(mut self, rt: &R, turns: u32) -> NodeEnd {
         let mut rest = Rest::new();
         let mut made: u64 = 0;
         for _ in 0..turns {
@@ -70,7 +62,7 @@ impl<'h, 'm> StationThread<'h, 'm> {
 pub(crate) struct Desk<'h, 'm> {
     class: Outlet<'h, ToClass>,
     keeper: BookKeeper<'h, 'm>,
-    end: StationEnd,
+    end: NodeEnd,
 }
 
 impl<'h, 'm> Desk<'h, 'm> {
@@ -78,7 +70,7 @@ impl<'h, 'm> Desk<'h, 'm> {
         Desk {
             class,
             keeper,
-            end: StationEnd::default(),
+            end: NodeEnd::default(),
         }
     }
 
@@ -92,9 +84,9 @@ impl<'h, 'm> Desk<'h, 'm> {
         self.end.wanted_memory = true;
     }
 
-    fn end_after(self, turns: u64) -> StationEnd {
+    fn end_after(self, turns: u64) -> NodeEnd {
         let Desk { end, .. } = self;
-        StationEnd { turns, ..end }
+        NodeEnd { turns, ..end }
     }
 
     /// Answers a request that was decided on: a grant once it stands in the book, by which is
@@ -105,7 +97,7 @@ impl<'h, 'm> Desk<'h, 'm> {
         request: Request,
         decided: Decided<T>,
     ) -> Option<Settled<T>>
-        requires { IsDecidedOn request.inter decided }
+        requires { IsDecidedOn request decided }
     {
         match decided {
             Decided::Granted(unsettled, serial) => self.grant(rt, request, unsettled, serial),
@@ -124,7 +116,7 @@ impl<'h, 'm> Desk<'h, 'm> {
         unsettled: Unsettled<T>,
         serial: u64,
     ) -> Option<Settled<T>>
-        requires { unsettled.inter ≡ request.inter }
+        requires { IsUnsettledBy request unsettled }
     {
         let number = request.request;
         let grant = Grant {

@@ -1,7 +1,7 @@
 use Rattle.std.proofs.Common.{◌≡◌, ◌∙◌, arith, false, rules, subst, sym, true}
 use Rattle.std.proofs.lemmas.Grind.{common_steps}
 use Rattle.std.proofs.lemmas.Result.{err_from_is_err_and}
-use Rattle.bip_host.specs.Reports.{IsWhyNone, no_memory, no_thread}
+use Rattle.bip_host.specs.Reports.{no_memory, no_thread}
 use Rattle.bip_replay.specs.Runs.{IsModelRun}
 use Rattle.bip_host.proofs.ReportLemmas.{first_told, no_run_told}
 use Rattle.bip_host.proofs.hosts.report.Goals as goal
