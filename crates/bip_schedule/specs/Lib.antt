@@ -1,5 +1,6 @@
 pub mod Drawing
 pub mod Exploring
+pub mod Following
 pub mod Laws
 pub mod Lines
 pub mod Schedules

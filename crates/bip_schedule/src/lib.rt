@@ -3,6 +3,7 @@
 
 mod drawing;
 mod exploring;
+mod following;
 mod laws;
 mod lines;
 mod schedules;
@@ -11,6 +12,7 @@ mod writing;
 
 pub use drawing::event_of;
 pub use exploring::{ExploreFault, Explored, explore, explore_seed};
+pub use following::Schedule;
 pub use laws::schedule_laws;
 pub use schedules::read_schedule;
 pub use seeding::seeded;
