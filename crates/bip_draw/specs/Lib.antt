@@ -1,0 +1,4 @@
+pub mod Clauses
+pub mod Drawing
+pub mod Escaping
+pub mod Hues

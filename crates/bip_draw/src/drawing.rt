@@ -1,0 +1,482 @@
+//! The drawing of a model in the language of Graphviz.
+ghost use Rattle.std.specs.Prelude.{◌≡◌, ◌<◌, ◌++◌, All, IfOk, OnOk, length};
+ghost use Rattle.std.specs.List.{flat_map, range_with_len};
+ghost use Rattle.bip_model.specs.Partitions.{AreClassesOf};
+ghost use Rattle.bip_model.specs.Parts.{IsComponent, IsInteraction, IsTransitionOf, Participant};
+ghost use Rattle.bip_draw.specs.Drawing.{arrow, box_of, box_text, class_text, legend_front};
+ghost use Rattle.bip_draw.specs.Drawing.{cluster_front};
+ghost use Rattle.bip_draw.specs.Drawing.{legend_text, cluster_text, clusters_text, dashed};
+ghost use Rattle.bip_draw.specs.Drawing.{drawing_of, ellipse_front, ends_text, front_text};
+ghost use Rattle.bip_draw.specs.Drawing.{head_text};
+ghost use Rattle.bip_draw.specs.Drawing.{interaction_node, node_text, nodes_text};
+ghost use Rattle.bip_draw.specs.Drawing.{label_end, label_front, location_text, no_arrow};
+ghost use Rattle.bip_draw.specs.Drawing.{part_node, participant_text, port_text, priority_text};
+ghost use Rattle.bip_draw.specs.Drawing.{start_text, transition_text, two_borders, variable_text};
+
+use crate::clauses::Owners;
+use crate::escaping::{write_number, write_quoted};
+use crate::hues::{class_of, hue_of};
+use bip_model::{
+    Classes, CompId, Component, InterId, Interaction, Model, Name, Pair, PortId, Transition,
+};
+use std::alloc::{AllocError, Global};
+
+/// The drawing of a model and its classes in the language of Graphviz: a cluster for each component
+/// with its locations, ports and transitions, a box for each interaction with an edge to each of
+/// its ports, a dashed edge for each priority, a box for each class with its colour. Each declared
+/// thing has its statement once (docs/DRAW.md, "Drawings").
+pub fn draw_model(alloc: Global, model: &Model, classes: &Classes) -> Result<Vec<u8>, AllocError>
+    requires { AreClassesOf model.now classes.now }
+    ensures { IfOk result (λ text. text.items ≡ drawing_of model.now classes.now) }
+{
+    let mut text = Vec::new(alloc);
+    write_front(&mut text)?;
+    write_components(&mut text, model)?;
+    write_classes(&mut text, classes)?;
+    write_interactions(&mut text, model, classes)?;
+    write_priorities(&mut text, model.priorities())?;
+    text.extend_from_slice(b"}\n")?;
+    Ok(text)
+}
+
+fn write_components(text: &mut Vec<u8>, model: &Model) -> Result<(), AllocError>
+    ensures { OnOk result (text.new.items ≡ text.old.items ++ clusters_text model.now) }
+{
+    let names = model.component_names();
+    for number in 0..model.components().len() {
+        write_component(text, number, &names[number], &model.components()[number])?;
+    }
+    Ok(())
+}
+
+fn write_component(
+    text: &mut Vec<u8>,
+    number: usize,
+    name: &Name,
+    component: &Component,
+) -> Result<(), AllocError>
+    requires { IsComponent component.now }
+    ensures { OnOk result
+        (text.new.items ≡ text.old.items ++ cluster_text number name.now component.now) }
+{
+    write_head(text, number, name, component)?;
+    write_locations(text, number, component)?;
+    write_start(text, number)?;
+    write_ports(text, number, component)?;
+    write_transitions(text, number, component)?;
+    text.extend_from_slice(b"}\n")
+}
+
+#[tactic(auto, unfolding(crate::specs::Drawing::start_text))]
+fn write_start(text: &mut Vec<u8>, comp: usize) -> Result<(), AllocError>
+    ensures { OnOk result (text.new.items ≡ text.old.items ++ start_text comp) }
+{
+    write_part_node(text, comp, b"l", 0)?;
+    write_two_borders(text)
+}
+
+/// The label of a component: its name, and its variables with their values at the start.
+#[tactic(auto, unfolding(crate::specs::Drawing::head_text))]
+fn write_head(
+    text: &mut Vec<u8>,
+    comp: usize,
+    name: &Name,
+    component: &Component,
+) -> Result<(), AllocError>
+    requires { IsComponent component.now }
+    ensures { OnOk result
+        (text.new.items ≡ text.old.items ++ head_text comp name.now component.now) }
+{
+    write_cluster_front(text, comp)?;
+    write_quoted(text, name.as_bytes())?;
+    write_variables(text, component)?;
+    text.extend_from_slice(b"\";\n")
+}
+
+fn write_cluster_front(text: &mut Vec<u8>, comp: usize) -> Result<(), AllocError>
+    ensures { OnOk result (text.new.items ≡ text.old.items ++ cluster_front comp) }
+{
+    text.extend_from_slice(b"subgraph cluster_c")?;
+    write_number(text, comp as u64)?;
+    text.extend_from_slice(b" {\nlabel=\"")?;
+    Ok(())
+}
+
+fn write_variables(text: &mut Vec<u8>, component: &Component) -> Result<(), AllocError>
+    requires { length component.now.start ≡ length component.now.variables }
+    ensures { OnOk result (text.new.items ≡ text.old.items
+        ++ flat_map (variable_text component.now)
+        (range_with_len 0 (length component.now.variables))) }
+{
+    for number in 0..component.variables.len() {
+        write_variable(text, component, number)?;
+    }
+    Ok(())
+}
+
+fn write_variable(
+    text: &mut Vec<u8>,
+    component: &Component,
+    number: usize,
+) -> Result<(), AllocError>
+    requires name { number < length component.now.variables }
+    requires value { number < length component.now.start }
+    ensures { OnOk result
+        (text.new.items ≡ text.old.items ++ variable_text component.now number) }
+{
+    text.extend_from_slice(b"\\n")?;
+    write_quoted(text, component.variables.as_slice()[number].as_bytes())?;
+    text.extend_from_slice(b" = ")?;
+    write_number(text, component.start.as_slice()[number] as u64)
+}
+
+/// The node of a location or a port: its component, a letter, and its own number.
+#[tactic(auto, unfolding(crate::specs::Drawing::part_node))]
+fn write_part_node(
+    text: &mut Vec<u8>,
+    comp: usize,
+    letter: &[u8],
+    number: usize,
+) -> Result<(), AllocError>
+    ensures { OnOk result
+        (text.new.items ≡ text.old.items ++ part_node comp letter.now number) }
+{
+    text.extend_from_slice(b"c")?;
+    write_number(text, comp as u64)?;
+    text.extend_from_slice(letter)?;
+    write_number(text, number as u64)
+}
+
+fn write_locations(text: &mut Vec<u8>, comp: usize, component: &Component) -> Result<(), AllocError>
+    ensures { OnOk result (text.new.items ≡ text.old.items
+        ++ flat_map (location_text comp component.now)
+        (range_with_len 0 (length component.now.locations))) }
+{
+    for number in 0..component.locations.len() {
+        write_location(text, comp, component, number)?;
+    }
+    Ok(())
+}
+
+fn write_location(
+    text: &mut Vec<u8>,
+    comp: usize,
+    component: &Component,
+    number: usize,
+) -> Result<(), AllocError>
+    requires { number < length component.now.locations }
+    ensures { OnOk result
+        (text.new.items ≡ text.old.items ++ location_text comp component.now number) }
+{
+    write_part_node(text, comp, b"l", number)?;
+    write_ellipse(text)?;
+    write_quoted(text, component.locations.as_slice()[number].as_bytes())?;
+    write_label_end(text)
+}
+
+fn write_ports(text: &mut Vec<u8>, comp: usize, component: &Component) -> Result<(), AllocError>
+    ensures { OnOk result (text.new.items ≡ text.old.items
+        ++ flat_map (port_text comp component.now)
+        (range_with_len 0 (length component.now.ports))) }
+{
+    for number in 0..component.ports.len() {
+        write_port(text, comp, component, number)?;
+    }
+    Ok(())
+}
+
+fn write_port(
+    text: &mut Vec<u8>,
+    comp: usize,
+    component: &Component,
+    number: usize,
+) -> Result<(), AllocError>
+    requires { number < length component.now.ports }
+    ensures { OnOk result
+        (text.new.items ≡ text.old.items ++ port_text comp component.now number) }
+{
+    write_part_node(text, comp, b"p", number)?;
+    write_label(text)?;
+    write_quoted(text, component.ports.as_slice()[number].as_bytes())?;
+    write_label_end(text)
+}
+
+fn write_transitions(
+    text: &mut Vec<u8>,
+    comp: usize,
+    component: &Component,
+) -> Result<(), AllocError>
+    requires { All (IsTransitionOf component.now) component.now.transitions }
+    ensures { OnOk result (text.new.items ≡ text.old.items
+        ++ flat_map (transition_text comp component.now) component.now.transitions) }
+{
+    for transition in component.transitions.as_slice() {
+        write_transition(text, comp, component, transition)?;
+    }
+    Ok(())
+}
+
+fn write_transition(
+    text: &mut Vec<u8>,
+    comp: usize,
+    component: &Component,
+    transition: &Transition,
+) -> Result<(), AllocError>
+    requires { IsTransitionOf component.now transition.now }
+    ensures { OnOk result (text.new.items
+        ≡ text.old.items ++ transition_text comp component.now transition.now) }
+{
+    let owner = Owners::Itself(component);
+    write_ends(text, comp, transition)?;
+    write_quoted(
+        text,
+        component.ports.as_slice()[transition.port.0 as usize].as_bytes(),
+    )?;
+    owner.write_clauses(
+        text,
+        transition.guard.as_slice(),
+        transition.update.as_slice(),
+    )?;
+    Ok(())
+}
+
+/// The source and the target of a transition.
+#[tactic(auto, unfolding(crate::specs::Drawing::ends_text))]
+fn write_ends(text: &mut Vec<u8>, comp: usize, transition: &Transition) -> Result<(), AllocError>
+    ensures { OnOk result (text.new.items ≡ text.old.items ++ ends_text comp transition.now) }
+{
+    write_part_node(text, comp, b"l", transition.source.0 as usize)?;
+    write_arrow(text)?;
+    write_part_node(text, comp, b"l", transition.target.0 as usize)?;
+    write_label(text)
+}
+
+/// The front of a box with the colour of a class.
+#[tactic(auto, unfolding(crate::specs::Drawing::box_text))]
+fn write_box(text: &mut Vec<u8>, class: u16) -> Result<(), AllocError>
+    ensures { OnOk result (text.new.items ≡ text.old.items ++ box_text class) }
+{
+    text.extend_from_slice(b" [style=filled,fillcolor=\"")?;
+    write_number(text, 25 * hue_of(class))?;
+    text.extend_from_slice(b"e-3 0.3 1\",label=\"")
+}
+
+fn write_classes(text: &mut Vec<u8>, classes: &Classes) -> Result<(), AllocError>
+    ensures { OnOk result (text.new.items ≡ text.old.items ++ legend_text classes.now) }
+{
+    write_legend_front(text)?;
+    write_each_class(text, classes)?;
+    text.extend_from_slice(b"}\n")
+}
+
+fn write_each_class(text: &mut Vec<u8>, classes: &Classes) -> Result<(), AllocError>
+    ensures { OnOk result (text.new.items ≡ text.old.items
+        ++ flat_map (class_text classes.now) (range_with_len 0 (length classes.now.names))) }
+{
+    for number in 0..classes.len() {
+        write_class(text, classes, number as u16)?;
+    }
+    Ok(())
+}
+
+fn write_class(text: &mut Vec<u8>, classes: &Classes, number: u16) -> Result<(), AllocError>
+    requires { number < length classes.now.names }
+    ensures { OnOk result (text.new.items ≡ text.old.items ++ class_text classes.now number) }
+{
+    text.extend_from_slice(b"k")?;
+    write_number(text, number as u64)?;
+    write_box(text, number)?;
+    write_quoted(text, classes.names()[number as usize].as_bytes())?;
+    write_label_end(text)
+}
+
+fn write_interactions(
+    text: &mut Vec<u8>,
+    model: &Model,
+    classes: &Classes,
+) -> Result<(), AllocError>
+    ensures { OnOk result
+        (text.new.items ≡ text.old.items ++ nodes_text model.now classes.now) }
+{
+    let names = model.interaction_names();
+    for number in 0..model.interactions().len() {
+        let interaction = &model.interactions()[number];
+        write_interaction(
+            text,
+            model,
+            classes,
+            InterId(number as u16),
+            &names[number],
+            interaction,
+        )?;
+    }
+    Ok(())
+}
+
+fn write_interaction(
+    text: &mut Vec<u8>,
+    model: &Model,
+    classes: &Classes,
+    inter: InterId,
+    name: &Name,
+    interaction: &Interaction,
+) -> Result<(), AllocError>
+    requires { IsInteraction model.now.components interaction.now }
+    ensures { OnOk result (text.new.items ≡ text.old.items
+        ++ node_text model.now classes.now inter.0 name.now interaction.now) }
+{
+    write_interaction_box(text, model, classes, inter, name, interaction)?;
+    write_participants(text, inter, interaction.participants.as_slice())
+}
+
+#[tactic(auto, unfolding(crate::specs::Drawing::box_of))]
+fn write_interaction_box(
+    text: &mut Vec<u8>,
+    model: &Model,
+    classes: &Classes,
+    inter: InterId,
+    name: &Name,
+    interaction: &Interaction,
+) -> Result<(), AllocError>
+    requires { IsInteraction model.now.components interaction.now }
+    ensures { OnOk result (text.new.items ≡ text.old.items
+        ++ box_of model.now classes.now inter.0 name.now interaction.now) }
+{
+    let participants = interaction.participants.as_slice();
+    let owners = Owners::Participants(model, participants);
+    write_interaction_node(text, inter)?;
+    write_box(text, class_of(classes, inter))?;
+    write_quoted(text, name.as_bytes())?;
+    owners.write_clauses(
+        text,
+        interaction.guard.as_slice(),
+        interaction.transfer.as_slice(),
+    )?;
+    Ok(())
+}
+
+#[tactic(auto, unfolding(crate::specs::Drawing::interaction_node))]
+fn write_interaction_node(text: &mut Vec<u8>, inter: InterId) -> Result<(), AllocError>
+    ensures { OnOk result (text.new.items ≡ text.old.items ++ interaction_node inter.0) }
+{
+    text.extend_from_slice(b"i")?;
+    write_number(text, inter.0 as u64)
+}
+
+fn write_participants(
+    text: &mut Vec<u8>,
+    inter: InterId,
+    participants: &[(CompId, PortId)],
+) -> Result<(), AllocError>
+    ensures { OnOk result (text.new.items
+        ≡ text.old.items ++ flat_map (participant_text inter.0) participants.now) }
+{
+    for participant in participants {
+        write_participant(text, inter, *participant)?;
+    }
+    Ok(())
+}
+
+fn write_participant(
+    text: &mut Vec<u8>,
+    inter: InterId,
+    participant: (CompId, PortId),
+) -> Result<(), AllocError>
+    ensures { OnOk result
+        (text.new.items ≡ text.old.items ++ participant_text inter.0 participant) }
+{
+    write_interaction_node(text, inter)?;
+    write_arrow(text)?;
+    write_part_node(
+        text,
+        participant.0.0 as usize,
+        b"p",
+        participant.1.0 as usize,
+    )?;
+    write_no_arrow(text)
+}
+
+fn write_priorities(text: &mut Vec<u8>, priorities: &[Pair]) -> Result<(), AllocError>
+    ensures { OnOk result (text.new.items
+        ≡ text.old.items ++ flat_map priority_text priorities.now) }
+{
+    for pair in priorities {
+        write_priority(text, *pair)?;
+    }
+    Ok(())
+}
+
+fn write_priority(text: &mut Vec<u8>, pair: Pair) -> Result<(), AllocError>
+    ensures { OnOk result (text.new.items ≡ text.old.items ++ priority_text pair) }
+{
+    write_interaction_node(text, pair.low)?;
+    write_arrow(text)?;
+    write_interaction_node(text, pair.high)?;
+    write_dashed(text)
+}
+
+#[tactic(auto, unfolding(crate::specs::Drawing::ellipse_front))]
+fn write_ellipse(text: &mut Vec<u8>) -> Result<(), AllocError>
+    ensures { OnOk result (text.new.items ≡ text.old.items ++ ellipse_front) }
+{
+    text.extend_from_slice(b" [shape=ellipse,label=\"")
+}
+
+#[tactic(auto, unfolding(crate::specs::Drawing::label_front))]
+fn write_label(text: &mut Vec<u8>) -> Result<(), AllocError>
+    ensures { OnOk result (text.new.items ≡ text.old.items ++ label_front) }
+{
+    text.extend_from_slice(b" [label=\"")
+}
+
+#[tactic(auto, unfolding(crate::specs::Drawing::label_end))]
+fn write_label_end(text: &mut Vec<u8>) -> Result<(), AllocError>
+    ensures { OnOk result (text.new.items ≡ text.old.items ++ label_end) }
+{
+    text.extend_from_slice(b"\"];\n")
+}
+
+#[tactic(auto, unfolding(crate::specs::Drawing::arrow))]
+fn write_arrow(text: &mut Vec<u8>) -> Result<(), AllocError>
+    ensures { OnOk result (text.new.items ≡ text.old.items ++ arrow) }
+{
+    text.extend_from_slice(b" -> ")
+}
+
+#[tactic(auto, unfolding(crate::specs::Drawing::no_arrow))]
+fn write_no_arrow(text: &mut Vec<u8>) -> Result<(), AllocError>
+    ensures { OnOk result (text.new.items ≡ text.old.items ++ no_arrow) }
+{
+    text.extend_from_slice(b" [dir=none];\n")
+}
+
+#[tactic(auto, unfolding(crate::specs::Drawing::dashed))]
+fn write_dashed(text: &mut Vec<u8>) -> Result<(), AllocError>
+    ensures { OnOk result (text.new.items ≡ text.old.items ++ dashed) }
+{
+    text.extend_from_slice(b" [style=dashed,constraint=false];\n")
+}
+
+#[tactic(auto, unfolding(crate::specs::Drawing::two_borders))]
+fn write_two_borders(text: &mut Vec<u8>) -> Result<(), AllocError>
+    ensures { OnOk result (text.new.items ≡ text.old.items ++ two_borders) }
+{
+    text.extend_from_slice(b" [peripheries=2];\n")
+}
+
+#[tactic(auto, unfolding(crate::specs::Drawing::legend_front))]
+fn write_legend_front(text: &mut Vec<u8>) -> Result<(), AllocError>
+    ensures { OnOk result (text.new.items ≡ text.old.items ++ legend_front) }
+{
+    text.extend_from_slice(b"subgraph cluster_classes {\nlabel=\"classes\";\n")
+}
+
+/// How all is drawn.
+#[tactic(auto, unfolding(crate::specs::Drawing::front_text))]
+fn write_front(text: &mut Vec<u8>) -> Result<(), AllocError>
+    ensures { OnOk result (text.new.items ≡ text.old.items ++ front_text) }
+{
+    text.extend_from_slice(b"digraph model {\nrankdir=LR;\nfontname=\"sans-serif\";\n")?;
+    text.extend_from_slice(b"node [fontname=\"sans-serif\",fontsize=11,shape=box,height=0.3];\n")?;
+    text.extend_from_slice(b"edge [fontname=\"sans-serif\",fontsize=10];\n")
+}
