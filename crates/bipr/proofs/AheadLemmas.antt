@@ -1,5 +1,5 @@
 -- What is explored ahead, and the seed whose turn it is.
-use Rattle.std.proofs.Common.{◌≡◌, ◌+◌, ◌-◌, ◌*◌, ◌/◌, ◌%◌, ◌<◌, ◌≤◌, ℕ, arith, length, slice_index, subst, sym, ◌⊎◌, inl, inr}
+use Rattle.std.proofs.Common.{◌≡◌, ◌+◌, ◌-◌, ◌*◌, ◌/◌, ◌%◌, ◌<◌, ◌≤◌, ℕ, arith, length, subst, sym, ◌⊎◌, inl, inr}
 use Rattle.std.proofs.Math.Nat.{div-mul-le_self, eq-or-lt_of_le, mod-eq-sub-div-mul}
 use Rattle.bip_partition.specs.Plans.{Planned}
 use Rattle.bipr.specs.Ahead.{AreAhead, AreExploredBehind, IsAhead, IsExplored}

@@ -2,10 +2,18 @@
 use Rattle.std.specs.Prelude.{◌≡◌, ℕ, List, codes}
 use Rattle.bip_bank.specs.Sharing.{Sharing, alone}
 use Rattle.bip_forks.specs.Opening.{AreForksAtFirst}
+use Rattle.bip_host.specs.declared.hosts.Kind.TheVariants as kind
+use Rattle.bip_host.specs.declared.hosts.Kind.{Kind}
 use Rattle.bip_partition.specs.Plans.{Planned}
 use Rattle.bip_ring.specs.Rings.{IsRingAtFirst}
 use Rattle.bipr.specs.declared.resolvers.Resolver.{Resolver}
 use Rattle.bipr.specs.declared.resolvers.Resolver.TheVariants.{Central, Forks, Ring}
+
+-- the kind of host that has a resolver's third layer
+abbrev pub kind_named : Resolver → Kind
+kind_named Central = kind.Central
+kind_named Ring = kind.Ring
+kind_named Forks = kind.Forks
 
 -- the name of a resolver
 abbrev pub resolver_name : Resolver → List ℕ

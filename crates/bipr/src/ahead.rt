@@ -28,23 +28,26 @@ const LARGEST_BLOCK: u32 = 64;
 const ROUNDS: u32 = 8;
 
 /// What was explored ahead, in a round of blocks: behind the first `from` seeds stands a block of
-/// `size` seeds for each thread, of which so many of the first were explored.
+/// `size` seeds for each thread, of which so many of the first were explored. The round's last seed
+/// is the one with the number `last`, whatever was explored.
 #[derive(Drop)]
 pub struct Ahead {
     from: u32,
     size: u32,
+    last: u32,
     explored: Vec<u32>,
 }
 
 impl Ahead {
-    /// Nothing that was explored ahead.
-    pub fn nothing(alloc: Global) -> Ahead
+    /// Nothing that was explored ahead, in a round with this last seed.
+    pub fn nothing(alloc: Global, last: u32) -> Ahead
         ensures none { length result.explored.items ≡ 0 }
         ensures sized { 0 < result.size }
     {
         Ahead {
             from: 0,
             size: 1,
+            last,
             explored: Vec::new(alloc),
         }
     }
@@ -81,8 +84,9 @@ pub fn jobs_of<R: Threads>(rt: &R, asked: Option<u32>) -> u32
     }
 }
 
-/// Explores a round of seeds ahead, from the one behind so many, unless that was explored ahead or
-/// one thread is all. What was explored ahead before is forgotten then.
+/// Explores a round of seeds ahead, from the one behind so many, where that stands behind the last
+/// round, unless one thread is all. A seed of a round that wasn't explored there begins no other
+/// one: where memory is short, each is explored twice at most.
 pub fn keep_ahead<R: Threads + Sync>(
     rt: &R,
     alloc: Global,
@@ -96,7 +100,7 @@ pub fn keep_ahead<R: Threads + Sync>(
     requires ahead { AreAhead plan.now asked.now ahead.old }
     ensures { AreAhead plan.now asked.now ahead.new }
 {
-    if jobs > 1 && !ahead.reaches(done) {
+    if jobs > 1 && ahead.last <= done {
         *ahead = explore_ahead(rt, alloc, plan, asked, jobs, done);
     }
 }
@@ -119,14 +123,16 @@ fn explore_ahead<R: Threads + Sync>(
     let left = asked.seeds - done;
     let blocks = jobs.min(left);
     let size = block_size(left, blocks);
+    let last = done + blocks * size;
     let explore = |block: usize| explore_block_of(alloc, plan, asked, done, size, block as u32);
     match thread::map_indices(rt, alloc, blocks as usize, &explore) {
         Ok(explored) => Ahead {
             from: done,
             size,
+            last,
             explored,
         },
-        Err(_) => Ahead::nothing(alloc),
+        Err(_) => Ahead::nothing(alloc, last),
     }
 }
 

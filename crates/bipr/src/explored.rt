@@ -34,7 +34,7 @@ pub fn answer_explore<R: Threads + Sync, E: Stream>(
         (IsExploreAnswer plan.now asked.now) }
 {
     let jobs = jobs_of(rt, asked.jobs);
-    let mut ahead = Ahead::nothing(alloc);
+    let mut ahead = Ahead::nothing(alloc, 0);
     for done in 0..asked.seeds {
         keep_ahead(rt, alloc, plan, asked, jobs, &mut ahead, done);
         match outcome(alloc, plan, asked, &ahead, done) {

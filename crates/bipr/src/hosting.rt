@@ -4,6 +4,7 @@ ghost use Rattle.std.specs.Prelude.{◌≡◌, ℕ, IfOk, Result};
 ghost use Rattle.bip_partition.specs.Plans.{Planned};
 ghost use Rattle.bip_host.specs.declared.faults.HostFault.{HostFault};
 ghost use Rattle.bip_replay.specs.Runs.{IsModelRun};
+ghost use Rattle.bipr.specs.Resolvers.{kind_named};
 ghost use Rattle.bipr.specs.declared.hosted.Hosted.{Hosted};
 ghost use Rattle.bipr.specs.declared.resolvers.Resolver.{Resolver};
 
@@ -78,7 +79,9 @@ impl Hosting for Threaded {
 }
 
 // The form of the third layer that a resolver names.
-fn kind_of(resolver: Resolver) -> Kind {
+fn kind_of(resolver: Resolver) -> Kind
+    ensures { result ≡ kind_named resolver }
+{
     match resolver {
         Resolver::Central => Kind::Central,
         Resolver::Ring => Kind::Ring,

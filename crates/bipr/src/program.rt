@@ -99,7 +99,8 @@ class that touches it, by component, then class. Of the model of `bipr --help`,
     mail 0
     try P x
 
-are steps that lead to the trace `grant x A:1`, which `bipr replay` takes. The report on
+are steps that lead to the trace `grant x A:1`, which `bipr replay` takes, as any of at most
+16,777,216 bytes. The report on
 standard error has one line: events, grants, refused requests, steps that did nothing, and
 what was skipped or lost for want of memory.";
 
@@ -114,7 +115,8 @@ they lead is checked as `bipr replay` does. Of the model of `bipr --help`,
 
 writes `seeds 3 runs 3`: the traces of all three seeds are runs of the model. Were one
 none, the answer would be `seed S: not a run`, of the lowest such seed. A seed draws the
-same steps each time, and the answer is the same however many threads explore.";
+same steps each time. Where there is memory for all threads, the answer is the same however
+many explore.";
 
 const RUN_ABOUT: &str = "Runs the nodes of a model as threads, and says which grants they made";
 
@@ -122,9 +124,10 @@ const RUN_HELP: &str = "\
 Each component and each class has a thread, which makes N turns and ends: it takes what it
 was sent, and moves, or tries its next interaction. A reserved one is asked of one table
 behind a lock, or of a station, a thread too, in a token ring or with forks. The trace of all
-grants is written then, and `bipr replay` takes it: that it is a run of the model is proved
-for every order in which threads run. Which grants are made is another one each time. Of the
-model of `bipr --help`,
+grants is written then, and `bipr replay` takes it where it has at most 16,777,216 bytes:
+that it is a run of the model is proved for every order in which threads run. Which grants
+are made is another one each time. A turn that did nothing counts too, so of few turns the
+trace may be short, or empty. Of the model of `bipr --help`,
 
     bipr run MODEL --resolver central --turns 1000000 --stats
 
