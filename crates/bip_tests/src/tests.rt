@@ -3,16 +3,20 @@
 //! of a function its proof goes over all that it owns.
 ghost use Rattle.bip_model.specs.Partitions.{AreClassesOf};
 
+mod accepting;
 mod appending;
 mod asking;
 mod banking;
 mod building;
+mod drawing;
 mod exploring;
 mod framing;
 mod hosting;
+mod keeping;
 mod laws;
 mod listing;
 mod locking;
+mod mailing;
 mod notifying;
 mod observing;
 mod parting;

@@ -1,5 +1,5 @@
 use super::name;
-use bip_model::{BuildFault, Builder, Model};
+use bip_model::{BuildFault, Builder, Model, Spelling, Words, clauses_of};
 use std::alloc::Global;
 use std::process::Abort;
 
@@ -11,7 +11,9 @@ fn say(rt: &impl Abort, builder: &mut Builder, line: &str, text: &str) -> Result
         "port" => builder.port(name(rt, text)),
         "trans" => {
             let (port, source) = (name(rt, "p"), name(rt, "l"));
-            builder.trans(port, source, name(rt, text), &[], &[])
+            let clauses = clauses_of(Spelling::Own, &Words::of(b""));
+            let (guard, update) = clauses.expect(rt, "no clauses");
+            builder.trans(port, source, name(rt, text), &guard, &update)
         }
         _ => builder.end(),
     }

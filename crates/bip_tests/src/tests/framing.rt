@@ -12,22 +12,22 @@ use std::alloc::Global;
 use std::process::Abort;
 
 /// Component 2 offers port 0 as its move 1: with the value 5, and with the value 0.
-const OFFER: &str = "010002000000000000000100010100000005";
+pub(super) const OFFER: &str = "010002000000000000000100010100000005";
 
-const FIRST_OFFER: &str = "010002000000000000000100010100000000";
+pub(super) const FIRST_OFFER: &str = "010002000000000000000100010100000000";
 /// Class 0 asks to move components 0 and 2, and is granted it; class 1 is refused, since the number
 /// 1 of component 2 is used; and component 2 is told to move.
-const REQUEST: &str = "0200000000000000000001000002\
+pub(super) const REQUEST: &str = "0200000000000000000001000002\
     00000100000000000000010002010000000000000001";
 
-const GRANTED: &str = "030000000000000000000100000000000000000000";
+pub(super) const GRANTED: &str = "030000000000000000000100000000000000000000";
 
-const REFUSED: &str = "0400010000000000000001000100020000000000000001";
+pub(super) const REFUSED: &str = "0400010000000000000001000100020000000000000001";
 
-const NOTIFY: &str = "0500020000000000000001000100000000";
+pub(super) const NOTIFY: &str = "0500020000000000000001000100000000";
 
 /// Bytes, and the number of their first fault: 0 where they are a frame.
-const WORKED: [(&str, u8); 16] = [
+pub(super) const WORKED: [(&str, u8); 16] = [
     (OFFER, 0),
     (FIRST_OFFER, 0),
     (REQUEST, 0),
@@ -49,7 +49,7 @@ const WORKED: [(&str, u8); 16] = [
     ("01000200000000000000010001010000000500", 9),
 ];
 
-fn bytes_of(rt: &impl Abort, alloc: Global, text: &str) -> Vec<u8> {
+pub(super) fn bytes_of(rt: &impl Abort, alloc: Global, text: &str) -> Vec<u8> {
     hex::decode(alloc, text).expect(rt, "bytes")
 }
 

@@ -15,7 +15,7 @@ use std::thread;
 use std::thread::Threads;
 
 /// Rows of four components, all numbers of which are free.
-const FOUR: &[(CompId, Number)] = &[
+pub(crate) const FOUR: &[(CompId, Number)] = &[
     (CompId(0), 0),
     (CompId(1), 0),
     (CompId(2), 0),
@@ -23,7 +23,7 @@ const FOUR: &[(CompId, Number)] = &[
 ];
 
 /// A request for an interaction with these wants; none where they can't be the wants of one.
-fn request(inter: u16, wants: &[Want]) -> Option<Request> {
+pub(crate) fn request(inter: u16, wants: &[Want]) -> Option<Request> {
     Some(Request {
         wants: Wants::of(wants)?,
         request: 1,

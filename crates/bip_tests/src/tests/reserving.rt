@@ -73,9 +73,10 @@ fn one_seat_reads_its_own_grants_back(rt: HostRuntime) -> Result<(), Fail> {
         Some(Attempt::Granted(2))
     );
     assert_eq!(rt; seat.grants(), 3);
-    let Ok(Closed { rows, serial }) = table.close(vec![in rt.alloc(); seat]?) else {
+    let Ok(closed) = table.close(vec![in rt.alloc(); seat]?) else {
         panic!(rt; "grants are missing")
     };
+    let Closed { rows, serial, .. } = closed;
     assert_eq!(rt; serial, 3);
     assert_eq!(rt;
         rows.as_slice(),
@@ -104,6 +105,27 @@ fn a_refusal_gives_its_claims_back(rt: HostRuntime) -> Result<(), Fail> {
     match table.close(vec![in rt.alloc(); two]?) {
         Ok(_) => panic!(rt; "two grants are missing"),
         Err(missing) => assert_eq!(rt; missing.0, 2),
+    }
+    Ok(())
+}
+
+#[test]
+fn no_seats_close_a_table_without_grants_alone(rt: HostRuntime) -> Result<(), Fail> {
+    let (unused, _seat) = WordTable::new(rt.alloc(), ROWS)?;
+    let Ok(closed) = unused.close(Vec::new(rt.alloc())) else {
+        panic!(rt; "no grant was made")
+    };
+    let Closed { rows, serial, .. } = closed;
+    assert_eq!(rt; serial, 0);
+    assert_eq!(rt; rows.as_slice(), ROWS);
+    let (table, mut seat) = WordTable::new(rt.alloc(), ROWS)?;
+    assert_eq!(rt;
+        attempt(&table, &mut seat, &[moved(A, 1)]),
+        Some(Attempt::Granted(0))
+    );
+    match table.close(Vec::new(rt.alloc())) {
+        Ok(_) => panic!(rt; "a grant is missing"),
+        Err(missing) => assert_eq!(rt; missing.0, 1),
     }
     Ok(())
 }
@@ -185,7 +207,7 @@ fn two_threads_share_one_history(rt: HostRuntime) -> Result<(), Fail> {
     let Some((first, second, closed)) = run_both(&rt, rt.alloc())? else {
         panic!(rt; "grants are missing")
     };
-    let Closed { rows, serial } = closed;
+    let Closed { rows, serial, .. } = closed;
     let mut serials = first.serials;
     serials.extend_from_slice(second.serials.as_slice())?;
     assert_eq!(rt; serial, serials.len() as u64);

@@ -1,7 +1,9 @@
+ghost use Rattle.std.specs.Prelude.{◌≡◌};
+
 use self::Step::{Asks, Shows};
 use super::{moved, seen};
 use bip_model::{ClassId, CompId, Grant, InterId, Number, Request, Want, Wants};
-use bip_table::{Decision, Row, Table};
+use bip_table::{Decision, Row, RowLender, Table};
 use std::alloc::Global;
 use std::process::Abort;
 
@@ -210,4 +212,32 @@ fn a_table_that_is_cut_goes_on_above_its_floor(rt: HostRuntime) {
         )
     );
     assert!(&rt; have_wants(table.journal(), &[[moved(2, 5)].as_slice()]));
+}
+
+/// A row of a component with this used number.
+fn row(used: Number, comp: u16) -> Row
+    ensures { result ≡ record { used = used; comp = record { 0 = comp } } }
+{
+    Row {
+        used,
+        comp: CompId(comp),
+    }
+}
+
+/// The first and the last of three rows are lent together and then written, and the one between
+/// isn't lent any more. A lender over the same rows has none of a fourth component.
+#[test]
+fn rows_are_lent_together(rt: HostRuntime) {
+    let mut rows = [row(0, 0), row(0, 1), row(0, 2)];
+    let mut lender = RowLender::over(&mut rows);
+    let first = lender.next(CompId(0)).expect(&rt, "the first");
+    let third = lender.next(CompId(2)).expect(&rt, "the last");
+    assert!(&rt; lender.next(CompId(1)).is_none());
+    first.used = 5;
+    third.used = 7;
+    let written = [row(5, 0), row(0, 1), row(7, 2)];
+    assert!(&rt; rows == written);
+    // No clause says that rows still rise once they are given back: these are the same.
+    rows = written;
+    assert!(&rt; RowLender::over(&mut rows).next(CompId(3)).is_none());
 }
