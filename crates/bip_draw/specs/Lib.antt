@@ -1,4 +1,7 @@
+pub mod Charts
 pub mod Clauses
 pub mod Drawing
 pub mod Escaping
 pub mod Hues
+pub mod Layout
+pub mod Shapes

@@ -3,7 +3,7 @@
 ghost use Rattle.std.specs.Prelude.{◌≡◌, ◌∷◌, ◌++◌, OnOk};
 ghost use Rattle.std.specs.Fmt.{decimal};
 ghost use Rattle.bip_model.specs.Texts.{spaced};
-ghost use Rattle.bip_draw.specs.Escaping.{quoted, quoted_byte};
+ghost use Rattle.bip_draw.specs.Escaping.{escaped, escaped_byte, quoted, quoted_byte};
 
 use itoa::Buffer;
 use std::alloc::AllocError;
@@ -26,6 +26,31 @@ fn write_quoted_byte(text: &mut Vec<u8>, byte: u8) -> Result<(), AllocError>
         text.extend_from_slice(&[b'\\', byte])
     } else {
         text.extend_from_slice(&[byte])
+    }
+}
+
+/// Puts a text last inside of one of XML.
+#[tactic(auto, unfolding(crate::specs::Escaping::escaped))]
+pub(crate) fn write_escaped(text: &mut Vec<u8>, part: &[u8]) -> Result<(), AllocError>
+    ensures { OnOk result (text.new.items ≡ text.old.items ++ escaped part.now) }
+{
+    for byte in part {
+        write_escaped_byte(text, *byte)?;
+    }
+    Ok(())
+}
+
+fn write_escaped_byte(text: &mut Vec<u8>, byte: u8) -> Result<(), AllocError>
+    ensures { OnOk result (text.new.items ≡ text.old.items ++ escaped_byte byte) }
+{
+    match byte {
+        b'&' => text.extend_from_slice(b"&amp;"),
+        b'<' => text.extend_from_slice(b"&lt;"),
+        b'>' => text.extend_from_slice(b"&gt;"),
+        b'"' => text.extend_from_slice(b"&quot;"),
+        b'\'' => text.extend_from_slice(b"&#39;"),
+        b' '..=b'~' => text.extend_from_slice(&[byte]),
+        _ => text.extend_from_slice(b"?"),
     }
 }
 

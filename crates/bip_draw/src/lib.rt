@@ -1,9 +1,13 @@
-//! Pictures of models, in the language of Graphviz.
+//! Pictures: of models in the language of Graphviz, of runs as SVG.
 #![tactic(auto)]
 
+mod charts;
 mod clauses;
 mod drawing;
 mod escaping;
 mod hues;
+mod layout;
+mod shapes;
 
+pub use charts::{Chart, draw_chart};
 pub use drawing::draw_model;

@@ -1,0 +1,7 @@
+use Rattle.std.proofs.Common.{◌≡◌, ◌++◌}
+use Rattle.std.specs.List.{flat_map, range_with_len}
+use Rattle.bip_draw.specs.Charts.{legend_entry}
+use Rattle.bip_draw.proofs.charts.write_legend.Given as goal
+
+abbrev pub invariant-loop-number : goal.invariant-loop-number
+invariant-loop-number l = l.text.items ≡ l.initial.text.items ++ flat_map (legend_entry l.classes) (range_with_len 0 l.number)

@@ -1,0 +1,590 @@
+//! The chart of a run, as SVG.
+ghost use Rattle.std.specs.Prelude.{◌≡◌, ◌<◌, ◌≤◌, ◌+◌, ◌-◌, ◌*◌, ◌^◌, ◌++◌, IfOk, OnOk, length};
+ghost use Rattle.std.specs.Prelude.{codes, if◌then◌else◌, max, slice_index};
+ghost use Rattle.std.specs.List.{flat_map, range_with_len};
+ghost use Rattle.std.specs.Option.{option_map, option_map_or};
+ghost use Rattle.bip_model.specs.Naming.{name_in};
+ghost use Rattle.bip_model.specs.Partitions.{AreClassesOf, class_in};
+ghost use Rattle.bip_model.specs.Parts.{IsComponent};
+ghost use Rattle.bip_model.specs.States.{state_of};
+ghost use Rattle.bip_model.specs.Steps.{IsRun, start_of};
+ghost use Rattle.bip_model.specs.Wants.{IsWants, components_of};
+ghost use Rattle.bip_reader.specs.Writing.{component_in};
+ghost use Rattle.bip_draw.specs.Charts.{bar_of, changes_text, chart_of, chart_on, chart_width};
+ghost use Rattle.bip_draw.specs.Charts.{fault_text, grant_in, interactions_of, lane_text};
+ghost use Rattle.bip_draw.specs.Charts.{lanes_text, legend_entry, legend_of, local_change};
+ghost use Rattle.bip_draw.specs.Charts.{local_text, locals_text, location_at, location_change};
+ghost use Rattle.bip_draw.specs.Charts.{location_label, mark_text, reason_text, row_head, row_of};
+ghost use Rattle.bip_draw.specs.Charts.{row_text, run_text, state_at, state_text, value_at};
+ghost use Rattle.bip_draw.specs.Charts.{value_change, value_changes, value_label, values_text};
+ghost use Rattle.bip_draw.specs.Charts.{wants_text};
+ghost use Rattle.bip_draw.specs.Layout.{IsLayout, lane_x, layout_of, row_y};
+ghost use Rattle.bip_draw.specs.Shapes.{chart_front};
+
+use crate::escaping::write_escaped;
+use crate::hues::class_of;
+use crate::layout::{Layout, legend_width, reason_width};
+use crate::shapes::{
+    write_bar, write_below_front, write_beside, write_chart_front, write_circle, write_colour,
+    write_ended, write_fault_front, write_front_end, write_group_end, write_head_front,
+    write_lane_line, write_last_number, write_place, write_row_number, write_square,
+};
+use bip_model::{Classes, CompId, Component, Grant, InterId, Model, Name, State, Want};
+use std::alloc::{AllocError, Global};
+
+/// What a chart shows: the grants of a run of a model from a first one on, which is numbered from
+/// 0; behind them a reason, where there is one; and values of variables, where these are wanted.
+pub struct Chart<'a> {
+    pub model: &'a Model,
+    pub classes: &'a Classes,
+    pub grants: &'a [Grant],
+    pub first: usize,
+    pub fault: Option<&'a [u8]>,
+    pub values: bool,
+}
+
+/// The chart of a run as SVG: a lane for each component, and a row for each grant from the first
+/// one that is shown on, with a mark for each of its wants, and what it changes (docs/DRAW.md,
+/// "Charts").
+pub fn draw_chart(alloc: Global, chart: &Chart<'_>) -> Result<Vec<u8>, AllocError>
+    requires classes { AreClassesOf chart.now.model.now chart.now.classes.now }
+    requires run { IsRun chart.now.model.now (start_of chart.now.model.now)
+        (interactions_of chart.now.grants.now) }
+    ensures { IfOk result (λ text. text.items ≡ chart_of chart.now) }
+{
+    let rows = chart.grants.len().saturating_sub(chart.first);
+    let layout = Layout::of(chart.model, chart.values, chart.classes.len(), rows);
+    let mut text = Vec::new(alloc);
+    write_front(&mut text, chart, &layout)?;
+    write_legend(&mut text, chart.classes)?;
+    write_lanes(&mut text, &layout, chart.model)?;
+    write_run(alloc, &mut text, chart, &layout)?;
+    write_fault(&mut text, &layout, chart.fault)?;
+    text.extend_from_slice(b"</svg>\n")?;
+    Ok(text)
+}
+
+fn write_front(text: &mut Vec<u8>, chart: &Chart<'_>, layout: &Layout) -> Result<(), AllocError>
+    requires { IsLayout layout.now }
+    ensures { OnOk result (text.new.items ≡ text.old.items
+        ++ chart_front (chart_width chart.now layout.now)
+        (row_y layout.now (layout.now.rows + 1))) }
+{
+    let width = chart_width(chart, layout);
+    write_chart_front(text, width, layout.row_y(layout.rows + 1))
+}
+
+fn chart_width(chart: &Chart<'_>, layout: &Layout) -> u64
+    requires { IsLayout layout.now }
+    ensures { result ≡ chart_width chart.now layout.now }
+{
+    let lanes = layout.lane_x(count_of(chart.model));
+    let legend = legend_width(chart.classes.len());
+    match chart.fault {
+        Some(reason) => lanes.max(legend).max(reason_width(reason.len())),
+        None => lanes.max(legend),
+    }
+}
+
+/// How many components a model has.
+fn count_of(model: &Model) -> u16
+    ensures count { result ≡ length model.now.components }
+    ensures few { result ≤ 64 }
+{
+    model.components().len() as u16
+}
+
+/// A component of a model.
+fn component_at(model: &Model, comp: u16) -> &Component
+    requires { comp < length model.now.components }
+    ensures component { result.now ≡ component_in model.now comp }
+    ensures valid { IsComponent result.now }
+{
+    &model.components()[comp as usize]
+}
+
+/// The name with a number; nothing where there is none.
+fn name_at(names: &[Name], number: usize) -> &[u8]
+    ensures { result.now ≡ name_in names.now number }
+{
+    match names.get(number) {
+        Some(name) => name.as_bytes(),
+        None => b"",
+    }
+}
+
+fn write_legend(text: &mut Vec<u8>, classes: &Classes) -> Result<(), AllocError>
+    ensures { OnOk result (text.new.items ≡ text.old.items ++ legend_of classes.now) }
+{
+    for number in 0..classes.len() {
+        write_legend_entry(text, classes, number as u16)?;
+    }
+    Ok(())
+}
+
+fn write_legend_entry(text: &mut Vec<u8>, classes: &Classes, class: u16) -> Result<(), AllocError>
+    ensures { OnOk result (text.new.items ≡ text.old.items ++ legend_entry classes.now class) }
+{
+    let (column, line) = (class as u64 / 8, class as u64 % 8);
+    write_place(text, 254 * column + 10, 18 * line + 10)?;
+    write_colour(text, class)?;
+    write_square(text)?;
+    write_ended(text, name_at(classes.names(), class as usize))?;
+    write_group_end(text)
+}
+
+fn write_lanes(text: &mut Vec<u8>, layout: &Layout, model: &Model) -> Result<(), AllocError>
+    requires { IsLayout layout.now }
+    ensures { OnOk result (text.new.items ≡ text.old.items ++ lanes_text layout.now model.now) }
+{
+    let names = model.component_names();
+    for comp in 0..count_of(model) {
+        write_lane(text, layout, names, comp)?;
+    }
+    Ok(())
+}
+
+fn write_lane(
+    text: &mut Vec<u8>,
+    layout: &Layout,
+    names: &[Name],
+    comp: u16,
+) -> Result<(), AllocError>
+    requires { IsLayout layout.now }
+    ensures { OnOk result
+        (text.new.items ≡ text.old.items ++ lane_text layout.now names.now comp) }
+{
+    let x = layout.lane_x(comp);
+    write_lane_line(text, x, layout.top, layout.row_y(layout.rows))?;
+    write_head_front(text, x, layout.top - 6)?;
+    write_ended(text, name_at(names, comp as usize))
+}
+
+/// The state to which the grants before the first row lead, and the rows.
+#[tactic(auto, unfolding(crate::specs::Charts::run_text))]
+fn write_run(
+    alloc: Global,
+    text: &mut Vec<u8>,
+    chart: &Chart<'_>,
+    layout: &Layout,
+) -> Result<(), AllocError>
+    requires layout { IsLayout layout.now }
+    requires rows { layout.now.rows ≡ length chart.now.grants.now - chart.now.first }
+    requires run { IsRun chart.now.model.now (start_of chart.now.model.now)
+        (interactions_of chart.now.grants.now) }
+    ensures { OnOk result (text.new.items ≡ text.old.items ++ run_text chart.now layout.now) }
+{
+    let mut before = first_state(alloc, chart)?;
+    let mut after = first_state(alloc, chart)?;
+    write_state(text, layout, chart.model, &before)?;
+    write_rows(text, chart, layout, &mut before, &mut after)?;
+    Ok(())
+}
+
+/// The state to which the grants before the first row lead.
+fn first_state(alloc: Global, chart: &Chart<'_>) -> Result<State, AllocError>
+    requires { IsRun chart.now.model.now (start_of chart.now.model.now)
+        (interactions_of chart.now.grants.now) }
+    ensures { IfOk result (λ state. state_of state
+        ≡ state_at chart.now.model.now chart.now.grants.now chart.now.first) }
+{
+    let mut state = chart.model.start(alloc)?;
+    for number in 0..chart.first.min(chart.grants.len()) {
+        go_on(chart, &mut state, number);
+    }
+    Ok(state)
+}
+
+/// Goes on by the grant with a number.
+fn go_on(chart: &Chart<'_>, state: &mut State, number: usize)
+    requires number { number < length chart.now.grants.now }
+    requires run { IsRun chart.now.model.now (start_of chart.now.model.now)
+        (interactions_of chart.now.grants.now) }
+    requires state { state_of state.old
+        ≡ state_at chart.now.model.now chart.now.grants.now number }
+    ensures { state_of state.new
+        ≡ state_at chart.now.model.now chart.now.grants.now (number + 1) }
+{
+    chart.model.run(state, chart.grants[number].inter);
+}
+
+fn write_rows(
+    text: &mut Vec<u8>,
+    chart: &Chart<'_>,
+    layout: &Layout,
+    before: &mut State,
+    after: &mut State,
+) -> Result<(), AllocError>
+    requires layout { IsLayout layout.now }
+    requires rows { layout.now.rows ≡ length chart.now.grants.now - chart.now.first }
+    requires run { IsRun chart.now.model.now (start_of chart.now.model.now)
+        (interactions_of chart.now.grants.now) }
+    requires before { state_of before.old
+        ≡ state_at chart.now.model.now chart.now.grants.now chart.now.first }
+    requires after { state_of after.old
+        ≡ state_at chart.now.model.now chart.now.grants.now chart.now.first }
+    ensures { OnOk result (text.new.items ≡ text.old.items
+        ++ flat_map (row_of chart.now layout.now) (range_with_len 0 layout.now.rows)) }
+{
+    for row in 0..layout.rows {
+        let number = chart.first + row as usize;
+        go_on(chart, after, number);
+        write_row(text, chart, layout, row, before, after)?;
+        go_on(chart, before, number);
+    }
+    Ok(())
+}
+
+/// A row: the next grant from one state to another.
+#[tactic(auto, unfolding(crate::specs::Charts::row_text))]
+fn write_row(
+    text: &mut Vec<u8>,
+    chart: &Chart<'_>,
+    layout: &Layout,
+    row: u64,
+    before: &State,
+    after: &State,
+) -> Result<(), AllocError>
+    requires layout { IsLayout layout.now }
+    requires row { row < layout.now.rows }
+    requires grant { chart.now.first + row < length chart.now.grants.now }
+    ensures { OnOk result (text.new.items ≡ text.old.items
+        ++ row_text chart.now layout.now row (grant_in chart.now.grants.now (chart.now.first + row))
+        (state_of before.now) (state_of after.now)) }
+{
+    let grant = grant_at(chart.grants, chart.first + row as usize);
+    write_row_head(text, chart, layout, row, grant.inter)?;
+    write_wants(text, layout, grant.wants.as_slice())?;
+    write_changes(text, layout, chart.model, before, after)?;
+    write_group_end(text)
+}
+
+/// The grant with a number.
+fn grant_at(grants: &[Grant], number: usize) -> &Grant
+    requires { number < length grants.now }
+    ensures { result.now ≡ grant_in grants.now number }
+{
+    &grants[number]
+}
+
+/// The front of a row, with its number and its interaction.
+#[tactic(auto, unfolding(crate::specs::Charts::row_head))]
+fn write_row_head(
+    text: &mut Vec<u8>,
+    chart: &Chart<'_>,
+    layout: &Layout,
+    row: u64,
+    inter: InterId,
+) -> Result<(), AllocError>
+    requires layout { IsLayout layout.now }
+    requires row { row < layout.now.rows }
+    requires grant { chart.now.first + row < length chart.now.grants.now }
+    ensures { OnOk result
+        (text.new.items ≡ text.old.items ++ row_head chart.now layout.now row inter.0) }
+{
+    write_place(text, 0, layout.row_y(row))?;
+    write_colour(text, class_of(chart.classes, inter))?;
+    write_row_number(text, chart.first as u64 + row + 1)?;
+    write_ended(
+        text,
+        name_at(chart.model.interaction_names(), inter.0 as usize),
+    )
+}
+
+/// The bar of wants, and their marks.
+#[tactic(auto, unfolding(crate::specs::Charts::wants_text))]
+fn write_wants(text: &mut Vec<u8>, layout: &Layout, wants: &[Want]) -> Result<(), AllocError>
+    requires layout { IsLayout layout.now }
+    requires wants { IsWants wants.now }
+    ensures { OnOk result (text.new.items ≡ text.old.items ++ wants_text layout.now wants.now) }
+{
+    let last = wants.len() - 1;
+    write_bar(
+        text,
+        lane_at(layout, wants, 0),
+        lane_at(layout, wants, last),
+    )?;
+    write_marks(text, layout, wants)
+}
+
+/// The x of the lane of a want.
+fn lane_at(layout: &Layout, wants: &[Want], index: usize) -> u64
+    requires layout { IsLayout layout.now }
+    requires index { index < length wants.now }
+    ensures { result ≡ lane_x layout.now (slice_index (components_of wants.now) index) }
+{
+    layout.lane_x(wants[index].comp.0)
+}
+
+fn write_marks(text: &mut Vec<u8>, layout: &Layout, wants: &[Want]) -> Result<(), AllocError>
+    requires { IsLayout layout.now }
+    ensures { OnOk result
+        (text.new.items ≡ text.old.items ++ flat_map (mark_text layout.now) wants.now) }
+{
+    for want in wants {
+        write_mark(text, layout, *want)?;
+    }
+    Ok(())
+}
+
+fn write_mark(text: &mut Vec<u8>, layout: &Layout, want: Want) -> Result<(), AllocError>
+    requires { IsLayout layout.now }
+    ensures { OnOk result (text.new.items ≡ text.old.items ++ mark_text layout.now want) }
+{
+    let x = layout.lane_x(want.comp.0);
+    write_circle(text, want.role, x)?;
+    write_beside(text, x + 8, want.number)
+}
+
+/// A reason, behind the last row; nothing where there is none.
+#[tactic(auto, unfolding(crate::specs::Charts::fault_text))]
+fn write_fault(text: &mut Vec<u8>, layout: &Layout, fault: Option<&[u8]>) -> Result<(), AllocError>
+    requires { IsLayout layout.now }
+    ensures { OnOk result (text.new.items ≡ text.old.items
+        ++ fault_text layout.now (option_map (λ reason. reason.now) fault.entry)) }
+{
+    match fault {
+        Some(reason) => write_reason(text, layout, reason),
+        None => Ok(()),
+    }
+}
+
+fn write_reason(text: &mut Vec<u8>, layout: &Layout, reason: &[u8]) -> Result<(), AllocError>
+    requires { IsLayout layout.now }
+    ensures { OnOk result
+        (text.new.items ≡ text.old.items ++ reason_text layout.now reason.now) }
+{
+    write_place(text, 0, layout.row_y(layout.rows))?;
+    write_fault_front(text)?;
+    write_ended(text, reason)?;
+    write_group_end(text)
+}
+
+/// What each component is in, above the first row.
+#[tactic(auto, unfolding(crate::specs::Charts::state_text))]
+fn write_state(
+    text: &mut Vec<u8>,
+    layout: &Layout,
+    model: &Model,
+    state: &State,
+) -> Result<(), AllocError>
+    requires { IsLayout layout.now }
+    ensures { OnOk result (text.new.items ≡ text.old.items
+        ++ state_text layout.now model.now (state_of state.now)) }
+{
+    write_place(text, 0, layout.top)?;
+    write_front_end(text)?;
+    write_locals(text, layout, model, state)?;
+    write_group_end(text)
+}
+
+fn write_locals(
+    text: &mut Vec<u8>,
+    layout: &Layout,
+    model: &Model,
+    state: &State,
+) -> Result<(), AllocError>
+    requires { IsLayout layout.now }
+    ensures { OnOk result (text.new.items ≡ text.old.items
+        ++ locals_text layout.now model.now (state_of state.now)) }
+{
+    for comp in 0..count_of(model) {
+        write_local(text, layout, component_at(model, comp), comp, state)?;
+    }
+    Ok(())
+}
+
+#[tactic(auto, unfolding(crate::specs::Charts::local_text))]
+fn write_local(
+    text: &mut Vec<u8>,
+    layout: &Layout,
+    component: &Component,
+    comp: u16,
+    state: &State,
+) -> Result<(), AllocError>
+    requires layout { IsLayout layout.now }
+    requires component { IsComponent component.now }
+    ensures { OnOk result (text.new.items ≡ text.old.items
+        ++ local_text layout.now component.now comp (state_of state.now)) }
+{
+    write_location_label(text, layout, component, comp, location_at(state, comp))?;
+    if layout.values {
+        write_values(text, layout, component, comp, state)?;
+    }
+    Ok(())
+}
+
+fn write_values(
+    text: &mut Vec<u8>,
+    layout: &Layout,
+    component: &Component,
+    comp: u16,
+    state: &State,
+) -> Result<(), AllocError>
+    requires layout { IsLayout layout.now }
+    requires component { IsComponent component.now }
+    ensures { OnOk result (text.new.items ≡ text.old.items
+        ++ values_text layout.now component.now comp (state_of state.now)) }
+{
+    for number in 0..component.variables.len() {
+        let value = value_at(state, comp, number);
+        write_value_label(text, layout, component, comp, number, value)?;
+    }
+    Ok(())
+}
+
+/// What changes of each component from one state to another.
+#[tactic(auto, unfolding(crate::specs::Charts::changes_text))]
+fn write_changes(
+    text: &mut Vec<u8>,
+    layout: &Layout,
+    model: &Model,
+    before: &State,
+    after: &State,
+) -> Result<(), AllocError>
+    requires { IsLayout layout.now }
+    ensures { OnOk result (text.new.items ≡ text.old.items
+        ++ changes_text layout.now model.now (state_of before.now) (state_of after.now)) }
+{
+    for comp in 0..count_of(model) {
+        write_local_change(text, layout, component_at(model, comp), comp, before, after)?;
+    }
+    Ok(())
+}
+
+#[tactic(auto, unfolding(crate::specs::Charts::local_change))]
+fn write_local_change(
+    text: &mut Vec<u8>,
+    layout: &Layout,
+    component: &Component,
+    comp: u16,
+    before: &State,
+    after: &State,
+) -> Result<(), AllocError>
+    requires layout { IsLayout layout.now }
+    requires component { IsComponent component.now }
+    ensures { OnOk result (text.new.items ≡ text.old.items
+        ++ local_change layout.now component.now comp (state_of before.now) (state_of after.now)) }
+{
+    write_location_change(text, layout, component, comp, before, after)?;
+    if layout.values {
+        write_value_changes(text, layout, component, comp, before, after)?;
+    }
+    Ok(())
+}
+
+fn write_location_change(
+    text: &mut Vec<u8>,
+    layout: &Layout,
+    component: &Component,
+    comp: u16,
+    before: &State,
+    after: &State,
+) -> Result<(), AllocError>
+    requires { IsLayout layout.now }
+    ensures { OnOk result (text.new.items ≡ text.old.items ++ location_change layout.now
+        component.now comp (state_of before.now) (state_of after.now)) }
+{
+    let location = location_at(after, comp);
+    if location_at(before, comp) == location {
+        return Ok(());
+    }
+    write_location_label(text, layout, component, comp, location)
+}
+
+fn write_value_changes(
+    text: &mut Vec<u8>,
+    layout: &Layout,
+    component: &Component,
+    comp: u16,
+    before: &State,
+    after: &State,
+) -> Result<(), AllocError>
+    requires layout { IsLayout layout.now }
+    requires component { IsComponent component.now }
+    ensures { OnOk result (text.new.items ≡ text.old.items ++ value_changes layout.now
+        component.now comp (state_of before.now) (state_of after.now)) }
+{
+    for number in 0..component.variables.len() {
+        write_value_change(text, layout, component, comp, number, before, after)?;
+    }
+    Ok(())
+}
+
+fn write_value_change(
+    text: &mut Vec<u8>,
+    layout: &Layout,
+    component: &Component,
+    comp: u16,
+    number: usize,
+    before: &State,
+    after: &State,
+) -> Result<(), AllocError>
+    requires layout { IsLayout layout.now }
+    requires number { number < 8 }
+    ensures { OnOk result (text.new.items ≡ text.old.items ++ value_change layout.now
+        component.now comp (state_of before.now) (state_of after.now) number) }
+{
+    let value = value_at(after, comp, number);
+    if value_at(before, comp, number) == value {
+        return Ok(());
+    }
+    write_value_label(text, layout, component, comp, number, value)
+}
+
+/// A location of a component, beside its lane.
+fn write_location_label(
+    text: &mut Vec<u8>,
+    layout: &Layout,
+    component: &Component,
+    comp: u16,
+    number: u8,
+) -> Result<(), AllocError>
+    requires { IsLayout layout.now }
+    ensures { OnOk result (text.new.items ≡ text.old.items
+        ++ location_label layout.now component.now comp number) }
+{
+    write_below_front(text, layout.lane_x(comp) + 6, 14)?;
+    write_ended(
+        text,
+        name_at(component.locations.as_slice(), number as usize),
+    )
+}
+
+/// A variable of a component with a value, beside its lane.
+fn write_value_label(
+    text: &mut Vec<u8>,
+    layout: &Layout,
+    component: &Component,
+    comp: u16,
+    number: usize,
+    value: u32,
+) -> Result<(), AllocError>
+    requires layout { IsLayout layout.now }
+    requires number { number < 8 }
+    ensures { OnOk result (text.new.items ≡ text.old.items
+        ++ value_label layout.now component.now comp number value) }
+{
+    write_below_front(text, layout.lane_x(comp) + 6, 11 * number as u64 + 25)?;
+    write_escaped(text, name_at(component.variables.as_slice(), number))?;
+    write_last_number(text, b"=", value as u64)
+}
+
+/// Where a component is, and the value of a variable of it; 0 where the state lacks it.
+fn location_at(state: &State, comp: u16) -> u8
+    ensures { result ≡ location_at (state_of state.now) comp }
+{
+    match state.local(CompId(comp)) {
+        Some(local) => local.location.0,
+        None => 0,
+    }
+}
+
+fn value_at(state: &State, comp: u16, variable: usize) -> u32
+    ensures { result ≡ value_at (state_of state.now) comp variable }
+{
+    match state.local(CompId(comp)) {
+        Some(local) => local.values.as_slice().get(variable).copied().unwrap_or(0),
+        None => 0,
+    }
+}

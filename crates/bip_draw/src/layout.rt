@@ -1,0 +1,146 @@
+//! Where things stand in a chart.
+ghost use Rattle.std.specs.Prelude.{◌≡◌, ◌≤◌, ◌<◌, ◌+◌, ◌^◌, All, length};
+ghost use Rattle.bip_model.specs.Parts.{IsComponent};
+ghost use Rattle.bip_model.specs.declared.parts.Component.{Component};
+ghost use Rattle.bip_draw.specs.Layout.{IsLayout, greatest, half_of, height_of, label_length};
+ghost use Rattle.bip_draw.specs.Layout.{lane_x, layout_of, legend_height, legend_width, longest};
+ghost use Rattle.bip_draw.specs.Layout.{reason_width, row_y};
+
+use bip_model::{Component, Model, Name};
+
+/// Where things stand in a chart, in points: where the first lane's room begins, half of the
+/// distance between lanes, the top of the lanes, the height of a row, how many rows there are, and
+/// whether values of variables are shown.
+#[derive(Clone, Copy)]
+pub(crate) struct Layout {
+    pub left: u64,
+    pub half: u64,
+    pub top: u64,
+    pub height: u64,
+    pub rows: u64,
+    pub values: bool,
+}
+
+impl Layout {
+    /// The layout of a chart of a model with so many classes and rows, with values or without.
+    pub(crate) fn of(model: &Model, values: bool, classes: usize, rows: usize) -> Layout
+        requires { rows < 2 ^ 54 }
+        ensures layout { result ≡ layout_of model.now values classes rows }
+        ensures small { IsLayout result }
+    {
+        Layout {
+            left: 7 * longest(model.interaction_names()) + 70,
+            half: half_of(values, model),
+            top: legend_height(classes),
+            height: height_of(values, model),
+            rows: rows as u64,
+            values,
+        }
+    }
+
+    /// The x of the lane of a component.
+    pub(crate) fn lane_x(&self, comp: u16) -> u64
+        requires { IsLayout self.now }
+        ensures x { result ≡ lane_x self.now comp }
+        ensures low { result < 2 ^ 26 }
+    {
+        self.left + (2 * comp as u64 + 1) * self.half
+    }
+
+    /// The y of the row with a number from 0.
+    pub(crate) fn row_y(&self, row: u64) -> u64
+        requires layout { IsLayout self.now }
+        requires row { row ≤ self.now.rows + 1 }
+        ensures { result ≡ row_y self.now row }
+    {
+        self.top + self.height * (row + 1)
+    }
+}
+
+fn longest(names: &[Name]) -> u64
+    ensures longest { result ≡ longest names.now }
+    ensures short { result ≤ 32 }
+{
+    let mut most = 0;
+    for name in names {
+        most = most.max(name.as_bytes().len() as u64);
+    }
+    most
+}
+
+fn label_length(values: bool, component: &Component) -> u64
+    ensures length { result ≡ label_length values component.now }
+    ensures short { result ≤ 43 }
+{
+    let locations = longest(component.locations.as_slice());
+    if values {
+        locations.max(longest(component.variables.as_slice()) + 11)
+    } else {
+        locations
+    }
+}
+
+fn longest_label(values: bool, components: &[Component]) -> u64
+    ensures longest { result ≡ greatest (label_length values) components.now }
+    ensures short { result ≤ 43 }
+{
+    let mut most = 0;
+    for component in components {
+        most = most.max(label_length(values, component));
+    }
+    most
+}
+
+fn most_variables(components: &[Component]) -> u64
+    requires { All IsComponent components.now }
+    ensures most { result ≡ greatest (λ (k : Component). length k.variables) components.now }
+    ensures few { result ≤ 8 }
+{
+    let mut most = 0;
+    for component in components {
+        most = most.max(component.variables.len() as u64);
+    }
+    most
+}
+
+fn half_of(values: bool, model: &Model) -> u64
+    ensures half { result ≡ half_of values model.now }
+    ensures small { result < 256 }
+{
+    let names = longest(model.component_names());
+    4 * names.max(longest_label(values, model.components())) + 12
+}
+
+fn height_of(values: bool, model: &Model) -> u64
+    ensures height { result ≡ height_of values model.now }
+    ensures small { result < 128 }
+{
+    if values {
+        11 * most_variables(model.components()) + 34
+    } else {
+        34
+    }
+}
+
+fn legend_height(classes: usize) -> u64
+    ensures height { result ≡ legend_height classes }
+    ensures some { 6 ≤ result }
+    ensures small { result < 256 }
+{
+    18 * classes.min(8) as u64 + 40
+}
+
+/// How wide the legend of so many classes is.
+pub(crate) fn legend_width(classes: usize) -> u64
+    requires { classes ≤ 32 }
+    ensures { result ≡ legend_width classes }
+{
+    254 * ((classes as u64 + 7) / 8) + 10
+}
+
+/// How wide a text of so many bytes is that stands below the rows.
+pub(crate) fn reason_width(bytes: usize) -> u64
+    ensures { result ≡ reason_width bytes }
+{
+    7 * bytes.min(400) as u64 + 20
+}
