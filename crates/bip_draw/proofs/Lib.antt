@@ -1,2 +1,3 @@
+pub mod ChartLemmas
 pub mod ClauseLemmas
-pub mod RunLemmas
+pub mod PartLemmas

@@ -8,12 +8,12 @@ use Rattle.bip_model.specs.declared.parts.System.{System}
 use Rattle.bip_draw.specs.declared.layout.Layout.{Layout}
 
 -- the greatest of what is measured of things, 0 of none
-abbrev pub greatest : {X : Type 0} → (X → ℕ) → List X → ℕ
-greatest measure xs = fold (λ most x. max most (measure x)) 0 xs
+abbrev pub most_by : {X : Type 0} → (X → ℕ) → List X → ℕ
+most_by measure xs = fold (λ most x. max most (measure x)) 0 xs
 
 -- how many bytes the longest name has
 abbrev pub longest : List (List ℕ) → ℕ
-longest names = greatest length names
+longest names = most_by length names
 
 -- how long a label of a component is at most: a location's name, or `VARIABLE=VALUE`
 abbrev pub label_length : Bool → Component → ℕ
@@ -23,12 +23,12 @@ label_length values k =
 -- half of the distance between lanes
 abbrev pub half_of : Bool → System → ℕ
 half_of values m =
-    4 * max (longest m.component_names) (greatest (label_length values) m.components) + 12
+    4 * max (longest m.component_names) (most_by (label_length values) m.components) + 12
 
 -- the height of a row: a bar with a location below it, and a line for each variable
 abbrev pub height_of : Bool → System → ℕ
 height_of values m =
-    (if values then 11 * greatest (λ (k : Component). length k.variables) m.components else 0) + 34
+    (if values then 11 * most_by (λ (k : Component). length k.variables) m.components else 0) + 34
 
 -- the height of a legend of so many classes, in columns of eight
 abbrev pub legend_height : ℕ → ℕ

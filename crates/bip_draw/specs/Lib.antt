@@ -4,4 +4,5 @@ pub mod Drawing
 pub mod Escaping
 pub mod Hues
 pub mod Layout
+pub mod Locals
 pub mod Shapes

@@ -1,35 +1,31 @@
 //! The chart of a run, as SVG.
-ghost use Rattle.std.specs.Prelude.{◌≡◌, ◌<◌, ◌≤◌, ◌+◌, ◌-◌, ◌*◌, ◌^◌, ◌++◌, IfOk, OnOk, length};
-ghost use Rattle.std.specs.Prelude.{codes, if◌then◌else◌, max, slice_index};
+ghost use Rattle.std.specs.Prelude.{◌≡◌, ◌<◌, ◌+◌, ◌-◌, ◌++◌, IfOk, OnOk, codes, length};
+ghost use Rattle.std.specs.Prelude.{max, slice_index};
 ghost use Rattle.std.specs.List.{flat_map, range_with_len};
 ghost use Rattle.std.specs.Option.{option_map, option_map_or};
 ghost use Rattle.bip_model.specs.Naming.{name_in};
 ghost use Rattle.bip_model.specs.Partitions.{AreClassesOf, class_in};
-ghost use Rattle.bip_model.specs.Parts.{IsComponent};
 ghost use Rattle.bip_model.specs.States.{state_of};
 ghost use Rattle.bip_model.specs.Steps.{IsRun, start_of};
 ghost use Rattle.bip_model.specs.Wants.{IsWants, components_of};
-ghost use Rattle.bip_reader.specs.Writing.{component_in};
-ghost use Rattle.bip_draw.specs.Charts.{bar_of, changes_text, chart_of, chart_on, chart_width};
-ghost use Rattle.bip_draw.specs.Charts.{fault_text, grant_in, interactions_of, lane_text};
-ghost use Rattle.bip_draw.specs.Charts.{lanes_text, legend_entry, legend_of, local_change};
-ghost use Rattle.bip_draw.specs.Charts.{local_text, locals_text, location_at, location_change};
-ghost use Rattle.bip_draw.specs.Charts.{location_label, mark_text, reason_text, row_head, row_of};
-ghost use Rattle.bip_draw.specs.Charts.{row_text, run_text, state_at, state_text, value_at};
-ghost use Rattle.bip_draw.specs.Charts.{value_change, value_changes, value_label, values_text};
-ghost use Rattle.bip_draw.specs.Charts.{wants_text};
+ghost use Rattle.bip_replay.specs.Runs.{interactions_of};
+ghost use Rattle.bip_draw.specs.Charts.{bar_of, chart_of, chart_on, chart_width, fault_row};
+ghost use Rattle.bip_draw.specs.Charts.{fault_text, grant_at, lane_text, lanes_text, legend_entry};
+ghost use Rattle.bip_draw.specs.Charts.{legend_of, mark_text, numbered_row, row_head, row_text};
+ghost use Rattle.bip_draw.specs.Charts.{shown_run, state_at, wants_text};
 ghost use Rattle.bip_draw.specs.Layout.{IsLayout, lane_x, layout_of, row_y};
 ghost use Rattle.bip_draw.specs.Shapes.{chart_front};
 
-use crate::escaping::write_escaped;
 use crate::hues::class_of;
 use crate::layout::{Layout, legend_width, reason_width};
+use crate::locals::{write_changes, write_state};
+use crate::lookups::{count_of, name_at};
 use crate::shapes::{
-    write_bar, write_below_front, write_beside, write_chart_front, write_circle, write_colour,
-    write_ended, write_fault_front, write_front_end, write_group_end, write_head_front,
-    write_lane_line, write_last_number, write_place, write_row_number, write_square,
+    write_bar, write_beside, write_chart_front, write_circle, write_colour, write_ended,
+    write_fault_front, write_group_end, write_head_front, write_lane_line, write_place,
+    write_row_number, write_square,
 };
-use bip_model::{Classes, CompId, Component, Grant, InterId, Model, Name, State, Want};
+use bip_model::{Classes, Grant, InterId, Model, Name, State, Want};
 use std::alloc::{AllocError, Global};
 
 /// What a chart shows: the grants of a run of a model from a first one on, which is numbered from
@@ -86,33 +82,6 @@ fn chart_width(chart: &Chart<'_>, layout: &Layout) -> u64
     }
 }
 
-/// How many components a model has.
-fn count_of(model: &Model) -> u16
-    ensures count { result ≡ length model.now.components }
-    ensures few { result ≤ 64 }
-{
-    model.components().len() as u16
-}
-
-/// A component of a model.
-fn component_at(model: &Model, comp: u16) -> &Component
-    requires { comp < length model.now.components }
-    ensures component { result.now ≡ component_in model.now comp }
-    ensures valid { IsComponent result.now }
-{
-    &model.components()[comp as usize]
-}
-
-/// The name with a number; nothing where there is none.
-fn name_at(names: &[Name], number: usize) -> &[u8]
-    ensures { result.now ≡ name_in names.now number }
-{
-    match names.get(number) {
-        Some(name) => name.as_bytes(),
-        None => b"",
-    }
-}
-
 fn write_legend(text: &mut Vec<u8>, classes: &Classes) -> Result<(), AllocError>
     ensures { OnOk result (text.new.items ≡ text.old.items ++ legend_of classes.now) }
 {
@@ -161,7 +130,7 @@ fn write_lane(
 }
 
 /// The state to which the grants before the first row lead, and the rows.
-#[tactic(auto, unfolding(crate::specs::Charts::run_text))]
+#[tactic(auto, unfolding(crate::specs::Charts::shown_run))]
 fn write_run(
     alloc: Global,
     text: &mut Vec<u8>,
@@ -172,7 +141,7 @@ fn write_run(
     requires rows { layout.now.rows ≡ length chart.now.grants.now - chart.now.first }
     requires run { IsRun chart.now.model.now (start_of chart.now.model.now)
         (interactions_of chart.now.grants.now) }
-    ensures { OnOk result (text.new.items ≡ text.old.items ++ run_text chart.now layout.now) }
+    ensures { OnOk result (text.new.items ≡ text.old.items ++ shown_run chart.now layout.now) }
 {
     let mut before = first_state(alloc, chart)?;
     let mut after = first_state(alloc, chart)?;
@@ -224,7 +193,7 @@ fn write_rows(
     requires after { state_of after.old
         ≡ state_at chart.now.model.now chart.now.grants.now chart.now.first }
     ensures { OnOk result (text.new.items ≡ text.old.items
-        ++ flat_map (row_of chart.now layout.now) (range_with_len 0 layout.now.rows)) }
+        ++ flat_map (numbered_row chart.now layout.now) (range_with_len 0 layout.now.rows)) }
 {
     for row in 0..layout.rows {
         let number = chart.first + row as usize;
@@ -249,7 +218,7 @@ fn write_row(
     requires row { row < layout.now.rows }
     requires grant { chart.now.first + row < length chart.now.grants.now }
     ensures { OnOk result (text.new.items ≡ text.old.items
-        ++ row_text chart.now layout.now row (grant_in chart.now.grants.now (chart.now.first + row))
+        ++ row_text chart.now layout.now row (grant_at chart.now.grants.now (chart.now.first + row))
         (state_of before.now) (state_of after.now)) }
 {
     let grant = grant_at(chart.grants, chart.first + row as usize);
@@ -262,7 +231,7 @@ fn write_row(
 /// The grant with a number.
 fn grant_at(grants: &[Grant], number: usize) -> &Grant
     requires { number < length grants.now }
-    ensures { result.now ≡ grant_in grants.now number }
+    ensures { result.now ≡ grant_at grants.now number }
 {
     &grants[number]
 }
@@ -344,247 +313,18 @@ fn write_fault(text: &mut Vec<u8>, layout: &Layout, fault: Option<&[u8]>) -> Res
         ++ fault_text layout.now (option_map (λ reason. reason.now) fault.entry)) }
 {
     match fault {
-        Some(reason) => write_reason(text, layout, reason),
+        Some(reason) => write_fault_row(text, layout, reason),
         None => Ok(()),
     }
 }
 
-fn write_reason(text: &mut Vec<u8>, layout: &Layout, reason: &[u8]) -> Result<(), AllocError>
+fn write_fault_row(text: &mut Vec<u8>, layout: &Layout, reason: &[u8]) -> Result<(), AllocError>
     requires { IsLayout layout.now }
     ensures { OnOk result
-        (text.new.items ≡ text.old.items ++ reason_text layout.now reason.now) }
+        (text.new.items ≡ text.old.items ++ fault_row layout.now reason.now) }
 {
     write_place(text, 0, layout.row_y(layout.rows))?;
     write_fault_front(text)?;
     write_ended(text, reason)?;
     write_group_end(text)
-}
-
-/// What each component is in, above the first row.
-#[tactic(auto, unfolding(crate::specs::Charts::state_text))]
-fn write_state(
-    text: &mut Vec<u8>,
-    layout: &Layout,
-    model: &Model,
-    state: &State,
-) -> Result<(), AllocError>
-    requires { IsLayout layout.now }
-    ensures { OnOk result (text.new.items ≡ text.old.items
-        ++ state_text layout.now model.now (state_of state.now)) }
-{
-    write_place(text, 0, layout.top)?;
-    write_front_end(text)?;
-    write_locals(text, layout, model, state)?;
-    write_group_end(text)
-}
-
-fn write_locals(
-    text: &mut Vec<u8>,
-    layout: &Layout,
-    model: &Model,
-    state: &State,
-) -> Result<(), AllocError>
-    requires { IsLayout layout.now }
-    ensures { OnOk result (text.new.items ≡ text.old.items
-        ++ locals_text layout.now model.now (state_of state.now)) }
-{
-    for comp in 0..count_of(model) {
-        write_local(text, layout, component_at(model, comp), comp, state)?;
-    }
-    Ok(())
-}
-
-#[tactic(auto, unfolding(crate::specs::Charts::local_text))]
-fn write_local(
-    text: &mut Vec<u8>,
-    layout: &Layout,
-    component: &Component,
-    comp: u16,
-    state: &State,
-) -> Result<(), AllocError>
-    requires layout { IsLayout layout.now }
-    requires component { IsComponent component.now }
-    ensures { OnOk result (text.new.items ≡ text.old.items
-        ++ local_text layout.now component.now comp (state_of state.now)) }
-{
-    write_location_label(text, layout, component, comp, location_at(state, comp))?;
-    if layout.values {
-        write_values(text, layout, component, comp, state)?;
-    }
-    Ok(())
-}
-
-fn write_values(
-    text: &mut Vec<u8>,
-    layout: &Layout,
-    component: &Component,
-    comp: u16,
-    state: &State,
-) -> Result<(), AllocError>
-    requires layout { IsLayout layout.now }
-    requires component { IsComponent component.now }
-    ensures { OnOk result (text.new.items ≡ text.old.items
-        ++ values_text layout.now component.now comp (state_of state.now)) }
-{
-    for number in 0..component.variables.len() {
-        let value = value_at(state, comp, number);
-        write_value_label(text, layout, component, comp, number, value)?;
-    }
-    Ok(())
-}
-
-/// What changes of each component from one state to another.
-#[tactic(auto, unfolding(crate::specs::Charts::changes_text))]
-fn write_changes(
-    text: &mut Vec<u8>,
-    layout: &Layout,
-    model: &Model,
-    before: &State,
-    after: &State,
-) -> Result<(), AllocError>
-    requires { IsLayout layout.now }
-    ensures { OnOk result (text.new.items ≡ text.old.items
-        ++ changes_text layout.now model.now (state_of before.now) (state_of after.now)) }
-{
-    for comp in 0..count_of(model) {
-        write_local_change(text, layout, component_at(model, comp), comp, before, after)?;
-    }
-    Ok(())
-}
-
-#[tactic(auto, unfolding(crate::specs::Charts::local_change))]
-fn write_local_change(
-    text: &mut Vec<u8>,
-    layout: &Layout,
-    component: &Component,
-    comp: u16,
-    before: &State,
-    after: &State,
-) -> Result<(), AllocError>
-    requires layout { IsLayout layout.now }
-    requires component { IsComponent component.now }
-    ensures { OnOk result (text.new.items ≡ text.old.items
-        ++ local_change layout.now component.now comp (state_of before.now) (state_of after.now)) }
-{
-    write_location_change(text, layout, component, comp, before, after)?;
-    if layout.values {
-        write_value_changes(text, layout, component, comp, before, after)?;
-    }
-    Ok(())
-}
-
-fn write_location_change(
-    text: &mut Vec<u8>,
-    layout: &Layout,
-    component: &Component,
-    comp: u16,
-    before: &State,
-    after: &State,
-) -> Result<(), AllocError>
-    requires { IsLayout layout.now }
-    ensures { OnOk result (text.new.items ≡ text.old.items ++ location_change layout.now
-        component.now comp (state_of before.now) (state_of after.now)) }
-{
-    let location = location_at(after, comp);
-    if location_at(before, comp) == location {
-        return Ok(());
-    }
-    write_location_label(text, layout, component, comp, location)
-}
-
-fn write_value_changes(
-    text: &mut Vec<u8>,
-    layout: &Layout,
-    component: &Component,
-    comp: u16,
-    before: &State,
-    after: &State,
-) -> Result<(), AllocError>
-    requires layout { IsLayout layout.now }
-    requires component { IsComponent component.now }
-    ensures { OnOk result (text.new.items ≡ text.old.items ++ value_changes layout.now
-        component.now comp (state_of before.now) (state_of after.now)) }
-{
-    for number in 0..component.variables.len() {
-        write_value_change(text, layout, component, comp, number, before, after)?;
-    }
-    Ok(())
-}
-
-fn write_value_change(
-    text: &mut Vec<u8>,
-    layout: &Layout,
-    component: &Component,
-    comp: u16,
-    number: usize,
-    before: &State,
-    after: &State,
-) -> Result<(), AllocError>
-    requires layout { IsLayout layout.now }
-    requires number { number < 8 }
-    ensures { OnOk result (text.new.items ≡ text.old.items ++ value_change layout.now
-        component.now comp (state_of before.now) (state_of after.now) number) }
-{
-    let value = value_at(after, comp, number);
-    if value_at(before, comp, number) == value {
-        return Ok(());
-    }
-    write_value_label(text, layout, component, comp, number, value)
-}
-
-/// A location of a component, beside its lane.
-fn write_location_label(
-    text: &mut Vec<u8>,
-    layout: &Layout,
-    component: &Component,
-    comp: u16,
-    number: u8,
-) -> Result<(), AllocError>
-    requires { IsLayout layout.now }
-    ensures { OnOk result (text.new.items ≡ text.old.items
-        ++ location_label layout.now component.now comp number) }
-{
-    write_below_front(text, layout.lane_x(comp) + 6, 14)?;
-    write_ended(
-        text,
-        name_at(component.locations.as_slice(), number as usize),
-    )
-}
-
-/// A variable of a component with a value, beside its lane.
-fn write_value_label(
-    text: &mut Vec<u8>,
-    layout: &Layout,
-    component: &Component,
-    comp: u16,
-    number: usize,
-    value: u32,
-) -> Result<(), AllocError>
-    requires layout { IsLayout layout.now }
-    requires number { number < 8 }
-    ensures { OnOk result (text.new.items ≡ text.old.items
-        ++ value_label layout.now component.now comp number value) }
-{
-    write_below_front(text, layout.lane_x(comp) + 6, 11 * number as u64 + 25)?;
-    write_escaped(text, name_at(component.variables.as_slice(), number))?;
-    write_last_number(text, b"=", value as u64)
-}
-
-/// Where a component is, and the value of a variable of it; 0 where the state lacks it.
-fn location_at(state: &State, comp: u16) -> u8
-    ensures { result ≡ location_at (state_of state.now) comp }
-{
-    match state.local(CompId(comp)) {
-        Some(local) => local.location.0,
-        None => 0,
-    }
-}
-
-fn value_at(state: &State, comp: u16, variable: usize) -> u32
-    ensures { result ≡ value_at (state_of state.now) comp variable }
-{
-    match state.local(CompId(comp)) {
-        Some(local) => local.values.as_slice().get(variable).copied().unwrap_or(0),
-        None => 0,
-    }
 }

@@ -2,7 +2,7 @@
 ghost use Rattle.std.specs.Prelude.{◌≡◌, ◌≤◌, ◌<◌, ◌+◌, ◌^◌, All, length};
 ghost use Rattle.bip_model.specs.Parts.{IsComponent};
 ghost use Rattle.bip_model.specs.declared.parts.Component.{Component};
-ghost use Rattle.bip_draw.specs.Layout.{IsLayout, greatest, half_of, height_of, label_length};
+ghost use Rattle.bip_draw.specs.Layout.{IsLayout, most_by, half_of, height_of, label_length};
 ghost use Rattle.bip_draw.specs.Layout.{lane_x, layout_of, legend_height, legend_width, longest};
 ghost use Rattle.bip_draw.specs.Layout.{reason_width, row_y};
 
@@ -81,7 +81,7 @@ fn label_length(values: bool, component: &Component) -> u64
 }
 
 fn longest_label(values: bool, components: &[Component]) -> u64
-    ensures longest { result ≡ greatest (label_length values) components.now }
+    ensures longest { result ≡ most_by (label_length values) components.now }
     ensures short { result ≤ 43 }
 {
     let mut most = 0;
@@ -93,7 +93,7 @@ fn longest_label(values: bool, components: &[Component]) -> u64
 
 fn most_variables(components: &[Component]) -> u64
     requires { All IsComponent components.now }
-    ensures most { result ≡ greatest (λ (k : Component). length k.variables) components.now }
+    ensures most { result ≡ most_by (λ (k : Component). length k.variables) components.now }
     ensures few { result ≤ 8 }
 {
     let mut most = 0;

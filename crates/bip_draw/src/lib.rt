@@ -7,6 +7,8 @@ mod drawing;
 mod escaping;
 mod hues;
 mod layout;
+mod locals;
+mod lookups;
 mod shapes;
 
 pub use charts::{Chart, draw_chart};

@@ -1,6 +1,6 @@
 use Rattle.std.proofs.Common.{sym, ◌∙◌}
 use Rattle.bip_model.specs.Steps.{start_of}
-use Rattle.bip_draw.proofs.RunLemmas.{goes_on, may_run_there}
+use Rattle.bip_draw.proofs.ChartLemmas.{goes_on, may_run_there}
 use Rattle.bip_draw.proofs.charts.go_on.Goals as goal
 
 pub run-requires : goal.run-requires

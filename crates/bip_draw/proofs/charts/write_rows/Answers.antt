@@ -1,6 +1,6 @@
 use Rattle.std.proofs.Common.{◌≡◌, ◌+◌, ◌∙◌, arith, refl}
 use Rattle.bip_reader.proofs.WritingLemmas.{more_written}
-use Rattle.bip_draw.specs.Charts.{row_of}
+use Rattle.bip_draw.specs.Charts.{numbered_row}
 use Rattle.bip_draw.proofs.charts.write_rows.Goals as goal
 
 pub loop-row-preserved : goal.loop-row-preserved
@@ -9,7 +9,7 @@ loop-row-preserved c =
     let row = c.loop-row.row in
     let on : first + row + 1 ≡ first + (row + 1) = omega arith in
     record {
-      text = c.in_ok-write_row.ensures ∙ more_written (row_of c.args.chart.now c.args.layout.now) row c.args.text.now.items c.loop-row.text.items _ c.loop-row.invariant.text (rw (c.loop-row.invariant.before, c.go_on.ensures) refl);
+      text = c.in_ok-write_row.ensures ∙ more_written (numbered_row c.args.chart.now c.args.layout.now) row c.args.text.now.items c.loop-row.text.items _ c.loop-row.invariant.text (rw (c.loop-row.invariant.before, c.go_on.ensures) refl);
       before = rw (← on) c.go_on-in-loop-row.ensures;
       after = rw (← on) c.go_on.ensures;
     }

@@ -1,11 +1,8 @@
-use Rattle.std.proofs.Common.{◌≡◌, ℕ, List, ◌++◌, ◌∙◌, append_assoc}
 use Rattle.std.specs.Prelude.{codes}
 use Rattle.std.specs.Fmt.{decimal}
 use Rattle.bip_draw.specs.Drawing.{cluster_front}
+use Rattle.bip_draw.proofs.PartLemmas.{three_parts}
 use Rattle.bip_draw.proofs.drawing.write_cluster_front.Goals as goal
-
-three_parts : (o a b d : List ℕ) → ((o ++ a) ++ b) ++ d ≡ o ++ (a ++ (b ++ d))
-three_parts o a b d = append_assoc (o ++ a) b d ∙ append_assoc o a (b ++ d)
 
 pub returns : goal.returns
 unfolding cluster_front

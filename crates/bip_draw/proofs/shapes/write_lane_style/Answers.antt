@@ -1,9 +1,6 @@
-use Rattle.std.proofs.Common.{◌≡◌, ℕ, List, ◌++◌, ◌∙◌, append_assoc}
 use Rattle.bip_draw.specs.Shapes.{lane_style}
+use Rattle.bip_draw.proofs.PartLemmas.{three_parts}
 use Rattle.bip_draw.proofs.shapes.write_lane_style.Goals as goal
-
-three_parts : (o a b d : List ℕ) → ((o ++ a) ++ b) ++ d ≡ o ++ (a ++ (b ++ d))
-three_parts o a b d = append_assoc (o ++ a) b d ∙ append_assoc o a (b ++ d)
 
 pub returns : goal.returns
 unfolding lane_style

@@ -1,21 +1,18 @@
 -- Grants of a run, one by one: each may run where those before it lead.
-use Rattle.std.proofs.Common.{◌≡◌, ◌<◌, ◌+◌, ℕ, List, [], ◌∷◌, ◌++◌, length, get_or, take, refl, arith, zero, suc}
+use Rattle.std.proofs.Common.{◌≡◌, ◌<◌, ◌+◌, ℕ, List, [], ◌∷◌, length, get_or, take, arith, zero, suc}
 use Rattle.std.proofs.lemmas.List.{take_more}
 use Rattle.bip_model.specs.States.{State}
 use Rattle.bip_model.specs.Steps.{IsRun, MayRun, after, end_of}
 use Rattle.bip_model.specs.declared.grants.Grant.{Grant}
 use Rattle.bip_model.specs.declared.parts.System.{System}
-use Rattle.bip_draw.specs.Charts.{interactions_of}
+use Rattle.bip_replay.proofs.RunLemmas.{end_of-push}
+use Rattle.bip_replay.specs.Runs.{interactions_of}
 
 pub may_run_there : (m : System) (s : State) (gs : List Grant) (i : ℕ) (d : Grant) → i < length gs → IsRun m s (interactions_of gs)
     → MayRun m (end_of m s (interactions_of (take i gs))) (get_or gs i d).inter.0
 may_run_there m s [] i d within run = absurd (omega arith)
 may_run_there m s (g ∷ gs) zero d within run = run.0
 may_run_there m s (g ∷ gs) (suc i) d within run = may_run_there m (after m s g.inter.0) gs i d (omega arith) run.1
-
-end_of-push : (m : System) (s : State) (gs : List Grant) (g : Grant) → end_of m s (interactions_of (gs ++ g ∷ [])) ≡ after m (end_of m s (interactions_of gs)) g.inter.0
-end_of-push m s [] g = refl
-end_of-push m s (h ∷ gs) g = end_of-push m (after m s h.inter.0) gs g
 
 pub goes_on : (m : System) (s : State) (gs : List Grant) (i : ℕ) (d : Grant) → i < length gs
     → end_of m s (interactions_of (take (i + 1) gs)) ≡ after m (end_of m s (interactions_of (take i gs))) (get_or gs i d).inter.0

@@ -1,0 +1,5 @@
+-- Texts in parts, written one after another.
+use Rattle.std.proofs.Common.{◌≡◌, ℕ, List, ◌++◌, ◌∙◌, append_assoc}
+
+pub three_parts : (o a b d : List ℕ) → ((o ++ a) ++ b) ++ d ≡ o ++ (a ++ (b ++ d))
+three_parts o a b d = append_assoc (o ++ a) b d ∙ append_assoc o a (b ++ d)

@@ -1,0 +1,34 @@
+//! What a model has at a number.
+ghost use Rattle.std.specs.Prelude.{◌≡◌, ◌<◌, ◌≤◌, length};
+ghost use Rattle.bip_model.specs.Naming.{name_in};
+ghost use Rattle.bip_model.specs.Parts.{IsComponent};
+ghost use Rattle.bip_reader.specs.Writing.{component_in};
+
+use bip_model::{Component, Model, Name};
+
+/// How many components a model has.
+pub(crate) fn count_of(model: &Model) -> u16
+    ensures count { result ≡ length model.now.components }
+    ensures few { result ≤ 64 }
+{
+    model.components().len() as u16
+}
+
+/// A component of a model.
+pub(crate) fn component_at(model: &Model, comp: u16) -> &Component
+    requires { comp < length model.now.components }
+    ensures component { result.now ≡ component_in model.now comp }
+    ensures valid { IsComponent result.now }
+{
+    &model.components()[comp as usize]
+}
+
+/// The name with a number; nothing where there is none.
+pub(crate) fn name_at(names: &[Name], number: usize) -> &[u8]
+    ensures { result.now ≡ name_in names.now number }
+{
+    match names.get(number) {
+        Some(name) => name.as_bytes(),
+        None => b"",
+    }
+}
