@@ -64,29 +64,29 @@ wants_text l wants = bar_of l wants ++ flat_map (mark_text l) wants
 
 -- the front of a row: its place, the colour of the interaction's class, the row's number, and the
 -- interaction's name
-unfoldable pub row_head : Chart → Layout → ℕ → ℕ → List ℕ
-row_head p l row a =
+unfoldable pub row_head : Chart → Layout → ℕ → ℕ → ℕ → List ℕ
+row_head p l row number a =
     place_text 0 (row_y l row)
     ++ (colour_text (class_in p.classes.now a)
-    ++ (number_text (p.first + row + 1) ++ ended (name_in p.model.now.interaction_names a)))
+    ++ (number_text number ++ ended (name_in p.model.now.interaction_names a)))
 
 -- the row of a grant that leads from one state to another
 unfoldable pub row_text : Chart → Layout → ℕ → Grant → State → State → List ℕ
 row_text p l row g s t =
-    row_head p l row g.inter.0
+    row_head p l row (p.first + row + 1) g.inter.0
     ++ (wants_text l g.wants ++ (changes_text l p.model.now s t ++ group_end))
 
 -- the row with a number from 0
 abbrev pub numbered_row : Chart → Layout → ℕ → List ℕ
 numbered_row p l row =
-    row_text p l row (grant_at p.grants.now (p.first + row))
-    (state_at p.model.now p.grants.now (p.first + row))
-    (state_at p.model.now p.grants.now (p.first + row + 1))
+    row_text p l row (grant_at p.book.now.grants (p.first + row))
+    (state_at p.model.now p.book.now.grants (p.first + row))
+    (state_at p.model.now p.book.now.grants (p.first + row + 1))
 
 -- the state before the first row, and the rows
 unfoldable pub shown_run : Chart → Layout → List ℕ
 shown_run p l =
-    state_text l p.model.now (state_at p.model.now p.grants.now p.first)
+    state_text l p.model.now (state_at p.model.now p.book.now.grants p.first)
     ++ flat_map (numbered_row p l) (range_with_len 0 l.rows)
 
 -- a reason, behind the last row
@@ -117,4 +117,4 @@ chart_on p l =
 abbrev pub chart_of : Chart → List ℕ
 chart_of p =
     chart_on p
-    (layout_of p.model.now p.values (length p.classes.now.names) (length p.grants.now - p.first))
+    (layout_of p.model.now p.values (length p.classes.now.names) (length p.book.now.grants - p.first))

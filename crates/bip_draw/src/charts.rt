@@ -1,14 +1,12 @@
 //! The chart of a run, as SVG.
-ghost use Rattle.std.specs.Prelude.{◌≡◌, ◌<◌, ◌+◌, ◌-◌, ◌++◌, IfOk, OnOk, codes, length};
+ghost use Rattle.std.specs.Prelude.{◌≡◌, ◌<◌, ◌+◌, ◌-◌, ◌^◌, ◌++◌, IfOk, OnOk, codes, length};
 ghost use Rattle.std.specs.Prelude.{max, slice_index};
 ghost use Rattle.std.specs.List.{flat_map, range_with_len};
 ghost use Rattle.std.specs.Option.{option_map, option_map_or};
 ghost use Rattle.bip_model.specs.Naming.{name_in};
 ghost use Rattle.bip_model.specs.Partitions.{AreClassesOf, class_in};
 ghost use Rattle.bip_model.specs.States.{state_of};
-ghost use Rattle.bip_model.specs.Steps.{IsRun, start_of};
 ghost use Rattle.bip_model.specs.Wants.{IsWants, components_of};
-ghost use Rattle.bip_replay.specs.Runs.{interactions_of};
 ghost use Rattle.bip_draw.specs.Charts.{bar_of, chart_of, chart_on, chart_width, fault_row};
 ghost use Rattle.bip_draw.specs.Charts.{fault_text, grant_at, lane_text, lanes_text, legend_entry};
 ghost use Rattle.bip_draw.specs.Charts.{legend_of, mark_text, numbered_row, row_head, row_text};
@@ -26,14 +24,15 @@ use crate::shapes::{
     write_row_number, write_square,
 };
 use bip_model::{Classes, Grant, InterId, Model, Name, State, Want};
+use bip_replay::Book;
 use std::alloc::{AllocError, Global};
 
-/// What a chart shows: the grants of a run of a model from a first one on, which is numbered from
-/// 0; behind them a reason, where there is one; and values of variables, where these are wanted.
+/// What a chart shows: the grants of a model's book from a first one on, counted from 0; behind
+/// them a reason, where there is one; and values of variables, where these are wanted.
 pub struct Chart<'a> {
     pub model: &'a Model,
     pub classes: &'a Classes,
-    pub grants: &'a [Grant],
+    pub book: &'a Book<'a>,
     pub first: usize,
     pub fault: Option<&'a [u8]>,
     pub values: bool,
@@ -44,11 +43,10 @@ pub struct Chart<'a> {
 /// "Charts").
 pub fn draw_chart(alloc: Global, chart: &Chart<'_>) -> Result<Vec<u8>, AllocError>
     requires classes { AreClassesOf chart.now.model.now chart.now.classes.now }
-    requires run { IsRun chart.now.model.now (start_of chart.now.model.now)
-        (interactions_of chart.now.grants.now) }
+    requires book { chart.now.book.now.model ≡ chart.now.model.now }
     ensures { IfOk result (λ text. text.items ≡ chart_of chart.now) }
 {
-    let rows = chart.grants.len().saturating_sub(chart.first);
+    let rows = chart.book.grants().len().saturating_sub(chart.first);
     let layout = Layout::of(chart.model, chart.values, chart.classes.len(), rows);
     let mut text = Vec::new(alloc);
     write_front(&mut text, chart, &layout)?;
@@ -138,9 +136,8 @@ fn write_run(
     layout: &Layout,
 ) -> Result<(), AllocError>
     requires layout { IsLayout layout.now }
-    requires rows { layout.now.rows ≡ length chart.now.grants.now - chart.now.first }
-    requires run { IsRun chart.now.model.now (start_of chart.now.model.now)
-        (interactions_of chart.now.grants.now) }
+    requires rows { layout.now.rows ≡ length chart.now.book.now.grants - chart.now.first }
+    requires book { chart.now.book.now.model ≡ chart.now.model.now }
     ensures { OnOk result (text.new.items ≡ text.old.items ++ shown_run chart.now layout.now) }
 {
     let mut before = first_state(alloc, chart)?;
@@ -152,13 +149,12 @@ fn write_run(
 
 /// The state to which the grants before the first row lead.
 fn first_state(alloc: Global, chart: &Chart<'_>) -> Result<State, AllocError>
-    requires { IsRun chart.now.model.now (start_of chart.now.model.now)
-        (interactions_of chart.now.grants.now) }
+    requires { chart.now.book.now.model ≡ chart.now.model.now }
     ensures { IfOk result (λ state. state_of state
-        ≡ state_at chart.now.model.now chart.now.grants.now chart.now.first) }
+        ≡ state_at chart.now.model.now chart.now.book.now.grants chart.now.first) }
 {
     let mut state = chart.model.start(alloc)?;
-    for number in 0..chart.first.min(chart.grants.len()) {
+    for number in 0..chart.first.min(chart.book.grants().len()) {
         go_on(chart, &mut state, number);
     }
     Ok(state)
@@ -166,15 +162,14 @@ fn first_state(alloc: Global, chart: &Chart<'_>) -> Result<State, AllocError>
 
 /// Goes on by the grant with a number.
 fn go_on(chart: &Chart<'_>, state: &mut State, number: usize)
-    requires number { number < length chart.now.grants.now }
-    requires run { IsRun chart.now.model.now (start_of chart.now.model.now)
-        (interactions_of chart.now.grants.now) }
+    requires number { number < length chart.now.book.now.grants }
+    requires book { chart.now.book.now.model ≡ chart.now.model.now }
     requires state { state_of state.old
-        ≡ state_at chart.now.model.now chart.now.grants.now number }
+        ≡ state_at chart.now.model.now chart.now.book.now.grants number }
     ensures { state_of state.new
-        ≡ state_at chart.now.model.now chart.now.grants.now (number + 1) }
+        ≡ state_at chart.now.model.now chart.now.book.now.grants (number + 1) }
 {
-    chart.model.run(state, chart.grants[number].inter);
+    chart.model.run(state, chart.book.grants()[number].inter);
 }
 
 fn write_rows(
@@ -185,44 +180,52 @@ fn write_rows(
     after: &mut State,
 ) -> Result<(), AllocError>
     requires layout { IsLayout layout.now }
-    requires rows { layout.now.rows ≡ length chart.now.grants.now - chart.now.first }
-    requires run { IsRun chart.now.model.now (start_of chart.now.model.now)
-        (interactions_of chart.now.grants.now) }
+    requires rows { layout.now.rows ≡ length chart.now.book.now.grants - chart.now.first }
+    requires book { chart.now.book.now.model ≡ chart.now.model.now }
     requires before { state_of before.old
-        ≡ state_at chart.now.model.now chart.now.grants.now chart.now.first }
+        ≡ state_at chart.now.model.now chart.now.book.now.grants chart.now.first }
     requires after { state_of after.old
-        ≡ state_at chart.now.model.now chart.now.grants.now chart.now.first }
+        ≡ state_at chart.now.model.now chart.now.book.now.grants chart.now.first }
     ensures { OnOk result (text.new.items ≡ text.old.items
         ++ flat_map (numbered_row chart.now layout.now) (range_with_len 0 layout.now.rows)) }
 {
+    let grants = chart.book.grants();
     for row in 0..layout.rows {
         let number = chart.first + row as usize;
         go_on(chart, after, number);
-        write_row(text, chart, layout, row, before, after)?;
+        write_row(
+            text,
+            chart,
+            layout,
+            row,
+            grant_at(grants, number),
+            before,
+            after,
+        )?;
         go_on(chart, before, number);
     }
     Ok(())
 }
 
-/// A row: the next grant from one state to another.
+/// A row: a grant that leads from one state to another.
 #[tactic(auto, unfolding(crate::specs::Charts::row_text))]
 fn write_row(
     text: &mut Vec<u8>,
     chart: &Chart<'_>,
     layout: &Layout,
     row: u64,
+    grant: &Grant,
     before: &State,
     after: &State,
 ) -> Result<(), AllocError>
     requires layout { IsLayout layout.now }
     requires row { row < layout.now.rows }
-    requires grant { chart.now.first + row < length chart.now.grants.now }
+    requires number { chart.now.first + row < 2 ^ 54 }
     ensures { OnOk result (text.new.items ≡ text.old.items
-        ++ row_text chart.now layout.now row (grant_at chart.now.grants.now (chart.now.first + row))
-        (state_of before.now) (state_of after.now)) }
+        ++ row_text chart.now layout.now row grant.now (state_of before.now) (state_of after.now)) }
 {
-    let grant = grant_at(chart.grants, chart.first + row as usize);
-    write_row_head(text, chart, layout, row, grant.inter)?;
+    let number = chart.first as u64 + row + 1;
+    write_row_head(text, chart, layout, row, number, grant.inter)?;
     write_wants(text, layout, grant.wants.as_slice())?;
     write_changes(text, layout, chart.model, before, after)?;
     write_group_end(text)
@@ -243,17 +246,17 @@ fn write_row_head(
     chart: &Chart<'_>,
     layout: &Layout,
     row: u64,
+    number: u64,
     inter: InterId,
 ) -> Result<(), AllocError>
     requires layout { IsLayout layout.now }
     requires row { row < layout.now.rows }
-    requires grant { chart.now.first + row < length chart.now.grants.now }
     ensures { OnOk result
-        (text.new.items ≡ text.old.items ++ row_head chart.now layout.now row inter.0) }
+        (text.new.items ≡ text.old.items ++ row_head chart.now layout.now row number inter.0) }
 {
     write_place(text, 0, layout.row_y(row))?;
     write_colour(text, class_of(chart.classes, inter))?;
-    write_row_number(text, chart.first as u64 + row + 1)?;
+    write_row_number(text, number)?;
     write_ended(
         text,
         name_at(chart.model.interaction_names(), inter.0 as usize),
