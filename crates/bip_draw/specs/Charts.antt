@@ -13,9 +13,11 @@ use Rattle.bip_model.specs.declared.parts.System.{System}
 use Rattle.bip_model.specs.declared.partitions.Partition.{Partition}
 use Rattle.bip_model.specs.declared.wants.Want.{Want}
 use Rattle.bip_replay.specs.Runs.{state_after}
+use Rattle.bip_draw.specs.Escaping.{escaped}
 use Rattle.bip_draw.specs.Layout.{lane_x, layout_of, legend_width, reason_width, row_y}
 use Rattle.bip_draw.specs.Locals.{changes_text, state_text}
-use Rattle.bip_draw.specs.Shapes.{bar_text, beside_text, chart_front, circle_text, colour_text}
+use Rattle.bip_draw.specs.Shapes.{bar_text, beside_text, chart_front, circle_end, circle_text}
+use Rattle.bip_draw.specs.Shapes.{colour_text}
 use Rattle.bip_draw.specs.Shapes.{ended, fault_front, group_end, head_front, lane_line, number_text}
 use Rattle.bip_draw.specs.Shapes.{place_text, square_text}
 use Rattle.bip_draw.specs.declared.charts.Chart.{Chart}
@@ -47,10 +49,12 @@ lane_text l names c =
 abbrev pub lanes_text : Layout → System → List ℕ
 lanes_text l m = flat_map (lane_text l m.component_names) (range_with_len 0 (length m.components))
 
--- the mark of a want: on the lane of its component, with its number
-abbrev pub mark_text : Layout → Want → List ℕ
-mark_text l w =
-    circle_text w.role (lane_x l w.comp.0) ++ beside_text (lane_x l w.comp.0 + 8) w.number
+-- the mark of a want: on the lane of its component, with that one's name and the want's number
+abbrev pub mark_text : Layout → List (List ℕ) → Want → List ℕ
+mark_text l names w =
+    circle_text w.role (lane_x l w.comp.0)
+    ++ (escaped (name_in names w.comp.0)
+    ++ (circle_end ++ beside_text (lane_x l w.comp.0 + 8) w.number))
 
 -- the bar of wants, from the first one's lane to the last one's (they stand by component), and
 -- their marks
@@ -59,8 +63,8 @@ bar_of l wants =
     bar_text (lane_x l (slice_index (components_of wants) 0))
     (lane_x l (slice_index (components_of wants) (length wants - 1)))
 
-unfoldable pub wants_text : Layout → List Want → List ℕ
-wants_text l wants = bar_of l wants ++ flat_map (mark_text l) wants
+unfoldable pub wants_text : Layout → List (List ℕ) → List Want → List ℕ
+wants_text l names wants = bar_of l wants ++ flat_map (mark_text l names) wants
 
 -- the front of a row: its place, the colour of the interaction's class, the row's number, and the
 -- interaction's name
@@ -74,7 +78,8 @@ row_head p l row number a =
 unfoldable pub row_text : Chart → Layout → ℕ → Grant → State → State → List ℕ
 row_text p l row g s t =
     row_head p l row (p.first + row + 1) g.inter.0
-    ++ (wants_text l g.wants ++ (changes_text l p.model.now s t ++ group_end))
+    ++ (wants_text l p.model.now.component_names g.wants
+    ++ (changes_text l p.model.now s t ++ group_end))
 
 -- the row with a number from 0
 abbrev pub numbered_row : Chart → Layout → ℕ → List ℕ

@@ -62,13 +62,17 @@ bar_text from to =
     between (codes "<path class=\"bar\" d=\"M") from (codes " 0H")
     ++ between (codes "") to (codes "\"/>\n")
 
--- a circle: full for a component that is moved, open for one that is only looked at
+-- the front of a circle with the name that it shows to who points at it, and what ends that: full
+-- for a component that is moved, open for one that is only looked at
 abbrev pub circle_front : Role → List ℕ
 circle_front Moved = codes "<circle class=\"moved\" r=\"5\" cx=\""
 circle_front Seen = codes "<circle class=\"seen\" r=\"5\" cx=\""
 
 unfoldable pub circle_text : Role → ℕ → List ℕ
-circle_text role x = between (circle_front role) x (codes "\"/>")
+circle_text role x = between (circle_front role) x (codes "\"><title>")
+
+unfoldable pub circle_end : List ℕ
+circle_end = codes "</title></circle>"
 
 -- a number beside a circle
 unfoldable pub beside_text : ℕ → ℕ → List ℕ

@@ -14,14 +14,15 @@ ghost use Rattle.bip_draw.specs.Charts.{shown_run, state_at, wants_text};
 ghost use Rattle.bip_draw.specs.Layout.{IsLayout, lane_x, layout_of, row_y};
 ghost use Rattle.bip_draw.specs.Shapes.{chart_front};
 
+use crate::escaping::write_escaped;
 use crate::hues::class_of;
 use crate::layout::{Layout, legend_width, reason_width};
 use crate::locals::{write_changes, write_state};
 use crate::lookups::{count_of, name_at};
 use crate::shapes::{
-    write_bar, write_beside, write_chart_front, write_circle, write_colour, write_ended,
-    write_fault_front, write_group_end, write_head_front, write_lane_line, write_place,
-    write_row_number, write_square,
+    write_bar, write_beside, write_chart_front, write_circle, write_circle_end, write_colour,
+    write_ended, write_fault_front, write_group_end, write_head_front, write_lane_line,
+    write_place, write_row_number, write_square,
 };
 use bip_model::{Classes, Grant, InterId, Model, Name, State, Want};
 use bip_replay::Book;
@@ -29,6 +30,7 @@ use std::alloc::{AllocError, Global};
 
 /// What a chart shows: the grants of a model's book from a first one on, counted from 0; behind
 /// them a reason, where there is one; and values of variables, where these are wanted.
+#[derive(Clone, Copy)]
 pub struct Chart<'a> {
     pub model: &'a Model,
     pub classes: &'a Classes,
@@ -226,7 +228,12 @@ fn write_row(
 {
     let number = chart.first as u64 + row + 1;
     write_row_head(text, chart, layout, row, number, grant.inter)?;
-    write_wants(text, layout, grant.wants.as_slice())?;
+    write_wants(
+        text,
+        layout,
+        chart.model.component_names(),
+        grant.wants.as_slice(),
+    )?;
     write_changes(text, layout, chart.model, before, after)?;
     write_group_end(text)
 }
@@ -265,10 +272,16 @@ fn write_row_head(
 
 /// The bar of wants, and their marks.
 #[tactic(auto, unfolding(crate::specs::Charts::wants_text))]
-fn write_wants(text: &mut Vec<u8>, layout: &Layout, wants: &[Want]) -> Result<(), AllocError>
+fn write_wants(
+    text: &mut Vec<u8>,
+    layout: &Layout,
+    names: &[Name],
+    wants: &[Want],
+) -> Result<(), AllocError>
     requires layout { IsLayout layout.now }
     requires wants { IsWants wants.now }
-    ensures { OnOk result (text.new.items ≡ text.old.items ++ wants_text layout.now wants.now) }
+    ensures { OnOk result
+        (text.new.items ≡ text.old.items ++ wants_text layout.now names.now wants.now) }
 {
     let last = wants.len() - 1;
     write_bar(
@@ -276,7 +289,7 @@ fn write_wants(text: &mut Vec<u8>, layout: &Layout, wants: &[Want]) -> Result<()
         lane_at(layout, wants, 0),
         lane_at(layout, wants, last),
     )?;
-    write_marks(text, layout, wants)
+    write_marks(text, layout, names, wants)
 }
 
 /// The x of the lane of a want.
@@ -288,23 +301,35 @@ fn lane_at(layout: &Layout, wants: &[Want], index: usize) -> u64
     layout.lane_x(wants[index].comp.0)
 }
 
-fn write_marks(text: &mut Vec<u8>, layout: &Layout, wants: &[Want]) -> Result<(), AllocError>
+fn write_marks(
+    text: &mut Vec<u8>,
+    layout: &Layout,
+    names: &[Name],
+    wants: &[Want],
+) -> Result<(), AllocError>
     requires { IsLayout layout.now }
     ensures { OnOk result
-        (text.new.items ≡ text.old.items ++ flat_map (mark_text layout.now) wants.now) }
+        (text.new.items ≡ text.old.items ++ flat_map (mark_text layout.now names.now) wants.now) }
 {
     for want in wants {
-        write_mark(text, layout, *want)?;
+        write_mark(text, layout, names, *want)?;
     }
     Ok(())
 }
 
-fn write_mark(text: &mut Vec<u8>, layout: &Layout, want: Want) -> Result<(), AllocError>
+fn write_mark(
+    text: &mut Vec<u8>,
+    layout: &Layout,
+    names: &[Name],
+    want: Want,
+) -> Result<(), AllocError>
     requires { IsLayout layout.now }
-    ensures { OnOk result (text.new.items ≡ text.old.items ++ mark_text layout.now want) }
+    ensures { OnOk result (text.new.items ≡ text.old.items ++ mark_text layout.now names.now want) }
 {
     let x = layout.lane_x(want.comp.0);
     write_circle(text, want.role, x)?;
+    write_escaped(text, name_at(names, want.comp.0 as usize))?;
+    write_circle_end(text)?;
     write_beside(text, x + 8, want.number)
 }
 

@@ -1,7 +1,7 @@
 //! The shapes of a chart, as elements of SVG.
 ghost use Rattle.std.specs.Prelude.{◌≡◌, ◌++◌, OnOk};
 ghost use Rattle.bip_draw.specs.Shapes.{bar_text, below_front, beside_text, between, chart_front};
-ghost use Rattle.bip_draw.specs.Shapes.{circle_front, circle_text, colour_text, ended, fault_front};
+ghost use Rattle.bip_draw.specs.Shapes.{circle_end, circle_front, circle_text, colour_text, ended, fault_front};
 ghost use Rattle.bip_draw.specs.Shapes.{front_end, group_end, head_front, lane_line, lane_style};
 ghost use Rattle.bip_draw.specs.Shapes.{mark_style, number_text, place_text, square_text};
 ghost use Rattle.bip_draw.specs.Shapes.{style_text, text_end, text_style};
@@ -128,15 +128,33 @@ pub(crate) fn write_bar(text: &mut Vec<u8>, from: u64, to: u64) -> Result<(), Al
     write_between(text, b"", to, b"\"/>\n")
 }
 
-/// A circle: full for a component that is moved, open for one that is only looked at.
+/// The front of a circle with the name that it shows to who points at it: full for a component that
+/// is moved, open for one that is only looked at.
 #[tactic(auto, unfolding(crate::specs::Shapes::circle_text))]
 pub(crate) fn write_circle(text: &mut Vec<u8>, role: Role, x: u64) -> Result<(), AllocError>
     ensures { OnOk result (text.new.items ≡ text.old.items ++ circle_text role x) }
 {
     match role {
-        Role::Moved => write_between(text, b"<circle class=\"moved\" r=\"5\" cx=\"", x, b"\"/>"),
-        Role::Seen => write_between(text, b"<circle class=\"seen\" r=\"5\" cx=\"", x, b"\"/>"),
+        Role::Moved => write_between(
+            text,
+            b"<circle class=\"moved\" r=\"5\" cx=\"",
+            x,
+            b"\"><title>",
+        ),
+        Role::Seen => write_between(
+            text,
+            b"<circle class=\"seen\" r=\"5\" cx=\"",
+            x,
+            b"\"><title>",
+        ),
     }
+}
+
+#[tactic(auto, unfolding(crate::specs::Shapes::circle_end))]
+pub(crate) fn write_circle_end(text: &mut Vec<u8>) -> Result<(), AllocError>
+    ensures { OnOk result (text.new.items ≡ text.old.items ++ circle_end) }
+{
+    text.extend_from_slice(b"</title></circle>")
 }
 
 /// A number beside a circle.
