@@ -1,3 +1,4 @@
 pub mod ChartLemmas
 pub mod ClauseLemmas
+pub mod LayoutLemmas
 pub mod PartLemmas

@@ -17,9 +17,8 @@ use Rattle.bip_draw.specs.Escaping.{escaped}
 use Rattle.bip_draw.specs.Layout.{lane_x, layout_of, legend_width, reason_width, row_y}
 use Rattle.bip_draw.specs.Locals.{changes_text, state_text}
 use Rattle.bip_draw.specs.Shapes.{bar_text, beside_text, chart_front, circle_end, circle_text}
-use Rattle.bip_draw.specs.Shapes.{colour_text}
-use Rattle.bip_draw.specs.Shapes.{ended, fault_front, group_end, head_front, lane_line, number_text}
-use Rattle.bip_draw.specs.Shapes.{place_text, square_text}
+use Rattle.bip_draw.specs.Shapes.{colour_text, ended, fault_front, group_end, head_front}
+use Rattle.bip_draw.specs.Shapes.{lane_line, number_text, place_text, square_text}
 use Rattle.bip_draw.specs.declared.charts.Chart.{Chart}
 use Rattle.bip_draw.specs.declared.layout.Layout.{Layout}
 
@@ -122,4 +121,5 @@ chart_on p l =
 abbrev pub chart_of : Chart → List ℕ
 chart_of p =
     chart_on p
-    (layout_of p.model.now p.values (length p.classes.now.names) (length p.book.now.grants - p.first))
+    (layout_of p.model.now p.values (length p.classes.now.names)
+    (length p.book.now.grants - p.first))

@@ -3,6 +3,7 @@ pub mod Clauses
 pub mod Drawing
 pub mod Escaping
 pub mod Hues
+pub mod Laws
 pub mod Layout
 pub mod Locals
 pub mod Shapes

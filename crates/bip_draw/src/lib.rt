@@ -6,6 +6,7 @@ mod clauses;
 mod drawing;
 mod escaping;
 mod hues;
+mod laws;
 mod layout;
 mod locals;
 mod lookups;
@@ -13,3 +14,4 @@ mod shapes;
 
 pub use charts::{Chart, draw_chart};
 pub use drawing::draw_model;
+pub use laws::chart_laws;

@@ -1,10 +1,10 @@
 //! The shapes of a chart, as elements of SVG.
 ghost use Rattle.std.specs.Prelude.{◌≡◌, ◌++◌, OnOk};
 ghost use Rattle.bip_draw.specs.Shapes.{bar_text, below_front, beside_text, between, chart_front};
-ghost use Rattle.bip_draw.specs.Shapes.{circle_end, circle_front, circle_text, colour_text, ended, fault_front};
-ghost use Rattle.bip_draw.specs.Shapes.{front_end, group_end, head_front, lane_line, lane_style};
-ghost use Rattle.bip_draw.specs.Shapes.{mark_style, number_text, place_text, square_text};
-ghost use Rattle.bip_draw.specs.Shapes.{style_text, text_end, text_style};
+ghost use Rattle.bip_draw.specs.Shapes.{circle_end, circle_front, circle_text, colour_text, ended};
+ghost use Rattle.bip_draw.specs.Shapes.{fault_front, front_end, group_end, head_front, lane_line};
+ghost use Rattle.bip_draw.specs.Shapes.{lane_style, mark_style, number_text, place_text};
+ghost use Rattle.bip_draw.specs.Shapes.{square_text, style_text, text_end, text_style};
 
 use crate::escaping::{write_escaped, write_number};
 use crate::hues::hue_of;

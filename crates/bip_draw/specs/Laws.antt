@@ -1,0 +1,34 @@
+-- What charts keep, in the subject's own words: laws that a reviewer reads.
+use Rattle.std.specs.Prelude.{ℕ, ◌+◌, ◌*◌, ◌<◌, ◌≤◌, ◌==◌, ◌||◌, ◌&&◌, Bool, List, true, ◌≡◌}
+use Rattle.std.specs.Prelude.{length, nat_le, not}
+use Rattle.std.specs.List.{list_all}
+use Rattle.bip_model.specs.Naming.{name_in}
+use Rattle.bip_model.specs.declared.parts.System.{System}
+use Rattle.bip_draw.specs.Escaping.{escaped}
+use Rattle.bip_draw.specs.Layout.{lane_x, layout_of, row_y}
+use Rattle.bip_draw.specs.declared.layout.Layout.{Layout}
+
+-- a statement about the layout of each chart
+abbrev pub OfLayouts : (System → Layout → Type 0) → Type 0
+OfLayouts P =
+    (m : System) (values : Bool) (classes rows : ℕ) → P m (layout_of m values classes rows)
+
+-- the lane of a component with a higher number is further right, and the names on two lanes don't
+-- meet, at eight points a byte
+abbrev pub LanesAreApart : Type 0
+LanesAreApart =
+    OfLayouts (λ m l. (c d : ℕ) → c < d
+    → lane_x l c + 4 * (length (name_in m.component_names c) + length (name_in m.component_names d))
+    < lane_x l d)
+
+-- a later row is further down, with room for a bar and for a location below it
+abbrev pub RowsAreApart : Type 0
+RowsAreApart = OfLayouts (λ m l. (i j : ℕ) → i < j → row_y l i + 34 ≤ row_y l j)
+
+-- a printable byte that is no quote, no `<` and no `>`
+abbrev pub is_plain_byte : ℕ → Bool
+is_plain_byte b = nat_le 32 b && nat_le b 126 && not (b == 34 || b == 39 || b == 60 || b == 62)
+
+-- whatever a text is, what is drawn of it begins and ends no element and no attribute
+abbrev pub TextsAreInert : Type 0
+TextsAreInert = (text : List ℕ) → list_all is_plain_byte (escaped text) ≡ true
