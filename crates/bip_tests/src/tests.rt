@@ -8,6 +8,7 @@ mod appending;
 mod asking;
 mod banking;
 mod building;
+mod charting;
 mod drawing;
 mod exploring;
 mod framing;
