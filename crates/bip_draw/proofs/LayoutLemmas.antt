@@ -1,14 +1,10 @@
 -- Lanes and rows of a layout, one beside or below another, and texts that begin and end nothing.
-use Rattle.std.proofs.Common.{◌≡◌, ◌≤◌, ℕ, ◌+◌, ◌*◌, List, [], ◌∷◌, length, max, refl, arith, zero, suc, Bool, true}
+use Rattle.std.proofs.Common.{◌≤◌, ℕ, ◌+◌, ◌*◌, List, [], ◌∷◌, length, max, arith, zero, suc, Bool}
 use Rattle.std.proofs.Math.Nat.{mul-le-mul_right}
-use Rattle.std.proofs.lemmas.Bool.Decides.{nat_tests}
-use Rattle.std.proofs.lemmas.Grind.{common_steps}
-use Rattle.std.proofs.lemmas.List.Folds.{list_all-append}
-use Rattle.std.specs.List.{fold, flat_map, list_all}
+use Rattle.std.specs.List.{fold}
 use Rattle.bip_model.specs.Naming.{name_in}
 use Rattle.bip_model.specs.declared.parts.System.{System}
-use Rattle.bip_draw.specs.Escaping.{escaped, escaped_byte}
-use Rattle.bip_draw.specs.Laws.{LanesAreApart, RowsAreApart, TextsAreInert, is_plain_byte}
+use Rattle.bip_draw.specs.Laws.{LanesAreApart, RowsAreApart}
 use Rattle.bip_draw.specs.Layout.{half_of, height_of}
 
 from_the_start : {X : Type 0} (measure : X → ℕ) (a : ℕ) (xs : List X) → a ≤ fold (λ most x. max most (measure x)) a xs
@@ -43,11 +39,3 @@ rows_are_apart m values classes rows i j before =
     let further : (i + 1) * height ≤ j * height = mul-le-mul_right height next in
     let high = height_holds m values in
     omega (arith, further, high)
-
-plain_each : (b : ℕ) → list_all is_plain_byte (escaped_byte b) ≡ true
-plain_each b = grind (arith, nat_tests, common_steps)
-
-pub texts_are_inert : TextsAreInert
-unfolding escaped
-texts_are_inert [] = refl
-texts_are_inert (b ∷ text) = let first = plain_each b in let rest = texts_are_inert text in rw (list_all-append is_plain_byte (escaped_byte b) (flat_map escaped_byte text), first) rest

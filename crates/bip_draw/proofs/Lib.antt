@@ -1,4 +1,6 @@
 pub mod ChartLemmas
 pub mod ClauseLemmas
+pub mod EscapingLemmas
+pub mod HueLemmas
 pub mod LayoutLemmas
 pub mod PartLemmas

@@ -1,12 +1,21 @@
--- What charts keep, in the subject's own words: laws that a reviewer reads.
+-- What pictures keep, in the subject's own words: laws that a reviewer reads.
 use Rattle.std.specs.Prelude.{ℕ, ◌+◌, ◌*◌, ◌<◌, ◌≤◌, ◌==◌, ◌||◌, ◌&&◌, Bool, List, true, ◌≡◌}
 use Rattle.std.specs.Prelude.{length, nat_le, not}
 use Rattle.std.specs.List.{list_all}
 use Rattle.bip_model.specs.Naming.{name_in}
 use Rattle.bip_model.specs.declared.parts.System.{System}
-use Rattle.bip_draw.specs.Escaping.{escaped}
+use Rattle.bip_draw.specs.Escaping.{escaped, quoted}
+use Rattle.bip_draw.specs.Hues.{hue}
 use Rattle.bip_draw.specs.Layout.{lane_x, layout_of, row_y}
 use Rattle.bip_draw.specs.declared.layout.Layout.{Layout}
+
+-- 32 classes have 32 colours
+abbrev pub ColoursDiffer : Type 0
+ColoursDiffer = (j k : ℕ) → j < 32 → k < 32 → hue j ≡ hue k → j ≡ k
+
+-- and none is near red, which is 0 of 40
+abbrev pub NoneIsRed : Type 0
+NoneIsRed = (k : ℕ) → (4 ≤ hue k) × (hue k ≤ 36)
 
 -- a statement about the layout of each chart
 abbrev pub OfLayouts : (System → Layout → Type 0) → Type 0
@@ -32,3 +41,16 @@ is_plain_byte b = nat_le 32 b && nat_le b 126 && not (b == 34 || b == 39 || b ==
 -- whatever a text is, what is drawn of it begins and ends no element and no attribute
 abbrev pub TextsAreInert : Type 0
 TextsAreInert = (text : List ℕ) → list_all is_plain_byte (escaped text) ≡ true
+
+-- and printable texts that are written alike in a chart are the same
+abbrev pub is_printable : ℕ → Bool
+is_printable b = nat_le 32 b && nat_le b 126
+
+abbrev pub EscapedTextsAreKept : Type 0
+EscapedTextsAreKept =
+    (a b : List ℕ) → list_all is_printable a ≡ true → list_all is_printable b ≡ true
+    → escaped a ≡ escaped b → a ≡ b
+
+-- texts that are written alike in a drawing are the same
+abbrev pub QuotedTextsAreKept : Type 0
+QuotedTextsAreKept = (a b : List ℕ) → quoted a ≡ quoted b → a ≡ b

@@ -1,11 +1,18 @@
-//! What charts keep.
-ghost use Rattle.bip_draw.specs.Laws.{LanesAreApart, RowsAreApart, TextsAreInert};
+//! What pictures keep.
+ghost use Rattle.bip_draw.specs.Laws.{ColoursDiffer, EscapedTextsAreKept, LanesAreApart, NoneIsRed};
+ghost use Rattle.bip_draw.specs.Laws.{QuotedTextsAreKept, RowsAreApart, TextsAreInert};
 
-/// Lanes stand side by side in the order of their components, with room for the names on them; rows
-/// stand below one another in the order of their grants; and no text of a model or of a caller
-/// begins or ends anything in a chart (docs/DRAW.md, "Charts").
-pub fn chart_laws()
+/// Classes have colours of their own, none of them near red (docs/DRAW.md, "Colours"), and texts
+/// that are written alike in a drawing are the same. In a chart lanes stand side by side in the
+/// order of their components, with room for the names on them; rows stand below one another in the
+/// order of their grants; no text of a model or of a caller begins or ends anything; and printable
+/// texts that are written alike are the same (docs/DRAW.md, "Charts").
+pub fn picture_laws()
+    ensures colours { ColoursDiffer }
+    ensures red { NoneIsRed }
+    ensures quoted { QuotedTextsAreKept }
     ensures lanes { LanesAreApart }
     ensures rows { RowsAreApart }
-    ensures texts { TextsAreInert }
+    ensures inert { TextsAreInert }
+    ensures escaped { EscapedTextsAreKept }
 {}

@@ -14,4 +14,4 @@ mod shapes;
 
 pub use charts::{Chart, draw_chart};
 pub use drawing::draw_model;
-pub use laws::chart_laws;
+pub use laws::picture_laws;
