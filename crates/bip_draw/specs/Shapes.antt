@@ -1,5 +1,5 @@
--- The shapes of a chart, as elements of SVG. What belongs to a row stands in a group at the row's y,
--- so that a shape there has an x of its own alone.
+-- The shapes of a chart, as elements of SVG. What belongs to a row stands in a group at the y of
+-- this row, so that a shape there has an x of its own alone.
 use Rattle.std.specs.Prelude.{ℕ, ◌*◌, List, ◌++◌, codes}
 use Rattle.std.specs.Fmt.{decimal}
 use Rattle.bip_model.specs.declared.wants.Role.{Role}

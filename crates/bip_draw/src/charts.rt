@@ -31,19 +31,19 @@ use std::alloc::{AllocError, Global};
 /// What a chart shows: the grants of a model's book from a first one on, counted from 0; behind
 /// them a reason, where there is one; and values of variables, where these are wanted.
 #[derive(Clone, Copy)]
-pub struct Chart<'a> {
+pub struct Chart<'a, 'r> {
     pub model: &'a Model,
     pub classes: &'a Classes,
     pub book: &'a Book<'a>,
     pub first: usize,
-    pub fault: Option<&'a [u8]>,
+    pub fault: Option<&'r [u8]>,
     pub values: bool,
 }
 
 /// The chart of a run as SVG: a lane for each component, and a row for each grant from the first
 /// one that is shown on, with a mark for each of its wants, and what it changes (docs/DRAW.md,
 /// "Charts").
-pub fn draw_chart(alloc: Global, chart: &Chart<'_>) -> Result<Vec<u8>, AllocError>
+pub fn draw_chart(alloc: Global, chart: &Chart<'_, '_>) -> Result<Vec<u8>, AllocError>
     requires classes { AreClassesOf chart.now.model.now chart.now.classes.now }
     requires book { chart.now.book.now.model ≡ chart.now.model.now }
     ensures { IfOk result (λ text. text.items ≡ chart_of chart.now) }
@@ -60,7 +60,7 @@ pub fn draw_chart(alloc: Global, chart: &Chart<'_>) -> Result<Vec<u8>, AllocErro
     Ok(text)
 }
 
-fn write_front(text: &mut Vec<u8>, chart: &Chart<'_>, layout: &Layout) -> Result<(), AllocError>
+fn write_front(text: &mut Vec<u8>, chart: &Chart<'_, '_>, layout: &Layout) -> Result<(), AllocError>
     requires { IsLayout layout.now }
     ensures { OnOk result (text.new.items ≡ text.old.items
         ++ chart_front (chart_width chart.now layout.now)
@@ -70,7 +70,7 @@ fn write_front(text: &mut Vec<u8>, chart: &Chart<'_>, layout: &Layout) -> Result
     write_chart_front(text, width, layout.row_y(layout.rows + 1))
 }
 
-fn chart_width(chart: &Chart<'_>, layout: &Layout) -> u64
+fn chart_width(chart: &Chart<'_, '_>, layout: &Layout) -> u64
     requires { IsLayout layout.now }
     ensures { result ≡ chart_width chart.now layout.now }
 {
@@ -134,7 +134,7 @@ fn write_lane(
 fn write_run(
     alloc: Global,
     text: &mut Vec<u8>,
-    chart: &Chart<'_>,
+    chart: &Chart<'_, '_>,
     layout: &Layout,
 ) -> Result<(), AllocError>
     requires layout { IsLayout layout.now }
@@ -150,7 +150,7 @@ fn write_run(
 }
 
 /// The state to which the grants before the first row lead.
-fn first_state(alloc: Global, chart: &Chart<'_>) -> Result<State, AllocError>
+fn first_state(alloc: Global, chart: &Chart<'_, '_>) -> Result<State, AllocError>
     requires { chart.now.book.now.model ≡ chart.now.model.now }
     ensures { IfOk result (λ state. state_of state
         ≡ state_at chart.now.model.now chart.now.book.now.grants chart.now.first) }
@@ -163,7 +163,7 @@ fn first_state(alloc: Global, chart: &Chart<'_>) -> Result<State, AllocError>
 }
 
 /// Goes on by the grant with a number.
-fn go_on(chart: &Chart<'_>, state: &mut State, number: usize)
+fn go_on(chart: &Chart<'_, '_>, state: &mut State, number: usize)
     requires number { number < length chart.now.book.now.grants }
     requires book { chart.now.book.now.model ≡ chart.now.model.now }
     requires state { state_of state.old
@@ -176,7 +176,7 @@ fn go_on(chart: &Chart<'_>, state: &mut State, number: usize)
 
 fn write_rows(
     text: &mut Vec<u8>,
-    chart: &Chart<'_>,
+    chart: &Chart<'_, '_>,
     layout: &Layout,
     before: &mut State,
     after: &mut State,
@@ -213,7 +213,7 @@ fn write_rows(
 #[tactic(auto, unfolding(crate::specs::Charts::row_text))]
 fn write_row(
     text: &mut Vec<u8>,
-    chart: &Chart<'_>,
+    chart: &Chart<'_, '_>,
     layout: &Layout,
     row: u64,
     grant: &Grant,
@@ -250,7 +250,7 @@ fn grant_at(grants: &[Grant], number: usize) -> &Grant
 #[tactic(auto, unfolding(crate::specs::Charts::row_head))]
 fn write_row_head(
     text: &mut Vec<u8>,
-    chart: &Chart<'_>,
+    chart: &Chart<'_, '_>,
     layout: &Layout,
     row: u64,
     number: u64,
