@@ -34,9 +34,11 @@ const FRONT: &str = "<svg xmlns=\"http://www.w3.org/2000/svg\" width=\"377\" hei
 
 /// The legend, the lanes, and what the components start in.
 const LANES: &str = "<g transform=\"translate(10,10)\" color=\"hsl(207,70%,40%)\">\n\
-    <rect width=\"12\" height=\"12\" fill=\"currentColor\"/><text x=\"18\" y=\"10\">P</text>\n</g>\n\
+    <rect width=\"12\" height=\"12\" fill=\"currentColor\"/>\
+    <text x=\"18\" y=\"10\">P</text>\n</g>\n\
     <g transform=\"translate(10,28)\" color=\"hsl(297,70%,40%)\">\n\
-    <rect width=\"12\" height=\"12\" fill=\"currentColor\"/><text x=\"18\" y=\"10\">Q</text>\n</g>\n\
+    <rect width=\"12\" height=\"12\" fill=\"currentColor\"/>\
+    <text x=\"18\" y=\"10\">Q</text>\n</g>\n\
     <path class=\"lane\" d=\"M137 76V211\"/>\n<text class=\"head\" x=\"137\" y=\"70\">A</text>\n\
     <path class=\"lane\" d=\"M257 76V211\"/>\n<text class=\"head\" x=\"257\" y=\"70\">B</text>\n\
     <g transform=\"translate(0,76)\">\n\
@@ -78,7 +80,7 @@ fn book_of<'m>(rt: &impl Abort, alloc: Global, model: &'m Model, text: &str) -> 
     book
 }
 
-fn draw(rt: &impl Abort, alloc: Global, model: &Model, classes: &Classes) -> Vec<u8>
+fn draw<'m>(rt: &impl Abort, alloc: Global, model: &'m Model, classes: &'m Classes) -> Vec<u8>
     requires { AreClassesOf model.now classes.now }
 {
     let book = book_of(rt, alloc, model, RUN);

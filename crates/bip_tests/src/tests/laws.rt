@@ -1,5 +1,6 @@
 use bip_bank::bank_laws;
 use bip_component::component_laws;
+use bip_draw::picture_laws;
 use bip_frame::frame_laws;
 use bip_ip::{node_laws, notify_laws};
 use bip_model::{
@@ -28,6 +29,7 @@ fn laws_can_be_called(_rt: HostRuntime) {
     fault_laws();
     run_laws();
     trace_laws();
+    picture_laws();
     table_laws();
     lock_laws();
     word_laws();
