@@ -1,2 +1,5 @@
+pub mod LineLemmas
+pub mod PlacedLemmas
 pub mod SayLemmas
+pub mod ScopeLemmas
 pub mod StateLemmas

@@ -1,1 +1,16 @@
+pub mod Declarations
+pub mod Ends
 pub mod Explanations
+pub mod Forms
+pub mod Grants
+pub mod Limits
+pub mod Models
+pub mod Placed
+pub mod Plans
+pub mod Schedules
+pub mod Scopes
+pub mod Steps
+pub mod Traces
+pub mod Twice
+pub mod Unknown
+pub mod Words

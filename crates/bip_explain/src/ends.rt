@@ -1,6 +1,11 @@
 //! What the text of a model lacks as a whole.
+ghost use Rattle.std.specs.Prelude.{◌≡◌, IfOk, IfSome};
+ghost use Rattle.bip_explain.specs.Ends.{IsEndReason, end_parts};
+ghost use Rattle.bip_explain.specs.Explanations.{with_parts};
+ghost use Rattle.bip_explain.specs.Placed.{IsPlacedOn};
+
 use crate::Explanation;
-use crate::declared::Declared;
+use crate::declarations::Declared;
 use crate::placed::{Placed, PlacedWords, line_at, words_of};
 use crate::scopes::{Standing, standing_at};
 use crate::unknown::behind_first;
@@ -14,52 +19,114 @@ const MOST_INTERACTIONS: usize = 128;
 /// How many pairs of them there are.
 const MOST_PAIRS: usize = 16_384;
 
-/// Says what is missing: a location of the component that a line ends, or, at the end of the text,
-/// its first line, an `end`, or a component.
-pub(crate) fn explain_missing(explanation: &mut Explanation, text: &[u8], number: u64) {
-    let standing = standing_at(text, number);
-    let line = words_of(line_at(text, number));
-    match (standing, line) {
-        (Standing::Inside(component), Some((keyword, _))) if is_text(keyword.word, b"end") => {
-            explanation.say(b"component ");
-            explanation.say_word(component);
-            explanation.say(b" has no location");
+/// What the text of a model lacks as a whole.
+#[derive(Clone, Copy)]
+pub(crate) enum EndReason<'t> {
+    /// The component has no location.
+    NoLocation(&'t [u8]),
+    /// The component isn't ended.
+    NoEnd(&'t [u8]),
+    NoComponent,
+    /// No line is the first line of a model.
+    NoFirst,
+    /// The interaction stands above itself.
+    Above(Name),
+    /// The interaction stands in no class.
+    InNoClass(Name),
+    /// The interaction that a word of the line with this number names stands in a class before.
+    InClasses(u64, Placed<'t>),
+}
+
+impl EndReason<'_> {
+    /// Says what the text lacks.
+    pub(crate) fn say(&self, explanation: &mut Explanation)
+        ensures { explanation.new ≡ with_parts (end_parts self.now) explanation.old }
+    {
+        match self {
+            EndReason::NoLocation(component) => {
+                explanation.say(b"component ");
+                explanation.say_word(component);
+                explanation.say(b" has no location");
+            }
+            EndReason::NoEnd(component) => {
+                explanation.say(b"component ");
+                explanation.say_word(component);
+                explanation.say(b" has no `end`");
+            }
+            EndReason::NoComponent => explanation.say(b"there is no component"),
+            EndReason::NoFirst => explanation.say(b"no line is `bip 1`"),
+            EndReason::Above(name) => {
+                explanation.say(b"interaction ");
+                explanation.say_word(name.as_bytes());
+                explanation.say(b" stands above itself");
+            }
+            EndReason::InNoClass(name) => {
+                explanation.say(b"interaction ");
+                explanation.say_word(name.as_bytes());
+                explanation.say(b" stands in no class");
+            }
+            EndReason::InClasses(line, placed) => {
+                explanation.say(b"line ");
+                explanation.say_number(*line);
+                explanation.say(b", ");
+                explanation.say_placed(*placed);
+                explanation.say(b" stands in a class already");
+            }
         }
-        _ => explain_whole(explanation, text, number),
+    }
+}
+
+/// What is missing: a location of the component that a line ends, or, at the end of the text, its
+/// first line, an `end`, or a component.
+pub(crate) fn find_missing(text: &[u8], number: u64) -> EndReason<'_>
+    ensures { IsEndReason text.now number result }
+{
+    if is_end(line_at(text, number)) {
+        if let Standing::Inside(component) = standing_at(text, number) {
+            return EndReason::NoLocation(component);
+        }
+    }
+    find_last(text, number)
+}
+
+fn is_end(line: &[u8]) -> bool {
+    match words_of(line) {
+        None => false,
+        Some((keyword, _words)) => is_text(keyword.word, b"end"),
     }
 }
 
 // What a text lacks whose last line this is.
-fn explain_whole(explanation: &mut Explanation, text: &[u8], last: u64) {
-    match standing_at(text, last.saturating_add(1)) {
-        Standing::First => explanation.say(b"no line is `bip 1`"),
-        Standing::Inside(component) => {
-            explanation.say(b"component ");
-            explanation.say_word(component);
-            explanation.say(b" has no `end`");
-        }
-        Standing::Outside => explanation.say(b"there is no component"),
+fn find_last(text: &[u8], last: u64) -> EndReason<'_>
+    ensures { IsEndReason text.now last result }
+{
+    let Some(behind) = last.checked_add(1) else {
+        return EndReason::NoComponent;
+    };
+    match standing_at(text, behind) {
+        Standing::First => EndReason::NoFirst,
+        Standing::Inside(component) => EndReason::NoEnd(component),
+        Standing::Outside => EndReason::NoComponent,
     }
 }
 
-/// Says which interaction stands above itself: the first one.
-pub(crate) fn explain_cycle(
+/// The first interaction that stands above itself.
+pub(crate) fn find_cycle<'t>(
     alloc: Global,
-    explanation: &mut Explanation,
-    text: &[u8],
-) -> Result<(), AllocError> {
+    text: &'t [u8],
+    number: u64,
+) -> Result<Option<EndReason<'t>>, AllocError>
+    ensures { IfOk result (λ found. IfSome found (IsEndReason text.now number)) }
+{
     let declared = Declared::before(alloc, text, u64::MAX)?;
     let names = &declared.interactions;
     let pairs = pairs_of(text, names);
-    for (number, name) in names.as_slice().iter().enumerate() {
-        if is_above_itself(&pairs, number) {
-            explanation.say(b"interaction ");
-            explanation.say_word(name.as_bytes());
-            explanation.say(b" stands above itself");
-            return Ok(());
+    for (index, name) in names.as_slice().iter().enumerate() {
+        if is_above_itself(&pairs, index) {
+            return Ok(Some(EndReason::Above(*name)));
         }
     }
-    Ok(())
+    Ok(None)
 }
 
 // Which interaction a text puts above which, by low and high number.
@@ -135,28 +202,26 @@ fn number_of(names: &Names, word: &[u8]) -> Option<usize> {
     names.number_of(&Name::of(word)?)
 }
 
-/// Says which interaction stands in no class, or in more places than one: the first one.
-pub(crate) fn explain_partition(
+/// The first interaction that stands in no class, or in more places than one.
+pub(crate) fn find_unparted<'t>(
     alloc: Global,
-    explanation: &mut Explanation,
-    text: &[u8],
-) -> Result<(), AllocError> {
+    text: &'t [u8],
+    number: u64,
+) -> Result<Option<EndReason<'t>>, AllocError>
+    ensures { IfOk result (λ found. IfSome found (IsEndReason text.now number)) }
+{
     let declared = Declared::before(alloc, text, u64::MAX)?;
     let names = &declared.interactions;
     let times = times_in_classes(text, names);
     for (times, name) in times.iter().zip(names.as_slice()) {
         if *times == 0 {
-            explanation.say(b"interaction ");
-            explanation.say_word(name.as_bytes());
-            explanation.say(b" stands in no class");
-            return Ok(());
+            return Ok(Some(EndReason::InNoClass(*name)));
         }
         if *times > 1 {
-            explain_again(explanation, text, name);
-            return Ok(());
+            return Ok(find_again(text, number, name));
         }
     }
-    Ok(())
+    Ok(None)
 }
 
 // How often each interaction stands in a class, up to 255 times.
@@ -182,22 +247,23 @@ fn count_members(times: &mut [u8; MOST_INTERACTIONS], names: &Names, members: Pl
     }
 }
 
-// Says in which class an interaction stands again, with the line and the column.
-fn explain_again(explanation: &mut Explanation, text: &[u8], name: &Name) {
+// In which class an interaction stands again, with the line and the column.
+fn find_again<'t>(text: &'t [u8], number: u64, name: &Name) -> Option<EndReason<'t>>
+    ensures { IfSome result (IsEndReason text.now number) }
+{
     let mut is_seen = false;
-    for (number, line) in NumberedLines::of(text) {
+    for (other, line) in NumberedLines::of(text) {
         if let Some(member) = member_again(line, name, &mut is_seen) {
-            explanation.say(b"line ");
-            explanation.say_number(number);
-            explanation.say(b", ");
-            explanation.say_placed(member);
-            return explanation.say(b" stands in a class already");
+            return Some(EndReason::InClasses(other, member));
         }
     }
+    None
 }
 
 // The member of a class line that is an interaction which was seen already.
-fn member_again<'t>(line: &'t [u8], name: &Name, is_seen: &mut bool) -> Option<Placed<'t>> {
+fn member_again<'t>(line: &'t [u8], name: &Name, is_seen: &mut bool) -> Option<Placed<'t>>
+    ensures { IfSome result (IsPlacedOn line.now) }
+{
     let (keyword, words) = words_of(line)?;
     if !is_text(keyword.word, b"class") {
         return None;

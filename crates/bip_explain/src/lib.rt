@@ -2,11 +2,12 @@
 //! column, and what is wrong with it.
 #![tactic(auto)]
 
-mod declared;
+mod declarations;
 mod ends;
 mod expected;
 mod explanations;
 mod forms;
+mod grants;
 mod limits;
 mod models;
 mod placed;

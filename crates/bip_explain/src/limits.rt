@@ -1,4 +1,8 @@
 //! Limits of models that a line passes.
+ghost use Rattle.std.specs.Prelude.{◌≡◌, IfSome};
+ghost use Rattle.bip_explain.specs.Explanations.{with_parts};
+ghost use Rattle.bip_explain.specs.Limits.{IsLimitReason, limit_parts};
+
 use crate::Explanation;
 use crate::placed::{Placed, PlacedWords, words_of};
 use crate::words::{is_relation, is_sign, is_text};
@@ -9,15 +13,41 @@ const MOST_PARTS: u32 = 16;
 
 const MOST_TERMS: u32 = 16;
 
-/// Says which limit a line passes, with the word that passes it where that is one of the line.
-pub(crate) fn explain_limit(explanation: &mut Explanation, line: &[u8]) {
-    if let Some((keyword, words)) = words_of(line) {
-        if is_text(keyword.word, b"trans") || is_text(keyword.word, b"interaction") {
-            explain_long(explanation, words);
+/// Which limit a line passes.
+#[derive(Clone, Copy)]
+pub(crate) enum LimitReason<'t> {
+    /// A word is one more than this limit of lists.
+    Word(Placed<'t>, &'static [u8]),
+    /// The line is one more than this limit of such lines.
+    Line(&'static [u8]),
+}
+
+impl LimitReason<'_> {
+    /// Says which limit is passed.
+    pub(crate) fn say(self, explanation: &mut Explanation)
+        ensures { explanation.new ≡ with_parts (limit_parts self.entry) explanation.old }
+    {
+        match self {
+            LimitReason::Word(placed, limit) => {
+                explanation.say_placed(placed);
+                explanation.say(b" is one too many; ");
+                explanation.say(limit);
+            }
+            LimitReason::Line(limit) => explanation.say(limit),
         }
-        if explanation.is_open() {
-            explanation.say(limit_of(keyword.word));
-        }
+    }
+}
+
+/// Which limit a line passes, with the word that passes it where that is one of the line.
+pub(crate) fn find_limit(line: &[u8]) -> Option<LimitReason<'_>>
+    ensures { IfSome result (IsLimitReason line.now) }
+{
+    let (keyword, words) = words_of(line)?;
+    let limit = LimitReason::Line(limit_of(keyword.word));
+    if is_text(keyword.word, b"trans") || is_text(keyword.word, b"interaction") {
+        Some(find_long(words).unwrap_or(limit))
+    } else {
+        Some(limit)
     }
 }
 
@@ -50,7 +80,9 @@ struct Counted {
 }
 
 // The first word of a line that is more than one of its lists may have.
-fn explain_long(explanation: &mut Explanation, words: PlacedWords<'_>) {
+fn find_long<'t>(words: PlacedWords<'t>) -> Option<LimitReason<'t>>
+    ensures { IfSome result (IsLimitReason words.entry.line.now) }
+{
     let mut counted = Counted {
         is_head: true,
         participants: 0,
@@ -60,15 +92,10 @@ fn explain_long(explanation: &mut Explanation, words: PlacedWords<'_>) {
     for placed in words {
         counted.count(placed.word);
         if let Some(limit) = counted.passed() {
-            return explain_passed(explanation, placed, limit);
+            return Some(LimitReason::Word(placed, limit));
         }
     }
-}
-
-fn explain_passed(explanation: &mut Explanation, placed: Placed<'_>, limit: &[u8]) {
-    explanation.say_placed(placed);
-    explanation.say(b" is one too many; ");
-    explanation.say(limit);
+    None
 }
 
 impl Counted {

@@ -1,67 +1,148 @@
 //! Faults of a model's text.
-ghost use Rattle.bip_explain.specs.Explanations.{StaysClosed};
+ghost use Rattle.std.specs.Prelude.{◌≡◌, IfOk, IfSome};
+ghost use Rattle.bip_reader.specs.declared.faults.Why.{Why};
+ghost use Rattle.bip_explain.specs.Explanations.{Tells, with_parts};
+ghost use Rattle.bip_explain.specs.Models.{IsModelReason, keyword_parts, model_parts};
 
 use crate::Explanation;
-use crate::ends::{explain_cycle, explain_missing, explain_partition};
+use crate::ends::{EndReason, find_cycle, find_missing, find_unparted};
 use crate::expected::Expected;
-use crate::forms::{explain_byte, explain_words};
-use crate::limits::explain_limit;
+use crate::forms::{FormReason, find_byte, find_word};
+use crate::limits::{LimitReason, find_limit};
 use crate::placed::{Placed, line_at, words_of};
 use crate::scopes::{Standing, standing_at};
-use crate::twice::{explain_transitions, explain_twice};
-use crate::unknown::explain_unknown;
+use crate::twice::{TwiceReason, find_transition, find_twice};
+use crate::unknown::{UnknownReason, find_unknown};
 use crate::words::{Spelling, is_text};
 use bip_reader::{ReadFault, Why};
 use std::alloc::{AllocError, Global};
+
+/// Why a text is no model.
+#[derive(Clone, Copy)]
+pub(crate) enum ModelReason<'t> {
+    Form(FormReason<'t>),
+    /// A first word that can't begin a line which stands so.
+    Keyword(Placed<'t>, Standing<'t>),
+    Unknown(UnknownReason<'t>),
+    Twice(TwiceReason<'t>),
+    Limit(LimitReason<'t>),
+    End(EndReason<'t>),
+    /// The model takes more memory than there is.
+    NoMemory,
+    /// No memory is left to look for a reason.
+    NoMemoryToTell,
+}
 
 /// Says why the text of a model has its first fault: the word of the line that is at fault, with
 /// its column, and what is wrong with it; or what the text lacks as a whole (docs/ANSWERS.md,
 /// "Explanations"). Nothing is said where none is wanted, or something is said already.
 pub fn explain_model(alloc: Global, explanation: &mut Explanation, text: &[u8], fault: &ReadFault)
-    ensures { StaysClosed explanation.old explanation.new }
+    ensures { Tells (IsModelReason text.now fault.now) model_parts explanation.old explanation.new }
 {
-    if explanation.is_open() && say_why(alloc, explanation, text, fault).is_err() {
-        explanation.say(b"no memory is left to say more");
+    if explanation.is_open() {
+        match find_reason(alloc, text, fault) {
+            Ok(Some(reason)) => reason.say(explanation),
+            Ok(None) => {}
+            Err(_) => ModelReason::NoMemoryToTell.say(explanation),
+        }
     }
 }
 
-fn say_why(
+impl ModelReason<'_> {
+    fn say(&self, explanation: &mut Explanation)
+        ensures { explanation.new ≡ with_parts (model_parts self.now) explanation.old }
+    {
+        match self {
+            ModelReason::Form(reason) => (*reason).say(explanation),
+            ModelReason::Keyword(placed, standing) => say_keyword(explanation, *placed, *standing),
+            ModelReason::Unknown(reason) => reason.say(explanation),
+            ModelReason::Twice(reason) => (*reason).say(explanation),
+            ModelReason::Limit(reason) => (*reason).say(explanation),
+            ModelReason::End(reason) => reason.say(explanation),
+            ModelReason::NoMemory => {
+                explanation.say(b"the model takes more memory than there is");
+            }
+            ModelReason::NoMemoryToTell => explanation.say(b"no memory is left to say more"),
+        }
+    }
+}
+
+// Says which words can begin the line.
+fn say_keyword(explanation: &mut Explanation, first: Placed<'_>, standing: Standing<'_>)
+    ensures { explanation.new
+        ≡ with_parts (keyword_parts first.entry standing.entry) explanation.old }
+{
+    explanation.say_placed(first);
+    match standing {
+        Standing::First => {
+            explanation.say(b" stands where `bip 1` is wanted, the first line of a model");
+        }
+        Standing::Outside => {
+            explanation.say(b" can't begin a line outside a component; ");
+            explanation.say(b"component, interaction, priority and class can");
+        }
+        Standing::Inside(component) => {
+            explanation.say(b" can't begin a line inside component ");
+            explanation.say_word(component);
+            explanation.say(b"; var, loc, port, trans and end can");
+        }
+    }
+}
+
+fn find_reason<'t>(
     alloc: Global,
-    explanation: &mut Explanation,
-    text: &[u8],
+    text: &'t [u8],
     fault: &ReadFault,
-) -> Result<(), AllocError> {
+) -> Result<Option<ModelReason<'t>>, AllocError>
+    ensures { IfOk result (λ found. IfSome found (IsModelReason text.now fault.now)) }
+{
+    let number = fault.line;
+    let line = line_at(text, number);
     match fault.why {
-        Why::Syntax => explain_syntax(explanation, text, fault.line),
-        Why::Unknown => explain_unknown(alloc, explanation, text, fault.line)?,
-        Why::Twice => explain_twice(alloc, explanation, text, fault.line)?,
-        Why::TooMany => explain_limit(explanation, line_at(text, fault.line)),
-        Why::Missing => explain_missing(explanation, text, fault.line),
-        Why::TwoTransitions => explain_transitions(explanation, text, fault.line),
-        Why::PriorityCycle => explain_cycle(alloc, explanation, text)?,
-        Why::NotAPartition => explain_partition(alloc, explanation, text)?,
-        Why::Memory => explanation.say(b"the model takes more memory than there is"),
+        Why::Syntax => Ok(find_form(text, number)),
+        Why::Unknown => match find_unknown(alloc, text, number) {
+            Ok(Some(reason)) => Ok(Some(ModelReason::Unknown(reason))),
+            Ok(None) => Ok(None),
+            Err(error) => Err(error),
+        },
+        Why::Twice => Ok(find_twice(alloc, text, number)?.map(ModelReason::Twice)),
+        Why::TooMany => Ok(find_limit(line).map(ModelReason::Limit)),
+        Why::Missing => Ok(Some(ModelReason::End(find_missing(text, number)))),
+        Why::TwoTransitions => Ok(find_transition(text, number, line).map(ModelReason::Twice)),
+        Why::PriorityCycle => match find_cycle(alloc, text, number) {
+            Ok(Some(reason)) => Ok(Some(ModelReason::End(reason))),
+            Ok(None) => Ok(None),
+            Err(error) => Err(error),
+        },
+        Why::NotAPartition => match find_unparted(alloc, text, number) {
+            Ok(Some(reason)) => Ok(Some(ModelReason::End(reason))),
+            Ok(None) => Ok(None),
+            Err(error) => Err(error),
+        },
+        Why::Memory => Ok(Some(ModelReason::NoMemory)),
     }
-    Ok(())
 }
 
-fn explain_syntax(explanation: &mut Explanation, text: &[u8], number: u64) {
+fn find_form(text: &[u8], number: u64) -> Option<ModelReason<'_>>
+    ensures { (why : Why) → IfSome result
+        (IsModelReason text.now (record { line = number; why = why })) }
+{
     let line = line_at(text, number);
     let Some((first, rest)) = words_of(line) else {
-        return explain_byte(explanation, line);
+        return Some(ModelReason::Form(find_byte(line)?));
     };
     let standing = standing_at(text, number);
-    match expected_behind(&standing, first.word) {
-        None => explain_keyword(explanation, &standing, first),
+    match expected_behind(standing, first.word) {
+        None => Some(ModelReason::Keyword(first, standing)),
         Some(expected) => {
             let spelling = spelling_behind(first.word);
-            explain_words(explanation, spelling, expected, rest);
+            Some(ModelReason::Form(find_word(spelling, expected, rest)?))
         }
     }
 }
 
 // What the line goes on with behind its first word; none where no line can begin so here.
-fn expected_behind(standing: &Standing<'_>, keyword: &[u8]) -> Option<Expected> {
+fn expected_behind(standing: Standing<'_>, keyword: &[u8]) -> Option<Expected> {
     match standing {
         Standing::First => is_text(keyword, b"bip").then_some(Expected::One),
         Standing::Outside => expected_outside(keyword),
@@ -102,24 +183,5 @@ fn spelling_behind(keyword: &[u8]) -> Spelling {
         Spelling::Shared
     } else {
         Spelling::Own
-    }
-}
-
-// Says which words can begin the line.
-fn explain_keyword(explanation: &mut Explanation, standing: &Standing<'_>, first: Placed<'_>) {
-    explanation.say_placed(first);
-    match standing {
-        Standing::First => {
-            explanation.say(b" stands where `bip 1` is wanted, the first line of a model");
-        }
-        Standing::Outside => {
-            explanation.say(b" can't begin a line outside a component; ");
-            explanation.say(b"component, interaction, priority and class can");
-        }
-        Standing::Inside(component) => {
-            explanation.say(b" can't begin a line inside component ");
-            explanation.say_word(component);
-            explanation.say(b"; var, loc, port, trans and end can");
-        }
     }
 }

@@ -1,9 +1,11 @@
 //! The words of a line, each with its column.
-ghost use Rattle.std.specs.Prelude.{◌≡◌};
+ghost use Rattle.std.specs.Prelude.{◌≡◌, ◌∷◌, ◌+◌, [], length, IfSome, IfNone};
+ghost use Rattle.std.specs.Option.{option_map};
 ghost use Rattle.bip_model.specs.Texts.{words};
+ghost use Rattle.bip_explain.specs.Placed.{IsPlacedOn, IsRestOf, first_four, first_three};
+ghost use Rattle.bip_explain.specs.Placed.{first_two, line_at, said_words};
 
 use bip_model::{Line, NumberedLines, read_words, split_word};
-use std::marker;
 
 /// A word with its column, counted in bytes from 1.
 #[derive(Clone, Copy)]
@@ -12,33 +14,27 @@ pub(crate) struct Placed<'t> {
     pub word: &'t [u8],
 }
 
-/// The words of a line from some place on. Contracts see the list of them.
+/// The words of a line from some place on.
 #[derive(Drop)]
 pub(crate) struct PlacedWords<'t> {
-    line: &'t [u8],
+    pub line: &'t [u8],
     rest: &'t [u8],
-}
-
-impl<'t> marker::Model for PlacedWords<'t> {
-    ghost use Rattle.std.specs.Prelude.{List, ℕ};
-    ghost use Rattle.bip_model.specs.Texts.{words};
-
-    ghost Value = { List (List ℕ) };
-
-    ghost view = { λ p. words p.rest.now };
+    ghost of_line: { IsRestOf line.now rest.now },
 }
 
 impl<'t> PlacedWords<'t> {
     /// All words of a line.
     pub(crate) fn of(line: &'t [u8]) -> PlacedWords<'t>
-        ensures { result ≡ words line.now }
+        ensures line { result.line.now ≡ line.now }
+        ensures rest { result.rest.now ≡ line.now }
     {
         PlacedWords { line, rest: line }
     }
 
     /// The words that are left.
     pub(crate) fn rest(&self) -> PlacedWords<'t>
-        ensures { result ≡ self.now }
+        ensures line { result.line.now ≡ self.now.line.now }
+        ensures rest { result.rest.now ≡ self.now.rest.now }
     {
         PlacedWords {
             line: self.line,
@@ -47,45 +43,54 @@ impl<'t> PlacedWords<'t> {
     }
 
     /// The column behind the line's last byte.
-    pub(crate) fn end(&self) -> usize {
-        self.line.len().saturating_add(1)
+    pub(crate) fn end(&self) -> usize
+        ensures { result ≡ length self.now.line.now + 1 }
+    {
+        self.line.len() + 1
     }
 }
 
 impl<'t> Iterator for PlacedWords<'t> {
-    ghost use Rattle.std.specs.Iterator.{YieldsFirstBy, item_count};
+    ghost use Rattle.std.specs.Prelude.{◌≡◌};
+    ghost use Rattle.std.specs.Iterator.{item_count};
+    ghost use Rattle.bip_model.specs.Texts.{words};
+    ghost use Rattle.bip_explain.specs.Placed.{TakesWord};
 
     type Item = Placed<'t>;
 
-    ghost next_gives = { YieldsFirstBy (λ placed. placed.word.now) (λ left. left) };
+    ghost next_gives = { λ old given new. (new.line.now ≡ old.line.now)
+        × TakesWord old.line.now old.rest.now given new.rest.now };
 
-    ghost remaining = { item_count (λ left. left) };
+    ghost remaining = { item_count (λ left. words left.rest.now) };
 
     fn next(&mut self) -> Option<Placed<'t>> {
         let (word, rest) = split_word(self.rest)?;
+        let column = self.line.len() - rest.len() - word.len() + 1;
         self.rest = rest;
-        let before = self
-            .line
-            .len()
-            .saturating_sub(rest.len())
-            .saturating_sub(word.len());
-        Some(Placed {
-            column: before.saturating_add(1),
-            word,
-        })
+        Some(Placed { column, word })
     }
 }
 
 /// The line with this number; empty where the text has none.
-pub(crate) fn line_at(text: &[u8], number: u64) -> &[u8] {
-    match NumberedLines::of(text).nth(number.saturating_sub(1) as usize) {
-        None => &[],
-        Some((_, line)) => line,
+pub(crate) fn line_at(text: &[u8], number: u64) -> &[u8]
+    ensures { result.now ≡ line_at text.now number }
+{
+    for (at, line) in NumberedLines::of(text) {
+        if at == number {
+            return line;
+        }
     }
+    &[]
 }
 
 /// The first word of a line that says something, and the words behind it.
-pub(crate) fn words_of(line: &[u8]) -> Option<(Placed<'_>, PlacedWords<'_>)> {
+pub(crate) fn words_of(line: &[u8]) -> Option<(Placed<'_>, PlacedWords<'_>)>
+    ensures none { IfNone result (said_words line.now ≡ []) }
+    ensures first { IfSome result (λ parts. IsPlacedOn line.now parts.0) }
+    ensures line { IfSome result (λ parts. parts.1.line.now ≡ line.now) }
+    ensures words { IfSome result (λ parts.
+        said_words line.now ≡ parts.0.word.now ∷ words parts.1.rest.now) }
+{
     match read_words(line) {
         Line::Words(_, _) => {
             let mut words = PlacedWords::of(line);
@@ -97,8 +102,34 @@ pub(crate) fn words_of(line: &[u8]) -> Option<(Placed<'_>, PlacedWords<'_>)> {
 }
 
 /// The first two words of a line, as most of them are told apart.
-pub(crate) fn two_words(line: &[u8]) -> Option<(&[u8], &[u8])> {
+pub(crate) fn two_words(line: &[u8]) -> Option<(&[u8], &[u8])>
+    ensures { option_map (λ pair. (pair.0.now, pair.1.now)) result
+        ≡ first_two (said_words line.now) }
+{
     let (first, mut words) = words_of(line)?;
     let second = words.next()?;
     Some((first.word, second.word))
+}
+
+/// The first three words of a line.
+pub(crate) fn three_words(line: &[u8]) -> Option<(&[u8], &[u8], &[u8])>
+    ensures { option_map (λ w. (w.0.now, w.1.now, w.2.now)) result
+        ≡ first_three (said_words line.now) }
+{
+    let (first, mut words) = words_of(line)?;
+    let second = words.next()?;
+    let third = words.next()?;
+    Some((first.word, second.word, third.word))
+}
+
+/// The first four words of a line.
+pub(crate) fn four_words(line: &[u8]) -> Option<(&[u8], &[u8], &[u8], &[u8])>
+    ensures { option_map (λ w. (w.0.now, w.1.now, w.2.now, w.3.now)) result
+        ≡ first_four (said_words line.now) }
+{
+    let (first, mut words) = words_of(line)?;
+    let second = words.next()?;
+    let third = words.next()?;
+    let fourth = words.next()?;
+    Some((first.word, second.word, third.word, fourth.word))
 }

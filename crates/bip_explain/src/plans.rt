@@ -1,5 +1,9 @@
 //! Models that have no plan.
-ghost use Rattle.bip_explain.specs.Explanations.{StaysClosed};
+ghost use Rattle.std.specs.Prelude.{◌≡◌, ◌<◌, List, length, true};
+ghost use Rattle.bip_explain.specs.Explanations.{StaysClosed, is_open, with_parts};
+ghost use Rattle.bip_explain.specs.Plans.{plan_parts};
+ghost use Rattle.bip_model.specs.Steps.{IsListLookedAt, participants_of};
+ghost use Rattle.bip_model.specs.declared.numbering.CompId.{CompId};
 
 use crate::Explanation;
 use bip_model::{InterId, MOST_WANTS, Model};
@@ -7,7 +11,12 @@ use bip_model::{InterId, MOST_WANTS, Model};
 /// Says how many components an interaction touches that touches too many (docs/ANSWERS.md,
 /// "Explanations"). Nothing is said where none is wanted, or something is said already.
 pub fn explain_plan(explanation: &mut Explanation, model: &Model, inter: InterId)
-    ensures { StaysClosed explanation.old explanation.new }
+    ensures closed { StaysClosed explanation.old explanation.new }
+    ensures told { is_open explanation.old ≡ true → inter.0 < length model.now.interactions
+        → (looks : List CompId) × IsListLookedAt model.now inter.0 looks
+        × (explanation.new ≡ with_parts
+        (plan_parts (length (participants_of model.now inter.0)) (length looks))
+        explanation.old) }
 {
     if !explanation.is_open() || model.interactions().len() <= inter.0 as usize {
         return;

@@ -1,14 +1,34 @@
 //! Faults of a schedule's text.
-ghost use Rattle.bip_explain.specs.Explanations.{StaysClosed};
+ghost use Rattle.std.specs.Prelude.{◌≡◌, ℕ, List, IfSome};
+ghost use Rattle.bip_partition.specs.Plans.{Planned};
+ghost use Rattle.bip_replay.specs.declared.faults.TraceFault.{TraceFault};
+ghost use Rattle.bip_explain.specs.Explanations.{Tells, with_parts};
+ghost use Rattle.bip_explain.specs.Placed.{IsPlacedOn, line_at};
+ghost use Rattle.bip_explain.specs.Schedules.{IsScheduleReason, schedule_parts};
 
 use crate::Explanation;
 use crate::expected::Expected;
-use crate::forms::{explain_byte, explain_words};
+use crate::forms::{FormReason, find_byte, find_word};
 use crate::placed::{Placed, PlacedWords, line_at, words_of};
 use crate::words::{Spelling, is_text};
 use bip_model::Name;
 use bip_partition::Plan;
 use bip_replay::TraceFault;
+
+/// Why a line of a schedule says no event of a plan.
+#[derive(Clone, Copy)]
+pub(crate) enum ScheduleReason<'t> {
+    Form(FormReason<'t>),
+    /// A first word that can't begin a line.
+    Keyword(Placed<'t>),
+    /// A word that is no class's name.
+    NoClass(Placed<'t>),
+    /// A word that is no interaction's name.
+    NoInteraction(Placed<'t>),
+    /// An interaction that its class alone grants.
+    NoStation(Placed<'t>),
+    NoMemory,
+}
 
 /// Says why a line of a schedule says no event of the plan: the word that can't stand where it
 /// stands, or the name that no class, interaction or station has, with its column (docs/ANSWERS.md,
@@ -20,30 +40,66 @@ pub fn explain_schedule(
     number: u64,
     fault: &TraceFault,
 )
-    ensures { StaysClosed explanation.old explanation.new }
+    ensures { Tells (IsScheduleReason plan.now (line_at text.now number) fault.now) schedule_parts
+        explanation.old explanation.new }
 {
-    if !explanation.is_open() {
-        return;
-    }
-    let line = line_at(text, number);
-    match fault {
-        TraceFault::Syntax => explain_form(explanation, line),
-        TraceFault::Unknown => explain_names(explanation, plan, line),
-        TraceFault::Memory => explanation.say(b"the schedule takes more memory than there is"),
+    if explanation.is_open() {
+        if let Some(reason) = find_reason(plan, line_at(text, number), fault) {
+            reason.say(explanation);
+        }
     }
 }
 
-fn explain_form(explanation: &mut Explanation, line: &[u8]) {
+impl ScheduleReason<'_> {
+    fn say(self, explanation: &mut Explanation)
+        ensures { explanation.new ≡ with_parts (schedule_parts self.entry) explanation.old }
+    {
+        match self {
+            ScheduleReason::Form(reason) => reason.say(explanation),
+            ScheduleReason::Keyword(placed) => {
+                explanation.say_placed(placed);
+                explanation.say(b" can't begin a line; ");
+                explanation.say(b"mail, try, serve, deliver, pass and ask can");
+            }
+            ScheduleReason::NoClass(placed) => {
+                explanation.say_placed(placed);
+                explanation.say(b" is no class of the model");
+            }
+            ScheduleReason::NoInteraction(placed) => {
+                explanation.say_placed(placed);
+                explanation.say(b" is no interaction of the model");
+            }
+            ScheduleReason::NoStation(placed) => {
+                explanation.say_placed(placed);
+                explanation.say(b" is granted by its class alone, and has no station");
+            }
+            ScheduleReason::NoMemory => {
+                explanation.say(b"the schedule takes more memory than there is");
+            }
+        }
+    }
+}
+
+fn find_reason<'t>(plan: &Plan, line: &'t [u8], fault: &TraceFault) -> Option<ScheduleReason<'t>>
+    ensures { IfSome result (IsScheduleReason plan.now line.now fault.now) }
+{
+    match fault {
+        TraceFault::Syntax => find_form(line),
+        TraceFault::Unknown => find_name(plan, line),
+        TraceFault::Memory => Some(ScheduleReason::NoMemory),
+    }
+}
+
+fn find_form(line: &[u8]) -> Option<ScheduleReason<'_>>
+    ensures { (plan : Planned) → (fault : TraceFault)
+        → IfSome result (IsScheduleReason plan line.now fault) }
+{
     let Some((first, rest)) = words_of(line) else {
-        return explain_byte(explanation, line);
+        return Some(ScheduleReason::Form(find_byte(line)?));
     };
     match expected_behind(first.word) {
-        Some(expected) => explain_words(explanation, Spelling::Own, expected, rest),
-        None => {
-            explanation.say_placed(first);
-            explanation.say(b" can't begin a line; ");
-            explanation.say(b"mail, try, serve, deliver, pass and ask can");
-        }
+        Some(expected) => Some(ScheduleReason::Form(find_word(Spelling::Own, expected, rest)?)),
+        None => Some(ScheduleReason::Keyword(first)),
     }
 }
 
@@ -61,54 +117,55 @@ fn expected_behind(verb: &[u8]) -> Option<Expected> {
     }
 }
 
-fn explain_names(explanation: &mut Explanation, plan: &Plan, line: &[u8]) {
-    let Some((verb, words)) = words_of(line) else {
-        return;
-    };
-    let mut words = words;
+// The first name of a line that is none of those that its verb wants.
+fn find_name<'t>(plan: &Plan, line: &'t [u8]) -> Option<ScheduleReason<'t>>
+    ensures { (fault : TraceFault) → IfSome result (IsScheduleReason plan.now line.now fault) }
+{
+    let (verb, words) = words_of(line)?;
     if is_text(verb.word, b"try") {
-        if let Some(class) = words.next() {
-            explain_lack(explanation, class, lack_of_class(plan, class.word));
-        }
-        if let Some(inter) = words.next() {
-            explain_lack(explanation, inter, lack_of_interaction(plan, inter.word));
-        }
+        find_tried(plan, words)
     } else {
-        for station in words {
-            explain_lack(explanation, station, lack_of_station(plan, station.word));
+        find_station(plan, words)
+    }
+}
+
+fn find_tried<'t>(plan: &Plan, words: PlacedWords<'t>) -> Option<ScheduleReason<'t>>
+    ensures { (fault : TraceFault)
+        → IfSome result (IsScheduleReason plan.now words.entry.line.now fault) }
+{
+    let mut words = words;
+    let class = words.next()?;
+    if plan.classes().number(&Name::of(class.word)?).is_none() {
+        return Some(ScheduleReason::NoClass(class));
+    }
+    let inter = words.next()?;
+    if plan.model().interaction(&Name::of(inter.word)?).is_none() {
+        return Some(ScheduleReason::NoInteraction(inter));
+    }
+    None
+}
+
+fn find_station<'t>(plan: &Plan, words: PlacedWords<'t>) -> Option<ScheduleReason<'t>>
+    ensures { (fault : TraceFault)
+        → IfSome result (IsScheduleReason plan.now words.entry.line.now fault) }
+{
+    for placed in words {
+        if let Some(reason) = reason_of_station(plan, placed) {
+            return Some(reason);
         }
     }
+    None
 }
 
-// Says what a word lacks, unless something is said already.
-fn explain_lack(explanation: &mut Explanation, placed: Placed<'_>, lack: Option<&'static [u8]>) {
-    if let (true, Some(lack)) = (explanation.is_open(), lack) {
-        explanation.say_placed(placed);
-        explanation.say(lack);
-    }
-}
-
-fn lack_of_class(plan: &Plan, word: &[u8]) -> Option<&'static [u8]> {
-    let name = Name::of(word)?;
-    match plan.classes().number(&name) {
-        Some(_) => None,
-        None => Some(b" is no class of the model"),
-    }
-}
-
-fn lack_of_interaction(plan: &Plan, word: &[u8]) -> Option<&'static [u8]> {
-    let name = Name::of(word)?;
+// Why a word names no station.
+fn reason_of_station<'t>(plan: &Plan, placed: Placed<'t>) -> Option<ScheduleReason<'t>>
+    ensures { (line : List ℕ) → (fault : TraceFault) → IsPlacedOn line placed.entry
+        → IfSome result (IsScheduleReason plan.now line fault) }
+{
+    let name = Name::of(placed.word)?;
     match plan.model().interaction(&name) {
-        Some(_) => None,
-        None => Some(b" is no interaction of the model"),
-    }
-}
-
-fn lack_of_station(plan: &Plan, word: &[u8]) -> Option<&'static [u8]> {
-    let name = Name::of(word)?;
-    match plan.model().interaction(&name) {
-        None => Some(b" is no interaction of the model"),
-        Some(inter) if plan.stations().iter().any(|other| *other == inter) => None,
-        Some(_) => Some(b" is granted by its class alone, and has no station"),
+        None => Some(ScheduleReason::NoInteraction(placed)),
+        Some(inter) if plan.reserved(inter) => None,
+        Some(_) => Some(ScheduleReason::NoStation(placed)),
     }
 }

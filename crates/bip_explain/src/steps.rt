@@ -1,14 +1,15 @@
 //! Grants that can't be next.
-ghost use Rattle.std.specs.Prelude.{IfOk};
-ghost use Rattle.bip_explain.specs.Explanations.{StaysClosed};
+ghost use Rattle.std.specs.Prelude.{◌≡◌, IfOk, true};
+ghost use Rattle.bip_explain.specs.Explanations.{StaysClosed, is_open, with_parts};
+ghost use Rattle.bip_explain.specs.Placed.{line_at};
+ghost use Rattle.bip_explain.specs.Steps.{TellsStep, fault_parts, seed_parts};
 ghost use Rattle.bip_model.specs.States.{IsStateOf, state_of};
 
 use crate::Explanation;
-use crate::placed::{Placed, PlacedWords, line_at, two_words};
-use crate::words::{is_text, want_of};
+use crate::grants::{GrantReason, find_party, interaction_on, say_component, say_name, want_on};
+use crate::placed::line_at;
 use bip_model::{
-    CompId, Component, InterId, LocalState, Model, Name, Number, NumberedLines, PortId, State,
-    has_port,
+    CompId, Component, InterId, LocalState, Model, Number, NumberedLines, PortId, State, has_port,
 };
 use bip_replay::{BookFault, StepFault};
 use std::alloc::{AllocError, Global};
@@ -26,55 +27,65 @@ pub fn explain_step(
     number: u64,
     fault: &BookFault,
 )
-    ensures { StaysClosed explanation.old explanation.new }
+    ensures closed { StaysClosed explanation.old explanation.new }
+    ensures told { TellsStep model.now base (line_at text.now number) fault.now
+        explanation.old explanation.new }
 {
     if !explanation.is_open() {
         return;
     }
-    if say_why(alloc, explanation, model, base, text, number, fault).is_err() {
-        explanation.say(b"no memory is left to say more");
+    match fault {
+        BookFault::NotEnabled | BookFault::Below(_) => {
+            explain_state(alloc, explanation, model, text, number, fault);
+        }
+        BookFault::Number(comp, expected) => {
+            let placed = want_on(model, line_at(text, number), *comp);
+            GrantReason::Next(placed, *comp, *expected).say(explanation, model, base);
+        }
+        BookFault::Parties => {
+            if let Some(reason) = find_party(model, line_at(text, number)) {
+                reason.say(explanation, model, base);
+            }
+        }
+        BookFault::Memory => explanation.say(b"the run takes more memory than there is"),
     }
 }
 
-fn say_why(
+// Says why a grant isn't enabled, or what is enabled above it, in the state before its line.
+fn explain_state(
     alloc: Global,
     explanation: &mut Explanation,
     model: &Model,
-    base: Number,
     text: &[u8],
     number: u64,
     fault: &BookFault,
-) -> Result<(), AllocError> {
-    let line = line_at(text, number);
-    match fault {
-        BookFault::NotEnabled => {
-            let state = state_before(alloc, model, text, number)?;
-            if let Some(inter) = interaction_on(model, line) {
-                explain_disabled(explanation, model, &state, inter);
-            }
-        }
-        BookFault::Below(above) => {
-            let state = state_before(alloc, model, text, number)?;
-            explain_above(explanation, model, &state, *above);
-        }
-        BookFault::Number(comp, expected) => {
-            explain_number(explanation, model, base, line, *comp, *expected);
-        }
-        BookFault::Parties => explain_parties(explanation, model, line),
-        BookFault::Memory => explanation.say(b"the run takes more memory than there is"),
+) {
+    let Ok(state) = state_before(alloc, model, text, number) else {
+        return explanation.say(b"no memory is left to say more");
+    };
+    if let BookFault::Below(above) = fault {
+        explain_above(explanation, model, &state, *above);
+    } else if let Some(inter) = interaction_on(model, line_at(text, number)) {
+        explain_disabled(explanation, model, &state, inter);
     }
-    Ok(())
 }
 
 /// Says why the first grant that can't be next in the trace of an explored seed can't be next.
 /// Nothing is said where none is wanted, or something is said already.
 pub fn explain_seed(explanation: &mut Explanation, model: &Model, fault: &StepFault)
-    ensures { StaysClosed explanation.old explanation.new }
+    ensures closed { StaysClosed explanation.old explanation.new }
+    ensures told { is_open explanation.old ≡ true
+        → explanation.new ≡ with_parts (seed_parts model.now fault.now) explanation.old }
 {
-    if !explanation.is_open() {
-        return;
+    if explanation.is_open() {
+        explanation.say(b"a grant of its trace can't be next: ");
+        say_fault(explanation, model, fault);
     }
-    explanation.say(b"a grant of its trace can't be next: ");
+}
+
+fn say_fault(explanation: &mut Explanation, model: &Model, fault: &StepFault)
+    ensures { explanation.new ≡ with_parts (fault_parts model.now fault.now) explanation.old }
+{
     match fault {
         StepFault::NotEnabled => explanation.say(b"it isn't enabled"),
         StepFault::Below(above) => {
@@ -104,12 +115,6 @@ fn state_before(alloc: Global, model: &Model, text: &[u8], line: u64) -> Result<
         }
     }
     Ok(state)
-}
-
-// The interaction that the line of a grant names.
-fn interaction_on(model: &Model, line: &[u8]) -> Option<InterId> {
-    let (_grant, word) = two_words(line)?;
-    model.interaction(&Name::of(word)?)
 }
 
 // The first participant that doesn't offer its port; or else the guard doesn't hold.
@@ -171,17 +176,6 @@ fn has_transition(component: &Component, local: &LocalState, port: PortId) -> bo
         && transition.port == port)
 }
 
-fn say_component(explanation: &mut Explanation, model: &Model, comp: CompId) {
-    explanation.say(b"component ");
-    say_name(explanation, model.component_names(), comp.0 as usize);
-}
-
-fn say_name(explanation: &mut Explanation, names: &[Name], number: usize) {
-    if let Some(name) = names.get(number) {
-        explanation.say_word(name.as_bytes());
-    }
-}
-
 // Says where a component is, and its values.
 fn say_local(explanation: &mut Explanation, component: &Component, local: &LocalState) {
     explanation.say(b" is in ");
@@ -220,106 +214,4 @@ fn explain_above(explanation: &mut Explanation, model: &Model, state: &State, ab
     say_name(explanation, model.interaction_names(), above.0 as usize);
     explanation.say(b" stands above it, and is enabled:");
     say_participants(explanation, model, state, above);
-}
-
-// Says which number stands where, and how often the component has moved.
-fn explain_number(
-    explanation: &mut Explanation,
-    model: &Model,
-    base: Number,
-    line: &[u8],
-    comp: CompId,
-    expected: Number,
-) {
-    if let Some(placed) = want_on(model, line, comp) {
-        explanation.say_placed(placed);
-        explanation.say(b": ");
-    }
-    say_component(explanation, model, comp);
-    if expected == 0 {
-        explanation.say(b" has used the last number, and moves no more");
-        return;
-    }
-    explanation.say(b", moves before this line: ");
-    explanation.say_number(expected.saturating_sub(base).saturating_sub(1));
-    explanation.say(b"; its next one has number ");
-    explanation.say_number(expected);
-}
-
-// The word of a line that names a component.
-fn want_on<'t>(model: &Model, line: &'t [u8], comp: CompId) -> Option<Placed<'t>> {
-    for placed in PlacedWords::of(line) {
-        if let Some((component, _number)) = want_of(placed.word) {
-            if model.component(&component) == Some(comp) {
-                return Some(placed);
-            }
-        }
-    }
-    None
-}
-
-/// How a line names a component.
-#[derive(Clone, Copy, PartialEq, Eq)]
-enum Named {
-    Moved,
-    Seen,
-    Absent,
-}
-
-// The first component of the model that isn't named as it should be.
-fn explain_parties(explanation: &mut Explanation, model: &Model, line: &[u8]) {
-    let Some(inter) = interaction_on(model, line) else {
-        return;
-    };
-    for number in 0..model.components().len() as u16 {
-        let comp = CompId(number);
-        let wanted = wanted_of(model, inter, comp);
-        if named_on(model, line, comp) != wanted {
-            if let Some(placed) = want_on(model, line, comp) {
-                explanation.say_placed(placed);
-                explanation.say(b": ");
-            }
-            say_name(explanation, model.interaction_names(), inter.0 as usize);
-            return explain_party(explanation, model, comp, wanted);
-        }
-    }
-}
-
-// Says how an interaction's grant names a component.
-fn explain_party(explanation: &mut Explanation, model: &Model, comp: CompId, wanted: Named) {
-    explanation.say(match wanted {
-        Named::Moved => b" moves ",
-        Named::Seen => b" looks at ",
-        Named::Absent => b" neither moves nor looks at ",
-    });
-    say_component(explanation, model, comp);
-    explanation.say(match wanted {
-        Named::Seen => b", which stands behind `see`",
-        Named::Moved | Named::Absent => b"",
-    });
-}
-
-fn wanted_of(model: &Model, inter: InterId, comp: CompId) -> Named {
-    if model.moves(inter, comp) {
-        Named::Moved
-    } else if model.is_looked_at(inter, comp) {
-        Named::Seen
-    } else {
-        Named::Absent
-    }
-}
-
-fn named_on(model: &Model, line: &[u8], comp: CompId) -> Named {
-    let mut named = Named::Moved;
-    for placed in PlacedWords::of(line) {
-        if is_text(placed.word, b"see") {
-            named = Named::Seen;
-        }
-        if let Some((component, _number)) = want_of(placed.word) {
-            if model.component(&component) == Some(comp) {
-                return named;
-            }
-        }
-    }
-    Named::Absent
 }

@@ -1,13 +1,34 @@
 //! Faults of a trace's text.
-ghost use Rattle.bip_explain.specs.Explanations.{StaysClosed};
+ghost use Rattle.std.specs.Prelude.{◌≡◌, IfSome, IsTrue};
+ghost use Rattle.bip_model.specs.declared.parts.System.{System};
+ghost use Rattle.bip_replay.specs.declared.faults.TraceFault.{TraceFault};
+ghost use Rattle.bip_explain.specs.Explanations.{Tells, with_parts};
+ghost use Rattle.bip_explain.specs.Placed.{line_at};
+ghost use Rattle.bip_explain.specs.Traces.{IsNamedBefore, IsTraceReason, trace_parts};
+ghost use Rattle.bip_explain.specs.Words.{HasNot};
 
 use crate::Explanation;
 use crate::expected::Expected;
-use crate::forms::{explain_byte, explain_words};
-use crate::placed::{PlacedWords, line_at, words_of};
-use crate::words::{Spelling, is_text, want_of};
+use crate::forms::{FormReason, find_byte, find_word};
+use crate::placed::{Placed, PlacedWords, line_at, words_of};
+use crate::words::{Spelling, want_of};
 use bip_model::{MOST_WANTS, Model, Name};
 use bip_replay::TraceFault;
+
+/// Why a line of a trace says no grant of a model.
+#[derive(Clone, Copy)]
+pub(crate) enum TraceReason<'t> {
+    Form(FormReason<'t>),
+    /// A word that names a component which a word before names.
+    Twice(Placed<'t>),
+    /// A word that names one component too many.
+    TooMany(Placed<'t>),
+    /// A word that is no interaction's name.
+    NoInteraction(Placed<'t>),
+    /// A word that names a component which the model lacks.
+    NoComponent(Placed<'t>, Name),
+    NoMemory,
+}
 
 /// Says why a line of a trace says no grant of the model: the word that can't stand where it
 /// stands, or the name that the model lacks, with its column (docs/ANSWERS.md, "Explanations").
@@ -19,54 +40,92 @@ pub fn explain_trace(
     number: u64,
     fault: &TraceFault,
 )
-    ensures { StaysClosed explanation.old explanation.new }
+    ensures { Tells (IsTraceReason model.now (line_at text.now number) fault.now) trace_parts
+        explanation.old explanation.new }
 {
-    if !explanation.is_open() {
-        return;
-    }
-    let line = line_at(text, number);
-    match fault {
-        TraceFault::Syntax => explain_form(explanation, line),
-        TraceFault::Unknown => explain_name(explanation, model, line),
-        TraceFault::Memory => explanation.say(b"the trace takes more memory than there is"),
-    }
-}
-
-fn explain_form(explanation: &mut Explanation, line: &[u8]) {
-    if words_of(line).is_none() {
-        return explain_byte(explanation, line);
-    }
-    explain_words(
-        explanation,
-        Spelling::Own,
-        Expected::Grant,
-        PlacedWords::of(line),
-    );
     if explanation.is_open() {
-        explain_wants(explanation, line);
-    }
-}
-
-// The first component that stands twice, or is one more than a grant may name.
-fn explain_wants(explanation: &mut Explanation, line: &[u8]) {
-    let mut count = 0usize;
-    for placed in PlacedWords::of(line) {
-        if let Some((component, _number)) = want_of(placed.word) {
-            if is_named_before(line, placed.column, &component) {
-                explanation.say_placed(placed);
-                return explanation.say(b" names a component that stands here already");
-            }
-            count = count.saturating_add(1);
-            if MOST_WANTS < count {
-                explanation.say_placed(placed);
-                return explanation.say(b" is one too many; a grant names at most 32 components");
-            }
+        if let Some(reason) = find_reason(model, line_at(text, number), fault) {
+            reason.say(explanation);
         }
     }
 }
 
+impl TraceReason<'_> {
+    fn say(&self, explanation: &mut Explanation)
+        ensures { explanation.new ≡ with_parts (trace_parts self.now) explanation.old }
+    {
+        match self {
+            TraceReason::Form(reason) => (*reason).say(explanation),
+            TraceReason::Twice(placed) => {
+                explanation.say_placed(*placed);
+                explanation.say(b" names a component that stands here already");
+            }
+            TraceReason::TooMany(placed) => {
+                explanation.say_placed(*placed);
+                explanation.say(b" is one too many; a grant names at most 32 components");
+            }
+            TraceReason::NoInteraction(placed) => {
+                explanation.say_column(placed.column);
+                explanation.say(b"the model has no interaction ");
+                explanation.say_word(placed.word);
+            }
+            TraceReason::NoComponent(placed, component) => {
+                explanation.say_column(placed.column);
+                explanation.say(b"the model has no component ");
+                explanation.say_word(component.as_bytes());
+            }
+            TraceReason::NoMemory => explanation.say(b"the trace takes more memory than there is"),
+        }
+    }
+}
+
+fn find_reason<'t>(model: &Model, line: &'t [u8], fault: &TraceFault) -> Option<TraceReason<'t>>
+    ensures { IfSome result (IsTraceReason model.now line.now fault.now) }
+{
+    match fault {
+        TraceFault::Syntax => find_form(line),
+        TraceFault::Unknown => find_name(model, line),
+        TraceFault::Memory => Some(TraceReason::NoMemory),
+    }
+}
+
+fn find_form(line: &[u8]) -> Option<TraceReason<'_>>
+    ensures { (model : System) → (fault : TraceFault)
+        → IfSome result (IsTraceReason model line.now fault) }
+{
+    if words_of(line).is_none() {
+        return Some(TraceReason::Form(find_byte(line)?));
+    }
+    match find_word(Spelling::Own, Expected::Grant, PlacedWords::of(line)) {
+        Some(reason) => Some(TraceReason::Form(reason)),
+        None => find_want(line),
+    }
+}
+
+// The first component that stands twice, or is one more than a grant may name.
+fn find_want(line: &[u8]) -> Option<TraceReason<'_>>
+    ensures { (model : System) → (fault : TraceFault)
+        → IfSome result (IsTraceReason model line.now fault) }
+{
+    let mut count = 0usize;
+    for placed in PlacedWords::of(line) {
+        if let Some((component, _number)) = want_of(placed.word) {
+            if is_named_before(line, placed.column, &component) {
+                return Some(TraceReason::Twice(placed));
+            }
+            count = count.saturating_add(1);
+            if MOST_WANTS < count {
+                return Some(TraceReason::TooMany(placed));
+            }
+        }
+    }
+    None
+}
+
 // Whether a word of a line before a column names a component.
-fn is_named_before(line: &[u8], column: usize, component: &Name) -> bool {
+fn is_named_before(line: &[u8], column: usize, component: &Name) -> bool
+    ensures { IsTrue result → IsNamedBefore line.now column component.now }
+{
     for placed in PlacedWords::of(line) {
         if column <= placed.column {
             return false;
@@ -80,30 +139,33 @@ fn is_named_before(line: &[u8], column: usize, component: &Name) -> bool {
     false
 }
 
-fn explain_name(explanation: &mut Explanation, model: &Model, line: &[u8]) {
+// The interaction that the model lacks, or else the first component.
+fn find_name<'t>(model: &Model, line: &'t [u8]) -> Option<TraceReason<'t>>
+    ensures { (fault : TraceFault) → IfSome result (IsTraceReason model.now line.now fault) }
+{
     let mut words = PlacedWords::of(line);
     let _grant = words.next();
     if let Some(inter) = words.next() {
-        if !is_interaction(model, inter.word) {
-            explanation.say_column(inter.column);
-            explanation.say(b"the model has no interaction ");
-            return explanation.say_word(inter.word);
+        if is_missing(model, inter.word) {
+            return Some(TraceReason::NoInteraction(inter));
         }
     }
     for placed in words {
         if let Some((component, _number)) = want_of(placed.word) {
             if model.component(&component).is_none() {
-                explanation.say_column(placed.column);
-                explanation.say(b"the model has no component ");
-                return explanation.say_word(component.as_bytes());
+                return Some(TraceReason::NoComponent(placed, component));
             }
         }
     }
+    None
 }
 
-fn is_interaction(model: &Model, word: &[u8]) -> bool {
+// Whether a word is a name that no interaction of the model has.
+fn is_missing(model: &Model, word: &[u8]) -> bool
+    ensures { IsTrue result → HasNot model.now.interaction_names word.now }
+{
     match Name::of(word) {
-        Some(name) => model.interaction(&name).is_some(),
+        Some(name) => model.interaction(&name).is_none(),
         None => false,
     }
 }

@@ -1,8 +1,14 @@
 //! Names of a model's text that are there already.
+ghost use Rattle.std.specs.Prelude.{◌≡◌, ◌<◌, ◌∷◌, ℕ, List, [], IfOk, IfSome, codes};
+ghost use Rattle.std.specs.Fmt.{decimal};
+ghost use Rattle.bip_explain.specs.Explanations.{with_parts};
+ghost use Rattle.bip_explain.specs.Placed.{line_at, said_words};
+ghost use Rattle.bip_explain.specs.Twice.{IsDeclaration, IsTwiceReason, declares_outer};
+ghost use Rattle.bip_explain.specs.Twice.{leave_same, say_same, twice_parts};
+
 use crate::Explanation;
-use crate::declared::{Declared, inner_line_with, line_with};
-use crate::placed::{Placed, PlacedWords, line_at, words_of};
-use crate::unknown::behind_first;
+use crate::declarations::{Declared, begins_component, declares_inner, inner_line_with, line_with};
+use crate::placed::{Placed, PlacedWords, four_words, line_at, three_words, words_of};
 use crate::words::{is_text, pair_of};
 use bip_model::NumberedLines;
 use std::alloc::{AllocError, Global};
@@ -12,73 +18,150 @@ const MOST_VARIABLES: usize = 8;
 
 const MOST_TARGETS: usize = 512;
 
-/// Says what a line names twice: the first such word from the left.
-pub(crate) fn explain_twice(
-    alloc: Global,
-    explanation: &mut Explanation,
-    text: &[u8],
-    number: u64,
-) -> Result<(), AllocError> {
-    let Some((keyword, mut words)) = words_of(line_at(text, number)) else {
-        return Ok(());
-    };
-    let behind = words.rest();
-    let Some(named) = words.next() else {
-        return Ok(());
-    };
-    if is_text(keyword.word, b"priority") {
-        explain_pair(explanation, text, number, behind);
-    } else if let Some(line) = line_of_name(text, number, keyword.word, named.word) {
-        explanation.say_column(named.column);
-        say_line(explanation, line);
-        explanation.say(b" declares ");
-        explanation.say_word(named.word);
-        explanation.say(b" already");
-    } else {
-        let declared = Declared::before(alloc, text, number)?;
-        explain_repeated(explanation, &declared, words);
-    }
-    Ok(())
+/// What a line names twice.
+#[derive(Clone, Copy)]
+pub(crate) enum TwiceReason<'t> {
+    /// A word that the line with this number declares.
+    Declared(Placed<'t>, u64),
+    /// The line with this number puts the same interactions above one another.
+    Said(u64),
+    /// A transition on the line with this number leaves the location with the port.
+    Leaves(u64),
+    /// A component that takes part already.
+    Party(Placed<'t>),
+    /// A variable that is a target already.
+    Target(Placed<'t>),
 }
 
-fn say_line(explanation: &mut Explanation, line: u64) {
-    explanation.say(b"line ");
-    explanation.say_number(line);
-}
-
-// The line before that declares the name which a line with this keyword declares.
-fn line_of_name(text: &[u8], number: u64, keyword: &[u8], name: &[u8]) -> Option<u64> {
-    if is_text(keyword, b"var") || is_text(keyword, b"loc") || is_text(keyword, b"port") {
-        inner_line_with(text, number, name)
-    } else {
-        line_with(text, number, keyword, name)
-    }
-}
-
-// The line before that puts the same interactions above one another.
-fn explain_pair(explanation: &mut Explanation, text: &[u8], number: u64, words: PlacedWords<'_>) {
-    for (line, bytes) in NumberedLines::of(text) {
-        if number <= line {
-            return;
-        }
-        if let Some((keyword, others)) = words_of(bytes) {
-            if is_text(keyword.word, b"priority") && are_same(words.rest(), others) {
+impl TwiceReason<'_> {
+    /// Says what is named twice, and where it stands.
+    pub(crate) fn say(self, explanation: &mut Explanation)
+        ensures { explanation.new ≡ with_parts (twice_parts self.entry) explanation.old }
+    {
+        match self {
+            TwiceReason::Declared(placed, line) => {
+                explanation.say_column(placed.column);
+                say_line(explanation, line);
+                explanation.say(b" declares ");
+                explanation.say_word(placed.word);
+                explanation.say(b" already");
+            }
+            TwiceReason::Said(line) => {
                 say_line(explanation, line);
                 explanation.say(b" says this already");
-                return;
+            }
+            TwiceReason::Leaves(line) => {
+                say_line(explanation, line);
+                explanation.say(b" has a transition with this port from this location already");
+            }
+            TwiceReason::Party(placed) => {
+                explanation.say_placed(placed);
+                explanation.say(b" names a component that takes part already");
+            }
+            TwiceReason::Target(placed) => {
+                explanation.say_placed(placed);
+                explanation.say(b" is a target already");
             }
         }
     }
 }
 
-fn are_same(words: PlacedWords<'_>, others: PlacedWords<'_>) -> bool {
-    words
-        .zip(others)
-        .all(|(word, other)| is_text(word.word, other.word))
+fn say_line(explanation: &mut Explanation, line: u64)
+    ensures { explanation.new
+        ≡ with_parts (codes "line " ∷ decimal line ∷ []) explanation.old }
+{
+    explanation.say(b"line ");
+    explanation.say_number(line);
+}
+
+/// What a line names twice: the first such word from the left.
+pub(crate) fn find_twice(
+    alloc: Global,
+    text: &[u8],
+    number: u64,
+) -> Result<Option<TwiceReason<'_>>, AllocError>
+    ensures { IfOk result (λ found.
+        IfSome found (IsTwiceReason text.now number (line_at text.now number))) }
+{
+    let line = line_at(text, number);
+    let Some((keyword, words)) = words_of(line) else {
+        return Ok(None);
+    };
+    if is_text(keyword.word, b"priority") {
+        return Ok(find_said(text, number, line));
+    }
+    let mut words = words;
+    let Some(named) = words.next() else {
+        return Ok(None);
+    };
+    if let Some(declared) = line_of_name(text, number, keyword.word, named.word) {
+        return Ok(Some(TwiceReason::Declared(named, declared)));
+    }
+    let declared = Declared::before(alloc, text, number)?;
+    Ok(find_repeated(&declared, words))
+}
+
+// The line before that declares the name which a line with this keyword declares.
+fn line_of_name(text: &[u8], number: u64, keyword: &[u8], name: &[u8]) -> Option<u64>
+    ensures { IfSome result (λ n. (n < number) × IsDeclaration text.now n name.now) }
+{
+    if declares_inner(keyword) {
+        inner_line_with(text, number, name)
+    } else if declares_outer(keyword) {
+        line_with(text, number, keyword, name)
+    } else {
+        None
+    }
+}
+
+fn declares_outer(keyword: &[u8]) -> bool
+    ensures { result ≡ declares_outer keyword.now }
+{
+    is_text(keyword, b"component") || is_text(keyword, b"interaction") || is_text(keyword, b"class")
+}
+
+// The line before that puts the same interactions above one another.
+fn find_said<'t>(text: &'t [u8], number: u64, line: &[u8]) -> Option<TwiceReason<'t>>
+    ensures { IfSome result (IsTwiceReason text.now number line.now) }
+{
+    for (other, bytes) in NumberedLines::of(text) {
+        if number <= other {
+            return None;
+        }
+        if say_same(line, bytes) {
+            return Some(TwiceReason::Said(other));
+        }
+    }
+    None
+}
+
+// Whether two lines begin with the same four words.
+fn say_same(line: &[u8], other: &[u8]) -> bool
+    ensures { result ≡ say_same (said_words line.now) (said_words other.now) }
+{
+    match (four_words(line), four_words(other)) {
+        (Some((a, b, c, d)), Some((e, f, g, h))) => {
+            is_text(a, e) && is_text(b, f) && is_text(c, g) && is_text(d, h)
+        }
+        _ => false,
+    }
+}
+
+// Whether two lines begin with the same three words.
+fn leave_same(line: &[u8], other: &[u8]) -> bool
+    ensures { result ≡ leave_same (said_words line.now) (said_words other.now) }
+{
+    match (three_words(line), three_words(other)) {
+        (Some((a, b, c)), Some((d, e, f))) => is_text(a, d) && is_text(b, e) && is_text(c, f),
+        _ => false,
+    }
 }
 
 // The first component that takes part twice, or else the first target that stands twice.
-fn explain_repeated(explanation: &mut Explanation, declared: &Declared, words: PlacedWords<'_>) {
+fn find_repeated<'t>(declared: &Declared, words: PlacedWords<'t>) -> Option<TwiceReason<'t>>
+    ensures { (text : List ℕ) → (number : ℕ)
+        → IfSome result (IsTwiceReason text number words.entry.line.now) }
+{
     let mut seen = [false; MOST_TARGETS];
     let mut is_head = true;
     let mut before: Option<Placed<'_>> = None;
@@ -90,19 +173,18 @@ fn explain_repeated(explanation: &mut Explanation, declared: &Declared, words: P
             is_head = false;
         } else if is_head {
             if is_seen(&mut seen, component_place(declared, placed.word)) {
-                explanation.say_placed(placed);
-                return explanation.say(b" names a component that takes part already");
+                return Some(TwiceReason::Party(placed));
             }
         } else if is_text(placed.word, b":=") {
             if let Some(target) = before {
                 if is_seen(&mut seen, variable_place(declared, target.word)) {
-                    explanation.say_placed(target);
-                    return explanation.say(b" is a target already");
+                    return Some(TwiceReason::Target(target));
                 }
             }
         }
         before = Some(placed);
     }
+    None
 }
 
 // Whether a place is seen already; it is from now on.
@@ -132,37 +214,24 @@ fn variable_place(declared: &Declared, word: &[u8]) -> Option<usize> {
     number.checked_mul(MOST_VARIABLES)?.checked_add(place)
 }
 
-/// Says which transition leaves the location of a line's transition with its port already.
-pub(crate) fn explain_transitions(explanation: &mut Explanation, text: &[u8], number: u64) {
+/// The transition that leaves the location of a line's transition with its port already.
+pub(crate) fn find_transition<'t>(
+    text: &'t [u8],
+    number: u64,
+    line: &[u8],
+) -> Option<TwiceReason<'t>>
+    ensures { IfSome result (IsTwiceReason text.now number line.now) }
+{
     let mut found = None;
-    for (line, bytes) in NumberedLines::of(text) {
-        if let Some((keyword, words)) = words_of(bytes) {
-            if line < number && is_text(keyword.word, b"component") {
-                found = None;
-            }
-            if line < number && is_text(keyword.word, b"trans") && found.is_none() {
-                found = leaves_as(words, line_at(text, number)).then_some(line);
-            }
+    for (other, bytes) in NumberedLines::of(text) {
+        if number <= other {
+            return found;
+        }
+        if begins_component(bytes) {
+            found = None;
+        } else if found.is_none() && leave_same(line, bytes) {
+            found = Some(TwiceReason::Leaves(other));
         }
     }
-    if let Some(line) = found {
-        say_line(explanation, line);
-        explanation.say(b" has a transition with this port from this location already");
-    }
-}
-
-// Whether a transition's words begin with the port and the source of a line's.
-fn leaves_as(words: PlacedWords<'_>, line: &[u8]) -> bool {
-    let Some((_keyword, others)) = words_of(line) else {
-        return false;
-    };
-    let (mut words, mut others) = (words, others);
-    is_next_same(&mut words, &mut others) && is_next_same(&mut words, &mut others)
-}
-
-fn is_next_same(words: &mut PlacedWords<'_>, others: &mut PlacedWords<'_>) -> bool {
-    match (words.next(), others.next()) {
-        (Some(word), Some(other)) => is_text(word.word, other.word),
-        _ => false,
-    }
+    found
 }

@@ -1,6 +1,12 @@
 //! Names of a model's text that nothing has.
+ghost use Rattle.std.specs.Prelude.{◌≡◌, ◌⊎◌, ℕ, List, IfOk, IfSome};
+ghost use Rattle.bip_explain.specs.Explanations.{with_parts};
+ghost use Rattle.bip_explain.specs.Placed.{IsPlacedOn, line_at};
+ghost use Rattle.bip_explain.specs.Unknown.{IsOf, IsUnknownReason, kind_word, lack_parts};
+ghost use Rattle.bip_explain.specs.Unknown.{other_parts, unknown_parts};
+
 use crate::Explanation;
-use crate::declared::{Declared, Inner};
+use crate::declarations::{Declared, Inner, line_with};
 use crate::placed::{Placed, PlacedWords, line_at, words_of};
 use crate::words::{is_text, pair_of};
 use bip_model::{Name, Names};
@@ -8,10 +14,86 @@ use std::alloc::{AllocError, Global};
 
 /// What a component has inside.
 #[derive(Clone, Copy)]
-enum Kind {
+pub(crate) enum Kind {
     Variable,
     Location,
     Port,
+}
+
+/// A component that has nothing of a kind by a name, and what it has by it.
+#[derive(Clone, Copy)]
+pub(crate) struct Lack {
+    pub component: Name,
+    pub kind: Kind,
+    pub name: Name,
+    pub other: Option<Kind>,
+}
+
+/// Why a name of a line is unknown.
+#[derive(Clone, Copy)]
+pub(crate) enum UnknownReason<'t> {
+    /// No line before declares an interaction by this name.
+    Interaction(Placed<'t>),
+    /// No line before declares the component that this word names.
+    Component(Placed<'t>, Name),
+    /// The component that this word names takes no part in the interaction.
+    Stranger(Placed<'t>, Name),
+    /// The component lacks what this word names.
+    Inner(Placed<'t>, Lack),
+}
+
+impl UnknownReason<'_> {
+    /// Says which name is unknown, behind its column.
+    pub(crate) fn say(&self, explanation: &mut Explanation)
+        ensures { explanation.new ≡ with_parts (unknown_parts self.now) explanation.old }
+    {
+        match self {
+            UnknownReason::Interaction(placed) => {
+                explanation.say_column(placed.column);
+                explanation.say(b"no line before declares an interaction ");
+                explanation.say_word(placed.word);
+            }
+            UnknownReason::Component(placed, component) => {
+                explanation.say_column(placed.column);
+                explanation.say(b"no line before declares a component ");
+                explanation.say_word(component.as_bytes());
+            }
+            UnknownReason::Stranger(placed, component) => {
+                explanation.say_column(placed.column);
+                explanation.say(b"component ");
+                explanation.say_word(component.as_bytes());
+                explanation.say(b" takes no part in this interaction");
+            }
+            UnknownReason::Inner(placed, lack) => {
+                explanation.say_column(placed.column);
+                lack.say(explanation);
+            }
+        }
+    }
+}
+
+impl Lack {
+    fn say(&self, explanation: &mut Explanation)
+        ensures { explanation.new ≡ with_parts (lack_parts self.now) explanation.old }
+    {
+        explanation.say(b"component ");
+        explanation.say_word(self.component.as_bytes());
+        explanation.say(b" has no ");
+        explanation.say(self.kind.word());
+        explanation.say(b" ");
+        explanation.say_word(self.name.as_bytes());
+        say_other(explanation, self.other);
+    }
+}
+
+fn say_other(explanation: &mut Explanation, other: Option<Kind>)
+    ensures { explanation.new ≡ with_parts (other_parts other) explanation.old }
+{
+    if let Some(kind) = other {
+        explanation.say(b", but a ");
+        explanation.say(kind.word());
+        explanation.say(b" of that name");
+    }
 }
 
 impl Kind {
@@ -23,7 +105,9 @@ impl Kind {
         }
     }
 
-    fn word(self) -> &'static [u8] {
+    fn word(self) -> &'static [u8]
+        ensures { result.now ≡ kind_word self }
+    {
         match self {
             Kind::Variable => b"variable",
             Kind::Location => b"location",
@@ -32,139 +116,211 @@ impl Kind {
     }
 }
 
-/// Says which name of a line is unknown: the first one from the left.
-pub(crate) fn explain_unknown(
+/// The name of a line that is unknown: the first one from the left.
+pub(crate) fn find_unknown(
     alloc: Global,
-    explanation: &mut Explanation,
     text: &[u8],
     number: u64,
-) -> Result<(), AllocError> {
+) -> Result<Option<UnknownReason<'_>>, AllocError>
+    ensures { IfOk result (λ found.
+        IfSome found (IsUnknownReason text.now number (line_at text.now number))) }
+{
     let declared = Declared::before(alloc, text, number)?;
-    if let Some((keyword, words)) = words_of(line_at(text, number)) {
-        if is_text(keyword.word, b"trans") {
-            explain_transition(explanation, &declared, words);
-        } else if is_text(keyword.word, b"interaction") {
-            explain_interaction(explanation, &declared, words);
-        } else if is_text(keyword.word, b"class") {
-            explain_members(explanation, &declared, behind_first(words));
-        } else {
-            explain_members(explanation, &declared, words);
-        }
-    }
-    Ok(())
+    let Some((keyword, words)) = words_of(line_at(text, number)) else {
+        return Ok(None);
+    };
+    Ok(if is_text(keyword.word, b"trans") {
+        find_in_transition(text, number, &declared, words)
+    } else if is_text(keyword.word, b"interaction") {
+        find_in_interaction(text, number, &declared, behind_first(words))
+    } else if is_text(keyword.word, b"class") {
+        find_member(text, number, &declared, behind_first(words))
+    } else {
+        find_member(text, number, &declared, words)
+    })
 }
 
 /// The words behind the first one.
-pub(crate) fn behind_first(words: PlacedWords<'_>) -> PlacedWords<'_> {
+pub(crate) fn behind_first<'t>(words: PlacedWords<'t>) -> PlacedWords<'t>
+    ensures { result.line.now ≡ words.entry.line.now }
+{
     let mut words = words;
     let _first = words.next();
     words
 }
 
 // The first name that no interaction has.
-fn explain_members(explanation: &mut Explanation, declared: &Declared, words: PlacedWords<'_>) {
+fn find_member<'t>(
+    text: &[u8],
+    number: u64,
+    declared: &Declared,
+    words: PlacedWords<'t>,
+) -> Option<UnknownReason<'t>>
+    ensures { IfSome result (IsUnknownReason text.now number words.entry.line.now) }
+{
     for placed in words {
-        if let Some(name) = Name::of(placed.word) {
-            if !declared.interactions.contains(&name) {
-                explanation.say_column(placed.column);
-                explanation.say(b"no line before declares an interaction ");
-                explanation.say_word(placed.word);
-                return;
-            }
+        if is_missing(&declared.interactions, placed.word)
+            && line_with(text, number, b"interaction", placed.word).is_none()
+        {
+            return Some(UnknownReason::Interaction(placed));
         }
+    }
+    None
+}
+
+// Whether a word is a name that isn't in a list.
+fn is_missing(names: &Names, word: &[u8]) -> bool {
+    match Name::of(word) {
+        None => false,
+        Some(name) => !names.contains(&name),
     }
 }
 
 // The first name that the component lacks which is begun: its port, its locations, its variables.
-fn explain_transition(explanation: &mut Explanation, declared: &Declared, words: PlacedWords<'_>) {
-    let Some((component, inner)) = declared.last() else {
-        return;
-    };
+fn find_in_transition<'t>(
+    text: &[u8],
+    number: u64,
+    declared: &Declared,
+    words: PlacedWords<'t>,
+) -> Option<UnknownReason<'t>>
+    ensures { IfSome result (IsUnknownReason text.now number words.entry.line.now) }
+{
+    let (component, inner) = declared.last()?;
     let mut place = 0u8;
     for placed in words {
-        let kind = match place {
-            0 => Kind::Port,
-            1 | 2 => Kind::Location,
-            _ => Kind::Variable,
-        };
+        let kind = kind_at(place);
         place = place.saturating_add(1);
         if let Some(name) = Name::of(placed.word) {
-            if !kind.names(inner).contains(&name) {
-                explanation.say_column(placed.column);
-                return explain_lack(explanation, component, inner, kind, &name);
+            if let Some(lack) = lack_of(inner, *component, kind, name) {
+                return Some(UnknownReason::Inner(placed, lack));
             }
         }
     }
+    None
 }
 
-// Says that a component has nothing of a kind by a name, and what it has by it.
-fn explain_lack(
-    explanation: &mut Explanation,
-    component: &Name,
-    inner: &Inner,
-    kind: Kind,
-    name: &Name,
-) {
-    explanation.say(b"component ");
-    explanation.say_word(component.as_bytes());
-    explanation.say(b" has no ");
-    explanation.say(kind.word());
-    explanation.say(b" ");
-    explanation.say_word(name.as_bytes());
-    for other in [Kind::Variable, Kind::Location, Kind::Port] {
-        if other.names(inner).contains(name) {
-            explanation.say(b", but a ");
-            explanation.say(other.word());
-            explanation.say(b" of that name");
-        }
+// What a word of a transition names, by its place.
+fn kind_at(place: u8) -> Kind {
+    match place {
+        0 => Kind::Port,
+        1 | 2 => Kind::Location,
+        _ => Kind::Variable,
     }
 }
 
-// The first participant, and then the first variable, that the line can't name.
-fn explain_interaction(explanation: &mut Explanation, declared: &Declared, words: PlacedWords<'_>) {
-    let mut parties = [false; 64];
-    let mut is_head = true;
-    for placed in behind_first(words) {
+// What a component lacks, if it has nothing of a kind by a name.
+fn lack_of(inner: &Inner, component: Name, kind: Kind, name: Name) -> Option<Lack>
+    ensures component { IfSome result (λ lack. lack.component ≡ component) }
+    ensures name { IfSome result (λ lack. lack.name ≡ name) }
+{
+    if kind.names(inner).contains(&name) {
+        return None;
+    }
+    Some(Lack {
+        component,
+        kind,
+        name,
+        other: kind_of(inner, &name),
+    })
+}
+
+// What a component has by a name.
+fn kind_of(inner: &Inner, name: &Name) -> Option<Kind> {
+    if inner.variables.contains(name) {
+        Some(Kind::Variable)
+    } else if inner.locations.contains(name) {
+        Some(Kind::Location)
+    } else if inner.ports.contains(name) {
+        Some(Kind::Port)
+    } else {
+        None
+    }
+}
+
+/// Which components take part in an interaction, and whether its words name ports still.
+#[derive(Drop)]
+struct Parties {
+    are_in: [bool; 64],
+    is_head: bool,
+}
+
+// The first participant, or else the first variable, that the line can't name.
+fn find_in_interaction<'t>(
+    text: &[u8],
+    number: u64,
+    declared: &Declared,
+    words: PlacedWords<'t>,
+) -> Option<UnknownReason<'t>>
+    ensures { IfSome result (IsUnknownReason text.now number words.entry.line.now) }
+{
+    let mut parties = Parties {
+        are_in: [false; 64],
+        is_head: true,
+    };
+    for placed in words {
         if is_text(placed.word, b"when") || is_text(placed.word, b"do") {
-            is_head = false;
-        } else if let Some((component, name)) = pair_of(placed.word) {
-            match declared.inner(&component) {
-                None => {
-                    explanation.say_column(placed.column);
-                    explanation.say(b"no line before declares a component ");
-                    return explanation.say_word(component.as_bytes());
-                }
-                Some((number, inner)) => {
-                    let kind = if is_head { Kind::Port } else { Kind::Variable };
-                    if is_head {
-                        join(&mut parties, number);
-                    }
-                    if !is_party(&parties, number) {
-                        return explain_stranger(explanation, placed, &component);
-                    }
-                    if !kind.names(inner).contains(&name) {
-                        explanation.say_column(placed.column);
-                        return explain_lack(explanation, &component, inner, kind, &name);
-                    }
-                }
-            }
+            parties.is_head = false;
+        } else if let Some(reason) = find_in_pair(text, number, declared, &mut parties, placed) {
+            return Some(reason);
         }
     }
+    None
 }
 
-fn join(parties: &mut [bool; 64], number: usize) {
-    if number < 64 {
-        parties[number] = true;
+// What is unknown of a participant, or of a variable.
+fn find_in_pair<'t>(
+    text: &[u8],
+    number: u64,
+    declared: &Declared,
+    parties: &mut Parties,
+    placed: Placed<'t>,
+) -> Option<UnknownReason<'t>>
+    ensures { (line : List ℕ) → IsPlacedOn line placed.entry
+        → IfSome result (IsUnknownReason text.now number line) }
+{
+    let (component, name) = pair_of(placed.word)?;
+    let Some((index, inner)) = declared.inner(&component) else {
+        return find_component(text, number, placed, component);
+    };
+    if parties.is_head {
+        parties.join(index);
+    } else if !parties.has(index) {
+        return Some(UnknownReason::Stranger(placed, component));
+    }
+    let kind = if parties.is_head {
+        Kind::Port
+    } else {
+        Kind::Variable
+    };
+    let lack = lack_of(inner, component, kind, name)?;
+    Some(UnknownReason::Inner(placed, lack))
+}
+
+// That no line before declares a component.
+fn find_component<'t>(
+    text: &[u8],
+    number: u64,
+    placed: Placed<'t>,
+    component: Name,
+) -> Option<UnknownReason<'t>>
+    requires { IsOf component placed.word.now }
+    ensures { (line : List ℕ) → IsPlacedOn line placed.entry
+        → IfSome result (IsUnknownReason text.now number line) }
+{
+    match line_with(text, number, b"component", component.as_bytes()) {
+        Some(_) => None,
+        None => Some(UnknownReason::Component(placed, component)),
     }
 }
 
-fn is_party(parties: &[bool; 64], number: usize) -> bool {
-    number < 64 && parties[number]
-}
+impl Parties {
+    fn join(&mut self, index: usize) {
+        if index < 64 {
+            self.are_in[index] = true;
+        }
+    }
 
-fn explain_stranger(explanation: &mut Explanation, placed: Placed<'_>, component: &Name) {
-    explanation.say_column(placed.column);
-    explanation.say(b"component ");
-    explanation.say_word(component.as_bytes());
-    explanation.say(b" takes no part in this interaction");
+    fn has(&self, index: usize) -> bool {
+        index < 64 && self.are_in[index]
+    }
 }

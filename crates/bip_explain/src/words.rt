@@ -1,4 +1,8 @@
 //! What words are by themselves.
+ghost use Rattle.std.specs.Prelude.{◌≡◌, ◌↔◌, IfSome, IsTrue};
+ghost use Rattle.bip_model.specs.Naming.{IsName, same_text};
+ghost use Rattle.bip_explain.specs.Words.{IsPair, IsWant};
+
 use bip_model::{Name, parse_number, parse_value, split_pair};
 
 /// The words that stand between the parts of guards and sums: relations.
@@ -11,11 +15,15 @@ pub(crate) enum Spelling {
     Shared,
 }
 
-pub(crate) fn is_text(word: &[u8], text: &[u8]) -> bool {
+pub(crate) fn is_text(word: &[u8], text: &[u8]) -> bool
+    ensures { result ≡ same_text word.now text.now }
+{
     word == text
 }
 
-pub(crate) fn is_name(word: &[u8]) -> bool {
+pub(crate) fn is_name(word: &[u8]) -> bool
+    ensures { IsTrue result ↔ IsName word.now }
+{
     Name::of(word).is_some()
 }
 
@@ -24,7 +32,9 @@ pub(crate) fn is_value(word: &[u8]) -> bool {
 }
 
 /// A component with one of its ports, or of its variables: `C.p`.
-pub(crate) fn pair_of(word: &[u8]) -> Option<(Name, Name)> {
+pub(crate) fn pair_of(word: &[u8]) -> Option<(Name, Name)>
+    ensures { IfSome result (λ pair. IsPair pair.0 pair.1 word.now) }
+{
     let (component, inner) = split_pair(word, b'.')?;
     Some((Name::of(component)?, Name::of(inner)?))
 }
@@ -34,7 +44,9 @@ pub(crate) fn is_pair(word: &[u8]) -> bool {
 }
 
 /// A component with its number: `C:N`.
-pub(crate) fn want_of(word: &[u8]) -> Option<(Name, u64)> {
+pub(crate) fn want_of(word: &[u8]) -> Option<(Name, u64)>
+    ensures { IfSome result (λ want. IsWant want.0 word.now) }
+{
     let (component, number) = split_pair(word, b':')?;
     Some((Name::of(component)?, parse_number(number)?))
 }

@@ -1,17 +1,29 @@
-use Rattle.std.proofs.Common.{◌≤◌, length, sym, ap, ◌∙◌, ◌∷◌, [], take, get_or}
-use Rattle.std.proofs.lemmas.List.{take_more}
-use Rattle.bip_explain.specs.Explanations.{with_text}
-use Rattle.bip_explain.proofs.SayLemmas.{none_said, said_twice}
+use Rattle.std.proofs.Common.{◌≤◌, length, ap, ◌∙◌, arith}
+use Rattle.bip_explain.specs.Explanations.{with_part}
+use Rattle.bip_explain.proofs.SayLemmas.{all_shown, said_cut, said_whole, unsaid, unwanted}
 use Rattle.bip_explain.proofs.explanations.Explanation.say.Goals as goal
+use Rattle.bip_explain.proofs.explanations.Explanation.say.Goals.{else-self-via-then-self+else-not-self, else-self-via-else-self}
 
-pub loop-byte-init : goal.loop-byte-init
-loop-byte-init c =
-    let room : length c.args.self.now.said ≤ 480 = rw (← c.self.view_is) c.self.invariant.1 in
-    none_said c.args.self.now room
+pub invariant_of-self : goal.invariant_of-self
+invariant_of-self c =
+    let few : length c.self.inside.said.items ≤ 478 = c.self.invariant.2 c.if-not-self.true in
+    (rw c.push_all.ensures.put (all_shown c.self.inside.said.items c.args.text.now c.self.invariant.0), omega arith, λ _. omega arith)
 
-pub loop-byte-preserved : goal.loop-byte-preserved
-loop-byte-preserved c =
-    let text = c.args.text.now in
-    let i = c.loop-byte.byte-index in
-    let byte = get_or text i 0 in
-    c.put.ensures ∙ ap (with_text (byte ∷ [])) c.loop-byte.invariant ∙ said_twice (take i text) (byte ∷ []) c.args.self.now ∙ ap (λ t. with_text t c.args.self.now) (sym (take_more text i 0 c.loop-byte-test.true))
+pub returns-then-text-len : goal.returns-then-text-len
+returns-then-text-len c =
+    let i = c.self.inside in
+    let few : length i.said.items ≤ 478 = c.self.invariant.2 c.if-not-self.true in
+    said_whole i.is_wanted i.is_cut i.said.items c.args.text.now c.push_all.new.said.items c.if-self.true c.if-not-self.true (omega arith) c.push_all.ensures.put ∙ ap (with_part c.args.text.now) c.self.view_is
+
+pub returns-else-text-len : goal.returns-else-text-len
+returns-else-text-len c =
+    let i = c.self.inside in
+    said_cut i.is_wanted i.is_cut i.said.items c.args.text.now c.push_all-else-text-len.new.said.items c.if-self.true c.if-not-self.true (omega arith) c.push_all-else-text-len.ensures.put ∙ ap (with_part c.args.text.now) c.self.view_is
+
+pub returns-else-self : goal.returns-else-self
+returns-else-self c =
+    let i = c.self.inside in
+    elim c.else-self.branch [
+      | else-self-via-then-self+else-not-self w ↦ rw (← c.self.view_is) (unsaid i.is_wanted i.is_cut i.said.items c.args.text.now w.if-not-self.false)
+      | else-self-via-else-self w ↦ rw (← c.self.view_is) (unwanted i.is_wanted i.is_cut i.said.items c.args.text.now w.if-self.false)
+    ]

@@ -1,0 +1,50 @@
+-- Where the words of a line stand.
+use Rattle.std.proofs.Common.{◌≡◌, ℕ, ◌+◌, ◌-◌, ◌≤◌, List, [], ◌∷◌, ◌++◌, length, take, sym, ap, ◌∙◌, append_assoc, arith, length-append}
+use Rattle.std.proofs.lemmas.List.{take-append-drop}
+use Rattle.std.proofs.Math.Seq.{drop-append_seam}
+use Rattle.bip_model.specs.Texts.{words, IsWordAndRest}
+use Rattle.bip_explain.specs.Placed.{IsEndOf, IsRestOf, IsWordAt}
+
+-- what stands in front of an end
+pub front_of : {A : Type 0} (whole end : List A) → IsEndOf whole end → whole ≡ take (length whole - length end) whole ++ end
+front_of whole end h = sym (take-append-drop (length whole - length end) whole) ∙ ap (λ e. take (length whole - length end) whole ++ e) h
+
+pub end_behind : {A : Type 0} (whole front end : List A) → whole ≡ front ++ end → IsEndOf whole end
+end_behind {A} whole front end h =
+    let n : length whole - length end ≡ length front = omega (arith, ap length h, length-append front end) in
+    rw n (rw h (drop-append_seam front end))
+
+-- what is left behind a word
+pub rest_behind : (line old word new : List ℕ) → IsRestOf line old → IsWordAndRest old word new → words old ≡ word ∷ words new → IsRestOf line new
+unfolding IsWordAndRest
+rest_behind line old word new h parts split =
+    let front : List ℕ = take (length line - length old) line in
+    let told : List (List ℕ) = take (length (words line) - length (words old)) (words line) in (
+      end_behind line (front ++ parts.0 ++ word) new
+          (front_of line old h.0 ∙ ap (λ l. front ++ l) parts.2 ∙ simp append_assoc),
+      end_behind (words line) (told ++ word ∷ []) (words new)
+          (front_of (words line) (words old) h.1 ∙ ap (λ l. told ++ l) split ∙ simp append_assoc),
+    )
+
+-- the word that is taken stands in the line
+pub word_taken : (line old word new : List ℕ) → IsRestOf line old → IsWordAndRest old word new → words old ≡ word ∷ words new → IsWordAt line (length line - length new - length word + 1) word
+unfolding IsWordAndRest
+word_taken line old word new h parts split =
+    let front : List ℕ = take (length line - length old) line in
+    let told : List (List ℕ) = take (length (words line) - length (words old)) (words line) in
+    let whole : line ≡ (front ++ parts.0) ++ (word ++ new) = front_of line old h.0 ∙ ap (λ l. front ++ l) parts.2 ∙ simp append_assoc in
+    record {
+      before = front ++ parts.0;
+      behind = new;
+      front = told;
+      line_is = whole;
+      column_is = omega (arith, ap length whole, length-append (front ++ parts.0) (word ++ new), length-append word new);
+      words_are = front_of (words line) (words old) h.1 ∙ ap (λ l. told ++ l) split;
+    }
+
+-- a word and what is left behind it are no longer than the line
+pub word_fits : (line old word new : List ℕ) → IsRestOf line old → IsWordAndRest old word new → length new + length word ≤ length line
+unfolding IsWordAndRest
+word_fits line old word new h parts =
+    let front : List ℕ = take (length line - length old) line in
+    omega (arith, ap length (front_of line old h.0), length-append front old, ap length parts.2, length-append (parts.0 ++ word) new, length-append parts.0 word)

@@ -1,0 +1,25 @@
+use Rattle.std.proofs.Common.{refl, ◌∙◌, ◌+◌, arith, rules, below_more}
+use Rattle.bip_explain.proofs.LineLemmas.{at_first, at_next, line_zero}
+use Rattle.bip_explain.proofs.declarations.line_with.Goals as goal
+
+pub loop-number-init : goal.loop-number-init
+loop-number-init c = (
+  1,
+  at_first _ _ (c.into_iter-number-iterator.ensures.into_iter_gives ∙ c.of-number-items.ensures),
+  λ n h. rw (line_zero c.args.text.now n h) refl,
+)
+
+pub returns-then-line-number-clause-none : goal.returns-then-line-number-clause-none
+returns-then-line-number-clause-none c =
+    let next = at_next _ _ _ _ _ _ c.loop-number.invariant.1 c.in-Some.ensures.steps in
+    λ n h. c.loop-number.invariant.2 n (omega (arith, next.number))
+
+pub returns-then-begins_with-clause-some : goal.returns-then-begins_with-clause-some
+returns-then-begins_with-clause-some c =
+    let next = at_next _ _ _ _ _ _ c.loop-number.invariant.1 c.in-Some.ensures.steps in
+    (omega arith, rw next.line_is (search rules))
+
+pub loop-number-preserved : goal.loop-number-preserved
+loop-number-preserved c =
+    let next = at_next _ _ _ _ _ _ c.loop-number.invariant.1 c.in-Some.ensures.steps in
+    (c.loop-number.invariant.0 + 1, next.later, below_more _ _ c.loop-number.invariant.2 (rw (← next.number) (rw next.line_is (search rules))))

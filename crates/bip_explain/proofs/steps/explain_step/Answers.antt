@@ -1,0 +1,31 @@
+use Rattle.std.proofs.Common.{refl, sym, ◌∙◌}
+use Rattle.bip_explain.specs.Grants.{IsGrantReason, IsOfFault, grant_parts}
+use Rattle.bip_explain.specs.Placed.{line_at}
+use Rattle.bip_explain.specs.declared.grants.GrantReason.TheVariants.{Next}
+use Rattle.bip_replay.specs.declared.faults.BookFault.TheVariants.{Number, Parties}
+use Rattle.bip_explain.proofs.SayLemmas.{tells}
+use Rattle.bip_explain.proofs.steps.explain_step.Goals as goal
+
+pub returns-in-Number-clause-told : goal.returns-in-Number-clause-told
+returns-in-Number-clause-told c =
+    let model = c.args.model.now in
+    let line = line_at c.args.text.now c.args.number in
+    let n = c.in-Number in
+    rw n.is (tells (λ r. IsGrantReason model line r × IsOfFault (Number n.comp n.expected) r) (grant_parts model c.args.base) c.args.explanation.now c.say.new.explanation
+    (Next c.want_on-placed.result n.comp n.expected)
+    (sym c.is_open.ensures ∙ c.if-not-is_open.false)
+    (rw c.line_at.ensures at c.want_on-placed.ensures, (refl, refl))
+    c.say.ensures)
+
+pub returns-in-Some-clause-told : goal.returns-in-Some-clause-told
+returns-in-Some-clause-told c =
+    let model = c.args.model.now in
+    let line = line_at c.args.text.now c.args.number in
+    rw c.in-Parties.is (tells (λ r. IsGrantReason model line r × IsOfFault Parties r) (grant_parts model c.args.base) c.args.explanation.now c.say-in-Some.new.explanation
+    c.in-Some.reason
+    (sym c.is_open.ensures ∙ c.if-not-is_open.false)
+    (rw c.line_at-in-Parties.ensures at c.in-Some.ensures)
+    c.say-in-Some.ensures)
+
+pub returns-in-Memory-clause-told : goal.returns-in-Memory-clause-told
+returns-in-Memory-clause-told c = rw c.in-Memory.is (λ told. c.say-in-Memory.ensures)

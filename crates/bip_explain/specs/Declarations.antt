@@ -1,0 +1,40 @@
+-- What the lines of a text begin with, and so declare.
+use Rattle.std.specs.Prelude.{◌≡◌, ℕ, ◌<◌, Bool, false, ◌&&◌, ◌||◌, IsTrue, codes, List, [], ◌∷◌}
+use Rattle.bip_model.specs.Naming.{same_text}
+use Rattle.bip_explain.specs.Placed.{line_at, said_words}
+
+-- words begin with these two
+abbrev pub begins_with : List ℕ → List ℕ → List (List ℕ) → Bool
+begins_with keyword name [] = false
+begins_with keyword name (first ∷ []) = false
+begins_with keyword name (first ∷ second ∷ rest) =
+    same_text first keyword && same_text second name
+
+-- a word that declares what a component has inside
+abbrev pub declares_inner : List ℕ → Bool
+declares_inner keyword = same_text keyword (codes "var") || same_text keyword (codes "loc")
+    || same_text keyword (codes "port")
+
+-- words declare a name inside a component
+abbrev pub declares : List ℕ → List (List ℕ) → Bool
+declares name [] = false
+declares name (first ∷ []) = false
+declares name (first ∷ second ∷ rest) = declares_inner first && same_text second name
+
+-- the line with this number declares a name inside a component
+abbrev pub IsInnerLine : List ℕ → ℕ → List ℕ → Type 0
+IsInnerLine text line name = IsTrue (declares name (said_words (line_at text line)))
+
+-- the line of a text with this number says words that begin with these two
+abbrev pub IsLineWith : List ℕ → ℕ → List ℕ → List ℕ → Type 0
+IsLineWith text line keyword name =
+    IsTrue (begins_with keyword name (said_words (line_at text line)))
+
+-- a line before one begins with these two words
+abbrev pub HasLineWith : List ℕ → ℕ → List ℕ → List ℕ → Type 0
+HasLineWith text line keyword name = (n : ℕ) × (n < line) × IsLineWith text n keyword name
+
+-- no line before one begins with these two words
+abbrev pub NoLineWith : List ℕ → ℕ → List ℕ → List ℕ → Type 0
+NoLineWith text line keyword name =
+    (n : ℕ) → n < line → begins_with keyword name (said_words (line_at text n)) ≡ false

@@ -1,0 +1,39 @@
+-- What a model's text lacks as a whole, and how it is told.
+use Rattle.std.specs.Prelude.{◌≡◌, ℕ, ◌+◌, ◌<◌, List, [], ◌∷◌, ◌++◌, codes, ⊤}
+use Rattle.std.specs.Fmt.{decimal}
+use Rattle.bip_explain.specs.Declarations.{HasLineWith}
+use Rattle.bip_explain.specs.Explanations.{marked, placed_parts}
+use Rattle.bip_explain.specs.Placed.{IsPlacedOn, line_at, said_words}
+use Rattle.bip_explain.specs.declared.ends.EndReason.{EndReason}
+use Rattle.bip_explain.specs.declared.ends.EndReason.TheVariants.{NoLocation, NoEnd, NoComponent, NoFirst, Above, InNoClass, InClasses}
+
+-- a reason is true of a text whose line with this number is at fault: the component that is told is
+-- begun by a line before, or on the line; no line up to it says anything; the word that is told
+-- stands on the line that is told, at its column
+abbrev pub IsEndReason : List ℕ → ℕ → EndReason → Type 0
+IsEndReason text number (NoLocation component) =
+    HasLineWith text number (codes "component") component.now
+IsEndReason text number (NoEnd component) =
+    HasLineWith text (number + 1) (codes "component") component.now
+IsEndReason text number NoComponent = ⊤
+IsEndReason text number NoFirst =
+    (n : ℕ) → n < number + 1 → said_words (line_at text n) ≡ []
+IsEndReason text number (Above name) = ⊤
+IsEndReason text number (InNoClass name) = ⊤
+IsEndReason text number (InClasses n placed) = IsPlacedOn (line_at text n) placed
+
+-- how a reason is told
+abbrev pub end_parts : EndReason → List (List ℕ)
+end_parts (NoLocation component) =
+    codes "component " ∷ marked component.now ∷ codes " has no location" ∷ []
+end_parts (NoEnd component) =
+    codes "component " ∷ marked component.now ∷ codes " has no `end`" ∷ []
+end_parts NoComponent = codes "there is no component" ∷ []
+end_parts NoFirst = codes "no line is `bip 1`" ∷ []
+end_parts (Above name) =
+    codes "interaction " ∷ marked name ∷ codes " stands above itself" ∷ []
+end_parts (InNoClass name) =
+    codes "interaction " ∷ marked name ∷ codes " stands in no class" ∷ []
+end_parts (InClasses n placed) =
+    codes "line " ∷ decimal n ∷ codes ", " ∷ placed_parts placed
+    ++ codes " stands in a class already" ∷ []

@@ -1,0 +1,98 @@
+-- What is wrong with what a line's grant names, and how it is told.
+use Rattle.std.specs.Prelude.{◌≡◌, ℕ, ◌-◌, ◌==◌, false, true, List, [], ◌∷◌, ◌++◌, codes}
+use Rattle.std.specs.Prelude.{Option, None, Some, IfSome, if◌then◌else◌, position, ⊤}
+use Rattle.std.specs.Fmt.{decimal}
+use Rattle.std.specs.List.{slice_get}
+use Rattle.bip_model.specs.Naming.{same_text}
+use Rattle.bip_model.specs.Steps.{IsLookedAt, moves}
+use Rattle.bip_model.specs.declared.parts.System.{System}
+use Rattle.bip_replay.specs.declared.faults.BookFault.{BookFault}
+use Rattle.bip_replay.specs.declared.faults.BookFault.TheVariants.{Number, Parties}
+use Rattle.bip_explain.specs.Explanations.{marked, placed_parts}
+use Rattle.bip_explain.specs.Placed.{IsPlacedOn, first_two, said_words}
+use Rattle.bip_explain.specs.Words.{IsWant}
+use Rattle.bip_explain.specs.declared.grants.GrantReason.{GrantReason}
+use Rattle.bip_explain.specs.declared.grants.GrantReason.TheVariants.{Next, Party}
+use Rattle.bip_explain.specs.declared.grants.Named.{Named}
+use Rattle.bip_explain.specs.declared.grants.Named.TheVariants.{Moved, Seen, Absent}
+use Rattle.bip_explain.specs.declared.placed.Placed.{Placed}
+
+-- a word names this component of the model
+abbrev pub IsWantOf : System → ℕ → List ℕ → Type 0
+IsWantOf model comp word =
+    (component : List ℕ) × IsWant component word
+    × (position (same_text component) model.component_names ≡ Some comp)
+
+-- a word of the line names this component, and stands at its column
+abbrev pub IsWantOn : System → List ℕ → ℕ → Placed → Type 0
+IsWantOn model line comp placed = IsPlacedOn line placed × IsWantOf model comp placed.word.now
+
+-- the line's grant is one of this interaction
+abbrev pub IsGrantOn : System → List ℕ → ℕ → Type 0
+IsGrantOn model line inter =
+    (keyword : List ℕ) × (word : List ℕ) × (first_two (said_words line) ≡ Some (keyword, word))
+    × (position (same_text word) model.interaction_names ≡ Some inter)
+
+-- how a grant of an interaction names a component
+abbrev pub IsNamedSo : System → ℕ → ℕ → Named → Type 0
+IsNamedSo model inter comp Moved = moves model inter comp ≡ true
+IsNamedSo model inter comp Seen = IsLookedAt model inter comp
+IsNamedSo model inter comp Absent =
+    (moves model inter comp ≡ false) × ¬ IsLookedAt model inter comp
+
+-- a reason is true of a line and a model: the word that is told names the component, and stands at
+-- its column; the line grants the interaction, which moves, looks at or leaves the component
+abbrev pub IsGrantReason : System → List ℕ → GrantReason → Type 0
+IsGrantReason model line (Next placed comp expected) =
+    IfSome placed (IsWantOn model line comp.0)
+IsGrantReason model line (Party placed inter comp named) =
+    IfSome placed (IsWantOn model line comp.0)
+    × IsGrantOn model line inter.0 × IsNamedSo model inter.0 comp.0 named
+
+-- a reason is one of this fault: the component, with the number of its next move, is the fault's
+abbrev pub IsOfFault : BookFault → GrantReason → Type 0
+IsOfFault (Number comp number) (Next placed other expected) =
+    (other ≡ comp) × (expected ≡ number)
+IsOfFault Parties (Party placed inter comp named) = ⊤
+IsOfFault fault reason = ⊥
+
+-- a name, if a list has one at this place
+abbrev pub marked_name : Option (List ℕ) → List (List ℕ)
+marked_name None = []
+marked_name (Some name) = marked name ∷ []
+
+abbrev pub name_parts : List (List ℕ) → ℕ → List (List ℕ)
+name_parts names n = marked_name (slice_get names n)
+
+abbrev pub component_parts : System → ℕ → List (List ℕ)
+component_parts model comp = codes "component " ∷ name_parts model.component_names comp
+
+-- a word in front of what is said of it, if there is one
+abbrev pub front_parts : Option Placed → List (List ℕ)
+front_parts None = []
+front_parts (Some placed) = placed_parts placed ++ codes ": " ∷ []
+
+-- how often a component has moved, above a base of numbers, and the number of its next move
+abbrev pub next_parts : ℕ → ℕ → List (List ℕ)
+next_parts base expected =
+    if expected == 0 then codes " has used the last number, and moves no more" ∷ []
+    else codes ", moves before this line: " ∷ decimal ((expected - base) - 1)
+    ∷ codes "; its next one has number " ∷ decimal expected ∷ []
+
+abbrev pub named_text : Named → List ℕ
+named_text Moved = codes " moves "
+named_text Seen = codes " looks at "
+named_text Absent = codes " neither moves nor looks at "
+
+abbrev pub seen_text : Named → List ℕ
+seen_text Moved = []
+seen_text Seen = codes ", which stands behind `see`"
+seen_text Absent = []
+
+-- how a reason is told
+abbrev pub grant_parts : System → ℕ → GrantReason → List (List ℕ)
+grant_parts model base (Next placed comp expected) =
+    front_parts placed ++ component_parts model comp.0 ++ next_parts base expected
+grant_parts model base (Party placed inter comp named) =
+    front_parts placed ++ name_parts model.interaction_names inter.0
+    ++ (named_text named ∷ component_parts model comp.0) ++ seen_text named ∷ []

@@ -1,0 +1,64 @@
+-- Words of lines, with their columns.
+use Rattle.std.specs.Prelude.{◌≡◌, ℕ, ◌+◌, ◌-◌, List, [], ◌∷◌, ◌++◌, length, Option, None, Some}
+use Rattle.std.specs.Prelude.{drop, ◌==◌, if◌then◌else◌}
+use Rattle.bip_model.specs.Texts.{numbered_lines, words, words_said}
+use Rattle.bip_explain.specs.declared.placed.Placed.{Placed}
+
+-- a word of a line begins at a column, counted in bytes from 1: in front of it stand a byte less,
+-- and behind it the words of the line that follow it
+pub record IsWordAt (line : List ℕ) (column : ℕ) (word : List ℕ) : Type 0 where
+  pub before : List ℕ
+  pub behind : List ℕ
+  pub front : List (List ℕ)
+  pub line_is : line ≡ before ++ (word ++ behind)
+  pub column_is : column ≡ length before + 1
+  pub words_are : words line ≡ front ++ word ∷ words behind
+
+-- a word stands in a line, at its column
+abbrev pub IsPlacedOn : List ℕ → Placed → Type 0
+IsPlacedOn line placed = IsWordAt line placed.column placed.word.now
+
+-- a list ends so
+abbrev pub IsEndOf : {A : Type 0} → List A → List A → Type 0
+IsEndOf whole end = drop (length whole - length end) whole ≡ end
+
+-- what is left of a line behind some of its words
+abbrev pub IsRestOf : List ℕ → List ℕ → Type 0
+IsRestOf line rest = IsEndOf line rest × IsEndOf (words line) (words rest)
+
+-- a step over what is left of a line: its first word, if it has one, with the word's column
+abbrev pub TakesWord : List ℕ → List ℕ → Option Placed → List ℕ → Type 0
+TakesWord line old None new = words old ≡ []
+TakesWord line old (Some placed) new =
+    (words old ≡ placed.word.now ∷ words new) × IsPlacedOn line placed
+
+-- the line with a number, among lines that have theirs; empty where none has it
+abbrev pub line_in : List (ℕ × List ℕ) → ℕ → List ℕ
+line_in [] number = []
+line_in ((n, line) ∷ rest) number = if n == number then line else line_in rest number
+
+-- the line of a text with this number, counted from 1
+abbrev pub line_at : List ℕ → ℕ → List ℕ
+line_at text number = line_in (numbered_lines text) number
+
+-- the words that a line says; none of a comment, or where a byte can stand in no text
+abbrev pub words_told : Option (List (List ℕ)) → List (List ℕ)
+words_told None = []
+words_told (Some ws) = ws
+
+abbrev pub said_words : List ℕ → List (List ℕ)
+said_words line = words_told (words_said line)
+
+-- the first two words, as most lines are told apart
+abbrev pub first_two : List (List ℕ) → Option (List ℕ × List ℕ)
+first_two [] = None
+first_two (first ∷ []) = None
+first_two (first ∷ second ∷ rest) = Some (first, second)
+
+abbrev pub first_three : List (List ℕ) → Option (List ℕ × List ℕ × List ℕ)
+first_three (first ∷ second ∷ third ∷ rest) = Some (first, second, third)
+first_three ws = None
+
+abbrev pub first_four : List (List ℕ) → Option (List ℕ × List ℕ × List ℕ × List ℕ)
+first_four (first ∷ second ∷ third ∷ fourth ∷ rest) = Some (first, second, third, fourth)
+first_four ws = None

@@ -1,0 +1,35 @@
+-- Why a grant can't be next, and how it is told.
+use Rattle.std.specs.Prelude.{◌≡◌, ℕ, true, List, [], ◌∷◌, ◌++◌, codes, ⊤}
+use Rattle.std.specs.Fmt.{decimal}
+use Rattle.bip_model.specs.declared.parts.System.{System}
+use Rattle.bip_replay.specs.declared.faults.BookFault.{BookFault}
+use Rattle.bip_replay.specs.declared.faults.BookFault.TheVariants.{NotEnabled, Below, Number, Parties, Memory}
+use Rattle.bip_replay.specs.declared.faults.StepFault.{StepFault}
+use Rattle.bip_replay.specs.declared.faults.StepFault.TheVariants as step
+use Rattle.bip_explain.specs.Explanations.{Telling, Tells, is_open, with_part}
+use Rattle.bip_explain.specs.Grants.{IsGrantReason, IsOfFault, component_parts, grant_parts, name_parts}
+
+-- what is told of a fault of a number, or of the parties, is a reason that is true of the line; what
+-- is told of a grant that isn't enabled, or of one below, isn't stated
+abbrev pub TellsStep : System → ℕ → List ℕ → BookFault → Telling → Telling → Type 0
+TellsStep model base line (Number comp number) old new =
+    Tells (λ r. IsGrantReason model line r × IsOfFault (Number comp number) r)
+    (grant_parts model base) old new
+TellsStep model base line Parties old new =
+    Tells (λ r. IsGrantReason model line r × IsOfFault Parties r) (grant_parts model base) old new
+TellsStep model base line Memory old new =
+    is_open old ≡ true → new ≡ with_part (codes "the run takes more memory than there is") old
+TellsStep model base line NotEnabled old new = ⊤
+TellsStep model base line (Below above) old new = ⊤
+
+-- how the fault of an explored seed is told
+abbrev pub fault_parts : System → StepFault → List (List ℕ)
+fault_parts model step.NotEnabled = codes "it isn't enabled" ∷ []
+fault_parts model (step.Below above) =
+    name_parts model.interaction_names above.0 ++ codes " stands above it, and is enabled" ∷ []
+fault_parts model (step.Number comp expected) =
+    component_parts model comp.0 ++ codes " should have number " ∷ decimal expected ∷ []
+fault_parts model step.Parties = codes "its parties are wrong" ∷ []
+
+abbrev pub seed_parts : System → StepFault → List (List ℕ)
+seed_parts model fault = codes "a grant of its trace can't be next: " ∷ fault_parts model fault

@@ -1,0 +1,46 @@
+-- Why a line of a trace says no grant, and how it is told.
+use Rattle.std.specs.Prelude.{◌≡◌, ℕ, ◌<◌, List, [], ◌∷◌, ◌++◌, codes}
+use Rattle.bip_model.specs.declared.parts.System.{System}
+use Rattle.bip_replay.specs.declared.faults.TraceFault.{TraceFault}
+use Rattle.bip_replay.specs.declared.faults.TraceFault.TheVariants.{Memory}
+use Rattle.bip_explain.specs.Explanations.{column_parts, marked, placed_parts}
+use Rattle.bip_explain.specs.Forms.{IsFormReason, form_parts}
+use Rattle.bip_explain.specs.Placed.{IsPlacedOn, IsWordAt}
+use Rattle.bip_explain.specs.Words.{HasNot, IsWant}
+use Rattle.bip_explain.specs.declared.traces.TraceReason.{TraceReason}
+use Rattle.bip_explain.specs.declared.traces.TraceReason.TheVariants.{Form, Twice, TooMany, NoInteraction, NoComponent, NoMemory}
+
+-- a word of a line in front of a column names a component
+abbrev pub IsNamedBefore : List ℕ → ℕ → List ℕ → Type 0
+IsNamedBefore line column component =
+    (at : ℕ) × (word : List ℕ) × (at < column) × IsWordAt line at word × IsWant component word
+
+-- a reason is true of a line and a model: the word that is told stands at its column; a component
+-- that stands twice is named by a word before; a name that is missing is no name of the model
+abbrev pub IsTraceReason : System → List ℕ → TraceFault → TraceReason → Type 0
+IsTraceReason model line fault (Form reason) = IsFormReason line reason
+IsTraceReason model line fault (Twice placed) =
+    IsPlacedOn line placed
+    × ((component : List ℕ) × IsWant component placed.word.now
+    × IsNamedBefore line placed.column component)
+IsTraceReason model line fault (TooMany placed) = IsPlacedOn line placed
+IsTraceReason model line fault (NoInteraction placed) =
+    IsPlacedOn line placed × HasNot model.interaction_names placed.word.now
+IsTraceReason model line fault (NoComponent placed component) =
+    IsPlacedOn line placed × IsWant component placed.word.now
+    × HasNot model.component_names component
+IsTraceReason model line fault NoMemory = fault ≡ Memory
+
+-- how a reason is told
+abbrev pub trace_parts : TraceReason → List (List ℕ)
+trace_parts (Form reason) = form_parts reason
+trace_parts (Twice placed) =
+    placed_parts placed ++ codes " names a component that stands here already" ∷ []
+trace_parts (TooMany placed) =
+    placed_parts placed ++ codes " is one too many; a grant names at most 32 components" ∷ []
+trace_parts (NoInteraction placed) =
+    column_parts placed.column
+    ++ codes "the model has no interaction " ∷ marked placed.word.now ∷ []
+trace_parts (NoComponent placed component) =
+    column_parts placed.column ++ codes "the model has no component " ∷ marked component ∷ []
+trace_parts NoMemory = codes "the trace takes more memory than there is" ∷ []

@@ -1,0 +1,58 @@
+-- What a line of a model's text names twice, and how it is told.
+use Rattle.std.specs.Prelude.{◌⊎◌, ℕ, ◌<◌, Bool, false, ◌&&◌, ◌||◌, IsTrue}
+use Rattle.std.specs.Prelude.{List, [], ◌∷◌, ◌++◌, codes}
+use Rattle.std.specs.Fmt.{decimal}
+use Rattle.bip_model.specs.Naming.{same_text}
+use Rattle.bip_explain.specs.Declarations.{IsInnerLine, IsLineWith}
+use Rattle.bip_explain.specs.Explanations.{column_parts, marked, placed_parts}
+use Rattle.bip_explain.specs.Placed.{IsPlacedOn, line_at, said_words}
+use Rattle.bip_explain.specs.declared.twice.TwiceReason.{TwiceReason}
+use Rattle.bip_explain.specs.declared.twice.TwiceReason.TheVariants.{Declared, Said, Leaves, Party, Target}
+
+-- a word that declares something outside of components
+abbrev pub declares_outer : List ℕ → Bool
+declares_outer keyword = same_text keyword (codes "component")
+    || same_text keyword (codes "interaction") || same_text keyword (codes "class")
+
+-- the line with this number declares a name
+abbrev pub IsDeclaration : List ℕ → ℕ → List ℕ → Type 0
+IsDeclaration text n name =
+    IsInnerLine text n name
+    ⊎ ((keyword : List ℕ) × IsTrue (declares_outer keyword) × IsLineWith text n keyword name)
+
+-- words say the same priority: four of them are the same
+abbrev pub say_same : List (List ℕ) → List (List ℕ) → Bool
+say_same (a ∷ b ∷ c ∷ d ∷ xs) (e ∷ f ∷ g ∷ h ∷ ys) =
+    same_text a e && same_text b f && same_text c g && same_text d h
+say_same xs ys = false
+
+-- transitions leave a location by a port: three words are the same
+abbrev pub leave_same : List (List ℕ) → List (List ℕ) → Bool
+leave_same (a ∷ b ∷ c ∷ xs) (d ∷ e ∷ f ∷ ys) = same_text a d && same_text b e && same_text c f
+leave_same xs ys = false
+
+-- a reason is true of a line of a text: the word that is told stands at its column; the line that
+-- is told stands before, and declares the name, or begins with the same words
+abbrev pub IsTwiceReason : List ℕ → ℕ → List ℕ → TwiceReason → Type 0
+IsTwiceReason text number line (Declared placed n) =
+    IsPlacedOn line placed × (n < number) × IsDeclaration text n placed.word.now
+IsTwiceReason text number line (Said n) =
+    (n < number) × IsTrue (say_same (said_words line) (said_words (line_at text n)))
+IsTwiceReason text number line (Leaves n) =
+    (n < number) × IsTrue (leave_same (said_words line) (said_words (line_at text n)))
+IsTwiceReason text number line (Party placed) = IsPlacedOn line placed
+IsTwiceReason text number line (Target placed) = IsPlacedOn line placed
+
+-- how a reason is told
+abbrev pub twice_parts : TwiceReason → List (List ℕ)
+twice_parts (Declared placed n) =
+    column_parts placed.column
+    ++ codes "line " ∷ decimal n ∷ codes " declares " ∷ marked placed.word.now
+    ∷ codes " already" ∷ []
+twice_parts (Said n) = codes "line " ∷ decimal n ∷ codes " says this already" ∷ []
+twice_parts (Leaves n) =
+    codes "line " ∷ decimal n
+    ∷ codes " has a transition with this port from this location already" ∷ []
+twice_parts (Party placed) =
+    placed_parts placed ++ codes " names a component that takes part already" ∷ []
+twice_parts (Target placed) = placed_parts placed ++ codes " is a target already" ∷ []

@@ -1,0 +1,56 @@
+-- Why a name of a model's text is unknown, and how it is told.
+use Rattle.std.specs.Prelude.{◌≡◌, ◌⊎◌, ℕ, List, [], ◌∷◌, ◌++◌, codes, Option, None, Some}
+use Rattle.bip_explain.specs.Declarations.{NoLineWith}
+use Rattle.bip_explain.specs.Explanations.{column_parts, marked}
+use Rattle.bip_explain.specs.Placed.{IsPlacedOn}
+use Rattle.bip_explain.specs.Words.{IsPair}
+use Rattle.bip_explain.specs.declared.unknown.Kind.{Kind}
+use Rattle.bip_explain.specs.declared.unknown.Kind.TheVariants.{Variable, Location, Port}
+use Rattle.bip_explain.specs.declared.unknown.Lack.{Lack}
+use Rattle.bip_explain.specs.declared.unknown.UnknownReason.{UnknownReason}
+use Rattle.bip_explain.specs.declared.unknown.UnknownReason.TheVariants.{Interaction, Component, Stranger, Inner}
+
+-- a word names a component
+abbrev pub IsOf : List ℕ → List ℕ → Type 0
+IsOf component word = (inner : List ℕ) × IsPair component inner word
+
+-- a reason is true of a line of a text: the word that is told stands at its column; of an
+-- interaction, or a component, that is missing no line before begins its declaration
+abbrev pub IsUnknownReason : List ℕ → ℕ → List ℕ → UnknownReason → Type 0
+IsUnknownReason text number line (Interaction placed) =
+    IsPlacedOn line placed × NoLineWith text number (codes "interaction") placed.word.now
+IsUnknownReason text number line (Component placed component) =
+    IsPlacedOn line placed × IsOf component placed.word.now
+    × NoLineWith text number (codes "component") component
+IsUnknownReason text number line (Stranger placed component) =
+    IsPlacedOn line placed × IsOf component placed.word.now
+IsUnknownReason text number line (Inner placed lack) =
+    IsPlacedOn line placed
+    × ((placed.word.now ≡ lack.name) ⊎ IsPair lack.component lack.name placed.word.now)
+
+abbrev pub kind_word : Kind → List ℕ
+kind_word Variable = codes "variable"
+kind_word Location = codes "location"
+kind_word Port = codes "port"
+
+abbrev pub other_parts : Option Kind → List (List ℕ)
+other_parts None = []
+other_parts (Some kind) = codes ", but a " ∷ kind_word kind ∷ codes " of that name" ∷ []
+
+abbrev pub lack_parts : Lack → List (List ℕ)
+lack_parts lack =
+    codes "component " ∷ marked lack.component ∷ codes " has no " ∷ kind_word lack.kind
+    ∷ codes " " ∷ marked lack.name ∷ other_parts lack.other
+
+-- how a reason is told
+abbrev pub unknown_parts : UnknownReason → List (List ℕ)
+unknown_parts (Interaction placed) =
+    column_parts placed.column
+    ++ codes "no line before declares an interaction " ∷ marked placed.word.now ∷ []
+unknown_parts (Component placed component) =
+    column_parts placed.column
+    ++ codes "no line before declares a component " ∷ marked component ∷ []
+unknown_parts (Stranger placed component) =
+    column_parts placed.column
+    ++ codes "component " ∷ marked component ∷ codes " takes no part in this interaction" ∷ []
+unknown_parts (Inner placed lack) = column_parts placed.column ++ lack_parts lack
