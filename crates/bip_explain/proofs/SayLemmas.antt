@@ -50,8 +50,5 @@ said_behind [] b e = refl
 said_behind (part ∷ a) b e = said_behind a b (with_part part e)
 
 -- a reason that is true is told, where nothing is said yet
-pub tells : {R : Type 0} (IsTrue : R → Type 0) (parts : R → List (List ℕ)) (old new : Telling) (reason : R) → is_open old ≡ true → IsTrue reason → new ≡ with_parts (parts reason) old → Tells IsTrue parts old new
-tells IsTrue parts old new reason told true_of is = record {
-  closed = λ h. absurd (true≢false (sym told ∙ h));
-  opened = inr (reason, true_of, is);
-}
+pub tells : {R : Type 0} (MayBeSilent : Type 0) (IsTrue : R → Type 0) (parts : R → List (List ℕ)) (old new : Telling) (reason : R) → is_open old ≡ true → IsTrue reason → new ≡ with_parts (parts reason) old → Tells MayBeSilent IsTrue parts old new
+tells MayBeSilent IsTrue parts old new reason told true_of is = record { closed = λ h. absurd (true≢false (sym told ∙ h)); opened = λ _. inr (reason, true_of, is) }

@@ -54,11 +54,12 @@ abbrev pub placed_parts : Placed → List (List ℕ)
 placed_parts placed = column_parts placed.column ++ marked placed.word.now ∷ []
 
 -- nothing is said where it isn't open; where it is, what is said is how a reason is spelled that is
--- true, if anything is said at all
-pub record Tells {R : Type 0} (IsTrue : R → Type 0) (parts : R → List (List ℕ))
-    (old : Telling) (new : Telling) : Type 0 where
+-- true, and nothing only where there is leave to be silent
+pub record Tells {R : Type 0} (MayBeSilent : Type 0) (IsTrue : R → Type 0)
+    (parts : R → List (List ℕ)) (old : Telling) (new : Telling) : Type 0 where
   pub closed : is_open old ≡ false → new ≡ old
-  pub opened : (new ≡ old) ⊎ ((reason : R) × IsTrue reason × (new ≡ with_parts (parts reason) old))
+  pub opened : is_open old ≡ true → (MayBeSilent × (new ≡ old))
+      ⊎ ((reason : R) × IsTrue reason × (new ≡ with_parts (parts reason) old))
 
 -- what is said stays as it was, where nothing more is wanted
 abbrev pub StaysClosed : Telling → Telling → Type 0

@@ -1,12 +1,12 @@
 -- Why a text is no model, and how it is told.
 use Rattle.std.specs.Prelude.{◌≡◌, ℕ, List, [], ◌∷◌, ◌++◌, codes, ⊤}
 use Rattle.bip_reader.specs.declared.faults.ReadFault.{ReadFault}
-use Rattle.bip_reader.specs.declared.faults.Why.TheVariants.{Memory}
+use Rattle.bip_reader.specs.declared.faults.Why.TheVariants.{Memory, Missing, TooMany}
 use Rattle.bip_explain.specs.Ends.{IsEndReason, end_parts}
 use Rattle.bip_explain.specs.Explanations.{marked, placed_parts}
 use Rattle.bip_explain.specs.Forms.{IsFormReason, form_parts}
 use Rattle.bip_explain.specs.Limits.{IsLimitReason, limit_parts}
-use Rattle.bip_explain.specs.Placed.{IsPlacedOn, line_at}
+use Rattle.bip_explain.specs.Placed.{IsPlacedOn, line_at, said_words}
 use Rattle.bip_explain.specs.Scopes.{IsStandingAt}
 use Rattle.bip_explain.specs.Twice.{IsTwiceReason, twice_parts}
 use Rattle.bip_explain.specs.Unknown.{IsUnknownReason, unknown_parts}
@@ -29,6 +29,13 @@ IsModelReason text fault (Limit reason) = IsLimitReason (line_at text fault.line
 IsModelReason text fault (End reason) = IsEndReason text fault.line reason
 IsModelReason text fault NoMemory = fault.why ≡ Memory
 IsModelReason text fault NoMemoryToTell = ⊤
+
+-- where no reason may be found: something is told of what is missing, of a line with words that
+-- passes a limit, and of want of memory
+abbrev pub MayKeepModel : List ℕ → ReadFault → Type 0
+MayKeepModel text fault =
+    (fault.why ≡ Missing → ⊥) × (fault.why ≡ Memory → ⊥)
+    × (fault.why ≡ TooMany → said_words (line_at text fault.line) ≡ [])
 
 abbrev pub standing_parts : Standing → List (List ℕ)
 standing_parts First =

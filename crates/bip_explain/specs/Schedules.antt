@@ -1,9 +1,9 @@
 -- Why a line of a schedule says no event, and how it is told.
-use Rattle.std.specs.Prelude.{◌≡◌, ℕ, List, [], ◌∷◌, ◌++◌, codes, position, Some}
+use Rattle.std.specs.Prelude.{◌≡◌, ℕ, List, [], ◌∷◌, ◌++◌, codes, position, Some, ⊤}
 use Rattle.bip_model.specs.Naming.{same_text}
 use Rattle.bip_partition.specs.Plans.{IsReserved, Planned}
 use Rattle.bip_replay.specs.declared.faults.TraceFault.{TraceFault}
-use Rattle.bip_replay.specs.declared.faults.TraceFault.TheVariants.{Memory}
+use Rattle.bip_replay.specs.declared.faults.TraceFault.TheVariants.{Syntax, Unknown, Memory}
 use Rattle.bip_explain.specs.Explanations.{placed_parts}
 use Rattle.bip_explain.specs.Forms.{IsFormReason, form_parts}
 use Rattle.bip_explain.specs.Placed.{IsPlacedOn}
@@ -29,6 +29,12 @@ IsScheduleReason plan line fault (NoInteraction placed) =
 IsScheduleReason plan line fault (NoStation placed) =
     IsPlacedOn line placed × IsLocal plan placed.word.now
 IsScheduleReason plan line fault NoMemory = fault ≡ Memory
+
+-- where no reason may be found: not for want of memory
+abbrev pub MayKeepSchedule : TraceFault → Type 0
+MayKeepSchedule Syntax = ⊤
+MayKeepSchedule Unknown = ⊤
+MayKeepSchedule Memory = ⊥
 
 -- how a reason is told
 abbrev pub schedule_parts : ScheduleReason → List (List ℕ)

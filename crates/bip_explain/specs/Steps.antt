@@ -13,10 +13,10 @@ use Rattle.bip_explain.specs.Grants.{IsGrantReason, IsOfFault, component_parts, 
 -- is told of a grant that isn't enabled, or of one below, isn't stated
 abbrev pub TellsStep : System → ℕ → List ℕ → BookFault → Telling → Telling → Type 0
 TellsStep model base line (Number comp number) old new =
-    Tells (λ r. IsGrantReason model line r × IsOfFault (Number comp number) r)
+    Tells ⊥ (λ r. IsGrantReason model line r × IsOfFault (Number comp number) r)
     (grant_parts model base) old new
 TellsStep model base line Parties old new =
-    Tells (λ r. IsGrantReason model line r × IsOfFault Parties r) (grant_parts model base) old new
+    Tells ⊤ (λ r. IsGrantReason model line r × IsOfFault Parties r) (grant_parts model base) old new
 TellsStep model base line Memory old new =
     is_open old ≡ true → new ≡ with_part (codes "the run takes more memory than there is") old
 TellsStep model base line NotEnabled old new = ⊤

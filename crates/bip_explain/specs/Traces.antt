@@ -1,11 +1,13 @@
 -- Why a line of a trace says no grant, and how it is told.
-use Rattle.std.specs.Prelude.{◌≡◌, ℕ, ◌<◌, List, [], ◌∷◌, ◌++◌, codes}
+use Rattle.std.specs.Prelude.{◌≡◌, ℕ, ◌<◌, List, [], ◌∷◌, ◌++◌, Some, codes, ⊤}
+use Rattle.bip_model.specs.Naming.{IsName}
+use Rattle.bip_model.specs.Texts.{words}
 use Rattle.bip_model.specs.declared.parts.System.{System}
 use Rattle.bip_replay.specs.declared.faults.TraceFault.{TraceFault}
-use Rattle.bip_replay.specs.declared.faults.TraceFault.TheVariants.{Memory}
+use Rattle.bip_replay.specs.declared.faults.TraceFault.TheVariants.{Syntax, Unknown, Memory}
 use Rattle.bip_explain.specs.Explanations.{column_parts, marked, placed_parts}
 use Rattle.bip_explain.specs.Forms.{IsFormReason, form_parts}
-use Rattle.bip_explain.specs.Placed.{IsPlacedOn, IsWordAt}
+use Rattle.bip_explain.specs.Placed.{IsPlacedOn, IsWordAt, first_two}
 use Rattle.bip_explain.specs.Words.{HasNot, IsWant}
 use Rattle.bip_explain.specs.declared.traces.TraceReason.{TraceReason}
 use Rattle.bip_explain.specs.declared.traces.TraceReason.TheVariants.{Form, Twice, TooMany, NoInteraction, NoComponent, NoMemory}
@@ -30,6 +32,15 @@ IsTraceReason model line fault (NoComponent placed component) =
     IsPlacedOn line placed × IsWant component placed.word.now
     × HasNot model.component_names component
 IsTraceReason model line fault NoMemory = fault ≡ Memory
+
+-- where no reason may be found: nowhere, if the second word is a name that no interaction has, or
+-- for want of memory
+abbrev pub MayKeepTrace : System → List ℕ → TraceFault → Type 0
+MayKeepTrace model line Syntax = ⊤
+MayKeepTrace model line Unknown =
+    (first : List ℕ) → (second : List ℕ) → first_two (words line) ≡ Some (first, second)
+    → IsName second → ¬ HasNot model.interaction_names second
+MayKeepTrace model line Memory = ⊥
 
 -- how a reason is told
 abbrev pub trace_parts : TraceReason → List (List ℕ)

@@ -1,7 +1,8 @@
 //! Limits of models that a line passes.
-ghost use Rattle.std.specs.Prelude.{◌≡◌, IfSome};
+ghost use Rattle.std.specs.Prelude.{◌≡◌, [], IfNone, IfSome};
 ghost use Rattle.bip_explain.specs.Explanations.{with_parts};
 ghost use Rattle.bip_explain.specs.Limits.{IsLimitReason, limit_parts};
+ghost use Rattle.bip_explain.specs.Placed.{said_words};
 
 use crate::Explanation;
 use crate::placed::{Placed, PlacedWords, words_of};
@@ -40,7 +41,8 @@ impl LimitReason<'_> {
 
 /// Which limit a line passes, with the word that passes it where that is one of the line.
 pub(crate) fn find_limit(line: &[u8]) -> Option<LimitReason<'_>>
-    ensures { IfSome result (IsLimitReason line.now) }
+    ensures some { IfSome result (IsLimitReason line.now) }
+    ensures none { IfNone result (said_words line.now ≡ []) }
 {
     let (keyword, words) = words_of(line)?;
     let limit = LimitReason::Line(limit_of(keyword.word));

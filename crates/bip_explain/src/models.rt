@@ -1,8 +1,9 @@
 //! Faults of a model's text.
-ghost use Rattle.std.specs.Prelude.{◌≡◌, IfOk, IfSome};
+ghost use Rattle.std.specs.Prelude.{◌≡◌, IfNone, IfOk, IfSome};
 ghost use Rattle.bip_reader.specs.declared.faults.Why.{Why};
 ghost use Rattle.bip_explain.specs.Explanations.{Tells, with_parts};
-ghost use Rattle.bip_explain.specs.Models.{IsModelReason, keyword_parts, model_parts};
+ghost use Rattle.bip_explain.specs.Models.{IsModelReason, MayKeepModel, keyword_parts};
+ghost use Rattle.bip_explain.specs.Models.{model_parts};
 
 use crate::Explanation;
 use crate::ends::{EndReason, find_cycle, find_missing, find_unparted};
@@ -37,7 +38,8 @@ pub(crate) enum ModelReason<'t> {
 /// its column, and what is wrong with it; or what the text lacks as a whole (docs/ANSWERS.md,
 /// "Explanations"). Nothing is said where none is wanted, or something is said already.
 pub fn explain_model(alloc: Global, explanation: &mut Explanation, text: &[u8], fault: &ReadFault)
-    ensures { Tells (IsModelReason text.now fault.now) model_parts explanation.old explanation.new }
+    ensures { Tells (MayKeepModel text.now fault.now) (IsModelReason text.now fault.now) model_parts
+        explanation.old explanation.new }
 {
     if explanation.is_open() {
         match find_reason(alloc, text, fault) {
@@ -94,7 +96,8 @@ fn find_reason<'t>(
     text: &'t [u8],
     fault: &ReadFault,
 ) -> Result<Option<ModelReason<'t>>, AllocError>
-    ensures { IfOk result (λ found. IfSome found (IsModelReason text.now fault.now)) }
+    ensures some { IfOk result (λ found. IfSome found (IsModelReason text.now fault.now)) }
+    ensures none { IfOk result (λ found. IfNone found (MayKeepModel text.now fault.now)) }
 {
     let number = fault.line;
     let line = line_at(text, number);

@@ -1,10 +1,11 @@
 //! Faults of a schedule's text.
-ghost use Rattle.std.specs.Prelude.{◌≡◌, ℕ, List, IfSome};
+ghost use Rattle.std.specs.Prelude.{◌≡◌, ℕ, List, IfNone, IfSome};
 ghost use Rattle.bip_partition.specs.Plans.{Planned};
 ghost use Rattle.bip_replay.specs.declared.faults.TraceFault.{TraceFault};
 ghost use Rattle.bip_explain.specs.Explanations.{Tells, with_parts};
 ghost use Rattle.bip_explain.specs.Placed.{IsPlacedOn, line_at};
-ghost use Rattle.bip_explain.specs.Schedules.{IsScheduleReason, schedule_parts};
+ghost use Rattle.bip_explain.specs.Schedules.{IsScheduleReason, MayKeepSchedule};
+ghost use Rattle.bip_explain.specs.Schedules.{schedule_parts};
 
 use crate::Explanation;
 use crate::expected::Expected;
@@ -40,7 +41,8 @@ pub fn explain_schedule(
     number: u64,
     fault: &TraceFault,
 )
-    ensures { Tells (IsScheduleReason plan.now (line_at text.now number) fault.now) schedule_parts
+    ensures { Tells (MayKeepSchedule fault.now)
+        (IsScheduleReason plan.now (line_at text.now number) fault.now) schedule_parts
         explanation.old explanation.new }
 {
     if explanation.is_open() {
@@ -81,7 +83,8 @@ impl ScheduleReason<'_> {
 }
 
 fn find_reason<'t>(plan: &Plan, line: &'t [u8], fault: &TraceFault) -> Option<ScheduleReason<'t>>
-    ensures { IfSome result (IsScheduleReason plan.now line.now fault.now) }
+    ensures some { IfSome result (IsScheduleReason plan.now line.now fault.now) }
+    ensures none { IfNone result (MayKeepSchedule fault.now) }
 {
     match fault {
         TraceFault::Syntax => find_form(line),

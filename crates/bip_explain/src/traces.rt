@@ -1,10 +1,13 @@
 //! Faults of a trace's text.
-ghost use Rattle.std.specs.Prelude.{◌≡◌, IfSome, IsTrue};
+ghost use Rattle.std.specs.Prelude.{◌≡◌, IfNone, IfSome, IsTrue, false};
+ghost use Rattle.bip_model.specs.Naming.{IsName};
 ghost use Rattle.bip_model.specs.declared.parts.System.{System};
 ghost use Rattle.bip_replay.specs.declared.faults.TraceFault.{TraceFault};
+ghost use Rattle.bip_replay.specs.declared.faults.TraceFault.TheVariants.{Unknown};
 ghost use Rattle.bip_explain.specs.Explanations.{Tells, with_parts};
 ghost use Rattle.bip_explain.specs.Placed.{line_at};
-ghost use Rattle.bip_explain.specs.Traces.{IsNamedBefore, IsTraceReason, trace_parts};
+ghost use Rattle.bip_explain.specs.Traces.{IsNamedBefore, IsTraceReason, MayKeepTrace};
+ghost use Rattle.bip_explain.specs.Traces.{trace_parts};
 ghost use Rattle.bip_explain.specs.Words.{HasNot};
 
 use crate::Explanation;
@@ -40,8 +43,9 @@ pub fn explain_trace(
     number: u64,
     fault: &TraceFault,
 )
-    ensures { Tells (IsTraceReason model.now (line_at text.now number) fault.now) trace_parts
-        explanation.old explanation.new }
+    ensures { let line = line_at text.now number in
+        Tells (MayKeepTrace model.now line fault.now) (IsTraceReason model.now line fault.now)
+        trace_parts explanation.old explanation.new }
 {
     if explanation.is_open() {
         if let Some(reason) = find_reason(model, line_at(text, number), fault) {
@@ -80,7 +84,8 @@ impl TraceReason<'_> {
 }
 
 fn find_reason<'t>(model: &Model, line: &'t [u8], fault: &TraceFault) -> Option<TraceReason<'t>>
-    ensures { IfSome result (IsTraceReason model.now line.now fault.now) }
+    ensures some { IfSome result (IsTraceReason model.now line.now fault.now) }
+    ensures none { IfNone result (MayKeepTrace model.now line.now fault.now) }
 {
     match fault {
         TraceFault::Syntax => find_form(line),
@@ -141,7 +146,8 @@ fn is_named_before(line: &[u8], column: usize, component: &Name) -> bool
 
 // The interaction that the model lacks, or else the first component.
 fn find_name<'t>(model: &Model, line: &'t [u8]) -> Option<TraceReason<'t>>
-    ensures { (fault : TraceFault) → IfSome result (IsTraceReason model.now line.now fault) }
+    ensures some { (fault : TraceFault) → IfSome result (IsTraceReason model.now line.now fault) }
+    ensures none { IfNone result (MayKeepTrace model.now line.now Unknown) }
 {
     let mut words = PlacedWords::of(line);
     let _grant = words.next();
@@ -162,7 +168,8 @@ fn find_name<'t>(model: &Model, line: &'t [u8]) -> Option<TraceReason<'t>>
 
 // Whether a word is a name that no interaction of the model has.
 fn is_missing(model: &Model, word: &[u8]) -> bool
-    ensures { IsTrue result → HasNot model.now.interaction_names word.now }
+    ensures missing { IsTrue result → HasNot model.now.interaction_names word.now }
+    ensures found { result ≡ false → IsName word.now → ¬ HasNot model.now.interaction_names word.now }
 {
     match Name::of(word) {
         Some(name) => model.interaction(&name).is_none(),

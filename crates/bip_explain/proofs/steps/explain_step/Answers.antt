@@ -11,7 +11,7 @@ returns-in-Number-clause-told c =
     let model = c.args.model.now in
     let line = line_at c.args.text.now c.args.number in
     let n = c.in-Number in
-    rw n.is (tells (λ r. IsGrantReason model line r × IsOfFault (Number n.comp n.expected) r) (grant_parts model c.args.base) c.args.explanation.now c.say.new.explanation
+    rw n.is (tells ⊥ (λ r. IsGrantReason model line r × IsOfFault (Number n.comp n.expected) r) (grant_parts model c.args.base) c.args.explanation.now c.say.new.explanation
     (Next c.want_on-placed.result n.comp n.expected)
     (sym c.is_open.ensures ∙ c.if-not-is_open.false)
     (rw c.line_at.ensures at c.want_on-placed.ensures, (refl, refl))
@@ -21,7 +21,7 @@ pub returns-in-Some-clause-told : goal.returns-in-Some-clause-told
 returns-in-Some-clause-told c =
     let model = c.args.model.now in
     let line = line_at c.args.text.now c.args.number in
-    rw c.in-Parties.is (tells (λ r. IsGrantReason model line r × IsOfFault Parties r) (grant_parts model c.args.base) c.args.explanation.now c.say-in-Some.new.explanation
+    rw c.in-Parties.is (tells (Unit {0}) (λ r. IsGrantReason model line r × IsOfFault Parties r) (grant_parts model c.args.base) c.args.explanation.now c.say-in-Some.new.explanation
     c.in-Some.reason
     (sym c.is_open.ensures ∙ c.if-not-is_open.false)
     (rw c.line_at-in-Parties.ensures at c.in-Some.ensures)
