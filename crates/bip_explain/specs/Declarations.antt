@@ -1,5 +1,7 @@
 -- What the lines of a text begin with, and so declare.
 use Rattle.std.specs.Prelude.{◌≡◌, ℕ, ◌<◌, Bool, false, ◌&&◌, ◌||◌, IsTrue, codes, List, [], ◌∷◌}
+use Rattle.std.specs.Prelude.{true, nat_le, if◌then◌else◌}
+use Rattle.bip_model.specs.Texts.{numbered_lines}
 use Rattle.bip_model.specs.Naming.{same_text}
 use Rattle.bip_explain.specs.Placed.{line_at, said_words}
 
@@ -38,3 +40,27 @@ HasLineWith text line keyword name = (n : ℕ) × (n < line) × IsLineWith text 
 abbrev pub NoLineWith : List ℕ → ℕ → List ℕ → List ℕ → Type 0
 NoLineWith text line keyword name =
     (n : ℕ) → n < line → begins_with keyword name (said_words (line_at text n)) ≡ false
+
+-- words begin a component
+abbrev pub begins_component : List (List ℕ) → Bool
+begins_component [] = false
+begins_component (first ∷ []) = false
+begins_component (first ∷ second ∷ rest) = same_text first (codes "component")
+
+-- whether a line before one declares a name with a keyword inside a component, of lines that have
+-- their numbers; and whether the first of these stands inside it
+abbrev pub has_inside :
+    List ℕ → List ℕ → List ℕ → ℕ → Bool → List (ℕ × List ℕ) → Bool
+has_inside component keyword name line within [] = false
+has_inside component keyword name line within ((n, bytes) ∷ rest) =
+    if nat_le line n then false
+    else (if begins_component (said_words bytes)
+    then has_inside component keyword name line
+    (begins_with (codes "component") component (said_words bytes)) rest
+    else (if within && begins_with keyword name (said_words bytes) then true
+    else has_inside component keyword name line within rest))
+
+-- a line before one declares a name with a keyword inside a component
+abbrev pub declares_inside : List ℕ → ℕ → List ℕ → List ℕ → List ℕ → Bool
+declares_inside text line component keyword name =
+    has_inside component keyword name line false (numbered_lines text)

@@ -12,8 +12,8 @@ use Rattle.bip_explain.specs.declared.schedules.ScheduleReason.{ScheduleReason}
 use Rattle.bip_explain.specs.declared.schedules.ScheduleReason.TheVariants.{Form, Keyword, NoClass, NoInteraction, NoStation, NoMemory}
 
 -- a word is the name of an interaction that its class alone grants
-abbrev pub IsLocal : Planned → List ℕ → Type 0
-IsLocal plan word =
+abbrev pub StandsAlone : Planned → List ℕ → Type 0
+StandsAlone plan word =
     (a : ℕ) × (position (same_text word) plan.model.interaction_names ≡ Some a)
     × ¬ IsReserved plan a
 
@@ -27,7 +27,7 @@ IsScheduleReason plan line fault (NoClass placed) =
 IsScheduleReason plan line fault (NoInteraction placed) =
     IsPlacedOn line placed × HasNot plan.model.interaction_names placed.word.now
 IsScheduleReason plan line fault (NoStation placed) =
-    IsPlacedOn line placed × IsLocal plan placed.word.now
+    IsPlacedOn line placed × StandsAlone plan placed.word.now
 IsScheduleReason plan line fault NoMemory = fault ≡ Memory
 
 -- where no reason may be found: not for want of memory

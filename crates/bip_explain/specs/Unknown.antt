@@ -1,6 +1,7 @@
 -- Why a name of a model's text is unknown, and how it is told.
 use Rattle.std.specs.Prelude.{◌≡◌, ◌⊎◌, ℕ, List, [], ◌∷◌, ◌++◌, codes, Option, None, Some}
-use Rattle.bip_explain.specs.Declarations.{NoLineWith}
+use Rattle.std.specs.Prelude.{false, IfSome, IsTrue}
+use Rattle.bip_explain.specs.Declarations.{HasLineWith, NoLineWith, declares_inside}
 use Rattle.bip_explain.specs.Explanations.{column_parts, marked}
 use Rattle.bip_explain.specs.Placed.{IsPlacedOn}
 use Rattle.bip_explain.specs.Words.{IsPair}
@@ -13,6 +14,21 @@ use Rattle.bip_explain.specs.declared.unknown.UnknownReason.TheVariants.{Interac
 -- a word names a component
 abbrev pub IsOf : List ℕ → List ℕ → Type 0
 IsOf component word = (inner : List ℕ) × IsPair component inner word
+
+-- what a line declares a kind with
+abbrev pub keyword_of : Kind → List ℕ
+keyword_of Variable = codes "var"
+keyword_of Location = codes "loc"
+keyword_of Port = codes "port"
+
+-- lines before this one begin the component, and declare inside it nothing of the kind by the name,
+-- but what else is told
+abbrev pub IsLack : List ℕ → ℕ → Lack → Type 0
+IsLack text number lack =
+    HasLineWith text number (codes "component") lack.component
+    × (declares_inside text number lack.component (keyword_of lack.kind) lack.name ≡ false)
+    × IfSome lack.other (λ kind. IsTrue
+    (declares_inside text number lack.component (keyword_of kind) lack.name))
 
 -- a reason is true of a line of a text: the word that is told stands at its column; of an
 -- interaction, or a component, that is missing no line before begins its declaration
@@ -27,6 +43,7 @@ IsUnknownReason text number line (Stranger placed component) =
 IsUnknownReason text number line (Inner placed lack) =
     IsPlacedOn line placed
     × ((placed.word.now ≡ lack.name) ⊎ IsPair lack.component lack.name placed.word.now)
+    × IsLack text number lack
 
 abbrev pub kind_word : Kind → List ℕ
 kind_word Variable = codes "variable"

@@ -2,11 +2,9 @@
 use Rattle.std.specs.Prelude.{◌≡◌, ℕ, List, Some, None, position}
 use Rattle.bip_model.specs.Naming.{IsName, same_text}
 use Rattle.bip_model.specs.Texts.{number_of, pair_of}
+use Rattle.bip_replay.specs.Lines.{colon}
 
--- what parts a component from its number, and from its port or variable
-abbrev pub colon : ℕ
-colon = 58
-
+-- what parts a component from its port, or from its variable
 abbrev pub point : ℕ
 point = 46
 

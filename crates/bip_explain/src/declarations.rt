@@ -1,7 +1,8 @@
 //! What the lines before one have declared.
 ghost use Rattle.std.specs.Prelude.{◌≡◌, ◌<◌, IfNone, IfSome};
 ghost use Rattle.bip_explain.specs.Declarations.{IsInnerLine, IsLineWith, NoLineWith, begins_with};
-ghost use Rattle.bip_explain.specs.Declarations.{declares, declares_inner};
+ghost use Rattle.bip_explain.specs.Declarations.{begins_component, declares, declares_inner};
+ghost use Rattle.bip_explain.specs.Declarations.{declares_inside};
 ghost use Rattle.bip_explain.specs.Placed.{said_words};
 
 use crate::placed::two_words;
@@ -146,8 +147,35 @@ pub(crate) fn inner_line_with(text: &[u8], line: u64, name: &[u8]) -> Option<u64
     found
 }
 
+/// Whether a line before one declares a name with a keyword inside a component.
+pub(crate) fn declares_inside(
+    text: &[u8],
+    line: u64,
+    component: &[u8],
+    keyword: &[u8],
+    name: &[u8],
+) -> bool
+    ensures { result
+        ≡ declares_inside text.now line component.now keyword.now name.now }
+{
+    let mut within = false;
+    for (number, bytes) in NumberedLines::of(text) {
+        if line <= number {
+            return false;
+        }
+        if begins_component(bytes) {
+            within = begins_with(bytes, b"component", component);
+        } else if within && begins_with(bytes, keyword, name) {
+            return true;
+        }
+    }
+    false
+}
+
 /// Whether a line begins a component.
-pub(crate) fn begins_component(line: &[u8]) -> bool {
+pub(crate) fn begins_component(line: &[u8]) -> bool
+    ensures { result ≡ begins_component (said_words line.now) }
+{
     match two_words(line) {
         None => false,
         Some((keyword, _name)) => is_text(keyword, b"component"),

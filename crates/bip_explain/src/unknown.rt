@@ -1,12 +1,14 @@
 //! Names of a model's text that nothing has.
-ghost use Rattle.std.specs.Prelude.{◌≡◌, ◌⊎◌, ℕ, List, IfOk, IfSome};
+ghost use Rattle.std.specs.Prelude.{◌≡◌, ◌⊎◌, ℕ, List, IfOk, IfSome, IsTrue};
 ghost use Rattle.bip_explain.specs.Explanations.{with_parts};
 ghost use Rattle.bip_explain.specs.Placed.{IsPlacedOn, line_at};
-ghost use Rattle.bip_explain.specs.Unknown.{IsOf, IsUnknownReason, kind_word, lack_parts};
+ghost use Rattle.bip_explain.specs.Declarations.{declares_inside};
+ghost use Rattle.bip_explain.specs.Unknown.{IsLack, IsOf, IsUnknownReason, keyword_of, kind_word};
+ghost use Rattle.bip_explain.specs.Unknown.{lack_parts};
 ghost use Rattle.bip_explain.specs.Unknown.{other_parts, unknown_parts};
 
 use crate::Explanation;
-use crate::declarations::{Declared, Inner, line_with};
+use crate::declarations::{Declared, Inner, declares_inside, line_with};
 use crate::placed::{Placed, PlacedWords, line_at, words_of};
 use crate::words::{is_text, pair_of};
 use bip_model::{Name, Names};
@@ -105,6 +107,16 @@ impl Kind {
         }
     }
 
+    fn keyword(self) -> &'static [u8]
+        ensures { result.now ≡ keyword_of self }
+    {
+        match self {
+            Kind::Variable => b"var",
+            Kind::Location => b"loc",
+            Kind::Port => b"port",
+        }
+    }
+
     fn word(self) -> &'static [u8]
         ensures { result.now ≡ kind_word self }
     {
@@ -191,7 +203,7 @@ fn find_in_transition<'t>(
         let kind = kind_at(place);
         place = place.saturating_add(1);
         if let Some(name) = Name::of(placed.word) {
-            if let Some(lack) = lack_of(inner, *component, kind, name) {
+            if let Some(lack) = lack_of(text, number, inner, *component, kind, name) {
                 return Some(UnknownReason::Inner(placed, lack));
             }
         }
@@ -208,29 +220,56 @@ fn kind_at(place: u8) -> Kind {
     }
 }
 
-// What a component lacks, if it has nothing of a kind by a name.
-fn lack_of(inner: &Inner, component: Name, kind: Kind, name: Name) -> Option<Lack>
+// What a component lacks, if nothing that it has inside is of a kind with a name.
+fn lack_of(
+    text: &[u8],
+    number: u64,
+    inner: &Inner,
+    component: Name,
+    kind: Kind,
+    name: Name,
+) -> Option<Lack>
     ensures component { IfSome result (λ lack. lack.component ≡ component) }
     ensures name { IfSome result (λ lack. lack.name ≡ name) }
+    ensures lacks { IfSome result (IsLack text.now number) }
 {
-    if kind.names(inner).contains(&name) {
+    if kind.names(inner).contains(&name) || is_inside(text, number, &component, kind, &name) {
         return None;
     }
+    let _begun = line_with(text, number, b"component", component.as_bytes())?;
+    let other = kind_of(text, number, &component, &name);
     Some(Lack {
         component,
         kind,
         name,
-        other: kind_of(inner, &name),
+        other,
     })
 }
 
+// Whether a component has something of a kind by a name.
+fn is_inside(text: &[u8], number: u64, component: &Name, kind: Kind, name: &Name) -> bool
+    ensures { result
+        ≡ declares_inside text.now number component.now (keyword_of kind) name.now }
+{
+    declares_inside(
+        text,
+        number,
+        component.as_bytes(),
+        kind.keyword(),
+        name.as_bytes(),
+    )
+}
+
 // What a component has by a name.
-fn kind_of(inner: &Inner, name: &Name) -> Option<Kind> {
-    if inner.variables.contains(name) {
+fn kind_of(text: &[u8], number: u64, component: &Name, name: &Name) -> Option<Kind>
+    ensures { IfSome result (λ kind. IsTrue
+        (declares_inside text.now number component.now (keyword_of kind) name.now)) }
+{
+    if is_inside(text, number, component, Kind::Variable, name) {
         Some(Kind::Variable)
-    } else if inner.locations.contains(name) {
+    } else if is_inside(text, number, component, Kind::Location, name) {
         Some(Kind::Location)
-    } else if inner.ports.contains(name) {
+    } else if is_inside(text, number, component, Kind::Port, name) {
         Some(Kind::Port)
     } else {
         None
@@ -292,7 +331,7 @@ fn find_in_pair<'t>(
     } else {
         Kind::Variable
     };
-    let lack = lack_of(inner, component, kind, name)?;
+    let lack = lack_of(text, number, inner, component, kind, name)?;
     Some(UnknownReason::Inner(placed, lack))
 }
 
