@@ -5,7 +5,9 @@ use Rattle.bip_explain.specs.Declarations.{HasLineWith}
 use Rattle.bip_explain.specs.Explanations.{marked, placed_parts}
 use Rattle.bip_explain.specs.Placed.{IsPlacedOn, line_at, said_words}
 use Rattle.bip_explain.specs.declared.ends.EndReason.{EndReason}
-use Rattle.bip_explain.specs.declared.ends.EndReason.TheVariants.{NoLocation, NoEnd, NoComponent, NoFirst, Above, InNoClass, InClasses}
+use Rattle.bip_explain.specs.declared.ends.EndReason.TheVariants.{NoLocation, NoEnd, NoComponent}
+use Rattle.bip_explain.specs.declared.ends.EndReason.TheVariants.{NoFirst, Above, InNoClass}
+use Rattle.bip_explain.specs.declared.ends.EndReason.TheVariants.{InClasses}
 
 -- a reason is true of a text whose line with this number is at fault: the component that is told is
 -- begun by a line before, or on the line; no line up to it says anything; the word that is told

@@ -11,7 +11,9 @@ use Rattle.bip_explain.specs.Scopes.{IsStandingAt}
 use Rattle.bip_explain.specs.Twice.{IsTwiceReason, twice_parts}
 use Rattle.bip_explain.specs.Unknown.{IsUnknownReason, unknown_parts}
 use Rattle.bip_explain.specs.declared.models.ModelReason.{ModelReason}
-use Rattle.bip_explain.specs.declared.models.ModelReason.TheVariants.{Form, Keyword, Unknown, Twice, Limit, End, NoMemory, NoMemoryToTell}
+use Rattle.bip_explain.specs.declared.models.ModelReason.TheVariants.{Form, Keyword, Unknown, Twice}
+use Rattle.bip_explain.specs.declared.models.ModelReason.TheVariants.{Limit, End, NoMemory}
+use Rattle.bip_explain.specs.declared.models.ModelReason.TheVariants.{NoMemoryToTell}
 use Rattle.bip_explain.specs.declared.placed.Placed.{Placed}
 use Rattle.bip_explain.specs.declared.scopes.Standing.{Standing}
 use Rattle.bip_explain.specs.declared.scopes.Standing.TheVariants.{First, Outside, Inside}

@@ -9,7 +9,9 @@ use Rattle.bip_explain.specs.Forms.{IsFormReason, form_parts}
 use Rattle.bip_explain.specs.Placed.{IsPlacedOn}
 use Rattle.bip_explain.specs.Words.{HasNot}
 use Rattle.bip_explain.specs.declared.schedules.ScheduleReason.{ScheduleReason}
-use Rattle.bip_explain.specs.declared.schedules.ScheduleReason.TheVariants.{Form, Keyword, NoClass, NoInteraction, NoStation, NoMemory}
+use Rattle.bip_explain.specs.declared.schedules.ScheduleReason.TheVariants.{Form, Keyword, NoClass}
+use Rattle.bip_explain.specs.declared.schedules.ScheduleReason.TheVariants.{NoInteraction}
+use Rattle.bip_explain.specs.declared.schedules.ScheduleReason.TheVariants.{NoStation, NoMemory}
 
 -- a word is the name of an interaction that its class alone grants
 abbrev pub StandsAlone : Planned → List ℕ → Type 0

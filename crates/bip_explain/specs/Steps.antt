@@ -3,14 +3,16 @@ use Rattle.std.specs.Prelude.{◌≡◌, ℕ, true, List, [], ◌∷◌, ◌++�
 use Rattle.std.specs.Fmt.{decimal}
 use Rattle.bip_model.specs.declared.parts.System.{System}
 use Rattle.bip_replay.specs.declared.faults.BookFault.{BookFault}
-use Rattle.bip_replay.specs.declared.faults.BookFault.TheVariants.{NotEnabled, Below, Number, Parties, Memory}
+use Rattle.bip_replay.specs.declared.faults.BookFault.TheVariants.{NotEnabled, Below, Number}
+use Rattle.bip_replay.specs.declared.faults.BookFault.TheVariants.{Parties, Memory}
 use Rattle.bip_replay.specs.declared.faults.StepFault.{StepFault}
 use Rattle.bip_replay.specs.declared.faults.StepFault.TheVariants as step
 use Rattle.bip_explain.specs.Explanations.{Telling, Tells, is_open, with_part}
-use Rattle.bip_explain.specs.Grants.{IsGrantReason, IsOfFault, component_parts, grant_parts, name_parts}
+use Rattle.bip_explain.specs.Grants.{IsGrantReason, IsOfFault, component_parts, grant_parts}
+use Rattle.bip_explain.specs.Grants.{name_parts}
 
--- what is told of a fault of a number, or of the parties, is a reason that is true of the line; what
--- is told of a grant that isn't enabled, or of one below, isn't stated
+-- what is told of a number, or of the parties, is a reason that is true of the line; what is told
+-- of a grant that isn't enabled, or of one below, isn't stated
 abbrev pub TellsStep : System → ℕ → List ℕ → BookFault → Telling → Telling → Type 0
 TellsStep model base line (Number comp number) old new =
     Tells ⊥ (λ r. IsGrantReason model line r × IsOfFault (Number comp number) r)

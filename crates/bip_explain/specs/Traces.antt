@@ -10,7 +10,9 @@ use Rattle.bip_explain.specs.Forms.{IsFormReason, form_parts}
 use Rattle.bip_explain.specs.Placed.{IsPlacedOn, IsWordAt, first_two}
 use Rattle.bip_explain.specs.Words.{HasNot, IsWant}
 use Rattle.bip_explain.specs.declared.traces.TraceReason.{TraceReason}
-use Rattle.bip_explain.specs.declared.traces.TraceReason.TheVariants.{Form, Twice, TooMany, NoInteraction, NoComponent, NoMemory}
+use Rattle.bip_explain.specs.declared.traces.TraceReason.TheVariants.{Form, Twice, TooMany}
+use Rattle.bip_explain.specs.declared.traces.TraceReason.TheVariants.{NoInteraction, NoComponent}
+use Rattle.bip_explain.specs.declared.traces.TraceReason.TheVariants.{NoMemory}
 
 -- a word of a line in front of a column names a component
 abbrev pub IsNamedBefore : List ℕ → ℕ → List ℕ → Type 0

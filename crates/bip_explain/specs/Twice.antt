@@ -7,7 +7,8 @@ use Rattle.bip_explain.specs.Declarations.{IsInnerLine, IsLineWith}
 use Rattle.bip_explain.specs.Explanations.{column_parts, marked, placed_parts}
 use Rattle.bip_explain.specs.Placed.{IsPlacedOn, line_at, said_words}
 use Rattle.bip_explain.specs.declared.twice.TwiceReason.{TwiceReason}
-use Rattle.bip_explain.specs.declared.twice.TwiceReason.TheVariants.{Declared, Said, Leaves, Party, Target}
+use Rattle.bip_explain.specs.declared.twice.TwiceReason.TheVariants.{Declared, Said, Leaves, Party}
+use Rattle.bip_explain.specs.declared.twice.TwiceReason.TheVariants.{Target}
 
 -- a word that declares something outside of components
 abbrev pub declares_outer : List ℕ → Bool

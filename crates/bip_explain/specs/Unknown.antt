@@ -9,7 +9,8 @@ use Rattle.bip_explain.specs.declared.unknown.Kind.{Kind}
 use Rattle.bip_explain.specs.declared.unknown.Kind.TheVariants.{Variable, Location, Port}
 use Rattle.bip_explain.specs.declared.unknown.Lack.{Lack}
 use Rattle.bip_explain.specs.declared.unknown.UnknownReason.{UnknownReason}
-use Rattle.bip_explain.specs.declared.unknown.UnknownReason.TheVariants.{Interaction, Component, Stranger, Inner}
+use Rattle.bip_explain.specs.declared.unknown.UnknownReason.TheVariants.{Interaction, Component}
+use Rattle.bip_explain.specs.declared.unknown.UnknownReason.TheVariants.{Stranger, Inner}
 
 -- a word names a component
 abbrev pub IsOf : List ℕ → List ℕ → Type 0

@@ -12,7 +12,8 @@ point = 46
 abbrev pub IsWant : List ℕ → List ℕ → Type 0
 IsWant component word =
     IsName component
-    × ((spelled : List ℕ) × (number : ℕ) × (pair_of colon word ≡ Some (component, spelled)) × (number_of spelled ≡ Some number))
+    × ((spelled : List ℕ) × (number : ℕ) × (pair_of colon word ≡ Some (component, spelled))
+    × (number_of spelled ≡ Some number))
 
 -- a word names a component with one of its ports, or of its variables: `C.p`
 abbrev pub IsPair : List ℕ → List ℕ → List ℕ → Type 0

@@ -3,7 +3,8 @@ ghost use Rattle.std.specs.Prelude.{◌≡◌, ◌≤◌, ◌+◌, ◌++◌, [],
 ghost use Rattle.std.specs.Prelude.{codes, if◌then◌else◌, nat_le, true};
 ghost use Rattle.std.specs.Fmt.{decimal};
 ghost use Rattle.std.specs.List.{list_all};
-ghost use Rattle.bip_explain.specs.Explanations.{column_parts, is_open, is_shown, marked, placed_parts};
+ghost use Rattle.bip_explain.specs.Explanations.{column_parts, is_open, is_shown, marked};
+ghost use Rattle.bip_explain.specs.Explanations.{placed_parts};
 ghost use Rattle.bip_explain.specs.Explanations.{said_byte, with_part, with_parts};
 
 use crate::placed::Placed;
@@ -43,7 +44,8 @@ impl marker::Model for Explanation {
 
     ghost Value = { Telling };
 
-    ghost view = { λ e. record { is_wanted = e.is_wanted; is_cut = e.is_cut; said = e.said.items } };
+    ghost view = { λ e.
+        record { is_wanted = e.is_wanted; is_cut = e.is_cut; said = e.said.items } };
 
     ghost invariant = { λ e. (list_all is_shown e.said.items ≡ true)
         × (length e.said.items ≤ 480)

@@ -169,7 +169,8 @@ fn find_name<'t>(model: &Model, line: &'t [u8]) -> Option<TraceReason<'t>>
 // Whether a word is a name that no interaction of the model has.
 fn is_missing(model: &Model, word: &[u8]) -> bool
     ensures missing { IsTrue result → HasNot model.now.interaction_names word.now }
-    ensures found { result ≡ false → IsName word.now → ¬ HasNot model.now.interaction_names word.now }
+    ensures found { result ≡ false → IsName word.now
+        → ¬ HasNot model.now.interaction_names word.now }
 {
     match Name::of(word) {
         Some(name) => model.interaction(&name).is_none(),
