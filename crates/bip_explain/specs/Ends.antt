@@ -1,5 +1,7 @@
 -- What a model's text lacks as a whole, and how it is told.
 use Rattle.std.specs.Prelude.{◌≡◌, ℕ, ◌+◌, ◌<◌, List, [], ◌∷◌, ◌++◌, codes, ⊤}
+use Rattle.std.specs.Prelude.{false, drop, if◌then◌else◌}
+use Rattle.bip_model.specs.Naming.{is_known, same_text}
 use Rattle.std.specs.Fmt.{decimal}
 use Rattle.bip_explain.specs.Declarations.{HasLineWith}
 use Rattle.bip_explain.specs.Explanations.{marked, placed_parts}
@@ -9,9 +11,19 @@ use Rattle.bip_explain.specs.declared.ends.EndReason.TheVariants.{NoLocation, No
 use Rattle.bip_explain.specs.declared.ends.EndReason.TheVariants.{NoFirst, Above, InNoClass}
 use Rattle.bip_explain.specs.declared.ends.EndReason.TheVariants.{InClasses}
 
+-- the interactions that the words of a line put into a class: those behind the class's name
+abbrev pub members : List (List ℕ) → List (List ℕ)
+members [] = []
+members (first ∷ rest) = if same_text first (codes "class") then drop 1 rest else []
+
+-- no line of a text puts an interaction into a class
+abbrev pub NoClassWith : List ℕ → List ℕ → Type 0
+NoClassWith text name =
+    (n : ℕ) → is_known name (members (said_words (line_at text n))) ≡ false
+
 -- a reason is true of a text whose line with this number is at fault: the component that is told is
--- begun by a line before, or on the line; no line up to it says anything; the word that is told
--- stands on the line that is told, at its column
+-- begun by a line before, or on the line; no line up to it says anything; no class has the
+-- interaction; the word that is told stands on the line that is told, at its column
 abbrev pub IsEndReason : List ℕ → ℕ → EndReason → Type 0
 IsEndReason text number (NoLocation component) =
     HasLineWith text number (codes "component") component.now
@@ -21,7 +33,7 @@ IsEndReason text number NoComponent = ⊤
 IsEndReason text number NoFirst =
     (n : ℕ) → n < number + 1 → said_words (line_at text n) ≡ []
 IsEndReason text number (Above name) = ⊤
-IsEndReason text number (InNoClass name) = ⊤
+IsEndReason text number (InNoClass name) = NoClassWith text name
 IsEndReason text number (InClasses n placed) = IsPlacedOn (line_at text n) placed
 
 -- how a reason is told

@@ -28,7 +28,7 @@ IsRestOf line rest = IsEndOf line rest × IsEndOf (words line) (words rest)
 
 -- a step over what is left of a line: its first word, if it has one, with the word's column
 abbrev pub TakesWord : List ℕ → List ℕ → Option Placed → List ℕ → Type 0
-TakesWord line old None new = words old ≡ []
+TakesWord line old None new = (words old ≡ []) × (words new ≡ [])
 TakesWord line old (Some placed) new =
     (words old ≡ placed.word.now ∷ words new) × IsPlacedOn line placed
 

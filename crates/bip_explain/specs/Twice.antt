@@ -5,7 +5,9 @@ use Rattle.std.specs.Fmt.{decimal}
 use Rattle.bip_model.specs.Naming.{same_text}
 use Rattle.bip_explain.specs.Declarations.{IsInnerLine, IsLineWith}
 use Rattle.bip_explain.specs.Explanations.{column_parts, marked, placed_parts}
-use Rattle.bip_explain.specs.Placed.{IsPlacedOn, line_at, said_words}
+use Rattle.bip_explain.specs.Placed.{IsPlacedOn, IsWordAt, line_at, said_words}
+use Rattle.bip_explain.specs.Unknown.{IsOf}
+use Rattle.bip_explain.specs.declared.placed.Placed.{Placed}
 use Rattle.bip_explain.specs.declared.twice.TwiceReason.{TwiceReason}
 use Rattle.bip_explain.specs.declared.twice.TwiceReason.TheVariants.{Declared, Said, Leaves, Party}
 use Rattle.bip_explain.specs.declared.twice.TwiceReason.TheVariants.{Target}
@@ -32,6 +34,23 @@ abbrev pub leave_same : List (List ℕ) → List (List ℕ) → Bool
 leave_same (a ∷ b ∷ c ∷ xs) (d ∷ e ∷ f ∷ ys) = same_text a d && same_text b e && same_text c f
 leave_same xs ys = false
 
+-- a word in front of a column names a component
+abbrev pub IsPartyBefore : List ℕ → ℕ → List ℕ → Type 0
+IsPartyBefore line column component =
+    (at : ℕ) × (word : List ℕ) × (at < column) × IsWordAt line at word × IsOf component word
+
+-- a word in front of one names the same component
+abbrev pub IsPartyAgain : List ℕ → Placed → Type 0
+IsPartyAgain line placed =
+    (component : List ℕ) × IsOf component placed.word.now
+    × IsPartyBefore line placed.column component
+
+-- a word in front of one is the same
+abbrev pub IsWordAgain : List ℕ → Placed → Type 0
+IsWordAgain line placed =
+    (at : ℕ) × (word : List ℕ) × (at < placed.column) × IsWordAt line at word
+    × IsTrue (same_text word placed.word.now)
+
 -- a reason is true of a line of a text: the word that is told stands at its column; the line that
 -- is told stands before, and declares the name, or begins with the same words
 abbrev pub IsTwiceReason : List ℕ → ℕ → List ℕ → TwiceReason → Type 0
@@ -41,8 +60,10 @@ IsTwiceReason text number line (Said n) =
     (n < number) × IsTrue (say_same (said_words line) (said_words (line_at text n)))
 IsTwiceReason text number line (Leaves n) =
     (n < number) × IsTrue (leave_same (said_words line) (said_words (line_at text n)))
-IsTwiceReason text number line (Party placed) = IsPlacedOn line placed
-IsTwiceReason text number line (Target placed) = IsPlacedOn line placed
+IsTwiceReason text number line (Party placed) =
+    IsPlacedOn line placed × IsPartyAgain line placed
+IsTwiceReason text number line (Target placed) =
+    IsPlacedOn line placed × IsWordAgain line placed
 
 -- how a reason is told
 abbrev pub twice_parts : TwiceReason → List (List ℕ)

@@ -1,8 +1,10 @@
 //! What the text of a model lacks as a whole.
-ghost use Rattle.std.specs.Prelude.{◌≡◌, IfOk, IfSome};
-ghost use Rattle.bip_explain.specs.Ends.{IsEndReason, end_parts};
+ghost use Rattle.std.specs.Prelude.{◌≡◌, IfOk, IfSome, false};
+ghost use Rattle.bip_explain.specs.Ends.{IsEndReason, NoClassWith, end_parts, members};
 ghost use Rattle.bip_explain.specs.Explanations.{with_parts};
-ghost use Rattle.bip_explain.specs.Placed.{IsPlacedOn};
+ghost use Rattle.bip_explain.specs.Placed.{IsPlacedOn, said_words};
+ghost use Rattle.bip_model.specs.Naming.{is_known};
+ghost use Rattle.bip_model.specs.Texts.{words};
 
 use crate::Explanation;
 use crate::declarations::Declared;
@@ -214,7 +216,7 @@ pub(crate) fn find_unparted<'t>(
     let names = &declared.interactions;
     let times = times_in_classes(text, names);
     for (times, name) in times.iter().zip(names.as_slice()) {
-        if *times == 0 {
+        if *times == 0 && !is_parted(text, name) {
             return Ok(Some(EndReason::InNoClass(*name)));
         }
         if *times > 1 {
@@ -222,6 +224,42 @@ pub(crate) fn find_unparted<'t>(
         }
     }
     Ok(None)
+}
+
+// Whether a line of a text puts an interaction into a class.
+fn is_parted(text: &[u8], name: &Name) -> bool
+    ensures { result ≡ false → NoClassWith text.now name.now }
+{
+    for (number, line) in NumberedLines::of(text) {
+        if is_member(name, line) {
+            return true;
+        }
+    }
+    false
+}
+
+// Whether a line puts an interaction into a class.
+fn is_member(name: &Name, line: &[u8]) -> bool
+    ensures { result ≡ is_known name.now (members (said_words line.now)) }
+{
+    match words_of(line) {
+        None => false,
+        Some((keyword, words)) => {
+            is_text(keyword.word, b"class") && is_among(name, behind_first(words))
+        }
+    }
+}
+
+// Whether a name is one of the words that are left.
+fn is_among(name: &Name, left: PlacedWords<'_>) -> bool
+    ensures { result ≡ is_known name.now (words left.entry.rest.now) }
+{
+    for placed in left {
+        if is_text(name.as_bytes(), placed.word) {
+            return true;
+        }
+    }
+    false
 }
 
 // How often each interaction stands in a class, up to 255 times.

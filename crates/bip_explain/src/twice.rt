@@ -1,16 +1,17 @@
 //! Names of a model's text that are there already.
-ghost use Rattle.std.specs.Prelude.{◌≡◌, ◌<◌, ◌∷◌, ℕ, List, [], IfOk, IfSome, codes};
+ghost use Rattle.std.specs.Prelude.{◌≡◌, ◌<◌, ◌∷◌, ℕ, List, [], IfOk, IfSome, IsTrue, codes};
 ghost use Rattle.std.specs.Fmt.{decimal};
 ghost use Rattle.bip_explain.specs.Explanations.{with_parts};
 ghost use Rattle.bip_explain.specs.Placed.{line_at, said_words};
-ghost use Rattle.bip_explain.specs.Twice.{IsDeclaration, IsTwiceReason, declares_outer};
+ghost use Rattle.bip_explain.specs.Twice.{IsDeclaration, IsPartyAgain, IsPartyBefore};
+ghost use Rattle.bip_explain.specs.Twice.{IsTwiceReason, IsWordAgain, declares_outer};
 ghost use Rattle.bip_explain.specs.Twice.{leave_same, say_same, twice_parts};
 
 use crate::Explanation;
 use crate::declarations::{Declared, begins_component, declares_inner, inner_line_with, line_with};
 use crate::placed::{Placed, PlacedWords, four_words, line_at, three_words, words_of};
 use crate::words::{is_text, pair_of};
-use bip_model::NumberedLines;
+use bip_model::{Name, NumberedLines};
 use std::alloc::{AllocError, Global};
 
 /// How many variables a component has at most, and how many all components have.
@@ -162,6 +163,7 @@ fn find_repeated<'t>(declared: &Declared, words: PlacedWords<'t>) -> Option<Twic
     ensures { (text : List ℕ) → (number : ℕ)
         → IfSome result (IsTwiceReason text number words.entry.line.now) }
 {
+    let line = words.line;
     let mut seen = [false; MOST_TARGETS];
     let mut is_head = true;
     let mut before: Option<Placed<'_>> = None;
@@ -172,12 +174,14 @@ fn find_repeated<'t>(declared: &Declared, words: PlacedWords<'t>) -> Option<Twic
             }
             is_head = false;
         } else if is_head {
-            if is_seen(&mut seen, component_place(declared, placed.word)) {
+            let is_again = is_seen(&mut seen, component_place(declared, placed.word));
+            if is_again && is_party_again(line, placed) {
                 return Some(TwiceReason::Party(placed));
             }
         } else if is_text(placed.word, b":=") {
             if let Some(target) = before {
-                if is_seen(&mut seen, variable_place(declared, target.word)) {
+                let is_again = is_seen(&mut seen, variable_place(declared, target.word));
+                if is_again && is_word_again(line, target) {
                     return Some(TwiceReason::Target(target));
                 }
             }
@@ -185,6 +189,48 @@ fn find_repeated<'t>(declared: &Declared, words: PlacedWords<'t>) -> Option<Twic
         before = Some(placed);
     }
     None
+}
+
+// Whether a word of a line in front of one names the same component.
+fn is_party_again(line: &[u8], placed: Placed<'_>) -> bool
+    ensures { IsTrue result → IsPartyAgain line.now placed.entry }
+{
+    match pair_of(placed.word) {
+        None => false,
+        Some((component, _port)) => is_party_before(line, placed.column, &component),
+    }
+}
+
+// Whether a word of a line in front of a column names a component.
+fn is_party_before(line: &[u8], column: usize, component: &Name) -> bool
+    ensures { IsTrue result → IsPartyBefore line.now column component.now }
+{
+    for before in PlacedWords::of(line) {
+        if column <= before.column {
+            return false;
+        }
+        if let Some((other, _port)) = pair_of(before.word) {
+            if other == *component {
+                return true;
+            }
+        }
+    }
+    false
+}
+
+// Whether a word of a line in front of one is the same.
+fn is_word_again(line: &[u8], placed: Placed<'_>) -> bool
+    ensures { IsTrue result → IsWordAgain line.now placed.entry }
+{
+    for before in PlacedWords::of(line) {
+        if placed.column <= before.column {
+            return false;
+        }
+        if is_text(before.word, placed.word) {
+            return true;
+        }
+    }
+    false
 }
 
 // Whether a place is seen already; it is from now on.

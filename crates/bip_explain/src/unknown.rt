@@ -1,6 +1,7 @@
 //! Names of a model's text that nothing has.
-ghost use Rattle.std.specs.Prelude.{◌≡◌, ◌⊎◌, ℕ, List, IfOk, IfSome, IsTrue};
+ghost use Rattle.std.specs.Prelude.{◌≡◌, ℕ, List, drop, IfOk, IfSome, IsTrue};
 ghost use Rattle.bip_explain.specs.Explanations.{with_parts};
+ghost use Rattle.bip_model.specs.Texts.{words};
 ghost use Rattle.bip_explain.specs.Placed.{IsPlacedOn, line_at};
 ghost use Rattle.bip_explain.specs.Declarations.{declares_inside};
 ghost use Rattle.bip_explain.specs.Unknown.{IsLack, IsOf, IsUnknownReason, keyword_of, kind_word};
@@ -153,12 +154,13 @@ pub(crate) fn find_unknown(
 }
 
 /// The words behind the first one.
-pub(crate) fn behind_first<'t>(words: PlacedWords<'t>) -> PlacedWords<'t>
-    ensures { result.line.now ≡ words.entry.line.now }
+pub(crate) fn behind_first<'t>(all: PlacedWords<'t>) -> PlacedWords<'t>
+    ensures line { result.line.now ≡ all.entry.line.now }
+    ensures rest { words result.rest.now ≡ drop 1 (words all.entry.rest.now) }
 {
-    let mut words = words;
-    let _first = words.next();
-    words
+    let mut left = all;
+    let _first = left.next();
+    left
 }
 
 // The first name that no interaction has.

@@ -1,0 +1,11 @@
+use Rattle.std.proofs.Common.{◌≡◌, ℕ, ◌<◌, false}
+use Rattle.bip_model.specs.Naming.{is_known}
+use Rattle.bip_explain.specs.Ends.{members}
+use Rattle.bip_explain.specs.Placed.{line_at, said_words}
+use Rattle.bip_explain.proofs.LineLemmas.{IsAtLine}
+use Rattle.bip_explain.proofs.ends.is_parted.Given as goal
+
+abbrev pub invariant-loop-number : goal.invariant-loop-number
+invariant-loop-number l =
+    (m : ℕ) × IsAtLine l.text m l.number-iterator
+    × ((n : ℕ) → n < m → is_known l.name (members (said_words (line_at l.text n))) ≡ false)
