@@ -1,7 +1,7 @@
 //! Limits of models that a line passes.
 ghost use Rattle.std.specs.Prelude.{◌≡◌, [], IfNone, IfSome};
 ghost use Rattle.bip_explain.specs.Explanations.{with_parts};
-ghost use Rattle.bip_explain.specs.Limits.{IsLimitReason, limit_parts};
+ghost use Rattle.bip_explain.specs.Limits.{IsLimitReason, limit_of, limit_parts};
 ghost use Rattle.bip_explain.specs.Placed.{said_words};
 
 use crate::Explanation;
@@ -54,7 +54,9 @@ pub(crate) fn find_limit(line: &[u8]) -> Option<LimitReason<'_>>
 }
 
 // The limit of how many such lines there are.
-fn limit_of(keyword: &[u8]) -> &'static [u8] {
+fn limit_of(keyword: &[u8]) -> &'static [u8]
+    ensures { result.now ≡ limit_of keyword.now }
+{
     if is_text(keyword, b"component") {
         b"a model has at most 64 components"
     } else if is_text(keyword, b"var") {
