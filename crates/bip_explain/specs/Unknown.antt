@@ -1,10 +1,12 @@
 -- Why a name of a model's text is unknown, and how it is told.
 use Rattle.std.specs.Prelude.{◌≡◌, ◌⊎◌, ℕ, List, [], ◌∷◌, ◌++◌, codes, Option, None, Some}
-use Rattle.std.specs.Prelude.{false, IfSome, IsTrue}
+use Rattle.std.specs.Prelude.{Bool, false, ◌||◌, drop, if◌then◌else◌, IfSome, IsTrue}
+use Rattle.bip_model.specs.Naming.{same_text}
+use Rattle.bip_model.specs.Texts.{pair_of}
 use Rattle.bip_explain.specs.Declarations.{HasLineWith, NoLineWith, declares_inside}
 use Rattle.bip_explain.specs.Explanations.{column_parts, marked}
-use Rattle.bip_explain.specs.Placed.{IsPlacedOn}
-use Rattle.bip_explain.specs.Words.{IsPair}
+use Rattle.bip_explain.specs.Placed.{IsPlacedOn, said_words}
+use Rattle.bip_explain.specs.Words.{IsPair, point}
 use Rattle.bip_explain.specs.declared.unknown.Kind.{Kind}
 use Rattle.bip_explain.specs.declared.unknown.Kind.TheVariants.{Variable, Location, Port}
 use Rattle.bip_explain.specs.declared.unknown.Lack.{Lack}
@@ -15,6 +17,18 @@ use Rattle.bip_explain.specs.declared.unknown.UnknownReason.TheVariants.{Strange
 -- a word names a component
 abbrev pub IsOf : List ℕ → List ℕ → Type 0
 IsOf component word = (inner : List ℕ) × IsPair component inner word
+
+-- whether the part of a word in front of its point is a component
+abbrev pub is_front : List ℕ → Option (List ℕ × List ℕ) → Bool
+is_front component None = false
+is_front component (Some parts) = same_text parts.0 component
+
+-- whether one of the words in front of `when` and `do` names a component
+abbrev pub takes_part : List ℕ → List (List ℕ) → Bool
+takes_part component [] = false
+takes_part component (word ∷ rest) =
+    if same_text word (codes "when") || same_text word (codes "do") then false
+    else is_front component (pair_of point word) || takes_part component rest
 
 -- what a line declares a kind with
 abbrev pub keyword_of : Kind → List ℕ
@@ -32,7 +46,8 @@ IsLack text number lack =
     (declares_inside text number lack.component (keyword_of kind) lack.name))
 
 -- a reason is true of a line of a text: the word that is told stands at its column; of an
--- interaction, or a component, that is missing no line before begins its declaration
+-- interaction, or a component, that is missing no line before begins its declaration, and a
+-- component that is told to take no part is named by no participant
 abbrev pub IsUnknownReason : List ℕ → ℕ → List ℕ → UnknownReason → Type 0
 IsUnknownReason text number line (Interaction placed) =
     IsPlacedOn line placed × NoLineWith text number (codes "interaction") placed.word.now
@@ -41,6 +56,7 @@ IsUnknownReason text number line (Component placed component) =
     × NoLineWith text number (codes "component") component
 IsUnknownReason text number line (Stranger placed component) =
     IsPlacedOn line placed × IsOf component placed.word.now
+    × (takes_part component (drop 2 (said_words line)) ≡ false)
 IsUnknownReason text number line (Inner placed lack) =
     IsPlacedOn line placed
     × ((placed.word.now ≡ lack.name) ⊎ IsPair lack.component lack.name placed.word.now)

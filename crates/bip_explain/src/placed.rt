@@ -31,17 +31,6 @@ impl<'t> PlacedWords<'t> {
         PlacedWords { line, rest: line }
     }
 
-    /// The words that are left.
-    pub(crate) fn rest(&self) -> PlacedWords<'t>
-        ensures line { result.line.now ≡ self.now.line.now }
-        ensures rest { result.rest.now ≡ self.now.rest.now }
-    {
-        PlacedWords {
-            line: self.line,
-            rest: self.rest,
-        }
-    }
-
     /// The column behind the line's last byte.
     pub(crate) fn end(&self) -> usize
         ensures { result ≡ length self.now.line.now + 1 }

@@ -1,18 +1,20 @@
 //! Names of a model's text that nothing has.
-ghost use Rattle.std.specs.Prelude.{◌≡◌, ℕ, List, drop, IfOk, IfSome, IsTrue};
+ghost use Rattle.std.specs.Prelude.{◌≡◌, ◌||◌, codes, drop, IfOk, IfSome, IsTrue};
 ghost use Rattle.bip_explain.specs.Explanations.{with_parts};
-ghost use Rattle.bip_model.specs.Texts.{words};
-ghost use Rattle.bip_explain.specs.Placed.{IsPlacedOn, line_at};
+ghost use Rattle.bip_model.specs.Naming.{same_text};
+ghost use Rattle.bip_model.specs.Texts.{pair_of, words};
+ghost use Rattle.bip_explain.specs.Placed.{IsPlacedOn, line_at, said_words};
 ghost use Rattle.bip_explain.specs.Declarations.{declares_inside};
 ghost use Rattle.bip_explain.specs.Unknown.{IsLack, IsOf, IsUnknownReason, keyword_of, kind_word};
-ghost use Rattle.bip_explain.specs.Unknown.{lack_parts};
+ghost use Rattle.bip_explain.specs.Unknown.{is_front, lack_parts, takes_part};
 ghost use Rattle.bip_explain.specs.Unknown.{other_parts, unknown_parts};
+ghost use Rattle.bip_explain.specs.Words.{point};
 
 use crate::Explanation;
 use crate::declarations::{Declared, Inner, declares_inside, line_with};
 use crate::placed::{Placed, PlacedWords, line_at, words_of};
 use crate::words::{is_text, pair_of};
-use bip_model::{Name, Names};
+use bip_model::{Name, Names, split_pair};
 use std::alloc::{AllocError, Global};
 
 /// What a component has inside.
@@ -298,34 +300,49 @@ fn find_in_interaction<'t>(
         are_in: [false; 64],
         is_head: true,
     };
+    let line = words.line;
     for placed in words {
-        if is_text(placed.word, b"when") || is_text(placed.word, b"do") {
+        if begins_clauses(placed.word) {
             parties.is_head = false;
-        } else if let Some(reason) = find_in_pair(text, number, declared, &mut parties, placed) {
+        } else if let Some(reason) = find_in_pair(
+            text,
+            number,
+            line,
+            declared,
+            &mut parties,
+            placed,
+        ) {
             return Some(reason);
         }
     }
     None
 }
 
+fn begins_clauses(word: &[u8]) -> bool
+    ensures { result ≡ (same_text word.now (codes "when") || same_text word.now (codes "do")) }
+{
+    is_text(word, b"when") || is_text(word, b"do")
+}
+
 // What is unknown of a participant, or of a variable.
 fn find_in_pair<'t>(
     text: &[u8],
     number: u64,
+    line: &[u8],
     declared: &Declared,
     parties: &mut Parties,
     placed: Placed<'t>,
 ) -> Option<UnknownReason<'t>>
-    ensures { (line : List ℕ) → IsPlacedOn line placed.entry
-        → IfSome result (IsUnknownReason text.now number line) }
+    requires { IsPlacedOn line.now placed }
+    ensures { IfSome result (IsUnknownReason text.now number line.now) }
 {
     let (component, name) = pair_of(placed.word)?;
     let Some((index, inner)) = declared.inner(&component) else {
-        return find_component(text, number, placed, component);
+        return find_component(text, number, line, placed, component);
     };
     if parties.is_head {
         parties.join(index);
-    } else if !parties.has(index) {
+    } else if !parties.has(index) && !takes_part(component.as_bytes(), line) {
         return Some(UnknownReason::Stranger(placed, component));
     }
     let kind = if parties.is_head {
@@ -341,16 +358,52 @@ fn find_in_pair<'t>(
 fn find_component<'t>(
     text: &[u8],
     number: u64,
+    line: &[u8],
     placed: Placed<'t>,
     component: Name,
 ) -> Option<UnknownReason<'t>>
-    requires { IsOf component placed.word.now }
-    ensures { (line : List ℕ) → IsPlacedOn line placed.entry
-        → IfSome result (IsUnknownReason text.now number line) }
+    requires named { IsOf component placed.word.now }
+    requires placed { IsPlacedOn line.now placed }
+    ensures { IfSome result (IsUnknownReason text.now number line.now) }
 {
     match line_with(text, number, b"component", component.as_bytes()) {
         Some(_) => None,
         None => Some(UnknownReason::Component(placed, component)),
+    }
+}
+
+// Whether a participant of a line's interaction is of a component.
+fn takes_part(component: &[u8], line: &[u8]) -> bool
+    ensures { result ≡ takes_part component.now (drop 2 (said_words line.now)) }
+{
+    match words_of(line) {
+        None => false,
+        Some((_keyword, words)) => is_in_head(component, behind_first(words)),
+    }
+}
+
+// Whether one of the words that are left, in front of clauses, names a component.
+fn is_in_head(component: &[u8], left: PlacedWords<'_>) -> bool
+    ensures { result ≡ takes_part component.now (words left.entry.rest.now) }
+{
+    for placed in left {
+        if begins_clauses(placed.word) {
+            return false;
+        }
+        if is_front(component, placed.word) {
+            return true;
+        }
+    }
+    false
+}
+
+// Whether the part of a word in front of its point is a component.
+fn is_front(component: &[u8], word: &[u8]) -> bool
+    ensures { result ≡ is_front component.now (pair_of point word.now) }
+{
+    match split_pair(word, b'.') {
+        None => false,
+        Some((front, _inner)) => is_text(front, component),
     }
 }
 
