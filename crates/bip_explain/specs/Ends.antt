@@ -1,11 +1,12 @@
 -- What a model's text lacks as a whole, and how it is told.
-use Rattle.std.specs.Prelude.{◌≡◌, ℕ, ◌+◌, ◌<◌, List, [], ◌∷◌, ◌++◌, codes, ⊤}
+use Rattle.std.specs.Prelude.{◌≡◌, ◌⊎◌, ℕ, ◌+◌, ◌<◌, IsTrue, List, [], ◌∷◌, ◌++◌, codes, ⊤}
 use Rattle.std.specs.Prelude.{false, drop, if◌then◌else◌}
 use Rattle.bip_model.specs.Naming.{is_known, same_text}
 use Rattle.std.specs.Fmt.{decimal}
 use Rattle.bip_explain.specs.Declarations.{HasLineWith}
 use Rattle.bip_explain.specs.Explanations.{marked, placed_parts}
 use Rattle.bip_explain.specs.Placed.{IsPlacedOn, line_at, said_words}
+use Rattle.bip_explain.specs.Twice.{IsWordAgain}
 use Rattle.bip_explain.specs.declared.ends.EndReason.{EndReason}
 use Rattle.bip_explain.specs.declared.ends.EndReason.TheVariants.{NoLocation, NoEnd, NoComponent}
 use Rattle.bip_explain.specs.declared.ends.EndReason.TheVariants.{NoFirst, Above, InNoClass}
@@ -16,6 +17,14 @@ abbrev pub members : List (List ℕ) → List (List ℕ)
 members [] = []
 members (first ∷ rest) = if same_text first (codes "class") then drop 1 rest else []
 
+-- the line of a text with this number puts an interaction into a class
+abbrev pub IsClassWith : List ℕ → ℕ → List ℕ → Type 0
+IsClassWith text n name = IsTrue (is_known name (members (said_words (line_at text n))))
+
+-- a line before one puts an interaction into a class
+abbrev pub HasClassWith : List ℕ → ℕ → List ℕ → Type 0
+HasClassWith text line name = (n : ℕ) × (n < line) × IsClassWith text n name
+
 -- no line of a text puts an interaction into a class
 abbrev pub NoClassWith : List ℕ → List ℕ → Type 0
 NoClassWith text name =
@@ -23,7 +32,8 @@ NoClassWith text name =
 
 -- a reason is true of a text whose line with this number is at fault: the component that is told is
 -- begun by a line before, or on the line; no line up to it says anything; no class has the
--- interaction; the word that is told stands on the line that is told, at its column
+-- interaction; the word that is told stands on the line that is told, at its column, in a class, and
+-- in one before
 abbrev pub IsEndReason : List ℕ → ℕ → EndReason → Type 0
 IsEndReason text number (NoLocation component) =
     HasLineWith text number (codes "component") component.now
@@ -34,7 +44,9 @@ IsEndReason text number NoFirst =
     (n : ℕ) → n < number + 1 → said_words (line_at text n) ≡ []
 IsEndReason text number (Above name) = ⊤
 IsEndReason text number (InNoClass name) = NoClassWith text name
-IsEndReason text number (InClasses n placed) = IsPlacedOn (line_at text n) placed
+IsEndReason text number (InClasses n placed) =
+    IsPlacedOn (line_at text n) placed × IsClassWith text n placed.word.now
+    × (HasClassWith text n placed.word.now ⊎ IsWordAgain (line_at text n) placed)
 
 -- how a reason is told
 abbrev pub end_parts : EndReason → List (List ℕ)

@@ -1,6 +1,8 @@
 //! What the text of a model lacks as a whole.
-ghost use Rattle.std.specs.Prelude.{◌≡◌, IfOk, IfSome, false};
-ghost use Rattle.bip_explain.specs.Ends.{IsEndReason, NoClassWith, end_parts, members};
+ghost use Rattle.std.specs.Prelude.{◌≡◌, ◌⊎◌, IfOk, IfSome, IsTrue, false};
+ghost use Rattle.bip_explain.specs.Ends.{HasClassWith, IsEndReason, NoClassWith, end_parts};
+ghost use Rattle.bip_explain.specs.Ends.{members};
+ghost use Rattle.bip_explain.specs.Twice.{IsWordAgain};
 ghost use Rattle.bip_explain.specs.Explanations.{with_parts};
 ghost use Rattle.bip_explain.specs.Placed.{IsPlacedOn, said_words};
 ghost use Rattle.bip_model.specs.Naming.{is_known};
@@ -10,6 +12,7 @@ use crate::Explanation;
 use crate::declarations::Declared;
 use crate::placed::{Placed, PlacedWords, line_at, words_of};
 use crate::scopes::{Standing, standing_at};
+use crate::twice::is_word_again;
 use crate::unknown::behind_first;
 use crate::words::is_text;
 use bip_model::{Name, Names, NumberedLines};
@@ -231,7 +234,7 @@ fn is_parted(text: &[u8], name: &Name) -> bool
     ensures { result ≡ false → NoClassWith text.now name.now }
 {
     for (number, line) in NumberedLines::of(text) {
-        if is_member(name, line) {
+        if is_member(name.as_bytes(), line) {
             return true;
         }
     }
@@ -239,7 +242,7 @@ fn is_parted(text: &[u8], name: &Name) -> bool
 }
 
 // Whether a line puts an interaction into a class.
-fn is_member(name: &Name, line: &[u8]) -> bool
+fn is_member(name: &[u8], line: &[u8]) -> bool
     ensures { result ≡ is_known name.now (members (said_words line.now)) }
 {
     match words_of(line) {
@@ -251,11 +254,11 @@ fn is_member(name: &Name, line: &[u8]) -> bool
 }
 
 // Whether a name is one of the words that are left.
-fn is_among(name: &Name, left: PlacedWords<'_>) -> bool
+fn is_among(name: &[u8], left: PlacedWords<'_>) -> bool
     ensures { result ≡ is_known name.now (words left.entry.rest.now) }
 {
     for placed in left {
-        if is_text(name.as_bytes(), placed.word) {
+        if is_text(name, placed.word) {
             return true;
         }
     }
@@ -292,10 +295,39 @@ fn find_again<'t>(text: &'t [u8], number: u64, name: &Name) -> Option<EndReason<
     let mut is_seen = false;
     for (other, line) in NumberedLines::of(text) {
         if let Some(member) = member_again(line, name, &mut is_seen) {
-            return Some(EndReason::InClasses(other, member));
+            if is_member(member.word, line) && is_again(text, other, line, member) {
+                return Some(EndReason::InClasses(other, member));
+            }
         }
     }
     None
+}
+
+// Whether a member of a line's class stands in one before, or twice in this one.
+fn is_again(text: &[u8], number: u64, line: &[u8], member: Placed<'_>) -> bool
+    ensures { IsTrue result → HasClassWith text.now number member.entry.word.now
+        ⊎ IsWordAgain line.now member.entry }
+{
+    if is_parted_before(text, number, member.word) {
+        true
+    } else {
+        is_word_again(line, member)
+    }
+}
+
+// Whether a line before one puts an interaction into a class.
+fn is_parted_before(text: &[u8], line: u64, name: &[u8]) -> bool
+    ensures { IsTrue result → HasClassWith text.now line name.now }
+{
+    for (number, bytes) in NumberedLines::of(text) {
+        if line <= number {
+            return false;
+        }
+        if is_member(name, bytes) {
+            return true;
+        }
+    }
+    false
 }
 
 // The member of a class line that is an interaction which was seen already.

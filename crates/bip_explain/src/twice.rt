@@ -218,8 +218,8 @@ fn is_party_before(line: &[u8], column: usize, component: &Name) -> bool
     false
 }
 
-// Whether a word of a line in front of one is the same.
-fn is_word_again(line: &[u8], placed: Placed<'_>) -> bool
+/// Whether a word of a line in front of one is the same.
+pub(crate) fn is_word_again(line: &[u8], placed: Placed<'_>) -> bool
     ensures { IsTrue result → IsWordAgain line.now placed.entry }
 {
     for before in PlacedWords::of(line) {
