@@ -3,3 +3,4 @@ pub mod PlacedLemmas
 pub mod SayLemmas
 pub mod ScopeLemmas
 pub mod StateLemmas
+pub mod TwiceLemmas

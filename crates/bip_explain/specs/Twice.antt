@@ -1,9 +1,9 @@
 -- What a line of a model's text names twice, and how it is told.
-use Rattle.std.specs.Prelude.{◌⊎◌, ℕ, ◌<◌, Bool, false, ◌&&◌, ◌||◌, IsTrue}
+use Rattle.std.specs.Prelude.{◌≡◌, ◌⊎◌, ℕ, ◌<◌, Bool, false, ◌&&◌, ◌||◌, IsTrue}
 use Rattle.std.specs.Prelude.{List, [], ◌∷◌, ◌++◌, codes}
 use Rattle.std.specs.Fmt.{decimal}
 use Rattle.bip_model.specs.Naming.{same_text}
-use Rattle.bip_explain.specs.Declarations.{IsInnerLine, IsLineWith}
+use Rattle.bip_explain.specs.Declarations.{IsInnerLine, IsLineWith, begins_component}
 use Rattle.bip_explain.specs.Explanations.{column_parts, marked, placed_parts}
 use Rattle.bip_explain.specs.Placed.{IsPlacedOn, IsWordAt, line_at, said_words}
 use Rattle.bip_explain.specs.Unknown.{IsOf}
@@ -34,6 +34,13 @@ abbrev pub leave_same : List (List ℕ) → List (List ℕ) → Bool
 leave_same (a ∷ b ∷ c ∷ xs) (d ∷ e ∷ f ∷ ys) = same_text a d && same_text b e && same_text c f
 leave_same xs ys = false
 
+-- the line with this number, of those before one, has the transition of a line; and no component is
+-- begun behind it before that one
+abbrev pub IsSameTransition : List ℕ → ℕ → List ℕ → ℕ → Type 0
+IsSameTransition text number line n =
+    (n < number) × IsTrue (leave_same (said_words line) (said_words (line_at text n)))
+    × ((k : ℕ) → n < k → k < number → begins_component (said_words (line_at text k)) ≡ false)
+
 -- a word in front of a column names a component
 abbrev pub IsPartyBefore : List ℕ → ℕ → List ℕ → Type 0
 IsPartyBefore line column component =
@@ -58,8 +65,7 @@ IsTwiceReason text number line (Declared placed n) =
     IsPlacedOn line placed × (n < number) × IsDeclaration text n placed.word.now
 IsTwiceReason text number line (Said n) =
     (n < number) × IsTrue (say_same (said_words line) (said_words (line_at text n)))
-IsTwiceReason text number line (Leaves n) =
-    (n < number) × IsTrue (leave_same (said_words line) (said_words (line_at text n)))
+IsTwiceReason text number line (Leaves n) = IsSameTransition text number line n
 IsTwiceReason text number line (Party placed) =
     IsPlacedOn line placed × IsPartyAgain line placed
 IsTwiceReason text number line (Target placed) =

@@ -4,7 +4,8 @@ ghost use Rattle.std.specs.Fmt.{decimal};
 ghost use Rattle.bip_explain.specs.Explanations.{with_parts};
 ghost use Rattle.bip_explain.specs.Placed.{line_at, said_words};
 ghost use Rattle.bip_explain.specs.Twice.{IsDeclaration, IsPartyAgain, IsPartyBefore};
-ghost use Rattle.bip_explain.specs.Twice.{IsTwiceReason, IsWordAgain, declares_outer};
+ghost use Rattle.bip_explain.specs.Twice.{IsSameTransition, IsTwiceReason, IsWordAgain};
+ghost use Rattle.bip_explain.specs.Twice.{declares_outer};
 ghost use Rattle.bip_explain.specs.Twice.{leave_same, say_same, twice_parts};
 
 use crate::Explanation;
@@ -268,6 +269,13 @@ pub(crate) fn find_transition<'t>(
 ) -> Option<TwiceReason<'t>>
     ensures { IfSome result (IsTwiceReason text.now number line.now) }
 {
+    Some(TwiceReason::Leaves(transition_before(text, number, line)?))
+}
+
+// The line before that has it, of those of the component that is begun last.
+fn transition_before(text: &[u8], number: u64, line: &[u8]) -> Option<u64>
+    ensures { IfSome result (IsSameTransition text.now number line.now) }
+{
     let mut found = None;
     for (other, bytes) in NumberedLines::of(text) {
         if number <= other {
@@ -276,7 +284,7 @@ pub(crate) fn find_transition<'t>(
         if begins_component(bytes) {
             found = None;
         } else if found.is_none() && leave_same(line, bytes) {
-            found = Some(TwiceReason::Leaves(other));
+            found = Some(other);
         }
     }
     found
