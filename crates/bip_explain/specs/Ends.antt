@@ -32,8 +32,8 @@ NoClassWith text name =
 
 -- a reason is true of a text whose line with this number is at fault: the component that is told is
 -- begun by a line before, or on the line; no line up to it says anything; no class has the
--- interaction; the word that is told stands on the line that is told, at its column, in a class, and
--- in one before
+-- interaction; the word that is told stands on the line that is told, at its column, in a class,
+-- and in one before
 abbrev pub IsEndReason : List ℕ → ℕ → EndReason → Type 0
 IsEndReason text number (NoLocation component) =
     HasLineWith text number (codes "component") component.now

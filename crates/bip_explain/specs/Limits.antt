@@ -19,8 +19,8 @@ limit_of keyword =
     then codes "a model has at most 128 interactions"
     else codes "a model has at most 32 classes")))))
 
--- a reason is true of a line: the word that is told stands at its column; the limit is that of lines
--- which begin as this one
+-- a reason is true of a line: the word that is told stands at its column; the limit is that of
+-- lines which begin as this one
 abbrev pub IsLimitReason : List ℕ → LimitReason → Type 0
 IsLimitReason line (Word placed limit) = IsPlacedOn line placed
 IsLimitReason line (Line limit) =
