@@ -24,26 +24,26 @@ is_front component None = false
 is_front component (Some parts) = same_text parts.0 component
 
 -- whether one of the words in front of `when` and `do` names a component
-abbrev pub takes_part : List ℕ → List (List ℕ) → Bool
-takes_part component [] = false
-takes_part component (word ∷ rest) =
+abbrev pub has_participant : List ℕ → List (List ℕ) → Bool
+has_participant component [] = false
+has_participant component (word ∷ rest) =
     if same_text word (codes "when") || same_text word (codes "do") then false
-    else is_front component (pair_of point word) || takes_part component rest
+    else is_front component (pair_of point word) || has_participant component rest
 
 -- what a line declares a kind with
-abbrev pub keyword_of : Kind → List ℕ
-keyword_of Variable = codes "var"
-keyword_of Location = codes "loc"
-keyword_of Port = codes "port"
+abbrev pub kind_keyword : Kind → List ℕ
+kind_keyword Variable = codes "var"
+kind_keyword Location = codes "loc"
+kind_keyword Port = codes "port"
 
 -- lines before this one begin the component, and declare inside it nothing of the kind by the name,
 -- but what else is told
 abbrev pub IsLack : List ℕ → ℕ → Lack → Type 0
 IsLack text number lack =
     HasLineWith text number (codes "component") lack.component
-    × (declares_inside text number lack.component (keyword_of lack.kind) lack.name ≡ false)
+    × (declares_inside text number lack.component (kind_keyword lack.kind) lack.name ≡ false)
     × IfSome lack.other (λ kind. IsTrue
-    (declares_inside text number lack.component (keyword_of kind) lack.name))
+    (declares_inside text number lack.component (kind_keyword kind) lack.name))
 
 -- a reason is true of a line of a text: the word that is told stands at its column; of an
 -- interaction, or a component, that is missing no line before begins its declaration, and a
@@ -56,7 +56,7 @@ IsUnknownReason text number line (Component placed component) =
     × NoLineWith text number (codes "component") component
 IsUnknownReason text number line (Stranger placed component) =
     IsPlacedOn line placed × IsOf component placed.word.now
-    × (takes_part component (drop 2 (said_words line)) ≡ false)
+    × (has_participant component (drop 2 (said_words line)) ≡ false)
 IsUnknownReason text number line (Inner placed lack) =
     IsPlacedOn line placed
     × ((placed.word.now ≡ lack.name) ⊎ IsPair lack.component lack.name placed.word.now)

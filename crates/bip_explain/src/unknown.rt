@@ -5,8 +5,8 @@ ghost use Rattle.bip_model.specs.Naming.{same_text};
 ghost use Rattle.bip_model.specs.Texts.{pair_of, words};
 ghost use Rattle.bip_explain.specs.Placed.{IsPlacedOn, line_at, said_words};
 ghost use Rattle.bip_explain.specs.Declarations.{declares_inside};
-ghost use Rattle.bip_explain.specs.Unknown.{IsLack, IsOf, IsUnknownReason, keyword_of, kind_word};
-ghost use Rattle.bip_explain.specs.Unknown.{is_front, lack_parts, takes_part};
+ghost use Rattle.bip_explain.specs.Unknown.{IsLack, IsOf, IsUnknownReason, kind_keyword, kind_word};
+ghost use Rattle.bip_explain.specs.Unknown.{is_front, lack_parts, has_participant};
 ghost use Rattle.bip_explain.specs.Unknown.{other_parts, unknown_parts};
 ghost use Rattle.bip_explain.specs.Words.{point};
 
@@ -111,7 +111,7 @@ impl Kind {
     }
 
     fn keyword(self) -> &'static [u8]
-        ensures { result.now ≡ keyword_of self }
+        ensures { result.now ≡ kind_keyword self }
     {
         match self {
             Kind::Variable => b"var",
@@ -253,7 +253,7 @@ fn lack_of(
 // Whether a component has something of a kind by a name.
 fn is_inside(text: &[u8], number: u64, component: &Name, kind: Kind, name: &Name) -> bool
     ensures { result
-        ≡ declares_inside text.now number component.now (keyword_of kind) name.now }
+        ≡ declares_inside text.now number component.now (kind_keyword kind) name.now }
 {
     declares_inside(
         text,
@@ -267,7 +267,7 @@ fn is_inside(text: &[u8], number: u64, component: &Name, kind: Kind, name: &Name
 // What a component has by a name.
 fn kind_of(text: &[u8], number: u64, component: &Name, name: &Name) -> Option<Kind>
     ensures { IfSome result (λ kind. IsTrue
-        (declares_inside text.now number component.now (keyword_of kind) name.now)) }
+        (declares_inside text.now number component.now (kind_keyword kind) name.now)) }
 {
     if is_inside(text, number, component, Kind::Variable, name) {
         Some(Kind::Variable)
@@ -342,7 +342,7 @@ fn find_in_pair<'t>(
     };
     if parties.is_head {
         parties.join(index);
-    } else if !parties.has(index) && !takes_part(component.as_bytes(), line) {
+    } else if !parties.has(index) && !has_participant(component.as_bytes(), line) {
         return Some(UnknownReason::Stranger(placed, component));
     }
     let kind = if parties.is_head {
@@ -373,8 +373,8 @@ fn find_component<'t>(
 }
 
 // Whether a participant of a line's interaction is of a component.
-fn takes_part(component: &[u8], line: &[u8]) -> bool
-    ensures { result ≡ takes_part component.now (drop 2 (said_words line.now)) }
+fn has_participant(component: &[u8], line: &[u8]) -> bool
+    ensures { result ≡ has_participant component.now (drop 2 (said_words line.now)) }
 {
     match words_of(line) {
         None => false,
@@ -384,7 +384,7 @@ fn takes_part(component: &[u8], line: &[u8]) -> bool
 
 // Whether one of the words that are left, in front of clauses, names a component.
 fn is_in_head(component: &[u8], left: PlacedWords<'_>) -> bool
-    ensures { result ≡ takes_part component.now (words left.entry.rest.now) }
+    ensures { result ≡ has_participant component.now (words left.entry.rest.now) }
 {
     for placed in left {
         if begins_clauses(placed.word) {

@@ -1,9 +1,9 @@
 use Rattle.std.proofs.Common.{◌≡◌}
 use Rattle.bip_model.specs.Texts.{words}
-use Rattle.bip_explain.specs.Unknown.{takes_part}
+use Rattle.bip_explain.specs.Unknown.{has_participant}
 use Rattle.bip_explain.proofs.unknown.is_in_head.Given as goal
 
 abbrev pub invariant-loop-placed : goal.invariant-loop-placed
 invariant-loop-placed l =
-    takes_part l.component (words l.fn.left.rest.now)
-    ≡ takes_part l.component (words l.placed-iterator.rest.now)
+    has_participant l.component (words l.fn.left.rest.now)
+    ≡ has_participant l.component (words l.placed-iterator.rest.now)
