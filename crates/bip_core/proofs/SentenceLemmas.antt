@@ -1,12 +1,15 @@
 -- What agreement says, sentence by sentence: each of the six parts follows from what is kept of
 -- used numbers, numbers and local states.
-use Rattle.std.proofs.Common.{◌≡◌, ℕ, ◌+◌, ◌≤◌, true, false, sym, ap, ◌∙◌, subst, inl, inr, arith}
+use Rattle.std.proofs.Common.{◌≡◌, ℕ, ◌+◌, ◌≤◌, List, true, false, sym, ap, ◌∙◌, subst, inl, inr}
+use Rattle.std.proofs.Common.{arith}
 use Rattle.std.proofs.lemmas.Bool.{cases_Bool, cases_eq, eqb-true, true≢false}
 use Rattle.bip_model.specs.Parties.{AreParties}
 use Rattle.bip_model.proofs.HistoryLemmas.{moves_once}
 use Rattle.bip_model.specs.States.{State}
-use Rattle.bip_model.specs.Steps.{after}
-use Rattle.bip_model.specs.Wants.{IsFresh}
+use Rattle.bip_model.specs.Partitions.{class_in}
+use Rattle.bip_model.specs.Steps.{after, moves}
+use Rattle.bip_model.specs.Wants.{IsFresh, moved_in}
+use Rattle.bip_model.specs.declared.grants.Grant.{Grant}
 use Rattle.bip_model.specs.declared.messages.Notify.{Notify}
 use Rattle.bip_model.specs.declared.messages.Offer.{Offer}
 use Rattle.bip_model.specs.declared.messages.Request.{Request}
@@ -14,20 +17,26 @@ use Rattle.bip_model.specs.declared.wants.Want.{Want}
 use Rattle.bip_partition.specs.Laws.{IsPlanned}
 use Rattle.bip_partition.specs.Plans.{Planned}
 use Rattle.bip_observe.proofs.ShowLemmas.{ready_may_run}
+use Rattle.bip_ip.specs.Asking.{told_by}
+use Rattle.bip_ip.specs.declared.nodes.OpenRecord.{OpenRecord}
+use Rattle.bip_ip.proofs.TellLemmas.{tells_participants}
+use Rattle.bip_bank.specs.Decisions.{grant_of}
 use Rattle.bip_core.specs.declared.messages.Message.{Message}
 use Rattle.bip_core.specs.declared.messages.Message.TheVariants.{NotifyComponent, OfferTo}
 use Rattle.bip_core.specs.declared.messages.Message.TheVariants.{ReplyToClass, RequestToBank}
 use Rattle.bip_core.specs.Agreement.{AgreeAt}
 use Rattle.bip_core.specs.Books.{HasRecord, RecordFits}
 use Rattle.bip_core.specs.Lists.{In, count}
-use Rattle.bip_core.specs.Numbers.{IsAwaited, is_for}
+use Rattle.bip_core.specs.Numbers.{IsAwaited, IsOwed, is_for}
 use Rattle.bip_core.specs.Sentences.{AgreementInSix, ComponentAgrees, IsMoving, IsOfferOut}
 use Rattle.bip_core.specs.Sentences.{IsSettled, IsSpent, LeadsOn, OfferAgrees, RequestAgrees}
 use Rattle.bip_core.specs.Locals.{Made}
 use Rattle.bip_core.specs.Views.{View, lead}
-use Rattle.bip_core.proofs.ListLemmas.{count-none}
+use Rattle.bip_core.proofs.ListLemmas.{Any-one, count-none}
 use Rattle.bip_core.proofs.LocalLemmas.{LeadsNext, fresh_leads, shown}
 use Rattle.bip_core.proofs.NumberLemmas.{quiet}
+use Rattle.bip_core.proofs.ToldLemmas.{tells_move}
+use Rattle.bip_core.proofs.UsedLemmas.{granted_once}
 
 module _ {p : Planned} {base : ℕ} {u : ℕ → ℕ} {s : State} {w : View}
     (h : AgreeAt p base u s w) where
@@ -116,6 +125,27 @@ module _ {p : Planned} {base : ℕ} {u : ℕ → ℕ} {s : State} {w : View}
         shows = h.locals.mail (OfferTo to o) at;
       }
 
+  -- What two records owe to one component is of one grant, so they are one record
+
+  owed_by_one : (j k a b : ℕ) (e f : OpenRecord) (n x : Notify) → IsOwed w j a e n
+      → IsOwed w k b f x → n.comp.0 ≡ x.comp.0 → (j ≡ k) × (a ≡ b)
+  owed_by_one j k a b e f n x owes other same =
+      let made = h.locals.made j a e owes.is in
+      let also = h.locals.made k b f other.is in
+      let told : In n (told_by p.model made.offers e.request.inter.0) = subst (In n) made.tells_are owes.tells in
+      let again : In x (told_by p.model also.offers f.request.inter.0) = subst (In x) also.tells_are other.tells in
+      let moves_e = tells_move made.wants_are n told in
+      let moves_f = tells_move also.wants_are x again in
+      let v = moves_e.has in
+      let numbers : x.number ≡ n.number = (h.numbers.owed k b f x other).0.own ∙ (ap w.number (sym same) ∙ sym (h.numbers.owed j a e n owes).0.own) in
+      let by_e : moved_in e.request.wants v.want.comp.0 ≡ v.want.number = ap (moved_in e.request.wants) v.comp ∙ (moves_e.moved ∙ sym v.number) in
+      let by_f : moved_in f.request.wants v.want.comp.0 ≡ v.want.number = ap (moved_in f.request.wants) (v.comp ∙ same) ∙ (moves_f.moved ∙ (numbers ∙ sym v.number)) in
+      let one = granted_once (λ c. base) w.trace (grant_of e.request) (grant_of f.request) v.want h.books.history owes.granted other.granted v.among by_e by_f in
+      let its = h.books.records j a e owes.is in
+      let others = h.books.records k b f other.is in
+      let inter : a ≡ b = sym its.number ∙ (ap (λ (g : Grant). g.inter.0) one ∙ others.number) in
+      (sym its.home ∙ (ap (class_in p.classes) inter ∙ others.home), inter)
+
   -- A request has its record, and where it is fresh, its interaction may run
 
   module _ (planned : IsPlanned p) (q : Request) (has : HasRecord w.trace w.pending q) where
@@ -126,6 +156,15 @@ module _ {p : Planned} {base : ℕ} {u : ℕ → ℕ} {s : State} {w : View}
     made =
         subst (λ (x : Request). Made p.model u s x.inter.0 x.wants has.entry.notifies) has.same
         (h.locals.made q.class.0 q.inter.0 has.entry has.is)
+
+    told : (c : ℕ) → moves p.model q.inter.0 c ≡ true
+        → (n : Notify) × In n has.entry.notifies × (n.comp.0 ≡ c)
+    told c on =
+        let of_all = told_by p.model made.offers q.inter.0 in
+        let (n, at, same) =
+        Any-one (λ (n : Notify). n.comp.0 ≡ c) of_all
+        (tells_participants p.model made.offers q.inter.0 c on) in
+        (n, subst (λ (ns : List Notify). In n ns) (sym made.tells_are) at, same)
 
     own : (v : Want) → In v q.wants → v.number ≤ w.number v.comp.0
     own v at =
@@ -145,6 +184,7 @@ module _ {p : Planned} {base : ℕ} {u : ℕ → ℕ} {s : State} {w : View}
             subst (λ (x : Request). AreParties p.model q.inter.0 x.wants) has.same fits.wants;
       };
       has = has;
+      told = told;
       own = own;
       may = λ fresh. ready_may_run p.model made.offers s q.inter.0 made.ready (shown made fresh);
       numbers = λ fresh n at. (leads_next fresh n at).own;
@@ -177,5 +217,6 @@ agrees_in_six p planned base u s w h = record {
     once = h.books.once;
     replies = λ r at. h.books.mail (ReplyToClass r) at;
     told = λ n at. h.books.mail (NotifyComponent n) at;
+    one_owes = owed_by_one h;
   };
 }

@@ -6,7 +6,7 @@ use Rattle.bip_model.specs.Messages.{ShowsState}
 use Rattle.bip_model.specs.Numbering.{last_number}
 use Rattle.bip_model.specs.Partitions.{class_in}
 use Rattle.bip_model.specs.States.{State}
-use Rattle.bip_model.specs.Steps.{MayRun, after}
+use Rattle.bip_model.specs.Steps.{MayRun, after, moves}
 use Rattle.bip_model.specs.Wants.{IsFresh, moved_in}
 use Rattle.bip_model.specs.declared.grants.Grant.{Grant}
 use Rattle.bip_model.specs.declared.messages.Notify.{Notify}
@@ -101,13 +101,15 @@ pub record UsedAgree (p : Planned) (u : ℕ → ℕ) (w : View) : Type 0 where
   pub no_greater : (k c : ℕ) → w.known k c ≤ u c
   pub own : (g : Grant) → In g w.trace → IsKnownOrPending p w.known w.pending g
 
--- 5. a request, in flight or open, fits the plan and has a record; none of its numbers is above its
--- component's own; and where it is fresh, its interaction may run now, and what its record tells
--- leads to where the joint step does
+-- 5. a request, in flight or open, fits the plan and has a record, which tells each component that
+-- its interaction moves; none of its numbers is above its component's own; and where it is fresh,
+-- its interaction may run now, and what its record tells leads to where the joint step does
 pub record RequestAgrees (p : Planned) (u : ℕ → ℕ) (s : State) (w : View) (q : Request)
     : Type 0 where
   pub fit : IsFit p q
   pub has : HasRecord w.trace w.pending q
+  pub told : (c : ℕ) → moves p.model q.inter.0 c ≡ true
+      → (n : Notify) × In n has.entry.notifies × (n.comp.0 ≡ c)
   pub own : (x : Want) → In x q.wants → x.number ≤ w.number x.comp.0
   pub may : IsFresh u q.wants → MayRun p.model s q.inter.0
   pub numbers : IsFresh u q.wants → (n : Notify) → In n has.entry.notifies
@@ -121,8 +123,8 @@ IsRequestOut w q = In (RequestToBank q) w.mail ⊎ ((a : ℕ) × In q (w.waiting
 
 -- 6. each record is of a request that fits; the records of a class differ in request number; what
 -- is about an interaction stands once, and in one place: a request in flight, an open one, or a
--- reply in flight, which has its record, and grants it just where it is granted; and what tells a
--- component is of a grant
+-- reply in flight, which has its record, and grants it just where it is granted; what tells a
+-- component is of a grant, and no two records owe it
 pub record RecordsAgree (p : Planned) (u : ℕ → ℕ) (w : View) : Type 0 where
   pub fit : (k a : ℕ) (e : OpenRecord) → w.pending k a ≡ Some e → RecordFits p w.next k a e
   pub apart : (k a b : ℕ) (e f : OpenRecord) → w.pending k a ≡ Some e → w.pending k b ≡ Some f
@@ -131,6 +133,8 @@ pub record RecordsAgree (p : Planned) (u : ℕ → ℕ) (w : View) : Type 0 wher
   pub replies : (r : Reply) → In (ReplyToClass r) w.mail → ReplyFits u w.trace w.pending r
   pub told : (n : Notify) → In (NotifyComponent n) w.mail
       → (g : Grant) × In g w.trace × (moved_in g.wants n.comp.0 ≡ n.number)
+  pub one_owes : (j k a b : ℕ) (e f : OpenRecord) (n x : Notify) → IsOwed w j a e n
+      → IsOwed w k b f x → n.comp.0 ≡ x.comp.0 → (j ≡ k) × (a ≡ b)
 
 -- all six
 pub record AgreesInSix (p : Planned) (base : ℕ) (u : ℕ → ℕ) (s : State) (w : View) : Type 0 where
