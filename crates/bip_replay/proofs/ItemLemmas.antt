@@ -57,10 +57,10 @@ module _ {X : Type 0} (on : List ℕ → Result (Option X) LineFault) where
     pub are_left : AreLeft text front left
     pub reads : items_from on 1 front ≡ Ok items
 
-  pub has_read-none : (text : List ℕ) → HasRead text [] (numbered_lines text)
+  unfoldable pub has_read-none : (text : List ℕ) → HasRead text [] (numbered_lines text)
   has_read-none text = record { front = []; are_left = none_read text; reads = refl }
 
-  pub has_read-more : (text line : List ℕ) (n : ℕ) (left after : List (ℕ × List ℕ)) (old new : List X) (u : Unit {0}) → HasRead text old left → left ≡ (n, line) ∷ after → Reads on old line (Ok u) new → HasRead text new after
+  unfoldable pub has_read-more : (text line : List ℕ) (n : ℕ) (left after : List (ℕ × List ℕ)) (old new : List X) (u : Unit {0}) → HasRead text old left → left ≡ (n, line) ∷ after → Reads on old line (Ok u) new → HasRead text new after
   has_read-more text line n left after old new u so next reads =
       record {
         front = so.front ++ line ∷ [];

@@ -9,3 +9,4 @@ pub mod NextLemmas
 pub mod ReadingLemmas
 pub mod RunLemmas
 pub mod TextLemmas
+pub mod TraceLemmas

@@ -20,5 +20,5 @@ pub use grants::GrantRef;
 pub use laws::{fault_laws, run_laws, trace_laws};
 pub use replays::replay;
 pub use runs::Position;
-pub use traces::read_trace;
+pub use traces::{read_front, read_trace};
 pub use writing::write_trace;
