@@ -1,40 +1,36 @@
 -- Answers that were written out are those that the texts have.
-use Rattle.std.proofs.Common.{◌≡◌, ◌≢◌, ◌++◌, ℕ, Bool, false, true, List, sym, ap, ◌∙◌, subst}
+use Rattle.std.proofs.Common.{◌≡◌, ◌≢◌, ◌++◌, ℕ, Bool, false, true, List, Result, Ok, Err, sym, ap, ◌∙◌, subst}
 use Rattle.bip_model.specs.declared.parts.System.{System}
 use Rattle.bip_model.specs.declared.partitions.Partition.{Partition}
 use Rattle.bip_reader.specs.Texts.{HasFault, Means}
 use Rattle.bip_reader.specs.declared.faults.ReadFault.{ReadFault}
 use Rattle.bip_reader.specs.declared.faults.Why.TheVariants.{Memory}
-use Rattle.bip_replay.specs.Replays.{IsFirstFault, IsRunOf}
-use Rattle.bip_replay.specs.declared.faults.BookFault.{BookFault}
+use Rattle.std.specs.Prelude.{IfErr, IfOk}
+use Rattle.bip_replay.specs.Replays.{IsReplayFault, IsRunOf}
 use Rattle.bip_replay.specs.declared.faults.ReplayFault.{ReplayFault}
 use Rattle.bip_replay.specs.declared.faults.ReplayFault.TheVariants as replay_fault
-use Rattle.bipr.specs.Answers.{AreCountsOf, HasPlan, IsAnswer, IsCheckAnswer, IsCheckShowing, IsRefusedModel, plain, refused, shown, unchecked, SaysNoGrant, complaining, no_model, no_plan, no_text, no_trace, not_a_run, planned, run, saying}
-use Rattle.bipr.specs.Wording.{counts_text, model_refusal, plan_refusal, run_text, trace_refusal, verdict_text}
+use Rattle.bipr.specs.Answers.{AreCountsOf, HasPlan, IsAnswer, IsCheckAnswer, IsCheckShowing, IsRefusedModel, IsSaidOf, plain, refused, shown, unchecked, complaining, no_model, no_plan, no_text, no_trace, not_a_run, planned, run, saying}
+use Rattle.bipr.specs.Wording.{counts_text, model_refusal, plan_refusal}
 use Rattle.bip_partition.specs.Faults.{IsLowestTooMany}
 use Rattle.bip_partition.specs.Plans.{Planned}
 use Rattle.bip_review.specs.Writing.{IsPlanText}
 use Rattle.bipr.specs.declared.wording.Counts.{Counts}
 use Rattle.bipr.specs.declared.answers.Answer.{Answer}
-use Rattle.bipr.specs.declared.answers.Status.TheVariants.{Done, Refused, NotARun}
+use Rattle.bipr.specs.declared.answers.Status.TheVariants.{Done, Refused}
 
-pub has_answered-run : (base : ℕ) (text trace output : List ℕ) (answer : Answer) (m : System) (classes : Partition) (count : ℕ)
-    → answer ≡ saying Done output → output ≡ run_text count → Means text m classes → IsRunOf m base trace count
-    → IsAnswer base text trace answer
-has_answered-run base text trace output answer m classes count same written means is_run =
-    subst (IsAnswer base text trace) (sym (same ∙ ap (saying Done) written)) (run m classes count means is_run)
-
-pub has_answered-not_a_run : (base : ℕ) (text trace output : List ℕ) (answer : Answer) (m : System) (classes : Partition) (number : ℕ) (fault : BookFault)
-    → answer ≡ saying NotARun output → output ≡ verdict_text m trace number fault → Means text m classes
-    → IsFirstFault m base trace number (replay_fault.NotARun fault) → IsAnswer base text trace answer
-has_answered-not_a_run base text trace output answer m classes number fault same written means first =
-    subst (IsAnswer base text trace) (sym (same ∙ ap (saying NotARun) written)) (not_a_run m classes number fault means first)
-
-pub has_answered-no_trace : (base : ℕ) (text trace complaint : List ℕ) (answer : Answer) (m : System) (classes : Partition) (number : ℕ) (fault : ReplayFault)
-    → answer ≡ complaining Refused complaint → complaint ≡ trace_refusal number fault → Means text m classes
-    → SaysNoGrant fault → IsFirstFault m base trace number fault → IsAnswer base text trace answer
-has_answered-no_trace base text trace complaint answer m classes number fault same written means none first =
-    subst (IsAnswer base text trace) (sym (same ∙ ap (complaining Refused) written)) (no_trace m classes number fault means none first)
+-- what is said of a trace is the answer to it
+pub said_answers : (base : ℕ) (m : System) (trace : List ℕ) (r : Result ℕ (ℕ × ReplayFault)) (answer : Answer)
+    → IfOk r (IsRunOf m base trace) → IfErr r (λ e. IsReplayFault m base trace e.0 e.1) → IsSaidOf m trace r answer
+    → (text : List ℕ) (classes : Partition) → Means text m classes → IsAnswer base text trace answer
+said_answers base m trace (Ok count) answer is fault said text classes means =
+    subst (IsAnswer base text trace) (sym said) (run m classes count means is)
+said_answers base m trace (Err (number, replay_fault.NotARun why)) answer is fault said text classes means =
+    subst (IsAnswer base text trace) (sym said) (not_a_run m classes number why means fault)
+said_answers base m trace (Err (number, replay_fault.Syntax)) answer is fault said text classes means =
+    subst (IsAnswer base text trace) (sym said) (no_trace m classes number replay_fault.Syntax means tt fault)
+said_answers base m trace (Err (number, replay_fault.Unknown)) answer is fault said text classes means =
+    subst (IsAnswer base text trace) (sym said) (no_trace m classes number replay_fault.Unknown means tt fault)
+said_answers base m trace (Err (number, replay_fault.Memory)) answer is fault said text classes means = absurd said
 
 pub has_answered-no_model : (base : ℕ) (text trace : List ℕ) (answer : Answer) (fault : ReadFault)
     → (fault.why ≢ Memory) → answer ≡ complaining Refused (model_refusal fault) → HasFault text fault

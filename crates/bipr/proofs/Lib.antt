@@ -1,7 +1,9 @@
 pub mod AheadLemmas
 pub mod AnswerLemmas
+pub mod ChartLemmas
 pub mod CheckLemmas
 pub mod CommandLineLemmas
+pub mod DrawnLemmas
 pub mod EndingLemmas
 pub mod ExploredLemmas
 pub mod HostedLemmas
@@ -17,3 +19,4 @@ pub mod SomeAnswerLemmas
 pub mod StatusLemmas
 pub mod StepsLemmas
 pub mod StreamLemmas
+pub mod ViewLemmas

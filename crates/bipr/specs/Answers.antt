@@ -1,6 +1,6 @@
 -- The answer to a replay: the one that the text of a model, the text of a trace and a base have.
 -- The answer to a check: the one that the text of a model has.
-use Rattle.std.specs.Prelude.{◌≡◌, ◌≢◌, ◌++◌, ℕ, Bool, false, true, List, [], length, ⊤}
+use Rattle.std.specs.Prelude.{◌≡◌, ◌≢◌, ◌++◌, ℕ, Bool, false, true, List, [], length, ⊤, Result, Ok, Err}
 use Rattle.bip_model.specs.declared.parts.System.{System}
 use Rattle.bip_model.specs.declared.partitions.Partition.{Partition}
 use Rattle.bip_model.specs.declared.numbering.InterId.{InterId}
@@ -47,6 +47,17 @@ SaysNoGrant replay_fault.Syntax = ⊤
 SaysNoGrant replay_fault.Unknown = ⊤
 SaysNoGrant (replay_fault.NotARun why) = ⊥
 SaysNoGrant replay_fault.Memory = ⊥
+
+-- what is said of a trace that was replayed so
+abbrev pub IsSaidOf : System → List ℕ → Result ℕ (ℕ × ReplayFault) → Answer → Type 0
+IsSaidOf m trace (Ok count) answer = answer ≡ saying Done (run_text count)
+IsSaidOf m trace (Err (number, replay_fault.NotARun why)) answer =
+    answer ≡ saying NotARun (verdict_text m trace number why)
+IsSaidOf m trace (Err (number, replay_fault.Syntax)) answer =
+    answer ≡ complaining Refused (trace_refusal number replay_fault.Syntax)
+IsSaidOf m trace (Err (number, replay_fault.Unknown)) answer =
+    answer ≡ complaining Refused (trace_refusal number replay_fault.Unknown)
+IsSaidOf m trace (Err (number, replay_fault.Memory)) answer = ⊥
 
 -- what there is to count of a plan
 pub record AreCountsOf (p : Planned) (counts : Counts) : Type 0 where

@@ -7,7 +7,9 @@ use Rattle.bipr.specs.Program.{Parsed}
 use Rattle.bipr.specs.Resolvers.{resolver_name}
 use Rattle.bipr.specs.declared.command_line.Asked.{Asked}
 use Rattle.bipr.specs.declared.command_line.Asked.TheVariants as asks
+use Rattle.bipr.specs.declared.command_line.ChartArguments.{ChartArguments}
 use Rattle.bipr.specs.declared.command_line.CheckArguments.{CheckArguments}
+use Rattle.bipr.specs.declared.command_line.DrawArguments.{DrawArguments}
 use Rattle.bipr.specs.declared.command_line.ExploreArguments.{ExploreArguments}
 use Rattle.bipr.specs.declared.command_line.ReplayArguments.{ReplayArguments}
 use Rattle.bipr.specs.declared.command_line.RunArguments.{RunArguments}
@@ -59,11 +61,22 @@ pub record IsCheckAsked (values : List Row) (arguments : CheckArguments) : Type 
   pub model : first_of (codes "model") values ≡ Some arguments.model.now
   pub plan : IsFlagAsked values (codes "plan") arguments.with_plan
 
+-- the values behind `draw` ask
+pub record IsDrawAsked (values : List Row) (arguments : DrawArguments) : Type 0 where
+  pub model : first_of (codes "model") values ≡ Some arguments.model.now
+
 -- the values behind `replay` ask: the paths are the first values of their arguments
 pub record IsAsked (values : List Row) (arguments : ReplayArguments) : Type 0 where
   pub model : first_of (codes "model") values ≡ Some arguments.model.now
   pub trace : first_of (codes "trace") values ≡ Some arguments.trace.now
   pub base : IsBaseAsked values arguments.base
+
+-- the values behind `chart` ask
+pub record IsChartAsked (values : List Row) (arguments : ChartArguments) : Type 0 where
+  pub replay : IsAsked values arguments.replay
+  pub from : IsNumberAsked values (codes "from") 64 arguments.shown.from
+  pub to : MayAskNumber values (codes "to") 64 arguments.shown.to
+  pub shows_values : IsFlagAsked values (codes "values") arguments.shown.values
 
 -- the values behind `steps` ask
 pub record AreStepsAsked (values : List Row) (arguments : StepsArguments) : Type 0 where
@@ -94,11 +107,23 @@ pub record AsksToCheck (parsed : Parsed) (arguments : CheckArguments) : Type 0 w
   pub named : parsed ≡ Some (codes "check", values)
   pub asked : IsCheckAsked values arguments
 
+-- words ask to draw a model
+pub record AsksToDraw (parsed : Parsed) (arguments : DrawArguments) : Type 0 where
+  pub values : List Row
+  pub named : parsed ≡ Some (codes "draw", values)
+  pub asked : IsDrawAsked values arguments
+
 -- words ask for a replay
 pub record AsksToReplay (parsed : Parsed) (arguments : ReplayArguments) : Type 0 where
   pub values : List Row
   pub named : parsed ≡ Some (codes "replay", values)
   pub asked : IsAsked values arguments
+
+-- words ask for the chart of one
+pub record AsksToChart (parsed : Parsed) (arguments : ChartArguments) : Type 0 where
+  pub values : List Row
+  pub named : parsed ≡ Some (codes "chart", values)
+  pub asked : IsChartAsked values arguments
 
 -- words ask for the steps of a schedule
 pub record AsksForSteps (parsed : Parsed) (arguments : StepsArguments) : Type 0 where
@@ -120,7 +145,9 @@ pub record AsksToRun (parsed : Parsed) (arguments : RunArguments) : Type 0 where
 
 -- what words ask
 abbrev pub Asks : Parsed → Asked → Type 0
+Asks parsed (asks.Chart arguments) = AsksToChart parsed arguments
 Asks parsed (asks.Check arguments) = AsksToCheck parsed arguments
+Asks parsed (asks.Draw arguments) = AsksToDraw parsed arguments
 Asks parsed (asks.Replay arguments) = AsksToReplay parsed arguments
 Asks parsed (asks.Steps arguments) = AsksForSteps parsed arguments
 Asks parsed (asks.Explore arguments) = AsksToExplore parsed arguments

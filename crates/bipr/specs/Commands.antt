@@ -1,5 +1,7 @@
 -- What the program may answer to the words of a command line.
+pub mod Chart
 pub mod Check
+pub mod Draw
 pub mod Explore
 pub mod Replay
 pub mod Run
@@ -11,9 +13,11 @@ use Rattle.clap.specs.declared.error.Error.{Error}
 use Rattle.bip_host.specs.declared.faults.HostFault.{HostFault}
 use Rattle.bip_partition.specs.Plans.{Planned}
 use Rattle.bipr.specs.Answers.{code_of}
-use Rattle.bipr.specs.CommandLine.{AsksForSteps, AsksNothing, AsksToCheck, AsksToExplore}
-use Rattle.bipr.specs.CommandLine.{AsksToReplay, AsksToRun, IsExplainAsked}
+use Rattle.bipr.specs.CommandLine.{AsksForSteps, AsksNothing, AsksToChart, AsksToCheck, AsksToDraw}
+use Rattle.bipr.specs.CommandLine.{AsksToExplore, AsksToReplay, AsksToRun, IsExplainAsked}
+use Rattle.bipr.specs.Commands.Chart.{IsChart}
 use Rattle.bipr.specs.Commands.Check.{IsCheck}
+use Rattle.bipr.specs.Commands.Draw.{IsDraw}
 use Rattle.bipr.specs.Commands.Explore.{IsExplore}
 use Rattle.bipr.specs.Commands.Replay.{IsReplay}
 use Rattle.bipr.specs.Commands.Run.{IsThreadedRun}
@@ -25,6 +29,8 @@ use Rattle.bipr.specs.Stops.{out_of_memory}
 use Rattle.bipr.specs.Streams.{Puts}
 use Rattle.bipr.specs.declared.answers.Answer.{Answer}
 use Rattle.bipr.specs.declared.answers.Status.{Status}
+use Rattle.bipr.specs.declared.command_line.ChartArguments.{ChartArguments}
+use Rattle.bipr.specs.declared.command_line.DrawArguments.{DrawArguments}
 use Rattle.bipr.specs.declared.command_line.ExploreArguments.{ExploreArguments}
 use Rattle.bipr.specs.declared.command_line.ReplayArguments.{ReplayArguments}
 use Rattle.bipr.specs.declared.command_line.CheckArguments.{CheckArguments}
@@ -41,8 +47,12 @@ pub data IsCarriedOutBy (parsed : Parsed)
     (gives : List ℕ → Result (List ℕ) InputFault → Type 0)
     (hosts : Planned → Resolver → ℕ → Result Hosted HostFault → Type 0)
     : List (List ℕ) → Answer → Type 0 where
+  chart_asked : (arguments : ChartArguments) (answer : Answer) → AsksToChart parsed arguments
+      → IsChart gives arguments answer → IsCarriedOutBy parsed gives hosts [] answer
   check_asked : (arguments : CheckArguments) (answer : Answer) → AsksToCheck parsed arguments
       → IsCheck gives arguments answer → IsCarriedOutBy parsed gives hosts [] answer
+  draw_asked : (arguments : DrawArguments) (answer : Answer) → AsksToDraw parsed arguments
+      → IsDraw gives arguments answer → IsCarriedOutBy parsed gives hosts [] answer
   asked : (arguments : ReplayArguments) (answer : Answer) → AsksToReplay parsed arguments
       → IsReplay gives arguments answer → IsCarriedOutBy parsed gives hosts [] answer
   steps_asked : (arguments : StepsArguments) (answer : Answer) → AsksForSteps parsed arguments

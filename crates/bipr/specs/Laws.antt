@@ -15,6 +15,7 @@ use Rattle.bipr.specs.Answers.{HasPlan, IsAnswer, IsCheckAnswer, IsRefusedModel,
 use Rattle.bipr.specs.Answers.{saying}
 use Rattle.bipr.specs.Commands.Replay.{IsModelText, IsReplay, is_joined}
 use Rattle.bipr.specs.Dividing.{AreParts, after_mark, before_mark}
+use Rattle.bipr.specs.Drawn.{IsDrawingAnswer}
 use Rattle.bipr.specs.Hosted.{IsHostAnswer}
 use Rattle.bipr.specs.Inputs.{IsReading, Named, bytes, most_bytes}
 use Rattle.bipr.specs.Resolvers.{IsSharedAtFirst}
@@ -41,6 +42,11 @@ OneAnswer = (base : ℕ) (model trace : List ℕ) (a b : Answer)
 abbrev pub OneCheckAnswer : Type 0
 OneCheckAnswer =
     (text : List ℕ) (a b : Answer) → IsCheckAnswer text a → IsCheckAnswer text b → a ≡ b
+
+-- a text has one answer to its drawing
+abbrev pub OneDrawingAnswer : Type 0
+OneDrawingAnswer =
+    (text : List ℕ) (a b : Answer) → IsDrawingAnswer text a → IsDrawingAnswer text b → a ≡ b
 
 -- every two texts and base have an answer
 abbrev pub SomeAnswer : Type 0

@@ -1,8 +1,10 @@
 pub mod Ahead
 pub mod Answers
+pub mod Charted
 pub mod CommandLine
 pub mod Commands
 pub mod Dividing
+pub mod Drawn
 pub mod Endings
 pub mod Explored
 pub mod Hosted
@@ -15,4 +17,5 @@ pub mod Scheduled
 pub mod Sources
 pub mod Stops
 pub mod Streams
+pub mod Views
 pub mod Wording

@@ -40,6 +40,10 @@ needed name parser = record (option name parser) { required = true }
 abbrev pub numbers : ℕ → ℕ → ValueParser
 numbers low high = Signed (pos low) (pos high)
 
+-- the numbers of rows
+abbrev pub rows : ValueParser
+rows = Unsigned 1 18446744073709551615
+
 -- a number of 64 bits, 0 where none is given
 abbrev pub base_option : Rule
 base_option = record (option (codes "base") (Unsigned 0 18446744073709551615)) {
@@ -62,10 +66,22 @@ table_option tables = record (option (codes "table") (Names tables)) {
 abbrev pub with_arguments : Text → List Rule → Shape
 with_arguments name rules = record (new_shape name) { rules = rules }
 
+-- rows from one on, the first where none is given
+abbrev pub from_option : Rule
+from_option = record (option (codes "from") rows) { defaults = codes "1" ∷ [] }
+
+abbrev pub chart_command : Shape
+chart_command = with_arguments (codes "chart")
+    (path (codes "model") ∷ path (codes "trace") ∷ base_option ∷ from_option
+    ∷ option (codes "to") rows ∷ flag (codes "values") ∷ flag (codes "explain") ∷ [])
+
 abbrev pub check_command : Shape
 check_command =
     with_arguments (codes "check")
     (path (codes "model") ∷ flag (codes "plan") ∷ flag (codes "explain") ∷ [])
+
+abbrev pub draw_command : Shape
+draw_command = with_arguments (codes "draw") (path (codes "model") ∷ flag (codes "explain") ∷ [])
 
 abbrev pub replay_command : Shape
 replay_command = with_arguments (codes "replay")
@@ -100,12 +116,13 @@ bare_program = record {
   subs = [];
 }
 
--- the program: words name one of five commands, or ask for help or the version
+-- the program: words name one of seven commands, or ask for help or the version
 abbrev pub program : Choices → App
 program choices = record {
   top = record bare_program.top { is_leaf = false };
-  subs = check_command ∷ replay_command ∷ steps_command choices.resolvers
-      ∷ explore_command choices.resolvers ∷ run_command choices.resolvers choices.tables ∷ [];
+  subs = chart_command ∷ check_command ∷ draw_command ∷ replay_command
+      ∷ steps_command choices.resolvers ∷ explore_command choices.resolvers
+      ∷ run_command choices.resolvers choices.tables ∷ [];
 }
 
 -- an argument, and a command without commands of its own, as the library has them

@@ -21,6 +21,10 @@ bad_command_line why = complaining BadCommandLine (complaint_text (codes "bad co
 abbrev pub bad_base : Answer
 bad_base = bad_command_line (codes "error: --base is 0 to 18446744073709551614" ++ line_feed ∷ [])
 
+-- what is said where the rows of a chart end before they begin
+abbrev pub bad_range : Answer
+bad_range = bad_command_line (codes "error: --from is 1 to --to" ++ line_feed ∷ [])
+
 -- what is said of an argument that is no text
 abbrev pub not_text : Answer
 not_text = bad_command_line (codes "error: an argument is not UTF-8" ++ line_feed ∷ [])

@@ -49,6 +49,10 @@ complaint_text why = codes "bipr: " ++ (why ++ line_feed ∷ [])
 abbrev pub model_refusal : ReadFault → List ℕ
 model_refusal fault = complaint_text (codes "model " ++ text_of_fault fault)
 
+-- a chart would have too many rows
+abbrev pub chart_refusal : List ℕ
+chart_refusal = complaint_text (codes "a chart has at most 2000 rows, see --from and --to")
+
 -- what a check counts
 abbrev pub counts_text : Counts → List ℕ
 counts_text counts =

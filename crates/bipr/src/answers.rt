@@ -6,7 +6,7 @@ ghost use Rattle.bip_reader.specs.Texts.{Means};
 ghost use Rattle.bip_reader.specs.declared.faults.Why.TheVariants.{Memory};
 ghost use Rattle.bip_model.specs.Partitions.{AreClassesOf};
 ghost use Rattle.bipr.specs.Answers.{AreCountsOf, HasPlan, IsAnswer, IsCheckAnswer};
-ghost use Rattle.bipr.specs.Answers.{IsCheckShowing};
+ghost use Rattle.bipr.specs.Answers.{IsCheckShowing, IsSaidOf};
 ghost use Rattle.bipr.specs.Answers.{IsPlanOrRefusal, code_of, complaining, saying};
 ghost use Rattle.bipr.specs.CommandLine.{greatest_base};
 ghost use Rattle.bipr.specs.declared.answers.Status.TheVariants.{Refused};
@@ -63,27 +63,6 @@ pub struct Answer {
     pub status: Status,
     pub output: Seq<u8>,
     pub complaint: Seq<u8>,
-}
-
-/// The answer to the replay of a trace's text on a model's text from a base: `run N` where the
-/// grants are a run of the model; else the verdict on the first line at fault where that line's
-/// grant can't be next; else the first fault of the model's text, or of the trace's
-/// (docs/ANSWERS.md, "Answers"). The only error is want of memory.
-pub fn answer_replay(
-    alloc: Global,
-    explanation: &mut Explanation,
-    model: &[u8],
-    trace: &[u8],
-    base: Number,
-) -> Result<Answer, AllocError>
-    requires { base ≤ greatest_base }
-    ensures { IfOk result (IsAnswer base model.now trace.now) }
-{
-    let (system, _classes) = match read_model(alloc, model) {
-        Ok(read) => read,
-        Err(fault) => return answer_fault(alloc, explanation, model, &fault),
-    };
-    answer_trace(alloc, explanation, &system, trace, base)
 }
 
 /// The answer to the check of a model's text: the counts of its plan, and behind them the plan
@@ -228,7 +207,10 @@ pub fn answer_fault(
     Ok(complained(alloc, Status::Refused, complaint))
 }
 
-/// The answer to a trace, where the model's text is one.
+/// The answer to a trace, where the model's text is one: `run N` where the grants are a run of the
+/// model; else the verdict on the first line at fault where that line's grant can't be next; else
+/// the first fault of the trace's text (docs/ANSWERS.md, "Answers"). The only error is want of
+/// memory.
 pub fn answer_trace(
     alloc: Global,
     explanation: &mut Explanation,
@@ -240,32 +222,39 @@ pub fn answer_trace(
     ensures { IfOk result (λ answer. (text : List ℕ) (classes : Partition)
         → Means text model.now classes → IsAnswer base text trace.now answer) }
 {
-    match replay(alloc, model, base, trace) {
-        Ok(count) => Ok(said(alloc, Status::Done, run_text(alloc, count)?)),
+    let replayed = replay(alloc, model, base, trace);
+    answer_replayed(alloc, explanation, model, trace, base, &replayed)
+}
+
+/// What is said of a trace that was replayed so, which the explanation tells more of.
+pub fn answer_replayed(
+    alloc: Global,
+    explanation: &mut Explanation,
+    model: &Model,
+    trace: &[u8],
+    base: Number,
+    replayed: &Result<u64, (u64, ReplayFault)>,
+) -> Result<Answer, AllocError>
+    requires { base ≤ greatest_base }
+    ensures { IfOk result (IsSaidOf model.now trace.now replayed.now) }
+{
+    match replayed {
+        Ok(count) => Ok(said(alloc, Status::Done, run_text(alloc, *count)?)),
         Err((line, fault)) => match fault {
             ReplayFault::Syntax => {
-                explain_trace(explanation, model, trace, line, &TraceFault::Syntax);
-                Ok(complained(
-                    alloc,
-                    Status::Refused,
-                    trace_refusal(alloc, line, &ReplayFault::Syntax)?,
-                ))
+                explain_trace(explanation, model, trace, *line, &TraceFault::Syntax);
+                let complaint = trace_refusal(alloc, *line, fault)?;
+                Ok(complained(alloc, Status::Refused, complaint))
             }
             ReplayFault::Unknown => {
-                explain_trace(explanation, model, trace, line, &TraceFault::Unknown);
-                Ok(complained(
-                    alloc,
-                    Status::Refused,
-                    trace_refusal(alloc, line, &ReplayFault::Unknown)?,
-                ))
+                explain_trace(explanation, model, trace, *line, &TraceFault::Unknown);
+                let complaint = trace_refusal(alloc, *line, fault)?;
+                Ok(complained(alloc, Status::Refused, complaint))
             }
             ReplayFault::NotARun(why) => {
-                explain_step(alloc, explanation, model, base, trace, line, &why);
-                Ok(said(
-                    alloc,
-                    Status::NotARun,
-                    verdict_text(alloc, model, trace, line, &why)?,
-                ))
+                explain_step(alloc, explanation, model, base, trace, *line, why);
+                let verdict = verdict_text(alloc, model, trace, *line, why)?;
+                Ok(said(alloc, Status::NotARun, verdict))
             }
             ReplayFault::Memory => Err(AllocError),
         },

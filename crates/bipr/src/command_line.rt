@@ -3,8 +3,9 @@ ghost use Rattle.std.specs.Prelude.{IfNone, IfSome};
 ghost use Rattle.clap.specs.Words.{found_of, rows_of, subcommand_rows_of};
 ghost use Rattle.bipr.specs.CommandLine.{AreStepsAsked, Asks, AsksNothing, IsAsked, IsBaseAsked};
 ghost use Rattle.bipr.specs.CommandLine.{IsExplainAsked, IsExploreAsked, IsResolverAsked};
-ghost use Rattle.bipr.specs.CommandLine.{IsCheckAsked, IsRunAsked};
+ghost use Rattle.bipr.specs.CommandLine.{IsChartAsked, IsCheckAsked, IsDrawAsked, IsRunAsked};
 
+use crate::charted::Shown;
 use crate::resolvers::{Resolver, resolver_named};
 use bip_model::Number;
 use clap::ArgMatches;
@@ -20,6 +21,12 @@ pub struct CheckArguments<'a> {
     pub with_plan: bool,
 }
 
+/// What the command line asks: the drawing of the model that a path names.
+#[derive(Drop)]
+pub struct DrawArguments<'a> {
+    pub model: &'a str,
+}
+
 /// What the command line asks: the replay of a trace on a model, each named by its path, from a
 /// base.
 #[derive(Drop)]
@@ -27,6 +34,13 @@ pub struct ReplayArguments<'a> {
     pub model: &'a str,
     pub trace: &'a str,
     pub base: Number,
+}
+
+/// What the command line asks: the chart of the run of such a replay, with the rows that it shows.
+#[derive(Drop)]
+pub struct ChartArguments<'a> {
+    pub replay: ReplayArguments<'a>,
+    pub shown: Shown,
 }
 
 /// What the command line asks: the steps of a schedule from the new world of a model above a base,
@@ -62,11 +76,13 @@ pub struct RunArguments<'a> {
     pub with_stats: bool,
 }
 
-/// What a command line asks: the check of the model that a path names, a replay, the steps of a
-/// schedule, to explore, or to run nodes as threads.
+/// What a command line asks: the check or the drawing of the model that a path names, a replay or
+/// its chart, the steps of a schedule, to explore, or to run nodes as threads.
 #[derive(Drop)]
 pub enum Asked<'a> {
+    Chart(ChartArguments<'a>),
     Check(CheckArguments<'a>),
+    Draw(DrawArguments<'a>),
     Replay(ReplayArguments<'a>),
     Steps(StepsArguments<'a>),
     Explore(ExploreArguments<'a>),
@@ -89,8 +105,14 @@ pub fn read_arguments<'a>(matches: &ArgMatches<'a>) -> Option<Asked<'a>>
     ensures some { IfSome result (Asks (subcommand_rows_of matches.now)) }
     ensures none { IfNone result (AsksNothing (subcommand_rows_of matches.now)) }
 {
+    if let Some(chart) = matches.subcommand_matches("chart") {
+        return Some(Asked::Chart(read_chart(chart)?));
+    }
     if let Some(check) = matches.subcommand_matches("check") {
         return Some(Asked::Check(read_check(check)?));
+    }
+    if let Some(draw) = matches.subcommand_matches("draw") {
+        return Some(Asked::Draw(read_draw(draw)?));
     }
     if let Some(steps) = matches.subcommand_matches("steps") {
         return Some(Asked::Steps(read_steps(steps)?));
@@ -117,6 +139,16 @@ fn read_check<'a>(matches: &ArgMatches<'a>) -> Option<CheckArguments<'a>>
     })
 }
 
+// What the words behind `draw` ask.
+fn read_draw<'a>(matches: &ArgMatches<'a>) -> Option<DrawArguments<'a>>
+    ensures some { IfSome result (IsDrawAsked (rows_of (found_of matches.now))) }
+    ensures none { IfNone result ((asked : _)
+        → IsDrawAsked (rows_of (found_of matches.now)) asked → ⊥) }
+{
+    let model = matches.get_str("model")?;
+    Some(DrawArguments { model })
+}
+
 // What the words behind `replay` ask.
 fn read_replay<'a>(matches: &ArgMatches<'a>) -> Option<ReplayArguments<'a>>
     ensures some { IfSome result (IsAsked (rows_of (found_of matches.now))) }
@@ -129,6 +161,22 @@ fn read_replay<'a>(matches: &ArgMatches<'a>) -> Option<ReplayArguments<'a>>
         trace: matches.get_str("trace")?,
         base,
     })
+}
+
+// What the words behind `chart` ask.
+fn read_chart<'a>(matches: &ArgMatches<'a>) -> Option<ChartArguments<'a>>
+    ensures some { IfSome result (IsChartAsked (rows_of (found_of matches.now))) }
+    ensures none { IfNone result ((asked : _)
+        → IsChartAsked (rows_of (found_of matches.now)) asked → ⊥) }
+{
+    let replay = read_replay(matches)?;
+    let from = matches.get_one("from")?;
+    let shown = Shown {
+        from,
+        to: matches.get_one("to"),
+        values: matches.get_flag("values"),
+    };
+    Some(ChartArguments { replay, shown })
 }
 
 // What the words behind `steps` ask.

@@ -9,7 +9,9 @@ ghost use Rattle.bipr.specs.Stops.{answer_of_stop, unread};
 ghost use Rattle.bipr.specs.Streams.{Puts};
 ghost use Rattle.bipr.specs.declared.inputs.InputFault.{InputFault};
 
+pub mod chart;
 pub mod check;
+pub mod draw;
 pub mod explore;
 pub mod replay;
 pub mod run;
@@ -27,8 +29,10 @@ use crate::stops::{NO_MEMORY, Stop};
 use crate::streams::Stream;
 use bip_explain::Explanation;
 use bip_model::Seq;
+use chart::chart;
 use check::check;
 use clap::ArgMatches;
+use draw::draw;
 use explore::explore;
 use replay::replay;
 use run::run;
@@ -126,7 +130,9 @@ fn carry_out_asked<R: Threads + Wait + Clock + Sync, I: Inputs, H: Hosting, O: S
         (Puts O.writes output.old output.new) E.writes errors.old errors.new result }
 {
     match read_arguments(matches) {
+        Some(Asked::Chart(asked)) => chart(alloc, explanation, inputs, &asked, output, errors),
         Some(Asked::Check(asked)) => check(alloc, explanation, inputs, &asked, output, errors),
+        Some(Asked::Draw(asked)) => draw(alloc, explanation, inputs, &asked, output, errors),
         Some(Asked::Replay(asked)) => replay(alloc, explanation, inputs, &asked, output, errors),
         Some(Asked::Steps(asked)) => steps(alloc, explanation, inputs, &asked, output, errors),
         Some(Asked::Explore(asked)) => {

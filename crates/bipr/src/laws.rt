@@ -1,20 +1,21 @@
 //! The laws of answers, of two texts in one, and of the replay of texts that are known.
 ghost use Rattle.bipr.specs.Laws.{CheckStatusesTell, HostsReplay, OneAnswer, OneCheckAnswer};
-ghost use Rattle.bipr.specs.Laws.{OneStepsAnswer};
+ghost use Rattle.bipr.specs.Laws.{OneDrawingAnswer, OneStepsAnswer};
 ghost use Rattle.bipr.specs.Laws.{OneTextDecides, OneTraceOfASeed, PartedByLines, SomeAnswer};
 ghost use Rattle.bipr.specs.Laws.{StatusesTell, StepsReplay, TwoTextsDecide};
 
 use bip_reader::meaning_laws;
 use bip_replay::fault_laws;
 
-/// Two texts and a base have an answer, and no more than one; no text has two answers to its check;
-/// two texts in one are parted by lines; and of what `steps` and `run` write, `replay` says that it
-/// is a run (docs/ANSWERS.md, "Answers" and "Two texts in one").
+/// Two texts and a base have an answer, and no more than one; no text has two answers to its check
+/// or to its drawing; two texts in one are parted by lines; and of what `steps` and `run` write,
+/// `replay` says that it is a run (docs/ANSWERS.md, "Answers" and "Two texts in one").
 pub fn answer_laws()
     ensures parts { PartedByLines }
     ensures some { SomeAnswer }
     ensures one { OneAnswer }
     ensures one_check { OneCheckAnswer }
+    ensures one_drawing { OneDrawingAnswer }
     ensures replays { StepsReplay }
     ensures hosts { HostsReplay }
 {

@@ -3,9 +3,11 @@
 
 mod ahead;
 mod answers;
+mod charted;
 mod command_line;
 mod commands;
 mod dividing;
+mod drawn;
 mod endings;
 mod explored;
 mod hosted;
@@ -19,6 +21,7 @@ mod scheduled;
 mod sources;
 mod stops;
 mod streams;
+mod views;
 mod wording;
 mod words;
 

@@ -2,8 +2,8 @@
 ghost use Rattle.std.specs.Prelude.{◌≡◌, IfOk, codes, map};
 ghost use Rattle.clap.specs.Words.{app_of};
 ghost use Rattle.bipr.specs.Program.{HasRule, HasShape, bare_program, base_option};
-ghost use Rattle.bipr.specs.Program.{check_command};
-ghost use Rattle.bipr.specs.Program.{explore_command, flag, needed, numbers, option, path};
+ghost use Rattle.bipr.specs.Program.{chart_command, check_command, draw_command, from_option};
+ghost use Rattle.bipr.specs.Program.{explore_command, flag, needed, numbers, option, path, rows};
 ghost use Rattle.bipr.specs.Program.{program, replay_command, resolver_option, run_command};
 ghost use Rattle.bipr.specs.Program.{steps_command, table_option};
 
@@ -61,6 +61,19 @@ With `--explain` one more line says what is wrong, and in which column.
 Status: 0 done, 1 an input is refused or the answer can't be written, 2 bad command line,
 3 no memory or no thread, 4 the trace is no run.";
 
+const CHART_ABOUT: &str = "Draws the run of a trace, as a picture for a browser";
+
+const CHART_HELP: &str = "\
+Each component has a lane and each grant of the trace a row, with the interaction's name; a
+full mark with its number where a component moves, an open one where it is looked at, and a
+bar between them in the colour of the interaction's class. The names of locations stand on
+their lanes where they change. The verdict of `bipr replay` goes to standard error, and where
+the trace is no run, the first line that can't be next is drawn in red, and nothing behind it.
+
+    bipr chart MODEL TRACE > run.svg
+
+A chart has at most 2000 rows: of a longer trace, --from and --to show some.";
+
 const CHECK_ABOUT: &str = "Counts what a model's partition costs";
 
 const CHECK_HELP: &str = "\
@@ -75,11 +88,23 @@ touches beside it. R of its interactions are reserved: they touch such component
 grant of them is asked of the third layer. The other I - R are granted by their class alone.
 Fewer classes make T and R smaller; more classes let more grants go on side by side.";
 
+const DRAW_ABOUT: &str = "Draws a model, in the language of Graphviz";
+
+const DRAW_HELP: &str = "\
+The drawing has each declared thing once: a cluster for each component with its locations,
+ports and transitions, a box in its class's colour for each interaction, with an edge to each
+of its ports, and a dashed edge from an interaction to one of higher priority. `dot` makes a
+picture of it:
+
+    bipr draw MODEL | dot -Tsvg > model.svg";
+
 const REPLAY_ABOUT: &str = "Says whether a trace is a run of a model";
 
 const REPLAY_HELP: &str = "\
 A path `-` is standard input. Where both are, the model is what stands before the first
 line `---`, and the trace what stands behind it.";
+
+const TRACE_BASE: &str = "the number that each component has used before the trace";
 
 const STEPS_ABOUT: &str = "Runs the steps of a schedule, and says which grants they lead to";
 
@@ -148,7 +173,9 @@ pub fn program<'a>(alloc: Global, choices: Choices<'a>) -> Result<Command<'a>, A
     ensures { IfOk result (λ command. app_of command ≡ program choices.entry) }
 {
     bare(alloc)
+        .subcommand(chart(alloc)?)?
         .subcommand(check(alloc)?)?
+        .subcommand(draw(alloc)?)?
         .subcommand(replay(alloc)?)?
         .subcommand(steps(alloc, choices.resolvers)?)?
         .subcommand(explore(alloc, choices.resolvers)?)?
@@ -167,6 +194,21 @@ fn bare<'a>(alloc: Global) -> Command<'a>
         .subcommand_required(true)
 }
 
+fn chart<'a>(alloc: Global) -> Result<Command<'a>, AllocError>
+    ensures { IfOk result (HasShape chart_command) }
+{
+    Command::new(alloc, "chart")
+        .about(CHART_ABOUT)
+        .after_help(CHART_HELP)
+        .arg(model(alloc))?
+        .arg(trace(alloc))?
+        .arg(base(alloc).help(TRACE_BASE))?
+        .arg(from(alloc))?
+        .arg(to(alloc))?
+        .arg(values(alloc))?
+        .arg(explain(alloc))
+}
+
 fn check<'a>(alloc: Global) -> Result<Command<'a>, AllocError>
     ensures { IfOk result (HasShape check_command) }
 {
@@ -178,16 +220,25 @@ fn check<'a>(alloc: Global) -> Result<Command<'a>, AllocError>
         .arg(explain(alloc))
 }
 
+fn draw<'a>(alloc: Global) -> Result<Command<'a>, AllocError>
+    ensures { IfOk result (HasShape draw_command) }
+{
+    Command::new(alloc, "draw")
+        .about(DRAW_ABOUT)
+        .after_help(DRAW_HELP)
+        .arg(model(alloc))?
+        .arg(explain(alloc))
+}
+
 fn replay<'a>(alloc: Global) -> Result<Command<'a>, AllocError>
     ensures { IfOk result (HasShape replay_command) }
 {
-    let trace = path(alloc, "trace", "TRACE").help("the path of the trace's text, or -");
     Command::new(alloc, "replay")
         .about(REPLAY_ABOUT)
         .after_help(REPLAY_HELP)
         .arg(model(alloc))?
-        .arg(trace)?
-        .arg(base(alloc).help("the number that each component has used before the trace"))?
+        .arg(trace(alloc))?
+        .arg(base(alloc).help(TRACE_BASE))?
         .arg(explain(alloc))
 }
 
@@ -245,6 +296,13 @@ fn model<'a>(alloc: Global) -> Arg<'a>
     ensures { HasRule (path (codes "model")) result }
 {
     path(alloc, "model", "MODEL").help("the path of the model's text, or -")
+}
+
+// The argument of commands that take a trace.
+fn trace<'a>(alloc: Global) -> Arg<'a>
+    ensures { HasRule (path (codes "trace")) result }
+{
+    path(alloc, "trace", "TRACE").help("the path of the trace's text, or -")
 }
 
 // A path that has to be given.
@@ -312,6 +370,35 @@ fn table<'a>(alloc: Global, tables: &'a [&'a str]) -> Arg<'a>
         .value_parser(tables)
         .default_value("locked")
         .help("how threads share the table: behind a lock")
+}
+
+// The options of which rows a chart shows.
+fn from<'a>(alloc: Global) -> Arg<'a>
+    ensures { HasRule from_option result }
+{
+    Arg::new(alloc, "from")
+        .long("from")
+        .value_name("K")
+        .value_parser(value_parser!(u64).range(1..))
+        .default_value("1")
+        .help("the first row that is shown")
+}
+
+fn to<'a>(alloc: Global) -> Arg<'a>
+    ensures { HasRule (option (codes "to") rows) result }
+{
+    Arg::new(alloc, "to")
+        .long("to")
+        .value_name("K")
+        .value_parser(value_parser!(u64).range(1..))
+        .help("the last row that is shown; else that of the last grant")
+}
+
+// The option that shows the values of variables.
+fn values<'a>(alloc: Global) -> Arg<'a>
+    ensures { HasRule (flag (codes "values")) result }
+{
+    flag(alloc, "values").help("show the values of variables too, where they change")
 }
 
 // The option that shows the plan.

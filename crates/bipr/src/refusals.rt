@@ -1,7 +1,7 @@
 //! Command lines that ask for nothing.
 ghost use Rattle.std.specs.Prelude.{◌≡◌};
 ghost use Rattle.bipr.specs.Endings.{AllOutcomes, Ends, IsEnd};
-ghost use Rattle.bipr.specs.Refusals.{IsErrorAnswer, IsWordsAnswer, bad_base};
+ghost use Rattle.bipr.specs.Refusals.{IsErrorAnswer, IsWordsAnswer, bad_base, bad_range};
 ghost use Rattle.bipr.specs.Streams.{Puts};
 
 use crate::answers::{Answer, Status, complained, said};
@@ -19,6 +19,8 @@ const BAD_COMMAND_LINE: &[u8] = b"bipr: bad command line\n";
 const NO_TEXT: &[u8] = b"bipr: bad command line\nerror: an argument is not UTF-8\n";
 
 const BAD_BASE: &[u8] = b"bipr: bad command line\nerror: --base is 0 to 18446744073709551614\n";
+
+const BAD_RANGE: &[u8] = b"bipr: bad command line\nerror: --from is 1 to --to\n";
 
 /// The words of the command line can't be had: there is no memory, or one is no text.
 pub fn refuse_words<O: Stream, E: Stream>(
@@ -41,6 +43,14 @@ pub fn refuse_base<O: Stream, E: Stream>(output: &mut O, errors: &mut E) -> Stat
         bad_base result }
 {
     complain(output, errors, Status::BadCommandLine, BAD_BASE)
+}
+
+/// The rows of a chart end before they begin.
+pub fn refuse_range<O: Stream, E: Stream>(output: &mut O, errors: &mut E) -> Status
+    ensures { IsEnd (Puts O.writes output.old output.new) (Puts E.writes errors.old errors.new)
+        bad_range result }
+{
+    complain(output, errors, Status::BadCommandLine, BAD_RANGE)
 }
 
 /// Shows help or the version, or says why the words ask for nothing.

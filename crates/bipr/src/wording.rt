@@ -2,6 +2,7 @@
 ghost use Rattle.std.specs.Prelude.{◌≡◌, ◌≤◌, ◌++◌, ◌-◌, [], IfOk, OnOk, slice_index_or};
 ghost use Rattle.bip_model.specs.Texts.{lines, words};
 ghost use Rattle.bip_model.specs.Naming.{name_in};
+ghost use Rattle.bipr.specs.Wording.{chart_refusal};
 ghost use Rattle.bipr.specs.Wording.{counts_text, interaction_on, model_refusal, plan_refusal};
 ghost use Rattle.bipr.specs.Wording.{decisions_text, losses_text, report_text, run_text};
 ghost use Rattle.bipr.specs.Wording.{progress_text, schedule_refusal, seed_verdict, seeds_text};
@@ -74,6 +75,16 @@ pub fn trace_refusal(alloc: Global, line: u64, fault: &ReplayFault) -> Result<Ve
     ensures { IfOk result (λ text. text.items ≡ trace_refusal line fault.now) }
 {
     Ok(format!(in alloc; "bipr: trace line {line}: {fault}\n")?.into_bytes())
+}
+
+/// The complaint where a chart would have too many rows.
+pub fn chart_refusal(alloc: Global) -> Result<Vec<u8>, AllocError>
+    ensures { IfOk result (λ text. text.items ≡ chart_refusal) }
+{
+    Vec::from_slice(
+        alloc,
+        b"bipr: a chart has at most 2000 rows, see --from and --to\n",
+    )
 }
 
 /// The complaint of a schedule's text.

@@ -23,28 +23,34 @@ IsModelText text = (m : System) × (classes : Partition) × Means text m classes
 abbrev pub is_joined : ReplayArguments → Bool
 is_joined asked = is_standard_input asked.model.now && is_standard_input asked.trace.now
 
--- what the replay that is asked for may answer, where reading a path may give these texts
-pub data IsReplay (gives : List ℕ → Result (List ℕ) InputFault → Type 0)
+-- what may be answered to two texts that are asked for, where reading a path may give these texts,
+-- and this answers a model's text and a trace's
+pub data IsReplayBy (answers : List ℕ → List ℕ → Answer → Type 0)
+    (gives : List ℕ → Result (List ℕ) InputFault → Type 0)
     (asked : ReplayArguments) : Answer → Type 0 where
   -- the text that the first path names means a model, and the second path names a trace
   of_two : (model trace : List ℕ) (answer : Answer) → is_joined asked ≡ false
       → gives asked.model.now (Ok model) → IsModelText model → gives asked.trace.now (Ok trace)
-      → IsAnswer asked.base model trace answer → IsReplay gives asked answer
+      → answers model trace answer → IsReplayBy answers gives asked answer
   -- the text that the first path names has a fault, whatever the second path names
   no_model : (model : List ℕ) (fault : ReadFault) → is_joined asked ≡ false
       → gives asked.model.now (Ok model) → HasFault model fault → fault.why ≢ Memory
-      → IsReplay gives asked (complaining Refused (model_refusal fault))
+      → IsReplayBy answers gives asked (complaining Refused (model_refusal fault))
   -- one input has both texts
   of_one : (text : List ℕ) (answer : Answer) → is_joined asked ≡ true
       → gives asked.model.now (Ok text)
-      → IsAnswer asked.base (before_mark text) (after_mark text) answer
-      → IsReplay gives asked answer
+      → answers (before_mark text) (after_mark text) answer → IsReplayBy answers gives asked answer
   -- the text that the first path names isn't read
   first_unread : (fault : InputFault) → gives asked.model.now (Err fault)
-      → IsReplay gives asked (unread asked.model.now fault)
+      → IsReplayBy answers gives asked (unread asked.model.now fault)
   -- the text that the second path names isn't read, and the first means a model
   second_unread : (model : List ℕ) (fault : InputFault) → is_joined asked ≡ false
       → gives asked.model.now (Ok model) → IsModelText model → gives asked.trace.now (Err fault)
-      → IsReplay gives asked (unread asked.trace.now fault)
+      → IsReplayBy answers gives asked (unread asked.trace.now fault)
   -- memory is out
-  lacking : IsReplay gives asked out_of_memory
+  lacking : IsReplayBy answers gives asked out_of_memory
+
+-- what the replay that is asked for may answer: the verdict on the two texts
+abbrev pub IsReplay : (List ℕ → Result (List ℕ) InputFault → Type 0) → ReplayArguments → Answer
+    → Type 0
+IsReplay gives asked = IsReplayBy (IsAnswer asked.base) gives asked

@@ -1,13 +1,14 @@
-//! The command `replay`.
+//! The command `replay`, and what other commands answer of a model's text and a trace's.
 ghost use Rattle.std.specs.Prelude.{◌≡◌, ◌≤◌, ℕ, false, true, List, Ok};
-ghost use Rattle.bip_model.specs.declared.partitions.Partition.{Partition};
+ghost use Rattle.bip_model.specs.Partitions.{AreClassesOf};
 ghost use Rattle.bip_reader.specs.Texts.{Means};
 ghost use Rattle.bipr.specs.CommandLine.{greatest_base};
-ghost use Rattle.bipr.specs.Commands.Replay.{IsReplay, is_joined};
+ghost use Rattle.bipr.specs.Commands.Replay.{IsReplay, IsReplayBy, is_joined};
 ghost use Rattle.bipr.specs.Endings.{AllOutcomes, Ends};
 ghost use Rattle.bipr.specs.Streams.{Puts};
+ghost use Rattle.bipr.specs.Views.{IsViewed};
 
-use crate::answers::{Answer, Status, answer_fault, answer_replay, answer_trace};
+use crate::answers::{Answer, Status, answer_fault};
 use crate::command_line::ReplayArguments;
 use crate::commands::read_input;
 use crate::dividing::divide;
@@ -16,8 +17,9 @@ use crate::inputs::Inputs;
 use crate::sources::is_standard_input;
 use crate::stops::Stop;
 use crate::streams::Stream;
+use crate::views::View;
 use bip_explain::Explanation;
-use bip_model::Model;
+use bip_model::{Classes, Model};
 use bip_reader::read_model;
 use std::alloc::Global;
 
@@ -37,24 +39,26 @@ pub fn replay<I: Inputs, O: Stream, E: Stream>(
     ensures { Ends (IsReplay (I.gives inputs.now) asked.now) (Puts O.writes output.old output.new)
         (Puts E.writes errors.old errors.new) result }
 {
-    let answer = answer_asked(alloc, explanation, inputs, asked);
+    let answer = answer_viewed(alloc, explanation, inputs, asked, &View::Verdict);
     end(alloc, explanation, output, errors, answer)
 }
 
-// The answer to what is asked.
-fn answer_asked<'a, I: Inputs>(
+/// The answer to the two texts that are asked for, by what is asked of them.
+pub fn answer_viewed<'a, I: Inputs>(
     alloc: Global,
     explanation: &mut Explanation,
     inputs: &I,
     asked: &ReplayArguments<'a>,
+    view: &View<'_>,
 ) -> Result<Answer, Stop<'a>>
     requires { asked.now.base ≤ greatest_base }
-    ensures { AllOutcomes result (IsReplay (I.gives inputs.now) asked.now) }
+    ensures { AllOutcomes result
+        (IsReplayBy (IsViewed view.now asked.now.base) (I.gives inputs.now) asked.now) }
 {
     if is_standard_input(asked.model) && is_standard_input(asked.trace) {
-        answer_one(alloc, explanation, inputs, asked)
+        answer_one(alloc, explanation, inputs, asked, view)
     } else {
-        answer_two(alloc, explanation, inputs, asked)
+        answer_two(alloc, explanation, inputs, asked, view)
     }
 }
 
@@ -64,14 +68,16 @@ fn answer_one<'a, I: Inputs>(
     explanation: &mut Explanation,
     inputs: &I,
     asked: &ReplayArguments<'a>,
+    view: &View<'_>,
 ) -> Result<Answer, Stop<'a>>
     requires bound { asked.now.base ≤ greatest_base }
     requires joined { is_joined asked.now ≡ true }
-    ensures { AllOutcomes result (IsReplay (I.gives inputs.now) asked.now) }
+    ensures { AllOutcomes result
+        (IsReplayBy (IsViewed view.now asked.now.base) (I.gives inputs.now) asked.now) }
 {
     let both = read_input(alloc, explanation, inputs, asked.model)?;
     let (model, trace) = divide(both.as_slice());
-    Ok(answer_replay(alloc, explanation, model, trace, asked.base)?)
+    Ok(view.answer_texts(alloc, explanation, model, trace, asked.base)?)
 }
 
 // The answer where each path names a text: the model's half.
@@ -80,14 +86,18 @@ fn answer_two<'a, I: Inputs>(
     explanation: &mut Explanation,
     inputs: &I,
     asked: &ReplayArguments<'a>,
+    view: &View<'_>,
 ) -> Result<Answer, Stop<'a>>
     requires bound { asked.now.base ≤ greatest_base }
     requires apart { is_joined asked.now ≡ false }
-    ensures { AllOutcomes result (IsReplay (I.gives inputs.now) asked.now) }
+    ensures { AllOutcomes result
+        (IsReplayBy (IsViewed view.now asked.now.base) (I.gives inputs.now) asked.now) }
 {
     let text = read_input(alloc, explanation, inputs, asked.model)?;
     match read_model(alloc, text.as_slice()) {
-        Ok((model, _classes)) => answer_second(alloc, explanation, inputs, asked, &model),
+        Ok((model, classes)) => {
+            answer_second(alloc, explanation, inputs, asked, view, &model, &classes)
+        }
         Err(fault) => Ok(answer_fault(alloc, explanation, text.as_slice(), &fault)?),
     }
 }
@@ -98,15 +108,18 @@ fn answer_second<'a, I: Inputs>(
     explanation: &mut Explanation,
     inputs: &I,
     asked: &ReplayArguments<'a>,
+    view: &View<'_>,
     model: &Model,
+    classes: &Classes,
 ) -> Result<Answer, Stop<'a>>
     requires bound { asked.now.base ≤ greatest_base }
     requires apart { is_joined asked.now ≡ false }
-    ensures { (text : List ℕ) (classes : Partition)
-        → I.gives inputs.now asked.now.model.now (Ok text)
-        → Means text model.now classes
-        → AllOutcomes result (IsReplay (I.gives inputs.now) asked.now) }
+    requires classes { AreClassesOf model.now classes.now }
+    ensures { (text : List ℕ) → I.gives inputs.now asked.now.model.now (Ok text)
+        → Means text model.now classes.now → AllOutcomes result
+        (IsReplayBy (IsViewed view.now asked.now.base) (I.gives inputs.now) asked.now) }
 {
     let trace = read_input(alloc, explanation, inputs, asked.trace)?;
-    Ok(answer_trace(alloc, explanation, model, trace.as_slice(), asked.base)?)
+    let text = trace.as_slice();
+    Ok(view.answer_trace(alloc, explanation, model, classes, text, asked.base)?)
 }

@@ -1,6 +1,8 @@
 use Rattle.clap.specs.Words.{subcommand_rows_of}
-use Rattle.bipr.specs.Commands.{IsCarriedOutBy, asked, check_asked, explore_asked, run_asked, steps_asked, unasked}
+use Rattle.bipr.specs.Commands.{IsCarriedOutBy, asked, chart_asked, check_asked, draw_asked, explore_asked, run_asked, steps_asked, unasked}
+use Rattle.bipr.specs.Commands.Chart.{IsChart}
 use Rattle.bipr.specs.Commands.Check.{IsCheck}
+use Rattle.bipr.specs.Commands.Draw.{IsDraw}
 use Rattle.bipr.specs.Commands.Explore.{IsExplore}
 use Rattle.bipr.specs.Commands.Replay.{IsReplay}
 use Rattle.bipr.specs.Commands.Run.{IsThreadedRun}
@@ -9,12 +11,26 @@ use Rattle.bipr.specs.Streams.{none_put}
 use Rattle.bipr.proofs.EndingLemmas.{ends_quietly, ends_told}
 use Rattle.bipr.proofs.commands.carry_out_asked.Goals as goal
 
+pub returns-in-Some-Chart : goal.returns-in-Some-Chart
+returns-in-Some-Chart g c =
+    let gives = g.I.Inputs.gives c.args.inputs.now in
+    let hosts = g.H.Hosting.hosts c.args.hosting.now in
+    ends_quietly (IsChart gives c.in-Some-Chart.asked) (IsCarriedOutBy (subcommand_rows_of c.args.matches.now) gives hosts) _ g.E.Stream.writes _ _ _ c.chart.ensures
+    (λ answer is. chart_asked c.in-Some-Chart.asked answer (rw c.in-Some-Chart.field-0-is at c.in-Some-Chart.ensures.some) is)
+
 pub returns-in-Some-Check : goal.returns-in-Some-Check
 returns-in-Some-Check g c =
     let gives = g.I.Inputs.gives c.args.inputs.now in
     let hosts = g.H.Hosting.hosts c.args.hosting.now in
     ends_quietly (IsCheck gives c.in-Some-Check.asked) (IsCarriedOutBy (subcommand_rows_of c.args.matches.now) gives hosts) _ g.E.Stream.writes _ _ _ c.check.ensures
     (λ answer is. check_asked c.in-Some-Check.asked answer (rw c.in-Some-Check.field-0-is at c.in-Some-Check.ensures.some) is)
+
+pub returns-in-Some-Draw : goal.returns-in-Some-Draw
+returns-in-Some-Draw g c =
+    let gives = g.I.Inputs.gives c.args.inputs.now in
+    let hosts = g.H.Hosting.hosts c.args.hosting.now in
+    ends_quietly (IsDraw gives c.in-Some-Draw.asked) (IsCarriedOutBy (subcommand_rows_of c.args.matches.now) gives hosts) _ g.E.Stream.writes _ _ _ c.draw.ensures
+    (λ answer is. draw_asked c.in-Some-Draw.asked answer (rw c.in-Some-Draw.field-0-is at c.in-Some-Draw.ensures.some) is)
 
 pub returns-in-Some-Replay : goal.returns-in-Some-Replay
 returns-in-Some-Replay g c =

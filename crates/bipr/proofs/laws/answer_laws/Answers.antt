@@ -1,3 +1,4 @@
+use Rattle.bipr.proofs.DrawnLemmas.{has_one_drawing}
 use Rattle.bipr.proofs.HostedLemmas.{hosts_replay}
 use Rattle.bipr.proofs.MarkLemmas.{are_parts}
 use Rattle.bipr.proofs.OneAnswerLemmas.{AreExact, has_one_answer}
@@ -14,6 +15,7 @@ returns c =
       some = some_answer c.meaning_laws.ensures.some c.meaning_laws.ensures.valid c.meaning_laws.ensures.whys c.fault_laws.ensures.answered;
       one = has_one_answer exact;
       one_check = has_one_check exact;
+      one_drawing = has_one_drawing exact;
       replays = steps_replay;
       hosts = hosts_replay;
     }

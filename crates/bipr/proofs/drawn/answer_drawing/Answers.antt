@@ -1,0 +1,17 @@
+use Rattle.std.proofs.Common.{◌∙◌, ap, subst, sym}
+use Rattle.std.proofs.lemmas.Result.{IfOk-weaker}
+use Rattle.bipr.specs.Answers.{saying}
+use Rattle.bipr.specs.Drawn.{IsDrawingAnswer, drawn, undrawn}
+use Rattle.bipr.specs.declared.answers.Status.TheVariants.{Done}
+use Rattle.bipr.proofs.drawn.answer_drawing.Goals as goal
+
+pub returns-in-Err : goal.returns-in-Err
+returns-in-Err c =
+    IfOk-weaker c.answer_fault.result _ _
+    (λ answer is. subst (IsDrawingAnswer c.args.model.now) (sym is.1) (undrawn c.in-Err.fault is.0 (c.in-Err.ensures.fault is.0)))
+    c.answer_fault.ensures
+
+pub returns : goal.returns
+returns c =
+    subst (IsDrawingAnswer c.args.model.now) (sym (c.said.ensures ∙ ap (saying Done) c.in_ok-draw_model.ensures))
+    (drawn c.in-Ok.read.0 c.in-Ok.read.1 c.in-Ok.ensures.model)

@@ -1,0 +1,88 @@
+-- The answer to a chart: the picture of the run with which a trace begins, beside its verdict.
+use Rattle.std.specs.Prelude.{◌≡◌, ◌<◌, ◌≤◌, ◌-◌, ◌&&◌, ℕ, Bool, true, List, length, nat_le, nat_lt}
+use Rattle.std.specs.Prelude.{Option, None, Some, if◌then◌else◌, take}
+use Rattle.std.specs.Option.{option_map, option_map_or}
+use Rattle.bip_draw.specs.Charts.{chart_of}
+use Rattle.bip_draw.specs.declared.charts.Chart.{Chart}
+use Rattle.bip_model.specs.declared.grants.Grant.{Grant}
+use Rattle.bip_model.specs.declared.parts.System.{System}
+use Rattle.bip_model.specs.declared.partitions.Partition.{Partition}
+use Rattle.bip_reader.specs.Texts.{Means}
+use Rattle.bip_replay.specs.Replays.{IsFirstFault, IsRunOf}
+use Rattle.bip_replay.specs.declared.faults.BookFault.{BookFault}
+use Rattle.bip_replay.specs.declared.faults.ReplayFault.TheVariants as replay_fault
+use Rattle.bipr.specs.Answers.{IsAnswer, complaining, saying}
+use Rattle.bipr.specs.Wording.{chart_refusal, run_text, verdict_text}
+use Rattle.bipr.specs.declared.answers.Answer.{Answer}
+use Rattle.bipr.specs.declared.answers.Status.{Status}
+use Rattle.bipr.specs.declared.answers.Status.TheVariants.{Done, NotARun, Refused}
+use Rattle.bipr.specs.declared.charted.Shown.{Shown}
+use Rattle.bipr.specs.declared.charted.TheConstants.{MOST_ROWS}
+
+-- the grants up to the last row that is shown
+abbrev pub until_last : Shown → List Grant → List Grant
+until_last shown grants = option_map_or (λ last. take last grants) shown.to grants
+
+-- how many rows are shown
+abbrev pub count_shown : Shown → List Grant → ℕ
+count_shown shown grants = length (until_last shown grants) - (shown.from - 1)
+
+-- whether the row behind so many is shown
+abbrev pub shows_behind : Shown → ℕ → Bool
+shows_behind shown count =
+    nat_le (shown.from - 1) count && option_map_or (λ last. nat_lt count last) shown.to true
+
+-- why a run stops, where a trace has this verdict: the verdict without its line feed
+abbrev pub reason_of : Answer → Option (List ℕ)
+reason_of verdict = by_status verdict.status
+  where
+    by_status : Status → Option (List ℕ)
+    by_status NotARun = Some (take (length verdict.output - 1) verdict.output)
+    by_status status = None
+
+-- the same of a run of so many grants, where that row is shown
+abbrev pub reason_shown : Shown → ℕ → Answer → Option (List ℕ)
+reason_shown shown count verdict = if shows_behind shown count then reason_of verdict else None
+
+-- the run with which a trace begins, by its grants: all of the trace, or what stands before the
+-- first line whose grant can't be next; and the verdict on the trace
+pub data IsFrontRun (m : System) (base : ℕ) (trace : List ℕ) : List Grant → Answer → Type 0 where
+  whole : (count : ℕ) → (is : IsRunOf m base trace count)
+      → IsFrontRun m base trace is.grants (saying Done (run_text count))
+  stopped : (number : ℕ) (fault : BookFault)
+      → (first : IsFirstFault m base trace number (replay_fault.NotARun fault))
+      → IsFrontRun m base trace first.grants (saying NotARun (verdict_text m trace number fault))
+
+-- a chart has the rows of these grants from the first one on that is shown, and behind them this
+-- reason
+pub record IsChartOf (m : System) (classes : Partition) (shown : Shown) (grants : List Grant)
+    (reason : Option (List ℕ)) (chart : Chart) : Type 0 where
+  pub model : chart.model.now ≡ m
+  pub parted : chart.classes.now ≡ classes
+  pub rows : chart.book.now.grants ≡ grants
+  pub first : chart.first ≡ shown.from - 1
+  pub values : chart.values ≡ shown.values
+  pub why : option_map (λ why. why.now) chart.fault ≡ reason
+
+-- what is answered of a run that has this verdict: its chart, with the verdict beside it, or that
+-- it has too many rows
+pub data IsPictured (m : System) (classes : Partition) (shown : Shown) (grants : List Grant)
+    (verdict : Answer) : Answer → Type 0 where
+  fitting : (chart : Chart) → count_shown shown grants ≤ MOST_ROWS
+      → IsChartOf m classes shown (until_last shown grants)
+      (reason_shown shown (length grants) verdict) chart
+      → IsPictured m classes shown grants verdict
+      (record { status = verdict.status; output = chart_of chart; complaint = verdict.output })
+  too_long : MOST_ROWS < count_shown shown grants
+      → IsPictured m classes shown grants verdict (complaining Refused chart_refusal)
+
+-- the answer to the chart of the texts of a model and a trace, from a base
+pub data IsChartAnswer (base : ℕ) (shown : Shown) (model trace : List ℕ) : Answer → Type 0 where
+  -- the run with which the trace begins is drawn
+  charted : (m : System) (classes : Partition) (grants : List Grant) (verdict answer : Answer)
+      → Means model m classes → IsFrontRun m base trace grants verdict
+      → IsPictured m classes shown grants verdict answer
+      → IsChartAnswer base shown model trace answer
+  -- a text is refused, as a replay refuses it
+  uncharted : (answer : Answer) → IsAnswer base model trace answer → answer.status ≡ Refused
+      → IsChartAnswer base shown model trace answer

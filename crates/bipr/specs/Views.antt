@@ -1,0 +1,12 @@
+-- What is answered of a trace: its verdict, or its chart.
+use Rattle.std.specs.Prelude.{ℕ, List}
+use Rattle.bipr.specs.Answers.{IsAnswer}
+use Rattle.bipr.specs.Charted.{IsChartAnswer}
+use Rattle.bipr.specs.declared.answers.Answer.{Answer}
+use Rattle.bipr.specs.declared.views.View.{View}
+use Rattle.bipr.specs.declared.views.View.TheVariants.{Chart, Verdict}
+
+-- the answer to the texts of a model and a trace, from a base, by what is asked of them
+abbrev pub IsViewed : View → ℕ → List ℕ → List ℕ → Answer → Type 0
+IsViewed Verdict base model trace answer = IsAnswer base model trace answer
+IsViewed (Chart shown) base model trace answer = IsChartAnswer base shown.now model trace answer

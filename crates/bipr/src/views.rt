@@ -1,0 +1,65 @@
+//! What is answered of a trace: its verdict, or its chart.
+ghost use Rattle.std.specs.Prelude.{◌≤◌, ℕ, List, IfOk};
+ghost use Rattle.bip_model.specs.Partitions.{AreClassesOf};
+ghost use Rattle.bip_reader.specs.Texts.{Means};
+ghost use Rattle.bipr.specs.CommandLine.{greatest_base};
+ghost use Rattle.bipr.specs.Views.{IsViewed};
+
+use crate::answers::{Answer, answer_fault, answer_trace};
+use crate::charted::{Shown, answer_chart};
+use bip_explain::Explanation;
+use bip_model::{Classes, Model, Number};
+use bip_reader::read_model;
+use std::alloc::{AllocError, Global};
+
+/// What is asked of a trace: its verdict, or the chart of its run, in which these rows are shown.
+#[derive(Clone, Copy)]
+pub enum View<'a> {
+    Verdict,
+    Chart(&'a Shown),
+}
+
+impl<'a> View<'a> {
+    /// The answer to the texts of a model and a trace, from a base (docs/ANSWERS.md, "Answers").
+    /// The only error is want of memory.
+    pub fn answer_texts(
+        &self,
+        alloc: Global,
+        explanation: &mut Explanation,
+        model: &[u8],
+        trace: &[u8],
+        base: Number,
+    ) -> Result<Answer, AllocError>
+        requires { base ≤ greatest_base }
+        ensures { IfOk result (IsViewed self.now base model.now trace.now) }
+    {
+        let (system, classes) = match read_model(alloc, model) {
+            Ok(read) => read,
+            Err(fault) => return answer_fault(alloc, explanation, model, &fault),
+        };
+        self.answer_trace(alloc, explanation, &system, &classes, trace, base)
+    }
+
+    /// The same, where the model's text is one.
+    pub fn answer_trace(
+        &self,
+        alloc: Global,
+        explanation: &mut Explanation,
+        model: &Model,
+        classes: &Classes,
+        trace: &[u8],
+        base: Number,
+    ) -> Result<Answer, AllocError>
+        requires base { base ≤ greatest_base }
+        requires classes { AreClassesOf model.now classes.now }
+        ensures { IfOk result (λ answer. (text : List ℕ) → Means text model.now classes.now
+            → IsViewed self.now base text trace.now answer) }
+    {
+        match self {
+            View::Verdict => answer_trace(alloc, explanation, model, trace, base),
+            View::Chart(shown) => {
+                answer_chart(alloc, explanation, model, classes, trace, base, shown)
+            }
+        }
+    }
+}
