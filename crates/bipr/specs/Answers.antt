@@ -1,6 +1,7 @@
 -- The answer to a replay: the one that the text of a model, the text of a trace and a base have.
 -- The answer to a check: the one that the text of a model has.
-use Rattle.std.specs.Prelude.{◌≡◌, ◌≢◌, ◌++◌, ℕ, Bool, false, true, List, [], length, ⊤, Result, Ok, Err}
+use Rattle.std.specs.Prelude.{◌≡◌, ◌≢◌, ◌++◌, ℕ, Bool, false, true, List, [], length, ⊤}
+use Rattle.std.specs.Prelude.{Result, Ok, Err}
 use Rattle.bip_model.specs.declared.parts.System.{System}
 use Rattle.bip_model.specs.declared.partitions.Partition.{Partition}
 use Rattle.bip_model.specs.declared.numbering.InterId.{InterId}
