@@ -192,3 +192,22 @@ count-one test x = elim (cases_Bool (test x)) [
   | inl passes ↦ omega (arith, passes-one test x passes)
   | inr fails ↦ omega (arith, fails-none test x fails)
 ]
+
+-- where one is counted at most, two elements that pass are one
+pub count-same : {X : Type 0} (test : X → Bool) (x y : X) (xs : List X) → count test xs ≤ 1
+    → In x xs → In y xs → test x ≡ true → test y ≡ true → x ≡ y
+count-same test x y [] few at also passes other = absurd at
+count-same test x y (z ∷ xs) few at also passes other = elim at [
+  | inl same ↦ elim also [
+    | inl too ↦ same ∙ sym too
+    | inr later ↦
+        let here = passes-one test z (ap test (sym same) ∙ passes) in
+        absurd (omega (arith, few, here, count-some test y xs later other))
+  ]
+  | inr later ↦ elim also [
+    | inl too ↦
+        let here = passes-one test z (ap test (sym too) ∙ other) in
+        absurd (omega (arith, few, here, count-some test x xs later passes))
+    | inr after ↦ count-same test x y xs (omega (arith, few)) later after passes other
+  ]
+]

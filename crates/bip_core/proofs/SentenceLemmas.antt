@@ -1,11 +1,15 @@
 -- What agreement says, sentence by sentence: each of the six parts follows from what is kept of
 -- used numbers, numbers and local states.
-use Rattle.std.proofs.Common.{◌≡◌, ℕ, ◌+◌, ◌≤◌, List, true, false, sym, ap, ◌∙◌, subst, inl, inr}
+use Rattle.std.proofs.Common.{◌≡◌, ℕ, ◌+◌, ◌≤◌, ◌<◌, ◌==◌, List, Option, None, Some, true, false}
+use Rattle.std.proofs.Common.{refl, sym, ap, ap₂, ◌∙◌, subst, inl, inr}
+use Rattle.std.specs.Prelude.{IsSomeAnd}
 use Rattle.std.proofs.Common.{arith}
-use Rattle.std.proofs.lemmas.Bool.{cases_Bool, cases_eq, eqb-true, true≢false}
+use Rattle.std.proofs.lemmas.Bool.{cases_Bool, cases_eq, eq-eqb, eqb-true, true≢false}
 use Rattle.bip_model.specs.Parties.{AreParties}
 use Rattle.bip_model.proofs.HistoryLemmas.{moves_once}
+use Rattle.bip_model.specs.Messages.{Shows}
 use Rattle.bip_model.specs.States.{State}
+use Rattle.bip_model.specs.declared.states.LocalState.{LocalState}
 use Rattle.bip_model.specs.Partitions.{class_in}
 use Rattle.bip_model.specs.Steps.{after, moves}
 use Rattle.bip_model.specs.Wants.{IsFresh, moved_in}
@@ -16,6 +20,7 @@ use Rattle.bip_model.specs.declared.messages.Request.{Request}
 use Rattle.bip_model.specs.declared.wants.Want.{Want}
 use Rattle.bip_partition.specs.Laws.{IsPlanned}
 use Rattle.bip_partition.specs.Plans.{Planned}
+use Rattle.bip_observe.proofs.OfferLemmas.{one_offer_each}
 use Rattle.bip_observe.proofs.ShowLemmas.{ready_may_run}
 use Rattle.bip_ip.specs.Asking.{told_by}
 use Rattle.bip_ip.specs.declared.nodes.OpenRecord.{OpenRecord}
@@ -29,12 +34,14 @@ use Rattle.bip_core.specs.Books.{HasRecord, RecordFits}
 use Rattle.bip_core.specs.Lists.{In, count}
 use Rattle.bip_core.specs.Numbers.{IsAwaited, IsOwed, is_for}
 use Rattle.bip_core.specs.Sentences.{AgreementInSix, ComponentAgrees, IsMoving, IsOfferOut}
+use Rattle.bip_core.specs.Sentences.{OneOfferOut}
 use Rattle.bip_core.specs.Sentences.{IsSettled, IsSpent, LeadsOn, OfferAgrees, RequestAgrees}
 use Rattle.bip_core.specs.Locals.{Made}
 use Rattle.bip_core.specs.Views.{View, lead}
-use Rattle.bip_core.proofs.ListLemmas.{Any-one, count-none}
+use Rattle.bip_core.proofs.ListLemmas.{Any-one, count-none, count-same}
 use Rattle.bip_core.proofs.LocalLemmas.{LeadsNext, fresh_leads, shown}
 use Rattle.bip_core.proofs.NumberLemmas.{quiet}
+use Rattle.bip_core.proofs.RepeatLemmas.{same_some}
 use Rattle.bip_core.proofs.ToldLemmas.{tells_move}
 use Rattle.bip_core.proofs.UsedLemmas.{granted_once}
 
@@ -128,7 +135,7 @@ module _ {p : Planned} {base : ℕ} {u : ℕ → ℕ} {s : State} {w : View}
   -- What two records owe to one component is of one grant, so they are one record
 
   owed_by_one : (j k a b : ℕ) (e f : OpenRecord) (n x : Notify) → IsOwed w j a e n
-      → IsOwed w k b f x → n.comp.0 ≡ x.comp.0 → (j ≡ k) × (a ≡ b)
+      → IsOwed w k b f x → n.comp.0 ≡ x.comp.0 → (j ≡ k) × (a ≡ b) × (n ≡ x)
   owed_by_one j k a b e f n x owes other same =
       let made = h.locals.made j a e owes.is in
       let also = h.locals.made k b f other.is in
@@ -144,7 +151,16 @@ module _ {p : Planned} {base : ℕ} {u : ℕ → ℕ} {s : State} {w : View}
       let its = h.books.records j a e owes.is in
       let others = h.books.records k b f other.is in
       let inter : a ≡ b = sym its.number ∙ (ap (λ (g : Grant). g.inter.0) one ∙ others.number) in
-      (sym its.home ∙ (ap (class_in p.classes) inter ∙ others.home), inter)
+      let class : j ≡ k = sym its.home ∙ (ap (class_in p.classes) inter ∙ others.home) in
+      let entry : e ≡ f = same_some e f (sym owes.is ∙ (ap₂ w.pending class inter ∙ other.is)) in
+      let among : In x e.notifies = subst (λ (r : OpenRecord). In x r.notifies) (sym entry) other.tells in
+      (
+        class,
+        inter,
+        count-same (λ (m : Notify). m.comp.0 == n.comp.0) n x e.notifies
+            ((h.numbers.records j a e owes.is).once n.comp.0) owes.tells among
+            (eq-eqb n.comp.0 n.comp.0 refl) (eq-eqb x.comp.0 n.comp.0 (sym same)),
+      )
 
   -- A request has its record, and where it is fresh, its interaction may run
 
@@ -220,3 +236,18 @@ agrees_in_six p planned base u s w h = record {
     one_owes = owed_by_one h;
   };
 }
+
+-- offers that show one state are one
+pub one_offer_out : OneOfferOut
+one_offer_out p base u s w six x y out also comp number unused =
+    let mine = (six.offers x out).shows unused in
+    let other = (six.offers y also).shows (omega (arith, unused, number, ap u comp)) in
+    by_local (s x.comp.0) refl mine (subst (λ (c : ℕ). IsSomeAnd (s c) (Shows p.model y)) (sym comp) other)
+  where
+    by_local : (local : Option LocalState) → s x.comp.0 ≡ local → IsSomeAnd local (Shows p.model x)
+        → IsSomeAnd local (Shows p.model y) → x ≡ y
+    by_local None is mine other = absurd mine
+    by_local (Some local) is mine other =
+        one_offer_each p.model x.comp.0 x.number local x y
+        (record { comp = refl; number = refl; shows = mine })
+        (record { comp = sym comp; number = sym number; shows = other })

@@ -124,7 +124,7 @@ IsRequestOut w q = In (RequestToBank q) w.mail ⊎ ((a : ℕ) × In q (w.waiting
 -- 6. each record is of a request that fits; the records of a class differ in request number; what
 -- is about an interaction stands once, and in one place: a request in flight, an open one, or a
 -- reply in flight, which has its record, and grants it just where it is granted; what tells a
--- component is of a grant, and no two records owe it
+-- component is of a grant, and one record at most owes it, once
 pub record RecordsAgree (p : Planned) (u : ℕ → ℕ) (w : View) : Type 0 where
   pub fit : (k a : ℕ) (e : OpenRecord) → w.pending k a ≡ Some e → RecordFits p w.next k a e
   pub apart : (k a b : ℕ) (e f : OpenRecord) → w.pending k a ≡ Some e → w.pending k b ≡ Some f
@@ -134,7 +134,7 @@ pub record RecordsAgree (p : Planned) (u : ℕ → ℕ) (w : View) : Type 0 wher
   pub told : (n : Notify) → In (NotifyComponent n) w.mail
       → (g : Grant) × In g w.trace × (moved_in g.wants n.comp.0 ≡ n.number)
   pub one_owes : (j k a b : ℕ) (e f : OpenRecord) (n x : Notify) → IsOwed w j a e n
-      → IsOwed w k b f x → n.comp.0 ≡ x.comp.0 → (j ≡ k) × (a ≡ b)
+      → IsOwed w k b f x → n.comp.0 ≡ x.comp.0 → (j ≡ k) × (a ≡ b) × (n ≡ x)
 
 -- all six
 pub record AgreesInSix (p : Planned) (base : ℕ) (u : ℕ → ℕ) (s : State) (w : View) : Type 0 where
@@ -144,6 +144,14 @@ pub record AgreesInSix (p : Planned) (base : ℕ) (u : ℕ → ℕ) (s : State) 
   pub used : UsedAgree p u w
   pub requests : (q : Request) → IsRequestOut w q → RequestAgrees p u s w q
   pub records : RecordsAgree p u w
+
+-- where a world agrees so, there is one offer at most that is out, held or in flight, of a component
+-- with a number that isn't used: who grants by it grants what all others see
+abbrev pub OneOfferOut : Type 0
+OneOfferOut =
+    (p : Planned) (base : ℕ) (u : ℕ → ℕ) (s : State) (w : View) → AgreesInSix p base u s w
+    → (x y : Offer) → IsOfferOut w x → IsOfferOut w y → x.comp.0 ≡ y.comp.0
+    → x.number ≡ y.number → u x.comp.0 < x.number → x ≡ y
 
 -- agreement, as it is kept, says all six
 abbrev pub AgreementInSix : Type 0

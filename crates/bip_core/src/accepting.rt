@@ -1,5 +1,5 @@
 //! What addressees accept: frames that name only what the plan has, and fit whom they are for.
-ghost use Rattle.std.specs.Prelude.{◌≡◌, ◌↔◌, ◌<◌, ℕ, IfErr, IfOk, IsErrOf, IsTrue};
+ghost use Rattle.std.specs.Prelude.{◌≡◌, ◌↔◌, ◌<◌, ℕ, IfErr, IfOk, IsOkAnd, IsErrOf, IsTrue};
 ghost use Rattle.std.specs.Prelude.{Some, length, slice_get, true};
 ghost use Rattle.std.specs.Option.{option_map};
 ghost use Rattle.bip_model.specs.Messages.{IsOfferOf};
@@ -76,7 +76,7 @@ pub fn accept<'a>(plan: &Plan, to: Address, bytes: &'a [u8]) -> Result<Frame<'a>
     ensures accepted { IfOk result (λ frame. IsAccepted plan.now to (message_shown frame)) }
     // Each frame that can be is accepted, and shows its message.
     ensures only { (m : Message) → IsFrame m bytes.now → IsAccepted plan.now to m
-        → IfOk result (λ frame. message_shown frame ≡ m) }
+        → IsOkAnd result (λ frame. message_shown frame ≡ m) }
     // A fault is the first one, and the first one is told.
     ensures first { IfErr result (IsDropped plan.now to bytes.now) }
     ensures each { (fault : DropFault) → IsDropped plan.now to bytes.now fault

@@ -1,6 +1,6 @@
 //! The machine below the world: all its parts, and its events.
-ghost use Rattle.std.specs.Prelude.{◌≡◌, ◌<◌, ◌⊎◌, All, IfErr, IfNone, IfOk, IfSome, OnErr, OnOk};
-ghost use Rattle.std.specs.Prelude.{None, Some, false, length, slice_get, true, vec_capacity};
+ghost use Rattle.std.specs.Prelude.{◌≡◌, ◌<◌, ◌≤◌, ◌⊎◌, All, IfErr, IfNone, IfOk, IfSome, OnErr};
+ghost use Rattle.std.specs.Prelude.{OnOk, None, Some, false, length, slice_get, true, vec_capacity};
 ghost use Rattle.std.specs.Prelude.{[], vec_len};
 ghost use Rattle.bip_model.specs.declared.messages.Request.{Request};
 ghost use Rattle.bip_model.specs.Numbering.{last_number};
@@ -120,6 +120,18 @@ impl<'p, B: bip_bank::Bank> Machine<'p, B> {
         ensures { result ≡ length self.now.mail }
     {
         self.mail.len()
+    }
+
+    /// The message at a place among those in flight, from 0; none past the last.
+    pub fn message(&self, place: usize) -> Option<&Message>
+        ensures some { IfSome result (λ m. slice_get self.now.mail place ≡ Some m.now) }
+        ensures none { IfNone result (length self.now.mail ≤ place) }
+    {
+        if place < self.mail.len() {
+            Some(self.mail.get(place))
+        } else {
+            None
+        }
     }
 
     pub fn bank(&self) -> &B

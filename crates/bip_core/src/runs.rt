@@ -1,16 +1,16 @@
 //! Runs of events, and their reports.
-ghost use Rattle.std.specs.Prelude.{◌≡◌, ◌<◌, ◌++◌, List, [], None, length};
+ghost use Rattle.std.specs.Prelude.{◌≡◌, ◌<◌, ◌++◌, ◌∷◌, List, [], None, length};
 ghost use Rattle.bip_model.specs.Numbering.{last_number};
 ghost use Rattle.bip_model.specs.declared.grants.Grant.{Grant};
 ghost use Rattle.bip_model.specs.Grants.{MovesOnceEach};
 ghost use Rattle.bip_replay.specs.Runs.{IsModelRun};
 ghost use Rattle.bip_core.specs.Agreement.{Agrees};
-ghost use Rattle.bip_core.specs.Runs.{AddsUp, IsEventCounted, IsRunOfEvents, report_counted};
-ghost use Rattle.bip_core.specs.Runs.{report_of, report_with};
+ghost use Rattle.bip_core.specs.Runs.{AddsUp, AreSteps, IsEventCounted, IsRunOfEvents};
+ghost use Rattle.bip_core.specs.Runs.{report_counted, report_of, report_with};
 ghost use Rattle.bip_core.specs.Worlds.{world_of};
 
 use crate::outcomes::{Kind, Outcome};
-use crate::{Event, World};
+use crate::{Did, Event, World};
 
 /// The sums of a run of events (docs/PROTOCOL.md, "The world and its events").
 #[derive(Clone, Copy, Debug, PartialEq, Eq)]
@@ -87,6 +87,34 @@ pub fn run_event<'p, B: bip_bank::Bank>(world: &mut World<'p, B>, event: Event, 
     match world.count(event) {
         Ok(outcome) => report.count(outcome),
         Err(_) => report.count_skipped(),
+    }
+}
+
+/// Does one event and counts it, as `run_event` does, and gives what it did; none where it was
+/// skipped (docs/PROTOCOL.md, "The world and its events").
+pub fn watch_event<'p, B: bip_bank::Bank>(
+    world: &mut World<'p, B>,
+    event: Event,
+    report: &mut Report,
+) -> Option<Did>
+    requires room { report.old.events < last_number }
+    requires adds_up { AddsUp report.old }
+    ensures done { AreSteps (event ∷ []) (result ∷ []) (world_of world.old) (world_of world.new) }
+    ensures counted { report.new ≡ report_with report.old result }
+    ensures adds_up { AddsUp report.new }
+{
+    match world.watch(event) {
+        Ok((what, outcome)) => {
+            report.count(outcome);
+            Some(Did {
+                what,
+                lost: outcome.lost,
+            })
+        }
+        Err(_) => {
+            report.count_skipped();
+            None
+        }
     }
 }
 

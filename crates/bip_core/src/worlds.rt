@@ -1,5 +1,6 @@
 //! The world: a machine of nodes, messages and a bank.
-ghost use Rattle.std.specs.Prelude.{◌≡◌, ◌<◌, All, IfErr, IfOk, OnErr, length, ⊤};
+ghost use Rattle.std.specs.Prelude.{◌≡◌, ◌<◌, ◌≤◌, All, IfErr, IfNone, IfOk, IfSome, OnErr, Some};
+ghost use Rattle.std.specs.Prelude.{length, slice_get, ⊤};
 ghost use Rattle.bip_model.specs.Numbering.{last_number};
 ghost use Rattle.bip_model.specs.Grants.{MovesOnceEach};
 ghost use Rattle.bip_replay.specs.Runs.{IsModelRun};
@@ -11,7 +12,7 @@ ghost use Rattle.bip_core.specs.Worlds.{IsKnownGrant, world_of};
 
 use crate::machines::Machine;
 use crate::outcomes::{NoOne, Outcome};
-use crate::{Did, Event, What};
+use crate::{Did, Event, Message, What};
 use bip_model::{Grant, Number};
 use bip_partition::Plan;
 use std::alloc::{AllocError, Global};
@@ -71,12 +72,24 @@ impl<'p, B: bip_bank::Bank> World<'p, B> {
         ensures err { OnErr result (world_of self.new ≡ world_of self.old) }
         ensures agrees { Agrees (world_of self.new) }
     {
-        let mut what = What::Nothing;
-        let outcome = self.machine.step(event, &mut what)?;
+        let (what, outcome) = self.watch(event)?;
         Ok(Did {
             what,
             lost: outcome.lost,
         })
+    }
+
+    /// Does one event as `step` does, and says what it did and what it comes to.
+    pub(crate) fn watch(&mut self, event: Event) -> Result<(What, Outcome), AllocError>
+        ensures counted { IfOk result (λ seen. IsCounted (λ what. seen.0 ≡ what)
+            (world_of self.old) event seen.1 (world_of self.new)) }
+        ensures skipped { IfErr result (λ e. CanBeSkipped (world_of self.old) event) }
+        ensures err { OnErr result (world_of self.new ≡ world_of self.old) }
+        ensures agrees { Agrees (world_of self.new) }
+    {
+        let mut what = What::Nothing;
+        let outcome = self.machine.step(event, &mut what)?;
+        Ok((what, outcome))
     }
 
     /// Does one event as `step` does, and says what it comes to.
@@ -124,6 +137,16 @@ impl<'p, B: bip_bank::Bank> World<'p, B> {
         self.machine.mails()
     }
 
+    /// The message at a place among those in flight, in order of sending from 0; none where there
+    /// are no more than so many.
+    pub fn message(&self, place: usize) -> Option<&Message>
+        ensures some { IfSome result (λ m. slice_get self.now.mail place ≡ Some m.now) }
+        ensures none { IfNone result (length self.now.mail ≤ place) }
+    {
+        self.machine.message(place)
+    }
+
+    /// The bank, which no event hands out.
     pub fn bank(&self) -> &B
         ensures { B.kept result.now ≡ self.now.bank }
     {
