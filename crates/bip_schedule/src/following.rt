@@ -9,13 +9,16 @@ ghost use Rattle.bip_schedule.specs.Following.{IsLineTested};
 ghost use Rattle.bip_schedule.specs.Laws.{IsFault};
 ghost use Rattle.bip_schedule.specs.Lines.{event_on};
 ghost use Rattle.bip_schedule.specs.Schedules.{IsEventText};
+ghost use Rattle.bip_schedule.specs.Writing.{HaveSpelling};
 
 use crate::lines::read_line;
+use crate::schedules::read_schedule;
 use bip_bank::Bank;
-use bip_core::{Report, World, run_event};
+use bip_core::{Event, Report, World, run_event};
 use bip_model::{InterId, NumberedLines};
 use bip_partition::Plan;
 use bip_replay::TraceFault;
+use std::alloc::{AllocError, Global};
 use std::marker::Model;
 
 /// A text that is a schedule for a plan: each of its lines says an event of that plan, or nothing.
@@ -53,6 +56,19 @@ impl<'t> Schedule<'t> {
             }
         }
         Ok(Schedule { plan, text })
+    }
+
+    /// The events that the text is; the only error is want of memory for them.
+    pub fn events(&self, alloc: Global) -> Result<Vec<Event>, AllocError>
+        ensures events { IfOk result (λ events.
+            IsEventText self.now.plan self.now.text events.items) }
+        ensures spelled { IfOk result (λ events. HaveSpelling self.now.plan events.items) }
+    {
+        match read_schedule(alloc, self.plan, self.text) {
+            Ok(events) => Ok(events),
+            // No line of a schedule is at fault, so that is want of memory.
+            Err(_) => Err(AllocError),
+        }
     }
 
     /// Does the events that the text is, one after another; one for which there is no memory is

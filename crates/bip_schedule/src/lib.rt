@@ -16,4 +16,4 @@ pub use following::Schedule;
 pub use laws::schedule_laws;
 pub use schedules::read_schedule;
 pub use seeding::seeded;
-pub use writing::{have_spelling, write_schedule};
+pub use writing::{have_spelling, write_event, write_schedule};

@@ -1,5 +1,6 @@
 //! What a line of a schedule says: an event by names, and the event of a plan.
-ghost use Rattle.std.specs.Prelude.{◌≡◌, ◌==◌, None, Some, if◌then◌else◌, position};
+ghost use Rattle.std.specs.Prelude.{◌≡◌, ◌==◌, ◌<◌, IfOk, IfSome, None, Some, if◌then◌else◌};
+ghost use Rattle.std.specs.Prelude.{length, position};
 ghost use Rattle.std.specs.Option.{option_map};
 ghost use Rattle.bip_model.specs.Naming.{is_name, same_text};
 ghost use Rattle.bip_model.specs.Texts.{words};
@@ -7,6 +8,7 @@ ghost use Rattle.bip_model.specs.declared.numbering.InterId.{InterId};
 ghost use Rattle.bip_partition.specs.Plans.{AreStations};
 ghost use Rattle.bip_schedule.specs.Lines.{event_known, event_on, event_said, named_event_on};
 ghost use Rattle.bip_schedule.specs.Lines.{one_said, station_known, two_said};
+ghost use Rattle.bip_schedule.specs.Writing.{HasSpelling};
 
 use bip_bank::{BankStep, StationId};
 use bip_core::Event;
@@ -32,7 +34,8 @@ pub(crate) fn read_line(
     line: &[u8],
 ) -> Result<Option<Event>, LineFault>
     requires { AreStations plan.now stations.now }
-    ensures { result ≡ event_on plan.now stations.now line.now }
+    ensures says { result ≡ event_on plan.now stations.now line.now }
+    ensures spelled { IfOk result (λ said. IfSome said (HasSpelling plan.now stations.now)) }
 {
     let Some(named) = read_named(line)? else {
         return Ok(None);
@@ -106,7 +109,8 @@ fn parse_two(verb: &[u8], word: &[u8], other: &[u8]) -> Option<NamedEvent>
 // The event of a plan that is named; none where the plan lacks one of its names.
 fn look_up(plan: &Plan, stations: &[InterId], named: &NamedEvent) -> Option<Event>
     requires { AreStations plan.now stations.now }
-    ensures { result ≡ event_known plan.now stations.now named.now }
+    ensures known { result ≡ event_known plan.now stations.now named.now }
+    ensures spelled { IfSome result (HasSpelling plan.now stations.now) }
 {
     match *named {
         NamedEvent::Mail(place) => Some(Event::Mail(place as usize)),
@@ -134,14 +138,17 @@ fn look_up(plan: &Plan, stations: &[InterId], named: &NamedEvent) -> Option<Even
 }
 
 fn class_known(plan: &Plan, name: &Name) -> Option<ClassId>
-    ensures { option_map (λ k. k.0) result ≡ position (same_text name.now) plan.now.classes.names }
+    ensures known { option_map (λ k. k.0) result
+        ≡ position (same_text name.now) plan.now.classes.names }
+    ensures there { IfSome result (λ k. k.0 < length plan.now.classes.names) }
 {
     plan.classes().number(name)
 }
 
 fn inter_known(plan: &Plan, name: &Name) -> Option<InterId>
-    ensures { option_map (λ a. a.0) result
+    ensures known { option_map (λ a. a.0) result
         ≡ position (same_text name.now) plan.now.model.interaction_names }
+    ensures there { IfSome result (λ a. a.0 < length plan.now.model.interaction_names) }
 {
     plan.model().interaction(name)
 }
@@ -149,7 +156,8 @@ fn inter_known(plan: &Plan, name: &Name) -> Option<InterId>
 // The station of a reserved interaction; none of any other.
 fn station_known(plan: &Plan, stations: &[InterId], name: &Name) -> Option<StationId>
     requires { AreStations plan.now stations.now }
-    ensures { result ≡ station_known plan.now stations.now name.now }
+    ensures known { result ≡ station_known plan.now stations.now name.now }
+    ensures there { IfSome result (λ s. s.0 < length stations.now) }
 {
     let inter = inter_known(plan, name)?;
     let place = place_of(stations, inter)?;
@@ -157,7 +165,8 @@ fn station_known(plan: &Plan, stations: &[InterId], name: &Name) -> Option<Stati
 }
 
 fn place_of(stations: &[InterId], inter: InterId) -> Option<usize>
-    ensures { result ≡ position (λ (a : InterId). a.0 == inter.0) stations.now }
+    ensures place { result ≡ position (λ (a : InterId). a.0 == inter.0) stations.now }
+    ensures there { IfSome result (λ s. s < length stations.now) }
 {
     stations.iter().position(|other| *other == inter)
 }

@@ -97,12 +97,14 @@ fn write_line(
         (ReadsBack (event_on plan.now stations.now) (event_line plan.now stations.now) event.now) }
 {
     plan.recall();
-    write_words(text, plan, stations, event)?;
+    write_event(text, plan, stations, event)?;
     text.push(b'\n')?;
     Ok(())
 }
 
-fn write_words(
+/// Puts the words of an event last in a text, with one space between them, and no line feed. The
+/// stations are those of the plan (docs/ANSWERS.md, "Schedules").
+pub fn write_event(
     text: &mut Vec<u8>,
     plan: &Plan,
     stations: &[InterId],
