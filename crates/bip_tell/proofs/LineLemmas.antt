@@ -1,0 +1,58 @@
+-- Lines that are written piece by piece.
+use Rattle.std.proofs.Common.{◌≡◌, ◌∙◌, ◌+◌, ◌++◌, ◌∷◌, ◌<◌, ℕ, List, Option, Some, [], ap, codes, drop, length, slice_get, subst, sym}
+use Rattle.std.proofs.lemmas.List.{append_assoc, drop_more}
+use Rattle.std.proofs.lemmas.Option.{get_or_from_slice_get}
+use Rattle.bip_core.specs.Runs.{AreSteps}
+use Rattle.bip_core.specs.Worlds.{WorldContent}
+use Rattle.bip_core.specs.declared.events.Did.{Did}
+use Rattle.bip_core.specs.declared.events.Event.{Event}
+use Rattle.bip_core.specs.declared.messages.Message.{Message}
+use Rattle.bip_model.specs.Texts.{line_feed}
+use Rattle.bip_model.specs.declared.numbering.InterId.{InterId}
+use Rattle.bip_partition.specs.Plans.{AreStations, Planned}
+use Rattle.bip_tell.specs.Lines.{IsToldEvent, count_left, done_text, handed_on, head_text, put_text, told_line}
+use Rattle.bip_tell.specs.Messages.{message_text}
+use Rattle.bip_tell.specs.Words.{counted}
+
+-- one message more is written
+pub put_one : (p : Planned) (place : ℕ) (m : Message) (mail : List Message) (start t a b c : List ℕ)
+    → place < length mail → slice_get mail place ≡ Some m → a ≡ t ++ codes ","
+    → b ≡ a ++ counted place → c ≡ b ++ message_text p m
+    → t ++ put_text p place (drop place mail) ≡ start
+    → c ++ put_text p (place + 1) (drop (place + 1) mail) ≡ start
+put_one p place m mail start t a b c within found behind number message before =
+    let rest = drop (place + 1) mail in
+    let here : drop place mail ≡ m ∷ rest =
+    drop_more mail place m within ∙ ap (λ (x : Message). x ∷ rest) (get_or_from_slice_get mail place m m found) in
+    let more = put_text p (place + 1) rest in
+    let whole : c ≡ ((t ++ codes ",") ++ counted place) ++ message_text p m =
+    message ∙ ap (λ (x : List ℕ). x ++ message_text p m) (number ∙ ap (λ (x : List ℕ). x ++ counted place) behind) in
+    ap (λ (x : List ℕ). x ++ more) whole
+    ∙ (append_assoc ((t ++ codes ",") ++ counted place) (message_text p m) more
+    ∙ (append_assoc (t ++ codes ",") (counted place) (message_text p m ++ more)
+    ∙ (append_assoc t (codes ",") (counted place ++ (message_text p m ++ more))
+    ∙ (sym (ap (λ (x : List Message). t ++ put_text p place x) here) ∙ before))))
+
+-- the head of a line, what was done, and a line feed
+pub event_told : (p : Planned) (w v : WorldContent) (number left : ℕ) (event : Event) (did : Option Did) (stations : List InterId) (t a b c : List ℕ)
+    → p ≡ w.plan → AreSteps (event ∷ []) (did ∷ []) w v → AreStations p stations
+    → a ≡ t ++ head_text p stations number event (handed_on event w.mail)
+    → left ≡ count_left (handed_on event w.mail) (length w.mail)
+    → b ≡ a ++ done_text p left did v.mail → c ≡ b ++ line_feed ∷ []
+    → (line : List ℕ) × IsToldEvent number event did w v line × (c ≡ t ++ line)
+event_told p w v number left event did stations t a b c same steps are begun count done ended =
+    let handed = handed_on event w.mail in
+    let head = head_text p stations number event handed in
+    let tail = done_text p (count_left handed (length w.mail)) did v.mail in
+    let line = told_line p stations number event did w.mail v.mail in (
+      line,
+      record {
+        steps = steps;
+        stations = stations;
+        are = subst (λ (q : Planned). AreStations q stations) same are;
+        told = ap (λ (q : Planned). told_line q stations number event did w.mail v.mail) same;
+      },
+      ended
+          ∙ (ap (λ (x : List ℕ). x ++ line_feed ∷ []) (done ∙ (ap (λ (n : ℕ). a ++ done_text p n did v.mail) count ∙ ap (λ (x : List ℕ). x ++ tail) begun))
+          ∙ (append_assoc (t ++ head) tail (line_feed ∷ []) ∙ append_assoc t head (tail ++ line_feed ∷ []))),
+    )

@@ -1,0 +1,80 @@
+-- The line of an event: what it did, and what that put into flight.
+use Rattle.std.specs.Fmt.{decimal}
+use Rattle.std.specs.Option.{option_map_or}
+use Rattle.std.specs.Prelude.{List, None, Option, Some, [], codes, drop, length}
+use Rattle.std.specs.Prelude.{slice_get, zero, suc, ℕ, ◌+◌, ◌++◌, ◌-◌, ◌∷◌, ◌≡◌}
+use Rattle.bip_core.specs.Runs.{AreSteps}
+use Rattle.bip_core.specs.Worlds.{WorldContent}
+use Rattle.bip_core.specs.declared.events.Did.{Did}
+use Rattle.bip_core.specs.declared.events.Event.TheVariants.{Mail}
+use Rattle.bip_core.specs.declared.events.Event.{Event}
+use Rattle.bip_core.specs.declared.messages.Message.{Message}
+use Rattle.bip_model.specs.Texts.{line_feed}
+use Rattle.bip_model.specs.declared.numbering.InterId.{InterId}
+use Rattle.bip_partition.specs.Plans.{AreStations, Planned}
+use Rattle.bip_schedule.specs.Writing.{event_line}
+use Rattle.bip_tell.specs.Answers.{what_text}
+use Rattle.bip_tell.specs.Messages.{message_text}
+use Rattle.bip_tell.specs.Words.{counted}
+
+-- the message that an event hands on, where there is one at its place
+abbrev pub handed_on : Event → List Message → Option Message
+handed_on (Mail place) mail = slice_get mail place
+handed_on event mail = None
+
+abbrev pub handed_text : Planned → Option Message → List ℕ
+handed_text p handed = option_map_or (message_text p) handed []
+
+-- how many messages are still in flight when an event's message is taken out
+abbrev pub count_left : Option Message → ℕ → ℕ
+count_left None count = count
+count_left (Some m) count = count - 1
+
+-- messages with their places, the first at this one: `, 4 offer A:2 to P`
+abbrev pub put_text : Planned → ℕ → List Message → List ℕ
+put_text p place [] = []
+put_text p place (m ∷ more) =
+    codes "," ++ (counted place ++ (message_text p m ++ put_text p (place + 1) more))
+
+-- how many were lost, if any: `, lost 2`
+abbrev pub lost_text : ℕ → List ℕ
+lost_text zero = []
+lost_text (suc n) = codes ", lost" ++ counted (suc n)
+
+-- what an event did, behind which so many messages were left in flight: the answer, what was put
+-- behind these, and how many were lost; or that it was skipped for want of memory
+abbrev pub done_text : Planned → ℕ → Option Did → List Message → List ℕ
+done_text p left None mail = codes " skipped"
+done_text p left (Some did) mail =
+    what_text p.model did.what ++ (put_text p left (drop left mail) ++ lost_text did.lost)
+
+-- the number of an event, its words, and the message that it hands on
+abbrev pub head_text : Planned → List InterId → ℕ → Event → Option Message → List ℕ
+head_text p stations number event handed =
+    decimal number ++ (codes " " ++ (event_line p stations event
+    ++ (codes ":" ++ handed_text p handed)))
+
+-- the line of an event, by what was in flight before and after
+abbrev pub told_line :
+    Planned → List InterId → ℕ → Event → Option Did → List Message → List Message → List ℕ
+told_line p stations number event did before after =
+    let handed = handed_on event before in
+    head_text p stations number event handed
+    ++ (done_text p (count_left handed (length before)) did after ++ line_feed ∷ [])
+
+-- an event leads from one world to another or is skipped, and this is its line
+pub record IsToldEvent (number : ℕ) (event : Event) (did : Option Did) (w v : WorldContent)
+    (line : List ℕ) : Type 0 where
+  pub steps : AreSteps (event ∷ []) (did ∷ []) w v
+  pub stations : List InterId
+  pub are : AreStations w.plan stations
+  pub told : line ≡ told_line w.plan stations number event did w.mail v.mail
+
+-- events lead from one world to another, each done or skipped, and these are their lines, in order
+pub data AreTold (w : WorldContent) :
+    List Event → List (Option Did) → List (List ℕ) → WorldContent → Type 0 where
+  none_told : AreTold w [] [] [] w
+  one_told : {es : List Event} {ds : List (Option Did)} {lines : List (List ℕ)}
+      {v x : WorldContent} (e : Event) (d : Option Did) (line : List ℕ)
+      → AreTold w es ds lines v → IsToldEvent (length es + 1) e d v x line
+      → AreTold w (es ++ e ∷ []) (ds ++ d ∷ []) (lines ++ line ∷ []) x

@@ -1,0 +1,129 @@
+//! Answers of nodes to events, told.
+ghost use Rattle.std.specs.Prelude.{◌≡◌, ◌++◌, OnOk};
+ghost use Rattle.bip_tell.specs.Answers.{acted_text, decision_text, learned_text, moved_text};
+ghost use Rattle.bip_tell.specs.Answers.{receipt_text, tried_text, verdict_text, what_text};
+
+use crate::words::{write_comp, write_count, write_inter, write_wants};
+use bip_bank::{Acted, Decision};
+use bip_component::Notified;
+use bip_core::What;
+use bip_ip::{Answered, Tried};
+use bip_model::{Model, Want};
+use bip_observe::{Receipt, Verdict};
+use std::alloc::AllocError;
+
+/// Writes the answer of the node that an event addressed.
+pub(crate) fn write_what(text: &mut Vec<u8>, model: &Model, what: &What) -> Result<(), AllocError>
+    ensures { OnOk result (text.new.items ≡ text.old.items ++ what_text model.now what.now) }
+{
+    match what {
+        What::Nothing => text.extend_from_slice(b" nothing there"),
+        What::Hears(receipt) => text.extend_from_slice(receipt_text(receipt)),
+        What::Submits => text.extend_from_slice(b" submitted"),
+        What::Learns(answer) => text.extend_from_slice(learned_text(answer)),
+        What::Moves(answer) => text.extend_from_slice(moved_text(answer)),
+        What::Tries(answer) => write_tried(text, model, answer),
+        What::Acts(answer) => write_acted(text, model, answer),
+    }
+}
+
+fn receipt_text(receipt: &Receipt) -> &'static [u8]
+    ensures { result.now ≡ receipt_text receipt.now }
+{
+    match receipt {
+        Receipt::Held => b" held",
+        Receipt::Old => b" old",
+        Receipt::Stranger => b" stranger",
+    }
+}
+
+fn learned_text(answer: &Answered) -> &'static [u8]
+    ensures { result.now ≡ learned_text answer.now }
+{
+    match answer {
+        Answered::Told(_) => b" told",
+        Answered::Dropped => b" dropped",
+        Answered::Stale => b" stale",
+    }
+}
+
+fn moved_text(answer: &Notified) -> &'static [u8]
+    ensures { result.now ≡ moved_text answer.now }
+{
+    match answer {
+        Notified::Moved(_) => b" moved",
+        Notified::Spent => b" spent",
+        Notified::Stale => b" stale",
+    }
+}
+
+fn write_tried(text: &mut Vec<u8>, model: &Model, answer: &Tried) -> Result<(), AllocError>
+    ensures { OnOk result (text.new.items ≡ text.old.items ++ tried_text model.now answer.now) }
+{
+    match answer {
+        Tried::Foreign => text.extend_from_slice(b" foreign"),
+        Tried::Pending(other) => write_inter(text, b" pending", model, *other),
+        Tried::Not(why) => write_verdict(text, model, *why),
+        Tried::Local(grant, _) => {
+            text.extend_from_slice(b" granted")?;
+            write_wants(text, model, grant.wants.as_slice())
+        }
+        Tried::Ended => text.extend_from_slice(b" ended"),
+        Tried::Sent(request) => {
+            text.extend_from_slice(b" sent")?;
+            write_count(text, request.request)?;
+            write_wants(text, model, request.wants.as_slice())
+        }
+    }
+}
+
+/// Writes why an interaction isn't ready, and for which component or interaction.
+fn write_verdict(text: &mut Vec<u8>, model: &Model, verdict: Verdict) -> Result<(), AllocError>
+    ensures { OnOk result (text.new.items ≡ text.old.items ++ verdict_text model.now verdict) }
+{
+    match verdict {
+        Verdict::Ready => text.extend_from_slice(b" ready"),
+        Verdict::NotReady(comp) => write_comp(text, b" not ready for", model, comp),
+        Verdict::PortOff(comp) => write_comp(text, b" port off at", model, comp),
+        Verdict::GuardFalse => text.extend_from_slice(b" guard false"),
+        Verdict::Below(other) => write_inter(text, b" below", model, other),
+    }
+}
+
+fn write_acted(text: &mut Vec<u8>, model: &Model, answer: &Acted) -> Result<(), AllocError>
+    ensures { OnOk result (text.new.items ≡ text.old.items ++ acted_text model.now answer.now) }
+{
+    match answer {
+        Acted::Nothing => text.extend_from_slice(b" nothing to do"),
+        Acted::Moved => text.extend_from_slice(b" moved"),
+        Acted::Answered { request, decision } => {
+            write_decision(text, model, request.wants.as_slice(), decision)
+        }
+    }
+}
+
+/// Writes the decision on wants: a grant has a serial, a refusal a component and its used number.
+fn write_decision(
+    text: &mut Vec<u8>,
+    model: &Model,
+    wants: &[Want],
+    decision: &Decision,
+) -> Result<(), AllocError>
+    ensures { OnOk result
+        (text.new.items ≡ text.old.items ++ decision_text model.now wants.now decision.now) }
+{
+    match *decision {
+        Decision::Granted(serial) => {
+            text.extend_from_slice(b" granted")?;
+            write_count(text, serial)?;
+            write_wants(text, model, wants)
+        }
+        Decision::Refused { comp, used } => {
+            text.extend_from_slice(b" refused")?;
+            write_wants(text, model, wants)?;
+            write_comp(text, b" since", model, comp)?;
+            text.extend_from_slice(b" used")?;
+            write_count(text, used)
+        }
+    }
+}

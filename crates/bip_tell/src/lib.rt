@@ -1,0 +1,10 @@
+//! What events of the world did, told in lines: the event, the answer of the node that it
+//! addressed, and what that put into flight.
+#![tactic(auto)]
+
+mod answers;
+mod lines;
+mod messages;
+mod words;
+
+pub use lines::tell_event;
