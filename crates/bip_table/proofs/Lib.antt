@@ -3,8 +3,10 @@ pub mod ClosingLemmas
 pub mod DecideLemmas
 pub mod LawLemmas
 pub mod LendLemmas
+pub mod LifetimeSteps
 pub mod LockLawLemmas
 pub mod MeetLemmas
+pub mod OptionSteps
 pub mod PassLemmas
 pub mod RaiseLemmas
 pub mod RaisedLemmas

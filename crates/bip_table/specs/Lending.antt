@@ -1,14 +1,28 @@
 -- What wants meet in rows that are lent, and what is written in these.
 use Rattle.std.specs.Prelude.{ℕ, Bool, true, false, List, [], ◌∷◌, ◌++◌, Option, None, Some}
 use Rattle.std.specs.Prelude.{drop, length, max, nat_le, take, if◌then◌else◌}
+use Rattle.std.specs.Borrow.{Array, Fml, MutBor, follows_both, ftrue}
 use Rattle.bip_model.specs.Wants.{is_moved, moved_in}
 use Rattle.bip_model.specs.declared.numbering.CompId.{CompId}
 use Rattle.bip_model.specs.declared.wants.Role.TheVariants.{Moved}
 use Rattle.bip_model.specs.declared.wants.Want.{Want}
-use Rattle.bip_table.specs.Rows.{has_row, used_at}
+use Rattle.bip_table.specs.Rows.{has_row, place_in, used_at}
 use Rattle.bip_table.specs.declared.lending.Met.TheVariants.{Fresh, Stale, Unknown}
 use Rattle.bip_table.specs.declared.lending.Met.{Met}
+use Rattle.bip_table.specs.contracts.rows.Row.{the_row}
 use Rattle.bip_table.specs.declared.rows.Row.{Row}
+
+-- Once a row that was lent at a place and the rows behind it are given back, the rows are the old
+-- ones with these as they were written.
+abbrev pub LeavesRows : MutBor (List Row) → ℕ → MutBor Row → MutBor (List Row) → Fml
+LeavesRows rows place row rest =
+    follows_both (Array the_row 0) the_row (Array the_row 0) rows.ghost_name row.ghost_name
+    rest.ghost_name (λ x xs. take place rows.now ++ x ∷ xs)
+
+-- The same where the row of a component was lent, if any was.
+abbrev pub LendsRow : MutBor (List Row) → ℕ → Option (MutBor Row) → MutBor (List Row) → Fml
+LendsRow rows c None rest = ftrue
+LendsRow rows c (Some row) rest = LeavesRows rows (place_in rows.now c) row rest
 
 -- What contracts of private functions say.
 

@@ -24,6 +24,7 @@ pub struct RowLender<'t> {
 
 impl<'t> RowLender<'t> {
     ghost use Rattle.std.specs.Prelude.{◌↔◌, ◌≤◌, IfNone, IfSome, IsSome, IsTrue, max};
+    ghost use Rattle.bip_table.specs.Lending.{LeavesRows, LendsRow};
     ghost use Rattle.bip_table.specs.Rows.{has_row, place_in};
 
     /// A lender of these rows, whose components rise. It was asked nothing yet.
@@ -38,8 +39,10 @@ impl<'t> RowLender<'t> {
 
     /// The row of a component, lent for as long as the slice was; rows that were lent earlier stay
     /// lent. None where there is no such row, or the component isn't above all that were asked
-    /// before.
+    /// before. Once that row and what the lender has left are given back, the rows are the old ones
+    /// with these as they were written.
     pub fn next(&mut self, comp: CompId) -> Option<&'t mut Row>
+        ensures* writes_back { sem 𝓛 (LendsRow self.old.rows comp.0 result self.new.rows) }
         ensures some { IsSome result ↔ ((self.old.from ≤ comp.0)
             × IsTrue (has_row self.old.rows.now comp.0)) }
         ensures lent { IfSome result (λ row. self.old.rows.now
@@ -49,20 +52,63 @@ impl<'t> RowLender<'t> {
         ensures kept { IfNone result (self.new.rows.ghost_name ≡ self.old.rows.ghost_name) }
         ensures from { self.new.from ≡ max self.old.from (comp.0 + 1) }
     {
+        let Some(place) = self.pass(comp) else {
+            return None;
+        };
+        Some(self.take_row(place))
+    }
+
+    /// The place of a component's row among those that are left, and components up to it are passed
+    /// then.
+    fn pass(&mut self, comp: CompId) -> Option<usize>
+        ensures some { IsSome result ↔ ((self.old.from ≤ comp.0)
+            × IsTrue (has_row self.old.rows.now comp.0)) }
+        ensures place { IfSome result (λ k. k ≡ place_in self.old.rows.now comp.0) }
+        ensures within { IfSome result (λ k. k < length self.old.rows.now) }
+        ensures rows { self.new.rows ≡ self.old.rows }
+        ensures from { self.new.from ≡ max self.old.from (comp.0 + 1) }
+    {
         let wanted = comp.0 as usize;
         let from = self.from;
         if wanted < from {
             return None;
         }
         self.from = wanted + 1;
-        let rows = mem::take(&mut self.rows);
-        let Some(place) = place_of(rows, from, comp) else {
-            self.rows = rows;
-            return None;
-        };
+        let rows = self.take_rows();
+        let place = place_of(rows, from, comp);
+        self.put_rows(rows);
+        place
+    }
+
+    /// Takes out the row at a place, and leaves those behind it.
+    fn take_row(&mut self, place: usize) -> &'t mut Row
+        requires { place < length self.old.rows.now }
+        ensures* writes_back { sem 𝓛 (LeavesRows self.old.rows place result self.new.rows) }
+        ensures value { self.old.rows.now
+            ≡ take place self.old.rows.now ++ result.now ∷ self.new.rows.now }
+        ensures from { self.new.from ≡ self.old.from }
+    {
+        let rows = self.take_rows();
         let (row, rest) = lend(rows, place);
-        self.rows = rest;
-        Some(row)
+        self.put_rows(rest);
+        row
+    }
+
+    /// Takes out all rows that are left.
+    fn take_rows(&mut self) -> &'t mut [Row]
+        ensures rows { result ≡ self.old.rows }
+        ensures from { self.new.from ≡ self.old.from }
+    {
+        mem::take(&mut self.rows)
+    }
+
+    /// Takes these rows for those that are left.
+    fn put_rows(&mut self, rows: &'t mut [Row])
+        requires { IsStrictlyIncreasing (row_components rows.old) }
+        ensures rows { self.new.rows ≡ rows.entry }
+        ensures from { self.new.from ≡ self.old.from }
+    {
+        self.rows = rows;
     }
 }
 
