@@ -1,8 +1,8 @@
 -- A row that is lent for the first of wants, and the rows behind it.
-use Rattle.std.proofs.Common.{◌≡◌, ℕ, zero, suc, ◌+◌, ◌-◌, ◌<◌, ◌≤◌, Bool, true, false, cond, List, [], ◌∷◌, ◌++◌, map, length, get_or, set, take, drop, Option, None, Some, refl, sym, ap, ◌∙◌, subst, inl, inr, add-one, arith}
+use Rattle.std.proofs.Common.{◌≡◌, ℕ, zero, suc, ◌+◌, ◌-◌, ◌<◌, ◌≤◌, Bool, true, false, cond, List, [], ◌∷◌, ◌++◌, map, length, get_or, set, take, drop, length-drop, Option, None, Some, refl, sym, ap, ◌∙◌, subst, inl, inr, add-one, arith}
 use Rattle.std.specs.Prelude.{nat_le}
 use Rattle.std.specs.List.Sorted.{IsStrictlyIncreasing}
-use Rattle.std.proofs.lemmas.Bool.{cases_Bool}
+use Rattle.std.proofs.lemmas.Bool.{cases_Bool, false≢true}
 use Rattle.std.proofs.lemmas.Bool.Decides.{eqb_tells, nat_tests}
 use Rattle.bip_model.proofs.NumberingLemmas.{Rises, increasing_from_rises, increasing_tail, rises_from_increasing}
 use Rattle.bip_model.specs.Wants.{components_of}
@@ -17,6 +17,10 @@ use Rattle.bip_table.specs.declared.rows.Row.{Row}
 all_taken : {X : Type 0} (xs : List X) → take (length xs) xs ≡ xs
 all_taken [] = refl
 all_taken {X = X} (x ∷ xs) = ap (λ (ys : List X). x ∷ ys) (all_taken xs)
+
+-- what stands behind a place, up to the end
+pub all_behind : {X : Type 0} (xs : List X) (k : ℕ) → take (length xs - k) (drop k xs) ≡ drop k xs
+all_behind {X = X} xs k = subst (λ n. take n (drop k xs) ≡ drop k xs) (length-drop k xs) (all_taken (drop k xs))
 
 -- the wants behind the first
 abbrev pub later : List Want → List Want
@@ -166,3 +170,14 @@ not_all_fresh rows (w ∷ ws) c = elim (cases_Bool (has_row rows w.comp.0)) [
   | inl row ↦ rw row (not_all_fresh rows ws c)
   | inr none ↦ rw none refl
 ]
+
+-- where all wants are fresh, the later ones are in the rows behind the first one's
+pub rest_fresh : (rows : List Row) (wants : List Want) (k : ℕ) (row : Row) (rest : List Row) (d : Want) → IsLent rows wants k row rest d → are_fresh (met rows wants None) ≡ true → are_fresh (met rest (later wants) None) ≡ true
+rest_fresh rows wants k row rest d l fresh = by_first (first_met None (get_or wants 0 d) row.used) refl
+  where
+    all : are_fresh (met rest (later wants) (first_met None (get_or wants 0 d) row.used)) ≡ true
+    all = ap are_fresh (meets_rest rows wants k row rest d None l) ∙ fresh
+
+    by_first : (m : Option CompId) → first_met None (get_or wants 0 d) row.used ≡ m → are_fresh (met rest (later wants) None) ≡ true
+    by_first None is = subst (λ (m : Option CompId). are_fresh (met rest (later wants) m) ≡ true) is all
+    by_first (Some c) is = absurd (false≢true (sym (not_all_fresh rest (later wants) c) ∙ subst (λ (m : Option CompId). are_fresh (met rest (later wants) m) ≡ true) is all))

@@ -1,10 +1,10 @@
 //! Rows that are lent together, each for as long as the slice was; and what wants meet in rows.
 ghost use Rattle.std.specs.Prelude.{◌≡◌, ◌+◌, ◌<◌, ◌∷◌, ◌++◌, None, drop, length};
-ghost use Rattle.std.specs.Prelude.{if◌then◌else◌, map, slice_set, take};
+ghost use Rattle.std.specs.Prelude.{IsTrue, Some, map, slice_set, take};
 ghost use Rattle.std.specs.Borrow.{Array, LendsBoth, sem};
 ghost use Rattle.std.specs.List.Sorted.{IsStrictlyIncreasing};
 ghost use Rattle.bip_model.specs.Wants.{components_of};
-ghost use Rattle.bip_table.specs.Lending.{are_fresh, first_met, met, raising, renewed, renewed_by};
+ghost use Rattle.bip_table.specs.Lending.{are_fresh, met, raising, renewed, renewed_by};
 ghost use Rattle.bip_table.specs.Rows.{row_components};
 ghost use Rattle.bip_table.specs.contracts.rows.Row.{the_row};
 
@@ -136,79 +136,71 @@ pub(crate) enum Met {
     Unknown(CompId),
 }
 
-/// The component of the first want that isn't fresh: of one before, or of this one.
-fn first_met(before: Option<CompId>, want: Want, used: Number) -> Option<CompId>
-    ensures { result ≡ first_met before want used }
+/// What wants meet in rows behind one of this component that isn't fresh.
+fn look_behind(rows: &[Row], wants: &[Want], stale: CompId) -> Met
+    requires { IsStrictlyIncreasing (row_components rows.now) }
+    ensures { result ≡ met rows.now wants.now (Some stale) }
 {
-    match before {
-        Some(comp) => Some(comp),
-        None if want.number <= used => Some(want.comp),
-        None => None,
+    for want in wants {
+        if place_of(rows, 0, want.comp).is_none() {
+            return Met::Unknown(want.comp);
+        }
     }
+    Met::Stale(stale)
 }
 
-/// Looks up what wants meet in rows, behind a want of this component that isn't fresh, if there is
-/// one.
-pub(crate) fn look_up(rows: &[Row], wants: &[Want], before: Option<CompId>) -> Met
+/// What wants meet in rows.
+pub(crate) fn look_up(rows: &[Row], wants: &[Want]) -> Met
     requires { IsStrictlyIncreasing (row_components rows.now) }
-    ensures { result ≡ met rows.now wants.now before }
+    ensures { result ≡ met rows.now wants.now None }
 {
-    let mut stale = before;
-    for want in wants {
+    for (at, want) in wants.iter().enumerate() {
         let Some(place) = place_of(rows, 0, want.comp) else {
             return Met::Unknown(want.comp);
         };
-        stale = first_met(stale, *want, rows[place].used);
+        if want.number <= rows[place].used {
+            return look_behind(rows, &wants[at + 1..], want.comp);
+        }
     }
-    match stale {
-        Some(comp) => Met::Stale(comp),
-        None => Met::Fresh,
-    }
+    Met::Fresh
 }
 
-/// Uses up a want's number in its row, where all wants are fresh.
-fn write_back(row: &mut Row, want: Want, met: Met)
-    ensures { row.new ≡ (if are_fresh met then renewed_by want row.old else row.old) }
+/// Uses up a want's number in its row, where the want moves it.
+fn use_up_one(row: &mut Row, want: Want)
+    ensures { row.new ≡ renewed_by want row.old }
 {
-    if matches!(met, Met::Fresh) && want.role == Role::Moved {
+    if want.role == Role::Moved {
         row.used = row.used.max(want.number);
     }
 }
 
-/// Takes the row of each want and holds all of them, tests them all, and where all are fresh writes
-/// on the way back. Behind one that isn't fresh, rows are only looked up. The rows are those of
-/// components from this number on.
-fn meet_lent(rows: &mut [Row], from: usize, wants: &[Want]) -> Met
+/// Takes the rows of wants that are all fresh, and holds all of them; their numbers are used up on
+/// the way back. The rows are those of components from this number on.
+fn use_up(rows: &mut [Row], from: usize, wants: &[Want])
     requires rows { IsStrictlyIncreasing (row_components rows.old) }
     requires wants { IsStrictlyIncreasing (components_of wants.now) }
-    ensures met { result ≡ met rows.old wants.now None }
-    ensures rows { rows.new ≡ (if are_fresh result then map (renewed wants.now) rows.old
-        else rows.old) }
+    requires fresh { IsTrue (are_fresh (met rows.old wants.now None)) }
+    ensures { rows.new ≡ map (renewed wants.now) rows.old }
 {
     let [want, later @ ..] = wants else {
-        return Met::Fresh;
+        return;
     };
     let Some(place) = place_of(rows, from, want.comp) else {
-        return Met::Unknown(want.comp);
+        unreachable!();
     };
     let (row, rest) = lend(rows, place);
-    if want.number <= row.used {
-        return look_up(rest, later, Some(want.comp));
-    }
-    let met = meet_lent(rest, want.comp.0 as usize + 1, later);
-    write_back(row, *want, met);
-    met
+    use_up(rest, want.comp.0 as usize + 1, later);
+    use_up_one(row, *want);
 }
 
-/// What wants meet in rows; where all are fresh, their numbers are used up.
-pub(crate) fn meet(rows: &mut Rows, wants: &[Want]) -> Met
+/// The same in rows that are kept.
+pub(crate) fn use_up_all(rows: &mut Rows, wants: &[Want])
     requires rows { IsStrictlyIncreasing (row_components rows.old) }
     requires wants { IsStrictlyIncreasing (components_of wants.now) }
-    ensures met { result ≡ met rows.old wants.now None }
-    ensures rows { rows.new ≡ (if are_fresh result then map (renewed wants.now) rows.old
-        else rows.old) }
+    requires fresh { IsTrue (are_fresh (met rows.old wants.now None)) }
+    ensures { rows.new ≡ map (renewed wants.now) rows.old }
 {
-    meet_lent(rows.as_mut_slice(), 0, wants)
+    use_up(rows.as_mut_slice(), 0, wants);
 }
 
 /// Raises the number of a component's row, if it has one, to at least this one.
@@ -221,7 +213,7 @@ fn raise_lent(rows: &mut [Row], comp: CompId, number: Number)
     };
     let (row, _) = lend(rows, place);
     let role = Role::Moved;
-    write_back(row, Want { number, comp, role }, Met::Fresh);
+    use_up_one(row, Want { number, comp, role });
 }
 
 /// The same in rows that are kept.

@@ -1,6 +1,7 @@
 use Rattle.std.proofs.Common.{◌≡◌, drop}
+use Rattle.std.specs.Prelude.{None}
 use Rattle.bip_table.specs.Lending.{met}
 use Rattle.bip_table.proofs.lending.look_up.Given as goal
 
-abbrev pub invariant-loop-want : goal.invariant-loop-want
-invariant-loop-want l = met l.rows l.wants l.fn.before ≡ met l.rows (drop l.want-index l.wants) l.stale
+abbrev pub invariant-loop-at : goal.invariant-loop-at
+invariant-loop-at l = met l.rows l.wants None ≡ met l.rows (drop l.at l.wants) None

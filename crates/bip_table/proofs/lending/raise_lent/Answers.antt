@@ -12,4 +12,4 @@ returns-in_default c = elim (cases_Bool (has_row c.args.rows.now c.args.comp.0))
 ]
 
 pub returns : goal.returns
-returns c = raises c.args.rows.now (record { number = c.args.number; comp = c.args.comp; role = Moved }) c.in-Some.place c.lend-row.result.0.now c.lend-row.result.1.now c.requires c.in-Some.ensures.within c.in-Some.ensures.some (c.in-Some.ensures.row.0 refl) c.lend-row.ensures.value c.lend-row.ensures.rest c.write_back.new.row c.write_back.ensures
+returns c = raises c.args.rows.now (record { number = c.args.number; comp = c.args.comp; role = Moved }) c.in-Some.place c.lend-row.result.0.now c.lend-row.result.1.now c.requires c.in-Some.ensures.within c.in-Some.ensures.some (c.in-Some.ensures.row.0 refl) c.lend-row.ensures.value c.lend-row.ensures.rest c.use_up_one.new.row c.use_up_one.ensures
