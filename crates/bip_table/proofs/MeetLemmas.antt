@@ -181,3 +181,13 @@ rest_fresh rows wants k row rest d l fresh = by_first (first_met None (get_or wa
     by_first : (m : Option CompId) → first_met None (get_or wants 0 d) row.used ≡ m → are_fresh (met rest (later wants) None) ≡ true
     by_first None is = subst (λ (m : Option CompId). are_fresh (met rest (later wants) m) ≡ true) is all
     by_first (Some c) is = absurd (false≢true (sym (not_all_fresh rest (later wants) c) ∙ subst (λ (m : Option CompId). are_fresh (met rest (later wants) m) ≡ true) is all))
+
+-- and the first is above the number of its row
+pub first_fresh : (rows : List Row) (wants : List Want) (k : ℕ) (row : Row) (rest : List Row) (d : Want) → IsLent rows wants k row rest d → are_fresh (met rows wants None) ≡ true → row.used < (get_or wants 0 d).number
+first_fresh rows wants k row rest d l fresh = elim (cases_Bool (nat_le (get_or wants 0 d).number row.used)) [
+  | inl within ↦
+      let stale : first_met None (get_or wants 0 d) row.used ≡ Some (get_or wants 0 d).comp = rw within refl in
+      let all = ap are_fresh (meets_rest rows wants k row rest d None l) ∙ fresh in
+      absurd (false≢true (sym (not_all_fresh rest (later wants) (get_or wants 0 d).comp) ∙ subst (λ (m : Option CompId). are_fresh (met rest (later wants) m) ≡ true) stale all))
+  | inr above ↦ grind (arith, nat_tests, above)
+]

@@ -165,12 +165,13 @@ pub(crate) fn look_up(rows: &[Row], wants: &[Want]) -> Met
     Met::Fresh
 }
 
-/// Uses up a want's number in its row, where the want moves it.
+/// Uses up the number of a fresh want in its row, where the want moves it.
 fn use_up_one(row: &mut Row, want: Want)
+    requires { row.old.used < want.number }
     ensures { row.new ≡ renewed_by want row.old }
 {
     if want.role == Role::Moved {
-        row.used = row.used.max(want.number);
+        row.used = want.number;
     }
 }
 
@@ -212,8 +213,7 @@ fn raise_lent(rows: &mut [Row], comp: CompId, number: Number)
         return;
     };
     let (row, _) = lend(rows, place);
-    let role = Role::Moved;
-    use_up_one(row, Want { number, comp, role });
+    row.used = row.used.max(number);
 }
 
 /// The same in rows that are kept.
