@@ -52,15 +52,15 @@ impl<'t> RowLender<'t> {
         ensures kept { IfNone result (self.new.rows.ghost_name ≡ self.old.rows.ghost_name) }
         ensures from { self.new.from ≡ max self.old.from (comp.0 + 1) }
     {
-        let Some(place) = self.pass(comp) else {
+        let Some(place) = self.seek(comp) else {
             return None;
         };
         Some(self.take_row(place))
     }
 
-    /// The place of a component's row among those that are left, and components up to it are passed
-    /// then.
-    fn pass(&mut self, comp: CompId) -> Option<usize>
+    /// The place of a component's row among those that are left. Components up to this one aren't
+    /// found any more.
+    fn seek(&mut self, comp: CompId) -> Option<usize>
         ensures some { IsSome result ↔ ((self.old.from ≤ comp.0)
             × IsTrue (has_row self.old.rows.now comp.0)) }
         ensures place { IfSome result (λ k. k ≡ place_in self.old.rows.now comp.0) }

@@ -43,15 +43,15 @@ use Rattle.bip_table.specs.Lending.{LeavesRows}
 use Rattle.bip_table.specs.Rows.{has_row, place_in}
 use Rattle.bip_table.specs.contracts.lending.RowLender as L
 use Rattle.bip_table.specs.contracts.lending.RowLender.next as f
-use Rattle.bip_table.specs.contracts.lending.RowLender.pass as g1
-use Rattle.bip_table.specs.contracts.lending.RowLender.take_row as g2
+use Rattle.bip_table.specs.contracts.lending.RowLender.seek as seek
+use Rattle.bip_table.specs.contracts.lending.RowLender.take_row as take_row
 use Rattle.bip_table.specs.contracts.rows.Row.{the_row}
 use Rattle.bip_table.specs.declared.lending.RowLender.{RowLender}
 use Rattle.bip_table.specs.declared.rows.Row.{Row}
 use Rattle.bip_table.proofs.lending.RowLender.next.Statement.{statement}
 use Rattle.bip_table.proofs.lending.RowLender.next.Code as code
-use Rattle.bip_table.proofs.lending.RowLender.pass.Met as m1
-use Rattle.bip_table.proofs.lending.RowLender.take_row.Met as m2
+use Rattle.bip_table.proofs.lending.RowLender.seek.Met as seek_met
+use Rattle.bip_table.proofs.lending.RowLender.take_row.Met as take_row_met
 
 -- how a component is stored
 abbrev word : CompId → List Val
@@ -90,14 +90,14 @@ next_spec 𝓤 𝓛 𝓜 𝓡 wired =
     use2 𝓛 (later (some (λ (δ : GName). ‵ ((MutRef (named 0) (p.0 ∷ κ₁) R).own_val (record { ref_ptr = (b, o); ghost_name = δ; now = h }) (vptr b o ∷ [])) ⊛ ‵ (LentAgain R κ (p.0 ∷ κ₁) q a.0.ghost_name b o δ h))))
     (lends_again 𝓛 R (named 0) κ (p.0 ∷ κ₁) q a.0.ghost_name b o (named 0) h) $ await ! tt $ pick ! (λ δ. split ! $
     -- [the loan; what the lender keeps; the token of α; its end; the other half; the component]
-    let G₁ = triple_of 𝓛 g1.signature (g1.spec 𝓛 𝓜.mem 𝓡.returns) in
+    let G₁ = triple_of 𝓛 seek.signature (seek.spec 𝓛 𝓜.mem 𝓡.returns) in
     let lent₁ : MutBor RowLender = record { ref_ptr = (b, o); ghost_name = δ; now = h } in
     let z₁ : G₁.Ghost = (((p.0 ∷ κ₁, (κ₁, tt)), (p.1, (Share.right q₁, tt)), (meet_⊑_right (p.0 ∷ []) κ₁, tt), (lent₁, (comp, tt)), (vptr b o ∷ [], (word comp, tt))), tt) in
     nothing ! $ move ! (6 ∷ 0 ∷ []) $ join ! $ move ! (1 ∷ 0 ∷ []) $ join ! $ nothing ! $ move ! (5 ∷ 0 ∷ []) $ join ! $ move ! (3 ∷ 0 ∷ []) $ join ! $ join ! $ nothing ! $ move ! (1 ∷ 0 ∷ []) $
     use2 𝓛 (raw (G₁.pre z₁)) (id⊢ 𝓤 _) $
-    calls_at ! (framed 𝓤 𝓛.H 𝓜 (tables 𝓤 𝓛.H 𝓜 𝓡 𝓡.env)) G₁ (m1.met 𝓤 𝓛 𝓜 𝓡 (code.calls-bip_table::lending::RowLender::pass 𝓡.env wired)) z₁ (and_then ! (get ! refl) (and_then ! (get ! refl) (no_more !))) (λ v₁.
+    calls_at ! (framed 𝓤 𝓛.H 𝓜 (tables 𝓤 𝓛.H 𝓜 𝓡 𝓡.env)) G₁ (seek_met.met 𝓤 𝓛 𝓜 𝓡 (code.calls-bip_table::lending::RowLender::seek 𝓡.env wired)) z₁ (and_then ! (get ! refl) (and_then ! (get ! refl) (no_more !))) (λ v₁.
     use1 𝓛 (later (some (λ (r : Option ℕ). ((‵ (flft (p.0 ∷ κ₁) p.1) ⊛ ‵ (flft κ₁ (Share.right q₁)) ⊛ ‵ ftrue) ⊛ ‵ ((O.the_row usize).own_val r (v₁ ∷ []))) ⊛
-    some (λ (ws : RowLender × (Unit {0} × Unit {0})). ‵ (lasts g1.ended z₁.0.0 z₁.0.3 ws) ⊛ raw (fact 𝓤 (IsSome r ↔ ((h.from ≤ comp.0) × IsTrue (has_row h.rows.now comp.0)))) ⊛ raw (fact 𝓤 (IfSome r (λ k. k ≡ place_in h.rows.now comp.0))) ⊛
+    some (λ (ws : RowLender × (Unit {0} × Unit {0})). ‵ (lasts seek.ended z₁.0.0 z₁.0.3 ws) ⊛ raw (fact 𝓤 (IsSome r ↔ ((h.from ≤ comp.0) × IsTrue (has_row h.rows.now comp.0)))) ⊛ raw (fact 𝓤 (IfSome r (λ k. k ≡ place_in h.rows.now comp.0))) ⊛
     raw (fact 𝓤 (IfSome r (λ k. k < length h.rows.now))) ⊛ raw (fact 𝓤 (ws.0.rows ≡ h.rows)) ⊛ raw (fact 𝓤 (ws.0.from ≡ max h.from (comp.0 + 1))))))) (id⊢ 𝓤 _) $
     await ! tt $ pick ! (λ r. split ! $ split ! $ split ! $ move ! (3 ∷ []) $ pick ! (λ ws. split ! $ move ! (1 ∷ []) $ split ! $ move ! (1 ∷ []) $ split ! $ move ! (1 ∷ []) $ split ! $ move ! (1 ∷ []) $ split ! $
     heard ! _ (λ same. heard ! _ (λ from₁. heard ! _ (λ within. heard ! _ (λ here. heard ! _ (λ some₁. fsplit ! $ fsplit ! $
@@ -153,15 +153,15 @@ next_spec 𝓤 𝓛 𝓜 𝓡 wired =
                 use2 𝓛 (later (some (λ (δ : GName). ‵ ((MutRef (named 0) (p'.0 ∷ κ₁) R).own_val (record { ref_ptr = (b, o); ghost_name = δ; now = ws.0 }) (vptr b o ∷ [])) ⊛ ‵ (LentAgain R κ (p'.0 ∷ κ₁) q a.0.ghost_name b o δ ws.0))))
                 (lends_again 𝓛 R (named 0) κ (p'.0 ∷ κ₁) q a.0.ghost_name b o (named 0) ws.0) $ await ! tt $ pick ! (λ δ'. split ! $
                 -- [the loan; what the lender keeps; the token of α; its end; the other half; the place; ..]
-                let G₂ = triple_of 𝓛 g2.signature (g2.spec 𝓛 𝓜.mem 𝓡.returns) in
+                let G₂ = triple_of 𝓛 take_row.signature (take_row.spec 𝓛 𝓜.mem 𝓡.returns) in
                 let lent₂ : MutBor RowLender = record { ref_ptr = (b, o); ghost_name = δ'; now = ws.0 } in
                 let z₂ : G₂.Ghost = (((p'.0 ∷ κ₁, (κ₁, tt)), (p'.1, (Share.right q₁, tt)), (meet_⊑_right (p'.0 ∷ []) κ₁, tt), (lent₂, (n, tt)), (vptr b o ∷ [], (uint_vals w64 n, tt))), tt) in
                 let long : n < length ws.0.rows.now = subst (λ (x : MutBor (List Row)). n < length x.now) (sym same) is_there in
                 nothing ! $ move ! (6 ∷ 0 ∷ []) $ join ! $ move ! (1 ∷ 0 ∷ []) $ join ! $ nothing ! $ move ! (5 ∷ 0 ∷ []) $ join ! $ move ! (3 ∷ 0 ∷ []) $ join ! $
                 use2 𝓛 (raw (G₂.pre z₂)) (qed 𝓛 ((‵ (flft (p'.0 ∷ κ₁) p'.1) ⊛ ‵ (flft κ₁ (Share.right q₁)) ⊛ ‵ ftrue) ∷ (‵ ((MutRef (named 0) (p'.0 ∷ κ₁) R).own_val lent₂ (vptr b o ∷ [])) ⊛ ‵ (usize.own_val n (uint_vals w64 n)) ⊛ ‵ ftrue) ∷ []) ∵ says ! long $ join ! $ done !) $
-                calls_at ! (framed 𝓤 𝓛.H 𝓜 𝓣) G₂ (m2.met 𝓤 𝓛 𝓜 𝓡 (code.calls-bip_table::lending::RowLender::take_row 𝓡.env wired)) z₂ (and_then ! (get ! refl) (and_then ! (get ! refl) (no_more !))) (λ v₂.
+                calls_at ! (framed 𝓤 𝓛.H 𝓜 𝓣) G₂ (take_row_met.met 𝓤 𝓛 𝓜 𝓡 (code.calls-bip_table::lending::RowLender::take_row 𝓡.env wired)) z₂ (and_then ! (get ! refl) (and_then ! (get ! refl) (no_more !))) (λ v₂.
                 use1 𝓛 (later (some (λ (x : MutBor Row). ((‵ (flft (p'.0 ∷ κ₁) p'.1) ⊛ ‵ (flft κ₁ (Share.right q₁)) ⊛ ‵ ftrue) ⊛ ‵ (Ref.own_val x (v₂ ∷ []))) ⊛
-                some (λ (ws₂ : RowLender × (Unit {0} × Unit {0})). ‵ (lasts g2.ended z₂.0.0 z₂.0.3 ws₂) ⊛ ‵ (LeavesRows ws.0.rows n x ws₂.0.rows) ⊛ raw (fact 𝓤 (ws.0.rows.now ≡ take n ws.0.rows.now ++ x.now ∷ ws₂.0.rows.now)) ⊛ raw (fact 𝓤 (ws₂.0.from ≡ ws.0.from)))))) (id⊢ 𝓤 _) $
+                some (λ (ws₂ : RowLender × (Unit {0} × Unit {0})). ‵ (lasts take_row.ended z₂.0.0 z₂.0.3 ws₂) ⊛ ‵ (LeavesRows ws.0.rows n x ws₂.0.rows) ⊛ raw (fact 𝓤 (ws.0.rows.now ≡ take n ws.0.rows.now ++ x.now ∷ ws₂.0.rows.now)) ⊛ raw (fact 𝓤 (ws₂.0.from ≡ ws.0.from)))))) (id⊢ 𝓤 _) $
                 await ! tt $ pick ! (λ x. split ! $ split ! $ split ! $ move ! (3 ∷ []) $ pick ! (λ ws₂. split ! $ move ! (1 ∷ []) $ split ! $ move ! (1 ∷ []) $ split ! $ heard ! _ (λ parts. heard ! _ (λ from₂.
                 move ! (1 ∷ []) $ fsplit ! $ fsplit ! $
                 -- [the last lender; its borrow; nothing; what follows; the token of α; the other half; the row; what the lender keeps; the end]

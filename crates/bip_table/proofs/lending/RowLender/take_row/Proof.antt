@@ -46,12 +46,12 @@ use Rattle.bip_table.specs.contracts.rows.Row.{the_row}
 use Rattle.bip_table.specs.contracts.lending.RowLender.take_row as f
 use Rattle.bip_table.proofs.lending.RowLender.take_row.Statement.{statement}
 use Rattle.bip_table.proofs.lending.RowLender.take_row.Code as code
-use Rattle.bip_table.specs.contracts.lending.RowLender.take_rows as g1
-use Rattle.bip_table.proofs.lending.RowLender.take_rows.Met as m1
-use Rattle.bip_table.specs.contracts.lending.lend as g2
-use Rattle.bip_table.proofs.lending.lend.Met as m2
-use Rattle.bip_table.specs.contracts.lending.RowLender.put_rows as g3
-use Rattle.bip_table.proofs.lending.RowLender.put_rows.Met as m3
+use Rattle.bip_table.specs.contracts.lending.RowLender.take_rows as take_rows
+use Rattle.bip_table.proofs.lending.RowLender.take_rows.Met as take_rows_met
+use Rattle.bip_table.specs.contracts.lending.lend as lend
+use Rattle.bip_table.proofs.lending.lend.Met as lend_met
+use Rattle.bip_table.specs.contracts.lending.RowLender.put_rows as put_rows
+use Rattle.bip_table.proofs.lending.RowLender.put_rows.Met as put_rows_met
 
 written_next : (rows : List Row) (k : ℕ) (x : Row) (xs : List Row) → k < length rows → set (take (k + 1) rows) k x ++ xs ≡ take k rows ++ x ∷ xs
 written_next rows k x xs within = rw (add-one k) (written_at rows k x xs within)
@@ -84,13 +84,13 @@ take_row_spec 𝓤 𝓛 𝓜 𝓡 wired =
     use2 𝓛 (later (some (λ (δ : GName). ‵ ((MutRef (named 0) (p.0 ∷ κ₁) R).own_val (record { ref_ptr = (b, o); ghost_name = δ; now = h }) (vptr b o ∷ [])) ⊛ ‵ (LentAgain R κ (p.0 ∷ κ₁) q a.0.ghost_name b o δ h))))
     (lends_again 𝓛 R (named 0) κ (p.0 ∷ κ₁) q a.0.ghost_name b o (named 0) h) $ await ! tt $ pick ! (λ δ. split ! $
     -- [the loan; what the lender keeps; the token of α; its end; the other half]
-    let G₁ = triple_of 𝓛 g1.signature (g1.spec 𝓛 𝓜.mem 𝓡.returns) in
+    let G₁ = triple_of 𝓛 take_rows.signature (take_rows.spec 𝓛 𝓜.mem 𝓡.returns) in
     let z₁ : G₁.Ghost = (((p.0 ∷ κ₁, (κ₁, tt)), (p.1, (Share.right q₁, tt)), (meet_⊑_right (p.0 ∷ []) κ₁, tt), (record { ref_ptr = (b, o); ghost_name = δ; now = h }, tt), (vptr b o ∷ [], tt)), tt) in
     nothing ! $ move ! (1 ∷ 0 ∷ []) $ join ! $ nothing ! $ move ! (5 ∷ 0 ∷ []) $ join ! $ move ! (3 ∷ 0 ∷ []) $ join ! $ join ! $ nothing ! $ move ! (1 ∷ 0 ∷ []) $
     use2 𝓛 (raw (G₁.pre z₁)) (id⊢ 𝓤 _) $
-    calls_at ! (framed 𝓤 𝓛.H 𝓜 (tables 𝓤 𝓛.H 𝓜 𝓡 𝓡.env)) G₁ (m1.met 𝓤 𝓛 𝓜 𝓡 (code.calls-bip_table::lending::RowLender::take_rows 𝓡.env wired)) z₁ (and_then ! (get ! refl) (no_more !)) (λ v₁.
+    calls_at ! (framed 𝓤 𝓛.H 𝓜 (tables 𝓤 𝓛.H 𝓜 𝓡 𝓡.env)) G₁ (take_rows_met.met 𝓤 𝓛 𝓜 𝓡 (code.calls-bip_table::lending::RowLender::take_rows 𝓡.env wired)) z₁ (and_then ! (get ! refl) (no_more !)) (λ v₁.
     use1 𝓛 (later (some (λ (r : MutBor (List Row)). ((‵ (flft (p.0 ∷ κ₁) p.1) ⊛ ‵ (flft κ₁ (Share.right q₁)) ⊛ ‵ ftrue) ⊛ ‵ ((MutSlice (named 1) κ₁ the_row).own_val r (v₁ ∷ []))) ⊛
-    some (λ (ws : RowLender × Unit {0}). ‵ (lasts g1.ended z₁.0.0 z₁.0.3 ws) ⊛ raw (fact 𝓤 (r ≡ h.rows)) ⊛ raw (fact 𝓤 (ws.0.from ≡ h.from)))))) (id⊢ 𝓤 _) $
+    some (λ (ws : RowLender × Unit {0}). ‵ (lasts take_rows.ended z₁.0.0 z₁.0.3 ws) ⊛ raw (fact 𝓤 (r ≡ h.rows)) ⊛ raw (fact 𝓤 (ws.0.from ≡ h.from)))))) (id⊢ 𝓤 _) $
     await ! tt $ pick ! (λ r. split ! $ split ! $ split ! $ move ! (3 ∷ []) $ pick ! (λ ws. split ! $ move ! (1 ∷ []) $ split ! $ heard ! _ (λ same. heard ! _ (λ from₁. fsplit ! $ fsplit ! $
     -- [the last lender; its borrow; nothing; the token of α; the other half; the rows; what the lender keeps; the end]
     move ! (3 ∷ 7 ∷ []) $ use2 𝓛 (later (‵ (fdead (p.0 ∷ κ₁)) ⊛ ‵ (flft κ₁ (Share.left q₁)))) (apply∗ 𝓤 (𝓛.A.lft (p.0 ∷ κ₁) p.1) _) $ await ! tt $ split ! $
@@ -106,16 +106,16 @@ take_row_spec 𝓤 𝓛 𝓜 𝓡 wired =
     sets ! (addr ! (from ! (fld ! refl (hop ! (look_in_at ! 3 (sub ! 0 refl (whole !))) (stop !))))) refl (tt, tt) $
     sets ! (agg ! (and_then ! (get ! refl) (and_then ! (get_in ! (fld ! refl (stop !)) (sub ! 1 refl (whole !))) (no_more !)))) refl (tt, (tt, (record { fits = is.0.1.0 }, tt))) $
     -- [the rows; the token of κ₁; nothing; self; the token of κ; ..]
-    let G₂ = triple_of 𝓛 g2.signature (g2.spec 𝓛 𝓜.mem 𝓡.returns) in
+    let G₂ = triple_of 𝓛 lend.signature (lend.spec 𝓛 𝓜.mem 𝓡.returns) in
     let z₂ : G₂.Ghost = (((κ₁, tt), (q₁, tt), tt, (r, (place, tt)), (mut_slice_vals r, (uint_vals w64 place, tt))), tt) in
     let long : place < length r.now = subst (λ (x : MutBor (List Row)). place < length x.now) (sym same) within in
     move ! (1 ∷ 0 ∷ []) $ use2 𝓛 (raw (G₂.pre z₂)) (qed 𝓛 (‵ (flft κ₁ q₁) ∷ ‵ ((MutSlice (named 0) κ₁ the_row).own_val r (mut_slice_vals r)) ∷ []) ∵ says ! long $ nothing ! $ move ! (1 ∷ 0 ∷ []) $ join ! $ frame ! $
     owned ! usize _ (uint_Makes 𝓛 w64) place (uint_vals w64 place) (refl, are.1.0.1) $ nothing ! $ move ! (1 ∷ 0 ∷ []) $ join ! $ move ! (1 ∷ 0 ∷ []) $ done !) $
-    calls_at ! (framed 𝓤 𝓛.H 𝓜 (tables 𝓤 𝓛.H 𝓜 𝓡 𝓡.env)) G₂ (m2.met 𝓤 𝓛 𝓜 𝓡 (code.calls-bip_table::lending::lend 𝓡.env wired)) z₂ (and_then ! (get ! refl) (and_then ! (get ! refl) (no_more !))) (λ v₂.
+    calls_at ! (framed 𝓤 𝓛.H 𝓜 (tables 𝓤 𝓛.H 𝓜 𝓡 𝓡.env)) G₂ (lend_met.met 𝓤 𝓛 𝓜 𝓡 (code.calls-bip_table::lending::lend 𝓡.env wired)) z₂ (and_then ! (get ! refl) (and_then ! (get ! refl) (no_more !))) (λ v₂.
     let Leaves : MutBor Row × MutBor (List Row) → (Row → List Row → List Row) → Fml = λ t F. follows_both (Array the_row 0) the_row (Array the_row 0) r.ghost_name t.0.ghost_name t.1.ghost_name F in
     let Two = Tuple (MutRef (named 0) κ₁ the_row ∷ MutSlice (named 0) κ₁ the_row ∷ []) in
     use1 𝓛 (later (some (λ (t : MutBor Row × MutBor (List Row)). ((‵ (flft κ₁ q₁) ⊛ ‵ ftrue) ⊛ ‵ (Two.own_val t (v₂ ∷ []))) ⊛
-    some (λ (ws : Unit {0} × (Unit {0} × Unit {0})). ‵ (lasts g2.ended z₂.0.0 z₂.0.3 ws) ⊛ ‵ (Leaves t (λ x xs. set (take (place + 1) r.now) place x ++ xs)) ⊛ raw (fact 𝓤 (r.now ≡ take place r.now ++ t.0.now ∷ t.1.now)) ⊛ raw (fact 𝓤 (t.1.now ≡ list_drop (place + 1) r.now)))))) (id⊢ 𝓤 _) $
+    some (λ (ws : Unit {0} × (Unit {0} × Unit {0})). ‵ (lasts lend.ended z₂.0.0 z₂.0.3 ws) ⊛ ‵ (Leaves t (λ x xs. set (take (place + 1) r.now) place x ++ xs)) ⊛ raw (fact 𝓤 (r.now ≡ take place r.now ++ t.0.now ∷ t.1.now)) ⊛ raw (fact 𝓤 (t.1.now ≡ list_drop (place + 1) r.now)))))) (id⊢ 𝓤 _) $
     await ! tt $ pick ! (λ t. split ! $ split ! $ split ! $ move ! (3 ∷ []) $ pick ! (λ ws₂. split ! $ move ! (1 ∷ []) $ split ! $ move ! (1 ∷ []) $ split ! $ heard ! _ (λ parts. heard ! _ (λ behind.
     rewrite ! 0 (λ (F : Row → List Row → List Row). ‵ (Leaves t F)) (λ i x xs. written_next r.now place x xs long i) refl $
     -- [what follows; nothing; the token of κ₁; nothing; the two parts; nothing; self; the token of κ; ..]
@@ -141,16 +141,16 @@ take_row_spec 𝓤 𝓛 𝓜 𝓡 wired =
     use2 𝓛 (later (some (λ (δ : GName). ‵ ((MutRef (named 0) (p'.0 ∷ κ₁) R).own_val (record { ref_ptr = (b, o); ghost_name = δ; now = ws.0 }) (vptr b o ∷ [])) ⊛ ‵ (LentAgain R κ (p'.0 ∷ κ₁) q a.0.ghost_name b o δ ws.0))))
     (lends_again 𝓛 R (named 0) κ (p'.0 ∷ κ₁) q a.0.ghost_name b o (named 0) ws.0) $ await ! tt $ pick ! (λ δ'. split ! $
     -- [the loan; what the lender keeps; the token of α; its end; the other half; the row; the rest; ..]
-    let G₃ = triple_of 𝓛 g3.signature (g3.spec 𝓛 𝓜.mem 𝓡.returns) in
+    let G₃ = triple_of 𝓛 put_rows.signature (put_rows.spec 𝓛 𝓜.mem 𝓡.returns) in
     let lent : MutBor RowLender = record { ref_ptr = (b, o); ghost_name = δ'; now = ws.0 } in
     let z₃ : G₃.Ghost = (((p'.0 ∷ κ₁, (κ₁, tt)), (p'.1, (Share.right q₁, tt)), (meet_⊑_right (p'.0 ∷ []) κ₁, tt), (lent, (t.1, tt)), (vptr b o ∷ [], (mut_slice_vals t.1, tt))), tt) in
     let rising : IsStrictlyIncreasing (row_components t.1.now) =
     subst (λ (xs : List Row). IsStrictlyIncreasing (row_components xs)) (sym behind) (rising_after r.now (place + 1) (subst (λ (x : MutBor (List Row)). IsStrictlyIncreasing (row_components x.now)) (sym same) h.rising)) in
     nothing ! $ move ! (7 ∷ 0 ∷ []) $ join ! $ move ! (1 ∷ 0 ∷ []) $ join ! $ nothing ! $ move ! (5 ∷ 0 ∷ []) $ join ! $ move ! (3 ∷ 0 ∷ []) $ join ! $
     use2 𝓛 (raw (G₃.pre z₃)) (qed 𝓛 ((‵ (flft (p'.0 ∷ κ₁) p'.1) ⊛ ‵ (flft κ₁ (Share.right q₁)) ⊛ ‵ ftrue) ∷ (‵ ((MutRef (named 0) (p'.0 ∷ κ₁) R).own_val lent (vptr b o ∷ [])) ⊛ ‵ ((MutSlice (named 1) κ₁ the_row).own_val t.1 (mut_slice_vals t.1)) ⊛ ‵ ftrue) ∷ []) ∵ says ! rising $ join ! $ done !) $
-    calls_at ! (framed 𝓤 𝓛.H 𝓜 (tables 𝓤 𝓛.H 𝓜 𝓡 𝓡.env)) G₃ (m3.met 𝓤 𝓛 𝓜 𝓡 (code.calls-bip_table::lending::RowLender::put_rows 𝓡.env wired)) z₃ (and_then ! (get ! refl) (and_then ! (get ! refl) (no_more !))) (λ v₃.
+    calls_at ! (framed 𝓤 𝓛.H 𝓜 (tables 𝓤 𝓛.H 𝓜 𝓡 𝓡.env)) G₃ (put_rows_met.met 𝓤 𝓛 𝓜 𝓡 (code.calls-bip_table::lending::RowLender::put_rows 𝓡.env wired)) z₃ (and_then ! (get ! refl) (and_then ! (get ! refl) (no_more !))) (λ v₃.
     use1 𝓛 (later (some (λ (u : Unit {0}). ((‵ (flft (p'.0 ∷ κ₁) p'.1) ⊛ ‵ (flft κ₁ (Share.right q₁)) ⊛ ‵ ftrue) ⊛ ‵ (unit.own_val u (v₃ ∷ []))) ⊛
-    some (λ (ws₃ : RowLender × (Unit {0} × Unit {0})). ‵ (lasts g3.ended z₃.0.0 z₃.0.3 ws₃) ⊛ raw (fact 𝓤 (ws₃.0.rows ≡ t.1)) ⊛ raw (fact 𝓤 (ws₃.0.from ≡ ws.0.from)))))) (id⊢ 𝓤 _) $
+    some (λ (ws₃ : RowLender × (Unit {0} × Unit {0})). ‵ (lasts put_rows.ended z₃.0.0 z₃.0.3 ws₃) ⊛ raw (fact 𝓤 (ws₃.0.rows ≡ t.1)) ⊛ raw (fact 𝓤 (ws₃.0.from ≡ ws.0.from)))))) (id⊢ 𝓤 _) $
     await ! tt $ pick ! (λ u. split ! $ split ! $ split ! $ move ! (2 ∷ []) $ feq_l ! (λ is_unit. lands_as ! (ap only is_unit) refl (tt, tt) $
     move ! (2 ∷ []) $ pick ! (λ ws₃. split ! $ move ! (1 ∷ []) $ split ! $ heard ! _ (λ new. heard ! _ (λ from₃. fsplit ! $ fsplit ! $
     -- [the last lender; its borrow; nothing; the token of α; the other half; what the lender keeps; the end; the row; ..]

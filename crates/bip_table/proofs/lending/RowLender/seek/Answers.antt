@@ -2,7 +2,7 @@ use Rattle.std.proofs.Common.{List, MutBor, subst, sym}
 use Rattle.std.specs.List.Sorted.{IsStrictlyIncreasing}
 use Rattle.bip_table.specs.Rows.{row_components}
 use Rattle.bip_table.specs.declared.rows.Row.{Row}
-use Rattle.bip_table.proofs.lending.RowLender.pass.Goals as goal
+use Rattle.bip_table.proofs.lending.RowLender.seek.Goals as goal
 
 pub put_rows-requires : goal.put_rows-requires
 put_rows-requires c =
