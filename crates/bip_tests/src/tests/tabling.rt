@@ -237,7 +237,8 @@ fn rows_are_lent_together(rt: HostRuntime) {
     third.used = 7;
     let written = [row(5, 0), row(0, 1), row(7, 2)];
     assert!(&rt; rows == written);
-    // No clause says that rows still rise once they are given back: these are the same.
+    // That rows still rise once they are given back follows by a proof by hand alone: these are
+    // the same.
     rows = written;
     assert!(&rt; RowLender::over(&mut rows).next(CompId(3)).is_none());
 }
