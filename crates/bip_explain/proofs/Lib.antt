@@ -1,6 +1,8 @@
+pub mod FormLemmas
+pub mod HindranceLemmas
 pub mod LineLemmas
 pub mod PlacedLemmas
 pub mod SayLemmas
 pub mod ScopeLemmas
-pub mod StateLemmas
 pub mod TwiceLemmas
+pub mod WantedLemmas

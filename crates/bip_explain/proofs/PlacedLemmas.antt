@@ -1,5 +1,5 @@
 -- Where the words of a line stand.
-use Rattle.std.proofs.Common.{◌≡◌, ℕ, ◌+◌, ◌-◌, ◌≤◌, List, [], ◌∷◌, ◌++◌, length, take, sym, ap, ◌∙◌, append_assoc, arith, length-append}
+use Rattle.std.proofs.Common.{◌≡◌, ℕ, ◌+◌, ◌-◌, ◌≤◌, List, [], ◌∷◌, ◌++◌, length, take, refl, sym, ap, ◌∙◌, append_assoc, arith, length-append}
 use Rattle.std.proofs.lemmas.List.{take-append-drop}
 use Rattle.std.proofs.Math.Seq.{drop-append_seam}
 use Rattle.bip_model.specs.Texts.{words, IsWordAndRest}
@@ -41,6 +41,11 @@ word_taken line old word new h parts split =
       column_is = omega (arith, ap length whole, length-append (front ++ parts.0) (word ++ new), length-append word new);
       words_are = front_of (words line) (words old) h.1 ∙ ap (λ l. told ++ l) split;
     }
+
+-- and what is left stands behind it
+pub taken_behind : (line old word new : List ℕ) (h : IsRestOf line old) (parts : IsWordAndRest old word new) (split : words old ≡ word ∷ words new) → words (word_taken line old word new h parts split).behind ≡ words new
+unfolding word_taken
+taken_behind line old word new h parts split = refl
 
 -- a word and what is left behind it are no longer than the line
 pub word_fits : (line old word new : List ℕ) → IsRestOf line old → IsWordAndRest old word new → length new + length word ≤ length line

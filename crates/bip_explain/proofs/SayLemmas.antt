@@ -1,5 +1,5 @@
 -- Parts that are said last.
-use Rattle.std.proofs.Common.{◌≡◌, ℕ, ◌+◌, ◌≤◌, ◌<◌, ◌∷◌, Bool, true, false, List, [], ◌++◌, map, length, refl, codes, sym, ◌∙◌, inr}
+use Rattle.std.proofs.Common.{◌≡◌, ℕ, ◌+◌, ◌≤◌, ◌<◌, ◌∷◌, Bool, true, false, List, [], ◌++◌, map, length, refl, codes, sym, ap, ◌∙◌, inr}
 use Rattle.std.proofs.lemmas.Bool.{le-leb, lt-leb, true≢false}
 use Rattle.std.proofs.lemmas.List.Folds.{list_all-append}
 use Rattle.std.specs.List.{list_all}
@@ -52,3 +52,7 @@ said_behind (part ∷ a) b e = said_behind a b (with_part part e)
 -- a reason that is true is told, where nothing is said yet
 pub tells : {R : Type 0} (MayBeSilent : Type 0) (IsTrue : R → Type 0) (parts : R → List (List ℕ)) (old new : Telling) (reason : R) → is_open old ≡ true → IsTrue reason → new ≡ with_parts (parts reason) old → Tells MayBeSilent IsTrue parts old new
 tells MayBeSilent IsTrue parts old new reason told true_of is = record { closed = λ h. absurd (true≢false (sym told ∙ h)); opened = λ _. inr (reason, true_of, is) }
+
+-- parts that were said in two goes
+pub then_said : (a b : List (List ℕ)) (old mid new : Telling) → mid ≡ with_parts a old → new ≡ with_parts b mid → new ≡ with_parts (a ++ b) old
+then_said a b old mid new first second = second ∙ (ap (λ (e : Telling). with_parts b e) first ∙ sym (said_behind a b old))

@@ -1,8 +1,11 @@
 pub mod Declarations
 pub mod Ends
+pub mod Expected
 pub mod Explanations
 pub mod Forms
 pub mod Grants
+pub mod Hindrances
+pub mod Hints
 pub mod Limits
 pub mod Models
 pub mod Placed

@@ -1,15 +1,28 @@
 -- Why a text is no model, and how it is told.
-use Rattle.std.specs.Prelude.{◌≡◌, ℕ, List, [], ◌∷◌, ◌++◌, codes, ⊤}
+use Rattle.std.specs.Prelude.{◌≡◌, ◌⊎◌, ℕ, ◌||◌, List, [], ◌∷◌, ◌++◌, Option, None, Some, codes}
+use Rattle.std.specs.Prelude.{Bool, false, IsTrue, if◌then◌else◌, is_some, option_and_then, ⊤}
+use Rattle.bip_model.specs.Naming.{same_text}
+use Rattle.bip_model.specs.declared.clauses.Spelling.{Spelling}
+use Rattle.bip_model.specs.declared.clauses.Spelling.TheVariants.{Own, Shared}
+use Rattle.bip_reader.specs.Statements.{keyword_of, statement_of}
 use Rattle.bip_reader.specs.declared.faults.ReadFault.{ReadFault}
 use Rattle.bip_reader.specs.declared.faults.Why.TheVariants.{Memory, Missing, TooMany}
 use Rattle.bip_explain.specs.Ends.{IsEndReason, end_parts}
 use Rattle.bip_explain.specs.Explanations.{marked, placed_parts}
-use Rattle.bip_explain.specs.Forms.{IsFormReason, form_parts}
+use Rattle.bip_explain.specs.Forms.{IsByteReason, IsFormReason, IsNoLine, form_parts}
 use Rattle.bip_explain.specs.Limits.{IsLimitReason, limit_parts}
 use Rattle.bip_explain.specs.Placed.{IsPlacedOn, line_at, said_words}
 use Rattle.bip_explain.specs.Scopes.{IsStandingAt}
 use Rattle.bip_explain.specs.Twice.{IsTwiceReason, twice_parts}
 use Rattle.bip_explain.specs.Unknown.{IsUnknownReason, unknown_parts}
+use Rattle.bip_explain.specs.Words.{is_verb}
+use Rattle.bip_explain.specs.declared.expected.Expected.{Expected}
+use Rattle.bip_explain.specs.declared.expected.Expected.TheVariants as expected
+use Rattle.bip_explain.specs.declared.expected.Expected.TheVariants.{One, Name, VariableName}
+use Rattle.bip_explain.specs.declared.expected.Expected.TheVariants.{TransitionPort}
+use Rattle.bip_explain.specs.declared.expected.Expected.TheVariants.{InteractionName}
+use Rattle.bip_explain.specs.declared.expected.Expected.TheVariants.{LowInteraction, ClassName}
+use Rattle.bip_explain.specs.declared.forms.FormReason.{FormReason}
 use Rattle.bip_explain.specs.declared.models.ModelReason.{ModelReason}
 use Rattle.bip_explain.specs.declared.models.ModelReason.TheVariants.{Form, Keyword, Unknown, Twice}
 use Rattle.bip_explain.specs.declared.models.ModelReason.TheVariants.{Limit, End, NoMemory}
@@ -18,11 +31,64 @@ use Rattle.bip_explain.specs.declared.placed.Placed.{Placed}
 use Rattle.bip_explain.specs.declared.scopes.Standing.{Standing}
 use Rattle.bip_explain.specs.declared.scopes.Standing.TheVariants.{First, Outside, Inside}
 
+-- what a line goes on with behind its first word, where a line can begin so outside of components
+abbrev pub behind_outside : List ℕ → Option Expected
+behind_outside keyword =
+    if same_text keyword (codes "component") then Some Name
+    else (if same_text keyword (codes "interaction") then Some InteractionName
+    else (if same_text keyword (codes "priority") then Some LowInteraction
+    else (if same_text keyword (codes "class") then Some ClassName else None)))
+
+-- inside one
+abbrev pub behind_inside : List ℕ → Option Expected
+behind_inside keyword =
+    if same_text keyword (codes "var") then Some VariableName
+    else (if same_text keyword (codes "loc") || same_text keyword (codes "port") then Some Name
+    else (if same_text keyword (codes "trans") then Some TransitionPort
+    else (if same_text keyword (codes "end") then Some expected.End else None)))
+
+-- and where the line stands; none where no line can begin so
+abbrev pub behind_keyword : Standing → List ℕ → Option Expected
+behind_keyword First keyword = if same_text keyword (codes "bip") then Some One else None
+behind_keyword Outside keyword = behind_outside keyword
+behind_keyword (Inside component) keyword = behind_inside keyword
+
+-- how a line spells variables that begins with a word
+abbrev pub spelling_behind : List ℕ → Spelling
+spelling_behind keyword = if same_text keyword (codes "interaction") then Shared else Own
+
+-- whether words are a line that states something
+abbrev pub states_something : List (List ℕ) → Bool
+states_something [] = false
+states_something (word ∷ rest) =
+    is_some (option_and_then (λ k. statement_of k rest) (keyword_of word))
+
+abbrev pub IsModelLine : List (List ℕ) → Type 0
+IsModelLine ws = IsTrue (states_something ws)
+
+-- a reason is true of the form of a line that stands so, whose first word can begin it: it is one
+-- of the words behind that one, and no line that states something has these words in front
+pub record IsFormOf (standing : Standing) (line : List ℕ) (reason : FormReason) : Type 0 where
+  pub keyword : List ℕ
+  pub start : Expected
+  pub begins : behind_keyword standing keyword ≡ Some start
+  pub form : IsFormReason (spelling_behind keyword) start (keyword ∷ []) line reason
+  pub no_line : IsNoLine IsModelLine line reason
+
+-- a reason is true of a text at its fault: a byte can stand in no text; the form is wrong of a line
+-- that stands where it does
+abbrev pub IsModelForm : List ℕ → ℕ → FormReason → Type 0
+IsModelForm text number reason =
+    IsByteReason (line_at text number) reason
+    ⊎ ((standing : Standing) × IsStandingAt text number standing
+    × IsFormOf standing (line_at text number) reason)
+
 -- a reason is true of a text at its fault
 abbrev pub IsModelReason : List ℕ → ReadFault → ModelReason → Type 0
-IsModelReason text fault (Form reason) = IsFormReason (line_at text fault.line) reason
+IsModelReason text fault (Form reason) = IsModelForm text fault.line reason
 IsModelReason text fault (Keyword placed standing) =
     IsPlacedOn (line_at text fault.line) placed × IsStandingAt text fault.line standing
+    × (behind_keyword standing placed.word.now ≡ None)
 IsModelReason text fault (Unknown reason) =
     IsUnknownReason text fault.line (line_at text fault.line) reason
 IsModelReason text fault (Twice reason) =
@@ -39,18 +105,24 @@ MayKeepModel text fault =
     (fault.why ≡ Missing → ⊥) × (fault.why ≡ Memory → ⊥)
     × (fault.why ≡ TooMany → said_words (line_at text fault.line) ≡ [])
 
-abbrev pub standing_parts : Standing → List (List ℕ)
-standing_parts First =
-    codes " stands where `bip 1` is wanted, the first line of a model" ∷ []
-standing_parts Outside =
+-- what the first word of a text shows that is none of a model
+abbrev pub other_text : List ℕ → List ℕ
+other_text word =
+    if same_text word (codes "grant") then codes "; it begins a line of a trace"
+    else (if is_verb word then codes "; it begins a line of a schedule" else [])
+
+abbrev pub standing_parts : List ℕ → Standing → List (List ℕ)
+standing_parts word First =
+    codes " stands where `bip 1` is wanted, the first line of a model" ∷ other_text word ∷ []
+standing_parts word Outside =
     codes " can't begin a line outside a component; "
     ∷ codes "component, interaction, priority and class can" ∷ []
-standing_parts (Inside component) =
+standing_parts word (Inside component) =
     codes " can't begin a line inside component " ∷ marked component.now
     ∷ codes "; var, loc, port, trans and end can" ∷ []
 
 abbrev pub keyword_parts : Placed → Standing → List (List ℕ)
-keyword_parts placed standing = placed_parts placed ++ standing_parts standing
+keyword_parts placed standing = placed_parts placed ++ standing_parts placed.word.now standing
 
 -- how a reason is told
 abbrev pub model_parts : ModelReason → List (List ℕ)

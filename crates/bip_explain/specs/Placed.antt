@@ -30,7 +30,12 @@ IsRestOf line rest = IsEndOf line rest × IsEndOf (words line) (words rest)
 abbrev pub TakesWord : List ℕ → List ℕ → Option Placed → List ℕ → Type 0
 TakesWord line old None new = (words old ≡ []) × (words new ≡ [])
 TakesWord line old (Some placed) new =
-    (words old ≡ placed.word.now ∷ words new) × IsPlacedOn line placed
+    (words old ≡ placed.word.now ∷ words new) × (at : IsPlacedOn line placed)
+    × (words at.behind ≡ words new)
+
+-- these words stand in front of what is left of a line
+abbrev pub IsBehind : List (List ℕ) → List ℕ → List ℕ → Type 0
+IsBehind front line rest = words line ≡ front ++ words rest
 
 -- the line with a number, among lines that have theirs; empty where none has it
 abbrev pub line_in : List (ℕ × List ℕ) → ℕ → List ℕ

@@ -1,13 +1,19 @@
 -- Why a line of a schedule says no event, and how it is told.
-use Rattle.std.specs.Prelude.{◌≡◌, ℕ, List, [], ◌∷◌, ◌++◌, codes, position, Some, ⊤}
+use Rattle.std.specs.Prelude.{◌≡◌, ◌⊎◌, ℕ, ◌||◌, List, [], ◌∷◌, ◌++◌, codes, position, Option, Bool}
+use Rattle.std.specs.Prelude.{None, Some, if◌then◌else◌, is_some, ⊤}
 use Rattle.bip_model.specs.Naming.{same_text}
+use Rattle.bip_model.specs.declared.clauses.Spelling.TheVariants.{Own}
 use Rattle.bip_partition.specs.Plans.{IsReserved, Planned}
 use Rattle.bip_replay.specs.declared.faults.TraceFault.{TraceFault}
 use Rattle.bip_replay.specs.declared.faults.TraceFault.TheVariants.{Syntax, Unknown, Memory}
 use Rattle.bip_explain.specs.Explanations.{placed_parts}
-use Rattle.bip_explain.specs.Forms.{IsFormReason, form_parts}
+use Rattle.bip_explain.specs.Forms.{IsByteReason, IsFormReason, form_parts}
 use Rattle.bip_explain.specs.Placed.{IsPlacedOn}
 use Rattle.bip_explain.specs.Words.{HasNot}
+use Rattle.bip_explain.specs.declared.expected.Expected.{Expected}
+use Rattle.bip_explain.specs.declared.expected.Expected.TheVariants.{FlightPlace, Class}
+use Rattle.bip_explain.specs.declared.expected.Expected.TheVariants.{FirstStation, LastStation}
+use Rattle.bip_explain.specs.declared.forms.FormReason.{FormReason}
 use Rattle.bip_explain.specs.declared.schedules.ScheduleReason.{ScheduleReason}
 use Rattle.bip_explain.specs.declared.schedules.ScheduleReason.TheVariants.{Form, Keyword, NoClass}
 use Rattle.bip_explain.specs.declared.schedules.ScheduleReason.TheVariants.{NoInteraction}
@@ -19,15 +25,36 @@ StandsAlone plan word =
     (a : ℕ) × (position (same_text word) plan.model.interaction_names ≡ Some a)
     × ¬ IsReserved plan a
 
+-- what a line goes on with behind its first word; none where no line can begin so
+abbrev pub behind_verb : List ℕ → Option Expected
+behind_verb verb =
+    if same_text verb (codes "mail") || same_text verb (codes "deliver") then Some FlightPlace
+    else (if same_text verb (codes "try") then Some Class
+    else (if same_text verb (codes "serve") then Some LastStation
+    else (if same_text verb (codes "pass") || same_text verb (codes "ask") then Some FirstStation
+    else None)))
+
+-- a reason is true of a line's form: a byte can stand in no text; or a word behind the first one
+-- can't stand there
+abbrev pub IsScheduleForm : List ℕ → FormReason → Type 0
+IsScheduleForm line reason =
+    IsByteReason line reason
+    ⊎ ((verb : List ℕ) × (start : Expected) × (behind_verb verb ≡ Some start)
+    × IsFormReason Own start (verb ∷ []) line reason)
+
 -- a reason is true of a line and a plan: the word that is told stands at its column, and is the
 -- name of no class, of no interaction, or of one that has no station
 abbrev pub IsScheduleReason : Planned → List ℕ → TraceFault → ScheduleReason → Type 0
-IsScheduleReason plan line fault (Form reason) = IsFormReason line reason
-IsScheduleReason plan line fault (Keyword placed) = IsPlacedOn line placed
-IsScheduleReason plan line fault (NoClass placed) =
+IsScheduleReason plan line fault (Form reason) = IsScheduleForm line reason
+IsScheduleReason plan line fault (Keyword placed) =
+    IsPlacedOn line placed × (behind_verb placed.word.now ≡ None)
+IsScheduleReason plan line fault (NoClass placed is_interaction) =
     IsPlacedOn line placed × HasNot plan.classes.names placed.word.now
-IsScheduleReason plan line fault (NoInteraction placed) =
+    × (is_interaction
+    ≡ is_some (position (same_text placed.word.now) plan.model.interaction_names))
+IsScheduleReason plan line fault (NoInteraction placed is_class) =
     IsPlacedOn line placed × HasNot plan.model.interaction_names placed.word.now
+    × (is_class ≡ is_some (position (same_text placed.word.now) plan.classes.names))
 IsScheduleReason plan line fault (NoStation placed) =
     IsPlacedOn line placed × StandsAlone plan placed.word.now
 IsScheduleReason plan line fault NoMemory = fault ≡ Memory
@@ -38,16 +65,23 @@ MayKeepSchedule Syntax = ⊤
 MayKeepSchedule Unknown = ⊤
 MayKeepSchedule Memory = ⊥
 
+abbrev pub if_interaction : Bool → List ℕ
+if_interaction is_interaction =
+    if is_interaction then codes ", but an interaction of that name" else []
+
+abbrev pub if_class : Bool → List ℕ
+if_class is_class = if is_class then codes ", but a class of that name" else []
+
 -- how a reason is told
 abbrev pub schedule_parts : ScheduleReason → List (List ℕ)
 schedule_parts (Form reason) = form_parts reason
 schedule_parts (Keyword placed) =
     placed_parts placed
     ++ codes " can't begin a line; " ∷ codes "mail, try, serve, deliver, pass and ask can" ∷ []
-schedule_parts (NoClass placed) =
-    placed_parts placed ++ codes " is no class of the model" ∷ []
-schedule_parts (NoInteraction placed) =
-    placed_parts placed ++ codes " is no interaction of the model" ∷ []
+schedule_parts (NoClass placed is_interaction) =
+    placed_parts placed ++ codes " is no class of the model" ∷ if_interaction is_interaction ∷ []
+schedule_parts (NoInteraction placed is_class) =
+    placed_parts placed ++ codes " is no interaction of the model" ∷ if_class is_class ∷ []
 schedule_parts (NoStation placed) =
     placed_parts placed ++ codes " is granted by its class alone, and has no station" ∷ []
 schedule_parts NoMemory = codes "the schedule takes more memory than there is" ∷ []

@@ -10,19 +10,23 @@ use Rattle.bip_replay.specs.declared.faults.StepFault.TheVariants as step
 use Rattle.bip_explain.specs.Explanations.{Telling, Tells, is_open, with_part}
 use Rattle.bip_explain.specs.Grants.{IsGrantReason, IsOfFault, component_parts, grant_parts}
 use Rattle.bip_explain.specs.Grants.{name_parts}
+use Rattle.bip_explain.specs.Hindrances.{TellsHindrance}
+use Rattle.bip_explain.specs.Placed.{line_at}
 
--- what is told of a number, or of the parties, is a reason that is true of the line; what is told
--- of a grant that isn't enabled, or of one below, isn't stated
-abbrev pub TellsStep : System → ℕ → List ℕ → BookFault → Telling → Telling → Type 0
-TellsStep model base line (Number comp number) old new =
-    Tells ⊥ (λ r. IsGrantReason model line r × IsOfFault (Number comp number) r)
+-- what is told is a reason that is true of the line, and of the state before it
+abbrev pub TellsStep : System → ℕ → List ℕ → ℕ → BookFault → Telling → Telling → Type 0
+TellsStep model base text number (Number comp next) old new =
+    Tells ⊥ (λ r. IsGrantReason model (line_at text number) r × IsOfFault (Number comp next) r)
     (grant_parts model base) old new
-TellsStep model base line Parties old new =
-    Tells ⊤ (λ r. IsGrantReason model line r × IsOfFault Parties r) (grant_parts model base) old new
-TellsStep model base line Memory old new =
+TellsStep model base text number Parties old new =
+    Tells ⊤ (λ r. IsGrantReason model (line_at text number) r × IsOfFault Parties r)
+    (grant_parts model base) old new
+TellsStep model base text number Memory old new =
     is_open old ≡ true → new ≡ with_part (codes "the run takes more memory than there is") old
-TellsStep model base line NotEnabled old new = ⊤
-TellsStep model base line (Below above) old new = ⊤
+TellsStep model base text number NotEnabled old new =
+    TellsHindrance model base text number NotEnabled old new
+TellsStep model base text number (Below above) old new =
+    TellsHindrance model base text number (Below above) old new
 
 -- how the fault of an explored seed is told
 abbrev pub fault_parts : System → StepFault → List (List ℕ)

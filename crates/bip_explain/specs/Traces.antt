@@ -1,14 +1,18 @@
 -- Why a line of a trace says no grant, and how it is told.
-use Rattle.std.specs.Prelude.{◌≡◌, ℕ, ◌<◌, List, [], ◌∷◌, ◌++◌, Some, codes, ⊤}
+use Rattle.std.specs.Prelude.{◌≡◌, ◌⊎◌, ℕ, ◌<◌, List, [], ◌∷◌, ◌++◌, Ok, Some, codes, ⊤}
 use Rattle.bip_model.specs.Naming.{IsName}
 use Rattle.bip_model.specs.Texts.{words}
 use Rattle.bip_model.specs.declared.parts.System.{System}
+use Rattle.bip_model.specs.declared.clauses.Spelling.TheVariants.{Own}
+use Rattle.bip_replay.specs.Lines.{NamedGrant, said}
 use Rattle.bip_replay.specs.declared.faults.TraceFault.{TraceFault}
 use Rattle.bip_replay.specs.declared.faults.TraceFault.TheVariants.{Syntax, Unknown, Memory}
 use Rattle.bip_explain.specs.Explanations.{column_parts, marked, placed_parts}
-use Rattle.bip_explain.specs.Forms.{IsFormReason, form_parts}
+use Rattle.bip_explain.specs.Forms.{IsByteReason, IsFormReason, IsNoLine, form_parts}
 use Rattle.bip_explain.specs.Placed.{IsPlacedOn, IsWordAt, first_two}
 use Rattle.bip_explain.specs.Words.{HasNot, IsWant}
+use Rattle.bip_explain.specs.declared.expected.Expected.TheVariants.{Grant}
+use Rattle.bip_explain.specs.declared.forms.FormReason.{FormReason}
 use Rattle.bip_explain.specs.declared.traces.TraceReason.{TraceReason}
 use Rattle.bip_explain.specs.declared.traces.TraceReason.TheVariants.{Form, Twice, TooMany}
 use Rattle.bip_explain.specs.declared.traces.TraceReason.TheVariants.{NoInteraction, NoComponent}
@@ -19,10 +23,21 @@ abbrev pub IsNamedBefore : List ℕ → ℕ → List ℕ → Type 0
 IsNamedBefore line column component =
     (at : ℕ) × (word : List ℕ) × (at < column) × IsWordAt line at word × IsWant component word
 
+-- words say a grant by names
+abbrev pub IsGrantWords : List (List ℕ) → Type 0
+IsGrantWords ws = (g : NamedGrant) × (said ws ≡ Ok (Some g))
+
+-- a reason is true of a line's form: a byte can stand in no text; or no line that says a grant has
+-- these words in front
+abbrev pub IsTraceForm : List ℕ → FormReason → Type 0
+IsTraceForm line reason =
+    IsByteReason line reason
+    ⊎ (IsFormReason Own Grant [] line reason × IsNoLine IsGrantWords line reason)
+
 -- a reason is true of a line and a model: the word that is told stands at its column; a component
 -- that stands twice is named by a word before; a name that is missing is no name of the model
 abbrev pub IsTraceReason : System → List ℕ → TraceFault → TraceReason → Type 0
-IsTraceReason model line fault (Form reason) = IsFormReason line reason
+IsTraceReason model line fault (Form reason) = IsTraceForm line reason
 IsTraceReason model line fault (Twice placed) =
     IsPlacedOn line placed
     × ((component : List ℕ) × IsWant component placed.word.now

@@ -1,9 +1,11 @@
 -- Why a name of a model's text is unknown, and how it is told.
-use Rattle.std.specs.Prelude.{◌≡◌, ◌⊎◌, ℕ, List, [], ◌∷◌, ◌++◌, codes, Option, None, Some}
+use Rattle.std.specs.Prelude.{◌≡◌, ◌⊎◌, ℕ, ◌<◌, List, [], ◌∷◌, ◌++◌, codes, Option, None, Some}
 use Rattle.std.specs.Prelude.{Bool, false, ◌||◌, drop, if◌then◌else◌, IfSome, IsTrue}
 use Rattle.bip_model.specs.Naming.{same_text}
 use Rattle.bip_model.specs.Texts.{pair_of}
-use Rattle.bip_explain.specs.Declarations.{HasLineWith, NoLineWith, declares_inside}
+use Rattle.std.specs.Fmt.{decimal}
+use Rattle.bip_explain.specs.Declarations.{HasLineWith, IsLineWith, NoLineWith}
+use Rattle.bip_explain.specs.Declarations.{declares_inside}
 use Rattle.bip_explain.specs.Explanations.{column_parts, marked}
 use Rattle.bip_explain.specs.Placed.{IsPlacedOn, said_words}
 use Rattle.bip_explain.specs.Words.{IsPair, point}
@@ -45,15 +47,22 @@ IsLack text number lack =
     × IfSome lack.other (λ kind. IsTrue
     (declares_inside text number lack.component (kind_keyword kind) lack.name))
 
+-- a line that is told to declare a name stands behind one, and begins so
+abbrev pub IsLaterLine : List ℕ → ℕ → List ℕ → List ℕ → Option ℕ → Type 0
+IsLaterLine text number keyword name later =
+    IfSome later (λ n. (number < n) × IsLineWith text n keyword name)
+
 -- a reason is true of a line of a text: the word that is told stands at its column; of an
--- interaction, or a component, that is missing no line before begins its declaration, and a
--- component that is told to take no part is named by no participant
+-- interaction, or a component, that is missing no line before begins its declaration, but a line
+-- behind that is told; and a component that is told to take no part is named by no participant
 abbrev pub IsUnknownReason : List ℕ → ℕ → List ℕ → UnknownReason → Type 0
-IsUnknownReason text number line (Interaction placed) =
+IsUnknownReason text number line (Interaction placed later) =
     IsPlacedOn line placed × NoLineWith text number (codes "interaction") placed.word.now
-IsUnknownReason text number line (Component placed component) =
+    × IsLaterLine text number (codes "interaction") placed.word.now later
+IsUnknownReason text number line (Component placed component later) =
     IsPlacedOn line placed × IsOf component placed.word.now
     × NoLineWith text number (codes "component") component
+    × IsLaterLine text number (codes "component") component later
 IsUnknownReason text number line (Stranger placed component) =
     IsPlacedOn line placed × IsOf component placed.word.now
     × (has_participant component (drop 2 (said_words line)) ≡ false)
@@ -76,14 +85,19 @@ lack_parts lack =
     codes "component " ∷ marked lack.component ∷ codes " has no " ∷ kind_word lack.kind
     ∷ codes " " ∷ marked lack.name ∷ other_parts lack.other
 
+abbrev pub later_parts : Option ℕ → List (List ℕ)
+later_parts None = []
+later_parts (Some line) = codes ", but line " ∷ decimal line ∷ codes " does" ∷ []
+
 -- how a reason is told
 abbrev pub unknown_parts : UnknownReason → List (List ℕ)
-unknown_parts (Interaction placed) =
+unknown_parts (Interaction placed later) =
     column_parts placed.column
-    ++ codes "no line before declares an interaction " ∷ marked placed.word.now ∷ []
-unknown_parts (Component placed component) =
+    ++ codes "no line before declares an interaction " ∷ marked placed.word.now
+    ∷ later_parts later
+unknown_parts (Component placed component later) =
     column_parts placed.column
-    ++ codes "no line before declares a component " ∷ marked component ∷ []
+    ++ codes "no line before declares a component " ∷ marked component ∷ later_parts later
 unknown_parts (Stranger placed component) =
     column_parts placed.column
     ++ codes "component " ∷ marked component ∷ codes " takes no part in this interaction" ∷ []

@@ -118,6 +118,18 @@ pub(crate) fn line_with(text: &[u8], line: u64, keyword: &[u8], name: &[u8]) -> 
     None
 }
 
+/// The number of the first line behind one that begins with these two words.
+pub(crate) fn later_line_with(text: &[u8], line: u64, keyword: &[u8], name: &[u8]) -> Option<u64>
+    ensures { IfSome result (λ n. (line < n) × IsLineWith text.now n keyword.now name.now) }
+{
+    for (number, bytes) in NumberedLines::of(text) {
+        if line < number && begins_with(bytes, keyword, name) {
+            return Some(number);
+        }
+    }
+    None
+}
+
 // Whether the words of a line begin with these two.
 fn begins_with(line: &[u8], keyword: &[u8], name: &[u8]) -> bool
     ensures { result ≡ begins_with keyword.now name.now (said_words line.now) }

@@ -1,5 +1,13 @@
 //! What can stand at a place of a line.
-use crate::words::{Spelling, is_name, is_pair, is_relation, is_sign, is_text, is_value, is_want};
+ghost use Rattle.std.specs.Prelude.{◌≡◌};
+ghost use Rattle.bip_explain.specs.Expected.{after, after_clause, after_declared, after_head};
+ghost use Rattle.bip_explain.specs.Expected.{after_step, can_end, wanted_in_clause};
+ghost use Rattle.bip_explain.specs.Expected.{wanted_in_step, wanted_text};
+
+use crate::words::{
+    is_name, is_pair, is_relation, is_sign, is_term, is_text, is_value, is_variable, is_want,
+};
+use bip_model::Spelling;
 
 /// What a line goes on with.
 #[derive(Clone, Copy)]
@@ -49,16 +57,41 @@ pub(crate) enum Expected {
     End,
 }
 
+/// A sort of words.
+#[derive(Clone, Copy)]
+pub(crate) enum Sort {
+    /// The first word of a trace's line.
+    First,
+    Name,
+    Value,
+    NameOrValue,
+    /// A component with one of its ports, or of its variables: `C.p`.
+    Pair,
+    PairOrValue,
+    /// A component with its number: `C:N`.
+    Want,
+    /// A word between names and values, or none.
+    Mark,
+}
+
 impl Expected {
     /// What the line goes on with behind a word; none where the word can't stand here.
-    pub(crate) fn after(self, spelling: Spelling, word: &[u8]) -> Option<Expected> {
-        self.after_declared(spelling, word)
-            .or_else(|| self.after_clause(spelling, word))
-            .or_else(|| self.after_step(word))
+    pub(crate) fn after(self, spelling: Spelling, word: &[u8]) -> Option<Expected>
+        ensures { result ≡ after spelling self word.now }
+    {
+        if let Some(next) = self.after_declared(word) {
+            return Some(next);
+        }
+        if let Some(next) = self.after_clause(spelling, word) {
+            return Some(next);
+        }
+        self.after_step(word)
     }
 
     // Behind a word of what a line of a model names or declares.
-    fn after_declared(self, spelling: Spelling, word: &[u8]) -> Option<Expected> {
+    fn after_declared(self, word: &[u8]) -> Option<Expected>
+        ensures { result ≡ after_declared self word.now }
+    {
         match self {
             Expected::One => is_text(word, b"1").then_some(Expected::End),
             Expected::Name => is_name(word).then_some(Expected::End),
@@ -67,34 +100,36 @@ impl Expected {
             Expected::TransitionPort => is_name(word).then_some(Expected::TransitionSource),
             Expected::TransitionSource => is_name(word).then_some(Expected::TransitionTarget),
             Expected::TransitionTarget => is_name(word).then_some(Expected::TransitionEnd),
-            Expected::TransitionEnd => clauses_after(word),
+            Expected::TransitionEnd => after_head(word),
             Expected::InteractionName => is_name(word).then_some(Expected::FirstParticipant),
             Expected::FirstParticipant => is_pair(word).then_some(Expected::MoreParticipants),
             Expected::MoreParticipants if is_pair(word) => Some(Expected::MoreParticipants),
-            Expected::MoreParticipants => clauses_after(word),
+            Expected::MoreParticipants => after_head(word),
             Expected::LowInteraction => is_name(word).then_some(Expected::Below),
             Expected::Below => is_text(word, b"<").then_some(Expected::HighInteraction),
             Expected::HighInteraction => is_name(word).then_some(Expected::End),
             Expected::ClassName => is_name(word).then_some(Expected::FirstMember),
             Expected::FirstMember => is_name(word).then_some(Expected::MoreMembers),
             Expected::MoreMembers => is_name(word).then_some(Expected::MoreMembers),
-            Expected::Target => spelling.is_variable(word).then_some(Expected::Becomes),
             _ => None,
         }
     }
 
     // Behind a word of a guard or of a list of assignments.
-    fn after_clause(self, spelling: Spelling, word: &[u8]) -> Option<Expected> {
+    fn after_clause(self, spelling: Spelling, word: &[u8]) -> Option<Expected>
+        ensures { result ≡ after_clause spelling self word.now }
+    {
         match self {
-            Expected::LeftTerm => spelling.is_term(word).then_some(Expected::LeftMore),
+            Expected::LeftTerm => is_term(spelling, word).then_some(Expected::LeftMore),
             Expected::LeftMore if is_sign(word) => Some(Expected::LeftTerm),
             Expected::LeftMore => is_relation(word).then_some(Expected::RightTerm),
-            Expected::RightTerm => spelling.is_term(word).then_some(Expected::RightMore),
+            Expected::RightTerm => is_term(spelling, word).then_some(Expected::RightMore),
             Expected::RightMore if is_sign(word) => Some(Expected::RightTerm),
             Expected::RightMore if is_text(word, b"and") => Some(Expected::LeftTerm),
             Expected::RightMore => is_text(word, b"do").then_some(Expected::Target),
+            Expected::Target => is_variable(spelling, word).then_some(Expected::Becomes),
             Expected::Becomes => is_text(word, b":=").then_some(Expected::SumTerm),
-            Expected::SumTerm => spelling.is_term(word).then_some(Expected::SumMore),
+            Expected::SumTerm => is_term(spelling, word).then_some(Expected::SumMore),
             Expected::SumMore if is_sign(word) => Some(Expected::SumTerm),
             Expected::SumMore => is_text(word, b";").then_some(Expected::Target),
             _ => None,
@@ -102,7 +137,9 @@ impl Expected {
     }
 
     // Behind a word of a trace's line, or of a schedule's.
-    fn after_step(self, word: &[u8]) -> Option<Expected> {
+    fn after_step(self, word: &[u8]) -> Option<Expected>
+        ensures { result ≡ after_step self word.now }
+    {
         match self {
             Expected::Grant => is_text(word, b"grant").then_some(Expected::Granted),
             Expected::Granted => is_name(word).then_some(Expected::FirstMoved),
@@ -121,7 +158,9 @@ impl Expected {
     }
 
     /// Whether the line can end here.
-    pub(crate) fn can_end(self) -> bool {
+    pub(crate) fn can_end(self) -> bool
+        ensures { result ≡ can_end self }
+    {
         matches!(
             self,
             Expected::TransitionEnd
@@ -135,31 +174,52 @@ impl Expected {
         )
     }
 
-    /// Whether a name is wanted here.
-    pub(crate) fn is_name(self) -> bool {
-        matches!(
-            self,
+    /// What sort of word is wanted here, if one is.
+    pub(crate) fn sort(self, spelling: Spelling) -> Sort {
+        match self {
+            Expected::Grant => Sort::First,
             Expected::Name
-                | Expected::VariableName
-                | Expected::TransitionPort
-                | Expected::TransitionSource
-                | Expected::TransitionTarget
-                | Expected::InteractionName
-                | Expected::LowInteraction
-                | Expected::HighInteraction
-                | Expected::ClassName
-                | Expected::FirstMember
-                | Expected::MoreMembers
-                | Expected::Granted
-                | Expected::Class
-                | Expected::Tried
-                | Expected::FirstStation
-                | Expected::LastStation
-        )
+            | Expected::VariableName
+            | Expected::TransitionPort
+            | Expected::TransitionSource
+            | Expected::TransitionTarget
+            | Expected::InteractionName
+            | Expected::LowInteraction
+            | Expected::HighInteraction
+            | Expected::ClassName
+            | Expected::FirstMember
+            | Expected::MoreMembers
+            | Expected::Granted
+            | Expected::Class
+            | Expected::Tried
+            | Expected::FirstStation
+            | Expected::LastStation => Sort::Name,
+            Expected::StartValue | Expected::FlightPlace => Sort::Value,
+            Expected::FirstParticipant | Expected::MoreParticipants => Sort::Pair,
+            Expected::FirstMoved | Expected::MoreMoved | Expected::FirstSeen | Expected::MoreSeen =>
+                Sort::Want,
+            _ => self.sort_in_clause(spelling),
+        }
+    }
+
+    fn sort_in_clause(self, spelling: Spelling) -> Sort {
+        match (self, spelling) {
+            (Expected::LeftTerm | Expected::RightTerm | Expected::SumTerm, Spelling::Own) => {
+                Sort::NameOrValue
+            }
+            (Expected::LeftTerm | Expected::RightTerm | Expected::SumTerm, Spelling::Shared) => {
+                Sort::PairOrValue
+            }
+            (Expected::Target, Spelling::Own) => Sort::Name,
+            (Expected::Target, Spelling::Shared) => Sort::Pair,
+            _ => Sort::Mark,
+        }
     }
 
     /// What is wanted here, in words.
-    pub(crate) fn words(self, spelling: Spelling) -> &'static [u8] {
+    pub(crate) fn words(self, spelling: Spelling) -> &'static [u8]
+        ensures { result.now ≡ wanted_text spelling self }
+    {
         match self {
             Expected::One => b"`1`",
             Expected::Name
@@ -185,7 +245,9 @@ impl Expected {
         }
     }
 
-    fn words_of_clause(self, spelling: Spelling) -> &'static [u8] {
+    fn words_of_clause(self, spelling: Spelling) -> &'static [u8]
+        ensures { result.now ≡ wanted_in_clause spelling self }
+    {
         match (self, spelling) {
             (Expected::LeftTerm | Expected::RightTerm | Expected::SumTerm, Spelling::Own) => {
                 b"a value or a variable, as `v`,"
@@ -203,7 +265,9 @@ impl Expected {
         }
     }
 
-    fn words_of_step(self) -> &'static [u8] {
+    fn words_of_step(self) -> &'static [u8]
+        ensures { result.now ≡ wanted_in_step self }
+    {
         match self {
             Expected::Grant => b"`grant`",
             Expected::FirstMoved | Expected::FirstSeen => {
@@ -226,7 +290,9 @@ impl Expected {
 }
 
 // What `when` or `do` is followed by.
-fn clauses_after(word: &[u8]) -> Option<Expected> {
+fn after_head(word: &[u8]) -> Option<Expected>
+    ensures { result ≡ after_head word.now }
+{
     if is_text(word, b"when") {
         Some(Expected::LeftTerm)
     } else if is_text(word, b"do") {

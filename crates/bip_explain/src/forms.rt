@@ -1,20 +1,15 @@
 //! Faults of a line's form: the byte or the word that can't stand where it stands.
-ghost use Rattle.std.specs.Prelude.{◌≡◌, ℕ, List, ◌&&◌, nat_lt, length, IfSome};
-ghost use Rattle.std.specs.List.{list_all};
+ghost use Rattle.std.specs.Prelude.{◌≡◌, ℕ, IfSome, List};
 ghost use Rattle.bip_explain.specs.Explanations.{with_parts};
-ghost use Rattle.bip_explain.specs.Forms.{IsFormReason, IsHintOf};
-ghost use Rattle.bip_explain.specs.Forms.{form_parts, hint_of_byte, hint_text};
-ghost use Rattle.bip_explain.specs.Placed.{IsPlacedOn};
-ghost use Rattle.bip_model.specs.Naming.{is_name_byte, is_name_start, is_spelled_as_name};
+ghost use Rattle.bip_explain.specs.Forms.{IsByteReason, IsFormReason, form_parts, hint_of_byte};
+ghost use Rattle.bip_explain.specs.Forms.{wanted_parts};
+ghost use Rattle.bip_explain.specs.Placed.{IsBehind};
 
 use crate::Explanation;
 use crate::expected::Expected;
+use crate::hints::{Hint, hint_of};
 use crate::placed::{Placed, PlacedWords};
-use crate::words::{Spelling, is_name};
-use bip_model::is_plain;
-
-/// How many bytes a name has at most.
-const MOST_OF_NAME: usize = 32;
+use bip_model::{Spelling, is_plain};
 
 /// Why the form of a line is wrong.
 #[derive(Clone, Copy)]
@@ -22,17 +17,9 @@ pub(crate) enum FormReason<'t> {
     /// A byte, at a column, that can stand in no text.
     Byte(usize, u8),
     /// A word that can't stand where it stands, what is wanted there, and a hint.
-    Word(Placed<'t>, &'static [u8], Hint),
+    Word(Placed<'t>, Spelling, Expected, Hint<'t>),
     /// The line ends right before a column, where something more is wanted.
-    End(usize, &'static [u8]),
-}
-
-/// What keeps a word from being a name, though it looks like one.
-#[derive(Clone, Copy)]
-pub(crate) enum Hint {
-    NoHint,
-    TooLong,
-    Reserved,
+    End(usize, Spelling, Expected),
 }
 
 impl FormReason<'_> {
@@ -48,33 +35,26 @@ impl FormReason<'_> {
                 explanation.say(b" can't stand in a text");
                 explanation.say(hint_of_byte(byte));
             }
-            FormReason::Word(placed, wanted, hint) => {
+            FormReason::Word(placed, spelling, expected, hint) => {
                 explanation.say_placed(placed);
                 explanation.say(b" stands where ");
-                explanation.say(wanted);
-                explanation.say(b" is wanted");
-                explanation.say(hint.words());
+                say_wanted(explanation, spelling, expected);
+                hint.say(explanation);
             }
-            FormReason::End(column, wanted) => {
+            FormReason::End(column, spelling, expected) => {
                 explanation.say_column(column);
                 explanation.say(b"the line ends where ");
-                explanation.say(wanted);
-                explanation.say(b" is wanted");
+                say_wanted(explanation, spelling, expected);
             }
         }
     }
 }
 
-impl Hint {
-    fn words(self) -> &'static [u8]
-        ensures { result.now ≡ hint_text self }
-    {
-        match self {
-            Hint::NoHint => b"",
-            Hint::TooLong => b"; a name has at most 32 bytes",
-            Hint::Reserved => b"; it is a word of the language, and no name",
-        }
-    }
+fn say_wanted(explanation: &mut Explanation, spelling: Spelling, expected: Expected)
+    ensures { explanation.new ≡ with_parts (wanted_parts spelling expected) explanation.old }
+{
+    explanation.say(expected.words(spelling));
+    explanation.say(b" is wanted");
 }
 
 fn hint_of_byte(byte: u8) -> &'static [u8]
@@ -93,7 +73,7 @@ fn hint_of_byte(byte: u8) -> &'static [u8]
 
 /// The first byte of a line that can stand in none, if it has one.
 pub(crate) fn find_byte(line: &[u8]) -> Option<FormReason<'_>>
-    ensures { IfSome result (IsFormReason line.now) }
+    ensures { IfSome result (IsByteReason line.now) }
 {
     for (place, byte) in line.iter().enumerate() {
         if !is_plain(&[*byte]) {
@@ -107,75 +87,25 @@ pub(crate) fn find_byte(line: &[u8]) -> Option<FormReason<'_>>
 /// early; none where they have their form.
 pub(crate) fn find_word<'t>(
     spelling: Spelling,
-    expected: Expected,
+    start: Expected,
     words: PlacedWords<'t>,
 ) -> Option<FormReason<'t>>
-    ensures { IfSome result (IsFormReason words.entry.line.now) }
+    ensures { (front : List (List ℕ)) → IsBehind front words.entry.line.now words.entry.rest.now
+        → IfSome result (IsFormReason spelling start front words.entry.line.now) }
 {
     let end = words.end();
-    let mut expected = expected;
+    let mut expected = start;
     for placed in words {
         match expected.after(spelling, placed.word) {
             Some(next) => expected = next,
-            None => return Some(misplaced(spelling, expected, placed)),
+            None => {
+                let hint = hint_of(spelling, expected, placed.word);
+                return Some(FormReason::Word(placed, spelling, expected, hint));
+            }
         }
     }
     if expected.can_end() {
         return None;
     }
-    Some(FormReason::End(end, expected.words(spelling)))
-}
-
-/// That a word can't stand where it stands.
-pub(crate) fn misplaced<'t>(
-    spelling: Spelling,
-    expected: Expected,
-    placed: Placed<'t>,
-) -> FormReason<'t>
-    ensures { (line : List ℕ) → IsPlacedOn line placed.entry → IsFormReason line result }
-{
-    let hint = if expected.is_name() {
-        hint_of(placed.word)
-    } else {
-        Hint::NoHint
-    };
-    FormReason::Word(placed, expected.words(spelling), hint)
-}
-
-fn hint_of(word: &[u8]) -> Hint
-    ensures { IsHintOf word.now result }
-{
-    if !looks_like_name(word) {
-        Hint::NoHint
-    } else if word.len() > MOST_OF_NAME {
-        Hint::TooLong
-    } else if is_name(word) {
-        Hint::NoHint
-    } else {
-        Hint::Reserved
-    }
-}
-
-fn looks_like_name(word: &[u8]) -> bool
-    ensures { result ≡ is_spelled_as_name word.now }
-{
-    !word.is_empty() && is_name_start(word[0]) && are_name_bytes(word)
-}
-
-fn are_name_bytes(word: &[u8]) -> bool
-    ensures { result ≡ list_all is_name_byte word.now }
-{
-    word.iter().all(|byte| is_name_byte(*byte))
-}
-
-fn is_name_start(byte: u8) -> bool
-    ensures { result ≡ is_name_start byte }
-{
-    byte.is_ascii_alphabetic() || byte == b'_'
-}
-
-fn is_name_byte(byte: u8) -> bool
-    ensures { result ≡ is_name_byte byte }
-{
-    byte.is_ascii_alphanumeric() || byte == b'_'
+    Some(FormReason::End(end, spelling, expected))
 }

@@ -1,9 +1,12 @@
 //! Numbers and parties of a line's grant that are wrong.
-ghost use Rattle.std.specs.Prelude.{◌≡◌, IfSome};
+ghost use Rattle.std.specs.Prelude.{◌≡◌, ◌<◌, IfSome, None, Ok, Some, length};
+ghost use Rattle.std.specs.Option.{option_map};
 ghost use Rattle.bip_explain.specs.Explanations.{with_parts};
 ghost use Rattle.bip_explain.specs.Grants.{IsGrantOn, IsGrantReason, IsNamedSo, IsOfFault};
 ghost use Rattle.bip_explain.specs.Grants.{IsWantOn, component_parts, front_parts, grant_parts};
 ghost use Rattle.bip_explain.specs.Grants.{name_parts, named_text, next_parts, seen_text};
+ghost use Rattle.bip_model.specs.declared.grants.Grant.{Grant};
+ghost use Rattle.bip_replay.specs.Lines.{grant_on};
 ghost use Rattle.bip_replay.specs.declared.faults.BookFault.TheVariants.{Parties};
 
 use crate::Explanation;
@@ -114,8 +117,13 @@ impl Named {
 
 /// The interaction that the line of a grant names.
 pub(crate) fn interaction_on(model: &Model, line: &[u8]) -> Option<InterId>
-    ensures { IfSome result (λ inter. IsGrantOn model.now line.now inter.0) }
+    ensures on { IfSome result (λ inter. IsGrantOn model.now line.now inter.0) }
+    ensures declared { IfSome result (λ inter. inter.0 < length model.now.interactions) }
+    ensures named { (g : Grant) → grant_on model.now line.now ≡ Ok (Some g)
+        → option_map (λ inter. inter.0) result ≡ Some g.inter.0 }
+    ensures silent { grant_on model.now line.now ≡ Ok None → result ≡ None }
 {
+    model.recall();
     let (_grant, word) = two_words(line)?;
     model.interaction(&Name::of(word)?)
 }

@@ -8,6 +8,8 @@ mod expected;
 mod explanations;
 mod forms;
 mod grants;
+mod hindrances;
+mod hints;
 mod limits;
 mod models;
 mod placed;

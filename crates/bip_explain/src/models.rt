@@ -2,8 +2,9 @@
 ghost use Rattle.std.specs.Prelude.{◌≡◌, IfNone, IfOk, IfSome};
 ghost use Rattle.bip_reader.specs.declared.faults.Why.{Why};
 ghost use Rattle.bip_explain.specs.Explanations.{Tells, with_parts};
-ghost use Rattle.bip_explain.specs.Models.{IsModelReason, MayKeepModel, keyword_parts};
-ghost use Rattle.bip_explain.specs.Models.{model_parts};
+ghost use Rattle.bip_explain.specs.Models.{IsModelReason, MayKeepModel, behind_inside};
+ghost use Rattle.bip_explain.specs.Models.{behind_keyword, behind_outside, keyword_parts};
+ghost use Rattle.bip_explain.specs.Models.{model_parts, other_text, spelling_behind};
 
 use crate::Explanation;
 use crate::ends::{EndReason, find_cycle, find_missing, find_unparted};
@@ -14,7 +15,8 @@ use crate::placed::{Placed, line_at, words_of};
 use crate::scopes::{Standing, standing_at};
 use crate::twice::{TwiceReason, find_transition, find_twice};
 use crate::unknown::{UnknownReason, find_unknown};
-use crate::words::{Spelling, is_text};
+use crate::words::{is_text, is_verb};
+use bip_model::Spelling;
 use bip_reader::{ReadFault, Why};
 use std::alloc::{AllocError, Global};
 
@@ -78,6 +80,7 @@ fn say_keyword(explanation: &mut Explanation, first: Placed<'_>, standing: Stand
     match standing {
         Standing::First => {
             explanation.say(b" stands where `bip 1` is wanted, the first line of a model");
+            explanation.say(other_text(first.word));
         }
         Standing::Outside => {
             explanation.say(b" can't begin a line outside a component; ");
@@ -126,6 +129,19 @@ fn find_reason<'t>(
     }
 }
 
+// What text a word shows that begins none of a model.
+fn other_text(word: &[u8]) -> &'static [u8]
+    ensures { result.now ≡ other_text word.now }
+{
+    if is_text(word, b"grant") {
+        b"; it begins a line of a trace"
+    } else if is_verb(word) {
+        b"; it begins a line of a schedule"
+    } else {
+        b""
+    }
+}
+
 fn find_form(text: &[u8], number: u64) -> Option<ModelReason<'_>>
     ensures { (why : Why) → IfSome result
         (IsModelReason text.now (record { line = number; why = why })) }
@@ -135,25 +151,29 @@ fn find_form(text: &[u8], number: u64) -> Option<ModelReason<'_>>
         return Some(ModelReason::Form(find_byte(line)?));
     };
     let standing = standing_at(text, number);
-    match expected_behind(standing, first.word) {
+    match behind_keyword(standing, first.word) {
         None => Some(ModelReason::Keyword(first, standing)),
-        Some(expected) => {
+        Some(start) => {
             let spelling = spelling_behind(first.word);
-            Some(ModelReason::Form(find_word(spelling, expected, rest)?))
+            Some(ModelReason::Form(find_word(spelling, start, rest)?))
         }
     }
 }
 
 // What the line goes on with behind its first word; none where no line can begin so here.
-fn expected_behind(standing: Standing<'_>, keyword: &[u8]) -> Option<Expected> {
+fn behind_keyword(standing: Standing<'_>, keyword: &[u8]) -> Option<Expected>
+    ensures { result ≡ behind_keyword standing.entry keyword.now }
+{
     match standing {
         Standing::First => is_text(keyword, b"bip").then_some(Expected::One),
-        Standing::Outside => expected_outside(keyword),
-        Standing::Inside(_) => expected_inside(keyword),
+        Standing::Outside => behind_outside(keyword),
+        Standing::Inside(_component) => behind_inside(keyword),
     }
 }
 
-fn expected_outside(keyword: &[u8]) -> Option<Expected> {
+fn behind_outside(keyword: &[u8]) -> Option<Expected>
+    ensures { result ≡ behind_outside keyword.now }
+{
     if is_text(keyword, b"component") {
         Some(Expected::Name)
     } else if is_text(keyword, b"interaction") {
@@ -167,7 +187,9 @@ fn expected_outside(keyword: &[u8]) -> Option<Expected> {
     }
 }
 
-fn expected_inside(keyword: &[u8]) -> Option<Expected> {
+fn behind_inside(keyword: &[u8]) -> Option<Expected>
+    ensures { result ≡ behind_inside keyword.now }
+{
     if is_text(keyword, b"var") {
         Some(Expected::VariableName)
     } else if is_text(keyword, b"loc") || is_text(keyword, b"port") {
@@ -181,7 +203,9 @@ fn expected_inside(keyword: &[u8]) -> Option<Expected> {
     }
 }
 
-fn spelling_behind(keyword: &[u8]) -> Spelling {
+fn spelling_behind(keyword: &[u8]) -> Spelling
+    ensures { result ≡ spelling_behind keyword.now }
+{
     if is_text(keyword, b"interaction") {
         Spelling::Shared
     } else {

@@ -1,18 +1,20 @@
 //! Faults of a schedule's text.
-ghost use Rattle.std.specs.Prelude.{◌≡◌, ℕ, List, IfNone, IfSome};
+ghost use Rattle.std.specs.Prelude.{◌≡◌, ℕ, List, IfNone, IfSome, is_some, position};
+ghost use Rattle.bip_model.specs.Naming.{same_text};
 ghost use Rattle.bip_partition.specs.Plans.{Planned};
 ghost use Rattle.bip_replay.specs.declared.faults.TraceFault.{TraceFault};
 ghost use Rattle.bip_explain.specs.Explanations.{Tells, with_parts};
 ghost use Rattle.bip_explain.specs.Placed.{IsPlacedOn, line_at};
 ghost use Rattle.bip_explain.specs.Schedules.{IsScheduleReason, MayKeepSchedule};
+ghost use Rattle.bip_explain.specs.Schedules.{behind_verb, if_class, if_interaction};
 ghost use Rattle.bip_explain.specs.Schedules.{schedule_parts};
 
 use crate::Explanation;
 use crate::expected::Expected;
 use crate::forms::{FormReason, find_byte, find_word};
 use crate::placed::{Placed, PlacedWords, line_at, words_of};
-use crate::words::{Spelling, is_text};
-use bip_model::Name;
+use crate::words::is_text;
+use bip_model::{Name, Spelling};
 use bip_partition::Plan;
 use bip_replay::TraceFault;
 
@@ -22,10 +24,10 @@ pub(crate) enum ScheduleReason<'t> {
     Form(FormReason<'t>),
     /// A first word that can't begin a line.
     Keyword(Placed<'t>),
-    /// A word that is no class's name.
-    NoClass(Placed<'t>),
-    /// A word that is no interaction's name.
-    NoInteraction(Placed<'t>),
+    /// A word that is no class's name, and whether it is an interaction's.
+    NoClass(Placed<'t>, bool),
+    /// A word that is no interaction's name, and whether it is a class's.
+    NoInteraction(Placed<'t>, bool),
     /// An interaction that its class alone grants.
     NoStation(Placed<'t>),
     NoMemory,
@@ -63,13 +65,15 @@ impl ScheduleReason<'_> {
                 explanation.say(b" can't begin a line; ");
                 explanation.say(b"mail, try, serve, deliver, pass and ask can");
             }
-            ScheduleReason::NoClass(placed) => {
+            ScheduleReason::NoClass(placed, is_interaction) => {
                 explanation.say_placed(placed);
                 explanation.say(b" is no class of the model");
+                explanation.say(if_interaction(is_interaction));
             }
-            ScheduleReason::NoInteraction(placed) => {
+            ScheduleReason::NoInteraction(placed, is_class) => {
                 explanation.say_placed(placed);
                 explanation.say(b" is no interaction of the model");
+                explanation.say(if_class(is_class));
             }
             ScheduleReason::NoStation(placed) => {
                 explanation.say_placed(placed);
@@ -79,6 +83,26 @@ impl ScheduleReason<'_> {
                 explanation.say(b"the schedule takes more memory than there is");
             }
         }
+    }
+}
+
+fn if_interaction(is_interaction: bool) -> &'static [u8]
+    ensures { result.now ≡ if_interaction is_interaction }
+{
+    if is_interaction {
+        b", but an interaction of that name"
+    } else {
+        b""
+    }
+}
+
+fn if_class(is_class: bool) -> &'static [u8]
+    ensures { result.now ≡ if_class is_class }
+{
+    if is_class {
+        b", but a class of that name"
+    } else {
+        b""
     }
 }
 
@@ -100,13 +124,15 @@ fn find_form(line: &[u8]) -> Option<ScheduleReason<'_>>
     let Some((first, rest)) = words_of(line) else {
         return Some(ScheduleReason::Form(find_byte(line)?));
     };
-    match expected_behind(first.word) {
-        Some(expected) => Some(ScheduleReason::Form(find_word(Spelling::Own, expected, rest)?)),
+    match behind_verb(first.word) {
+        Some(start) => Some(ScheduleReason::Form(find_word(Spelling::Own, start, rest)?)),
         None => Some(ScheduleReason::Keyword(first)),
     }
 }
 
-fn expected_behind(verb: &[u8]) -> Option<Expected> {
+fn behind_verb(verb: &[u8]) -> Option<Expected>
+    ensures { result ≡ behind_verb verb.now }
+{
     if is_text(verb, b"mail") || is_text(verb, b"deliver") {
         Some(Expected::FlightPlace)
     } else if is_text(verb, b"try") {
@@ -138,14 +164,28 @@ fn find_tried<'t>(plan: &Plan, words: PlacedWords<'t>) -> Option<ScheduleReason<
 {
     let mut words = words;
     let class = words.next()?;
-    if plan.classes().number(&Name::of(class.word)?).is_none() {
-        return Some(ScheduleReason::NoClass(class));
+    let name = Name::of(class.word)?;
+    if !is_class(plan, &name) {
+        return Some(ScheduleReason::NoClass(class, is_interaction(plan, &name)));
     }
     let inter = words.next()?;
-    if plan.model().interaction(&Name::of(inter.word)?).is_none() {
-        return Some(ScheduleReason::NoInteraction(inter));
+    let name = Name::of(inter.word)?;
+    if !is_interaction(plan, &name) {
+        return Some(ScheduleReason::NoInteraction(inter, is_class(plan, &name)));
     }
     None
+}
+
+fn is_class(plan: &Plan, name: &Name) -> bool
+    ensures { result ≡ is_some (position (same_text name.now) plan.now.classes.names) }
+{
+    plan.classes().number(name).is_some()
+}
+
+fn is_interaction(plan: &Plan, name: &Name) -> bool
+    ensures { result ≡ is_some (position (same_text name.now) plan.now.model.interaction_names) }
+{
+    plan.model().interaction(name).is_some()
 }
 
 fn find_station<'t>(plan: &Plan, words: PlacedWords<'t>) -> Option<ScheduleReason<'t>>
@@ -167,7 +207,7 @@ fn reason_of_station<'t>(plan: &Plan, placed: Placed<'t>) -> Option<ScheduleReas
 {
     let name = Name::of(placed.word)?;
     match plan.model().interaction(&name) {
-        None => Some(ScheduleReason::NoInteraction(placed)),
+        None => Some(ScheduleReason::NoInteraction(placed, is_class(plan, &name))),
         Some(inter) if plan.reserved(inter) => None,
         Some(_) => Some(ScheduleReason::NoStation(placed)),
     }

@@ -14,8 +14,8 @@ use crate::Explanation;
 use crate::expected::Expected;
 use crate::forms::{FormReason, find_byte, find_word};
 use crate::placed::{Placed, PlacedWords, line_at, words_of};
-use crate::words::{Spelling, want_of};
-use bip_model::{MOST_WANTS, Model, Name};
+use crate::words::want_of;
+use bip_model::{MOST_WANTS, Model, Name, Spelling};
 use bip_replay::TraceFault;
 
 /// Why a line of a trace says no grant of a model.

@@ -6,12 +6,12 @@ ghost use Rattle.bip_model.specs.Texts.{pair_of, words};
 ghost use Rattle.bip_explain.specs.Placed.{IsPlacedOn, line_at, said_words};
 ghost use Rattle.bip_explain.specs.Declarations.{declares_inside};
 ghost use Rattle.bip_explain.specs.Unknown.{IsLack, IsOf, IsUnknownReason, kind_keyword, kind_word};
-ghost use Rattle.bip_explain.specs.Unknown.{is_front, lack_parts, has_participant};
+ghost use Rattle.bip_explain.specs.Unknown.{has_participant, is_front, lack_parts, later_parts};
 ghost use Rattle.bip_explain.specs.Unknown.{other_parts, unknown_parts};
 ghost use Rattle.bip_explain.specs.Words.{point};
 
 use crate::Explanation;
-use crate::declarations::{Declared, Inner, declares_inside, line_with};
+use crate::declarations::{Declared, Inner, declares_inside, later_line_with, line_with};
 use crate::placed::{Placed, PlacedWords, line_at, words_of};
 use crate::words::{is_text, pair_of};
 use bip_model::{Name, Names, split_pair};
@@ -37,10 +37,10 @@ pub(crate) struct Lack {
 /// Why a name of a line is unknown.
 #[derive(Clone, Copy)]
 pub(crate) enum UnknownReason<'t> {
-    /// No line before declares an interaction by this name.
-    Interaction(Placed<'t>),
-    /// No line before declares the component that this word names.
-    Component(Placed<'t>, Name),
+    /// No line before declares an interaction by this name; a later one that does, if one does.
+    Interaction(Placed<'t>, Option<u64>),
+    /// No line before declares the component that this word names; a later one that does.
+    Component(Placed<'t>, Name, Option<u64>),
     /// The component that this word names takes no part in the interaction.
     Stranger(Placed<'t>, Name),
     /// The component lacks what this word names.
@@ -53,15 +53,17 @@ impl UnknownReason<'_> {
         ensures { explanation.new ≡ with_parts (unknown_parts self.now) explanation.old }
     {
         match self {
-            UnknownReason::Interaction(placed) => {
+            UnknownReason::Interaction(placed, later) => {
                 explanation.say_column(placed.column);
                 explanation.say(b"no line before declares an interaction ");
                 explanation.say_word(placed.word);
+                say_later(explanation, *later);
             }
-            UnknownReason::Component(placed, component) => {
+            UnknownReason::Component(placed, component, later) => {
                 explanation.say_column(placed.column);
                 explanation.say(b"no line before declares a component ");
                 explanation.say_word(component.as_bytes());
+                say_later(explanation, *later);
             }
             UnknownReason::Stranger(placed, component) => {
                 explanation.say_column(placed.column);
@@ -74,6 +76,16 @@ impl UnknownReason<'_> {
                 lack.say(explanation);
             }
         }
+    }
+}
+
+fn say_later(explanation: &mut Explanation, later: Option<u64>)
+    ensures { explanation.new ≡ with_parts (later_parts later) explanation.old }
+{
+    if let Some(line) = later {
+        explanation.say(b", but line ");
+        explanation.say_number(line);
+        explanation.say(b" does");
     }
 }
 
@@ -178,7 +190,8 @@ fn find_member<'t>(
         if is_missing(&declared.interactions, placed.word)
             && line_with(text, number, b"interaction", placed.word).is_none()
         {
-            return Some(UnknownReason::Interaction(placed));
+            let later = later_line_with(text, number, b"interaction", placed.word);
+            return Some(UnknownReason::Interaction(placed, later));
         }
     }
     None
@@ -366,9 +379,13 @@ fn find_component<'t>(
     requires placed { IsPlacedOn line.now placed }
     ensures { IfSome result (IsUnknownReason text.now number line.now) }
 {
-    match line_with(text, number, b"component", component.as_bytes()) {
+    let name = component.as_bytes();
+    match line_with(text, number, b"component", name) {
         Some(_) => None,
-        None => Some(UnknownReason::Component(placed, component)),
+        None => {
+            let later = later_line_with(text, number, b"component", name);
+            Some(UnknownReason::Component(placed, component, later))
+        }
     }
 }
 

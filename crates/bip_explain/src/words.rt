@@ -1,19 +1,10 @@
 //! What words are by themselves.
-ghost use Rattle.std.specs.Prelude.{◌≡◌, ◌↔◌, IfSome, IsTrue};
-ghost use Rattle.bip_model.specs.Naming.{IsName, same_text};
-ghost use Rattle.bip_explain.specs.Words.{IsPair, IsWant};
+ghost use Rattle.std.specs.Prelude.{◌≡◌, IfSome};
+ghost use Rattle.bip_model.specs.Naming.{is_name, same_text};
+ghost use Rattle.bip_explain.specs.Words.{IsPair, IsWant, is_pair, is_relation, is_sign, is_term};
+ghost use Rattle.bip_explain.specs.Words.{is_value, is_variable, is_verb, is_want};
 
-use bip_model::{Name, parse_number, parse_value, split_pair};
-
-/// The words that stand between the parts of guards and sums: relations.
-const RELATIONS: [&[u8]; 6] = [b"=", b"!=", b"<", b"<=", b">", b">="];
-
-/// How a line spells variables: `v` inside a component, `C.v` in an interaction.
-#[derive(Clone, Copy)]
-pub(crate) enum Spelling {
-    Own,
-    Shared,
-}
+use bip_model::{Name, Spelling, parse_number, parse_value, split_pair};
 
 pub(crate) fn is_text(word: &[u8], text: &[u8]) -> bool
     ensures { result ≡ same_text word.now text.now }
@@ -22,12 +13,14 @@ pub(crate) fn is_text(word: &[u8], text: &[u8]) -> bool
 }
 
 pub(crate) fn is_name(word: &[u8]) -> bool
-    ensures { IsTrue result ↔ IsName word.now }
+    ensures { result ≡ is_name word.now }
 {
     Name::of(word).is_some()
 }
 
-pub(crate) fn is_value(word: &[u8]) -> bool {
+pub(crate) fn is_value(word: &[u8]) -> bool
+    ensures { result ≡ is_value word.now }
+{
     parse_value(word).is_some()
 }
 
@@ -39,8 +32,13 @@ pub(crate) fn pair_of(word: &[u8]) -> Option<(Name, Name)>
     Some((Name::of(component)?, Name::of(inner)?))
 }
 
-pub(crate) fn is_pair(word: &[u8]) -> bool {
-    pair_of(word).is_some()
+pub(crate) fn is_pair(word: &[u8]) -> bool
+    ensures { result ≡ is_pair word.now }
+{
+    match split_pair(word, b'.') {
+        None => false,
+        Some((component, inner)) => is_name(component) && is_name(inner),
+    }
 }
 
 /// A component with its number: `C:N`.
@@ -51,27 +49,57 @@ pub(crate) fn want_of(word: &[u8]) -> Option<(Name, u64)>
     Some((Name::of(component)?, parse_number(number)?))
 }
 
-pub(crate) fn is_want(word: &[u8]) -> bool {
-    want_of(word).is_some()
+pub(crate) fn is_want(word: &[u8]) -> bool
+    ensures { result ≡ is_want word.now }
+{
+    match split_pair(word, b':') {
+        None => false,
+        Some((component, number)) => is_name(component) && parse_number(number).is_some(),
+    }
 }
 
-pub(crate) fn is_sign(word: &[u8]) -> bool {
+pub(crate) fn is_sign(word: &[u8]) -> bool
+    ensures { result ≡ is_sign word.now }
+{
     is_text(word, b"+") || is_text(word, b"-")
 }
 
-pub(crate) fn is_relation(word: &[u8]) -> bool {
-    RELATIONS.iter().any(|relation| is_text(word, relation))
+pub(crate) fn is_relation(word: &[u8]) -> bool
+    ensures { result ≡ is_relation word.now }
+{
+    is_text(word, b"=")
+        || is_text(word, b"!=")
+        || is_text(word, b"<")
+        || is_text(word, b"<=")
+        || is_text(word, b">")
+        || is_text(word, b">=")
 }
 
-impl Spelling {
-    pub(crate) fn is_variable(self, word: &[u8]) -> bool {
-        match self {
-            Spelling::Own => is_name(word),
-            Spelling::Shared => is_pair(word),
-        }
+/// A variable: `v` inside a component, `C.v` in an interaction.
+pub(crate) fn is_variable(spelling: Spelling, word: &[u8]) -> bool
+    ensures { result ≡ is_variable spelling word.now }
+{
+    match spelling {
+        Spelling::Own => is_name(word),
+        Spelling::Shared => is_pair(word),
     }
+}
 
-    pub(crate) fn is_term(self, word: &[u8]) -> bool {
-        is_value(word) || self.is_variable(word)
-    }
+/// A value, or a variable.
+pub(crate) fn is_term(spelling: Spelling, word: &[u8]) -> bool
+    ensures { result ≡ is_term spelling word.now }
+{
+    is_value(word) || is_variable(spelling, word)
+}
+
+/// What begins a line of a schedule.
+pub(crate) fn is_verb(word: &[u8]) -> bool
+    ensures { result ≡ is_verb word.now }
+{
+    is_text(word, b"mail")
+        || is_text(word, b"try")
+        || is_text(word, b"serve")
+        || is_text(word, b"deliver")
+        || is_text(word, b"pass")
+        || is_text(word, b"ask")
 }

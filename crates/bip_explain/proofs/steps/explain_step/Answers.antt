@@ -29,3 +29,9 @@ returns-in-Some-clause-told c =
 
 pub returns-in-Memory-clause-told : goal.returns-in-Memory-clause-told
 returns-in-Memory-clause-told c = rw c.in-Memory.is (λ told. c.say-in-Memory.ensures)
+
+pub returns-in-NotEnabled-clause-told : goal.returns-in-NotEnabled-clause-told
+returns-in-NotEnabled-clause-told c = rw c.in-NotEnabled.is (rw c.in-NotEnabled.is at (c.explain_hindered.ensures c.args.base))
+
+pub returns-in-Below-clause-told : goal.returns-in-Below-clause-told
+returns-in-Below-clause-told c = rw c.in-Below.is (rw c.in-Below.is at (c.explain_hindered-in-Below.ensures c.args.base))

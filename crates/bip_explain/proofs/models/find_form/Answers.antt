@@ -1,0 +1,28 @@
+use Rattle.std.proofs.Common.{◌∷◌, [], inr, sym, ◌∙◌}
+use Rattle.bip_explain.specs.Forms.{IsFormReason}
+use Rattle.bip_explain.specs.Models.{IsModelLine, spelling_behind}
+use Rattle.bip_explain.specs.Placed.{line_at}
+use Rattle.bip_explain.proofs.FormLemmas.{words_from_said}
+use Rattle.bip_explain.proofs.WantedLemmas.{line_taken, no_line}
+use Rattle.bip_explain.proofs.models.find_form.Goals as goal
+
+pub returns-in_ok-find_word-in-Some-behind_keyword : goal.returns-in_ok-find_word-in-Some-behind_keyword
+returns-in_ok-find_word-in-Some-behind_keyword c = λ why.
+    let line = line_at c.args.text.now c.args.number in
+    let keyword = c.in-Some.first.word.now in
+    let start = c.in-Some-behind_keyword.start in
+    let found = c.in_ok-find_word-in-Some-behind_keyword in
+    let begins = sym c.behind_keyword.ensures ∙ c.in-Some-behind_keyword.is in
+    let form : IsFormReason (spelling_behind keyword) start (keyword ∷ []) line found.field-0
+    = rw (c.spelling_behind-spelling.ensures, c.in-Some.ensures.line, c.line_at-line.ensures) at (found.ensures (keyword ∷ []) (rw c.in-Some.ensures.line (words_from_said c.line_at-line.result.now keyword _ c.in-Some.ensures.words))) in
+    inr (
+      c.standing_at-standing.result,
+      c.standing_at-standing.ensures,
+      record {
+        keyword = keyword;
+        start = start;
+        begins = begins;
+        form = form;
+        no_line = no_line IsModelLine (spelling_behind keyword) start (keyword ∷ []) (λ ws states. line_taken keyword ws start states c.standing_at-standing.result begins) line found.field-0 form;
+      },
+    )
