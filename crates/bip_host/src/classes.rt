@@ -61,6 +61,9 @@ impl<'h, 'p, 'm, L: Ledger> ClassThread<'h, 'p, 'm, L> {
             Some(message) => self.hear(rt, gate, message),
             None => Turn::Nothing,
         };
+        if received == Turn::Over {
+            return Turn::Over;
+        }
         let Some(inter) = self.next_inter() else {
             return received;
         };

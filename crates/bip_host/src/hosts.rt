@@ -1,4 +1,4 @@
-//! Hosts: a plan's nodes as threads, round one locked table and one locked book.
+//! Hosts: a plan's nodes as threads, round one locked book, with a locked table, a ring or forks.
 ghost use Rattle.std.specs.Prelude.{◌≡◌, ◌<◌, [], IfErr, IfOk};
 ghost use Rattle.bip_replay.specs.Runs.{IsModelRun};
 ghost use Rattle.bip_host.specs.Mailboxes.{AreEndsOfEach};
@@ -93,7 +93,7 @@ impl Totals {
 }
 
 /// Runs the nodes of a plan, each in a thread of its own that ends after so many turns: one of each
-/// component, and one of each class. **The grants of the report are a run of the plan's model, with
+/// component, one of each class, and with a ring or forks one of each station. **The grants of the report are a run of the plan's model, with
 /// exact numbers above 0.** A grant that were none is refused by the book before anybody is told of
 /// it, and the fault is NotARun then; else Memory, where it was wanted; else Thread, where one
 /// couldn't be started. Each thread that was started is joined (docs/HOST.md).
@@ -126,19 +126,13 @@ pub fn run_host_counted<G: Gate + Sync, R: Threads + Wait + Sync>(
     ensures run { IfOk result (λ done. IsModelRun plan.now.model 0 done.0.grants.items) }
     ensures fault { IfErr result IsHostFault }
 {
-    let table = first_table(alloc, plan, 0)?;
-    let passes = plan.classes().len().max(1);
     match (kind, tables) {
-        (Kind::Central, Tables::Locked) => run_central::<Brand, G, R>(
-            rt,
-            alloc,
-            Blank::new(passes as u64),
-            table,
-            passes,
-            plan,
-            limits,
-            gate,
-        ),
+        (Kind::Central, Tables::Locked) => {
+            let table = first_table(alloc, plan, 0)?;
+            let passes = plan.classes().len().max(1);
+            let blank = Blank::new(passes as u64);
+            run_central::<Brand, G, R>(rt, alloc, blank, table, passes, plan, limits, gate)
+        }
         (Kind::Ring, Tables::Locked) => {
             let inboxes = ring_mailboxes(alloc, plan)?;
             run_stations::<Brand, G, R>(rt, alloc, plan, Form::Ring, inboxes, limits, gate)
