@@ -56,7 +56,7 @@ count_push f ds d = ap (λ n. count_by f ds + n) (number_is (f d)) ∙ sym (sum_
 report_by : ℕ → ℕ → ℕ → ℕ → ℕ → ℕ → Report
 report_by lost events grants refusals idle skipped = record { lost = lost; events = events; grants = grants; refusals = refusals; idle = idle; skipped = skipped }
 
-report_more : (ds : List (Option Did)) (d : Option Did) → report_with (report_of ds) d ≡ report_of (ds ++ d ∷ [])
+pub report_more : (ds : List (Option Did)) (d : Option Did) → report_with (report_of ds) d ≡ report_of (ds ++ d ∷ [])
 report_more ds d = rw (← sum_by_push lost_by ds d, length-append ds (d ∷ []), ← count_push (did_so is_grant) ds d, ← count_push (did_so is_refusal) ds d, ← count_push (did_so is_idle) ds d, ← count_push was_skipped ds d) refl
 
 -- an event counts as its kind says
