@@ -153,8 +153,7 @@ module _ {p : Planned} {base : ℕ} {u : ℕ → ℕ} {s : State} {w : View}
       let inter : a ≡ b = sym its.number ∙ (ap (λ (g : Grant). g.inter.0) one ∙ others.number) in
       let class : j ≡ k = sym its.home ∙ (ap (class_in p.classes) inter ∙ others.home) in
       let entry : e ≡ f = same_some e f (sym owes.is ∙ (ap₂ w.pending class inter ∙ other.is)) in
-      let among : In x e.notifies = subst (λ (r : OpenRecord). In x r.notifies) (sym entry) other.tells in
-      (
+      let among : In x e.notifies = subst (λ (r : OpenRecord). In x r.notifies) (sym entry) other.tells in (
         class,
         inter,
         count-same (λ (m : Notify). m.comp.0 == n.comp.0) n x e.notifies

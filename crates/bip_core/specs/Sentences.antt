@@ -145,8 +145,8 @@ pub record AgreesInSix (p : Planned) (base : ℕ) (u : ℕ → ℕ) (s : State) 
   pub requests : (q : Request) → IsRequestOut w q → RequestAgrees p u s w q
   pub records : RecordsAgree p u w
 
--- where a world agrees so, there is one offer at most that is out, held or in flight, of a component
--- with a number that isn't used: who grants by it grants what all others see
+-- where a world agrees so, there is one offer at most that is out, held or in flight, of a
+-- component with a number that isn't used: who grants by it grants what all others see
 abbrev pub OneOfferOut : Type 0
 OneOfferOut =
     (p : Planned) (base : ℕ) (u : ℕ → ℕ) (s : State) (w : View) → AgreesInSix p base u s w

@@ -22,9 +22,9 @@ pub fn world_laws()
 {}
 
 /// What it means that a world agrees with its trace, in six parts: of the trace, of each component,
-/// of each offer, of used and known numbers, of each request, and of records and what is about them.
-/// So an offer that is out is the only one of its component with that number, unless it is used
-/// (docs/PROTOCOL.md, "Agreement").
+/// of each offer, of used and known numbers, of each request, and of records with what is about
+/// them. So an offer that is out is the only one of its component with that number, unless that is
+/// used (docs/PROTOCOL.md, "Agreement").
 pub fn agreement_laws()
     ensures six { AgreementInSix }
     ensures one { OneOfferOut }
