@@ -1,3 +1,5 @@
+-- `next`, statement by statement: the lender is lent for each call, for a lifetime inside that of
+-- its rows, and comes back as the call left it.
 use mathlib.Core.Path.{◌≡◌, refl, sym, subst, ap, ◌∙◌}
 use Prim.Native.Nat.{ℕ, ◌+◌, ◌<◌, ◌≤◌}
 use native.Mathlib.Omega.{arith}

@@ -1,3 +1,5 @@
+-- `take_row`, statement by statement: the lender is lent for each call, for a lifetime inside that
+-- of its rows, and what `lend` says of the two parts is kept to the end.
 use mathlib.Core.Path.{◌≡◌, refl, sym, subst, ap, ◌∙◌}
 use Prim.Native.Nat.{ℕ, ◌+◌, ◌<◌}
 use mathlib.Core.List.{List, [], ◌∷◌, ◌++◌}
@@ -100,7 +102,6 @@ take_row_spec 𝓤 𝓛 𝓜 𝓡 wired =
     -- [the token of κ₁; nothing; self; the token of κ; nothing; nothing; the rows]
     move ! (6 ∷ []) $ peeks ! (MutSlice (named 1) κ₁ the_row) _ (shows 𝓛 (MutSlice (named 1) κ₁ the_row)) r (v₁ ∷ []) (λ is.
     let e₁ = mut_slice_Tells (named 1) κ₁ the_row r (v₁ ∷ []) is in
-    let n = length r.now in
     lands_as ! (ap only e₁) refl (tt, (tt, (record { fits = is.0.1.0 }, tt))) $
     rewrite ! 0 (λ (vs : List Val). ‵ ((MutSlice (named 1) κ₁ the_row).own_val r vs)) e₁ refl $
     sets ! (addr ! (from ! (fld ! refl (hop ! (look_in_at ! 3 (sub ! 0 refl (whole !))) (stop !))))) refl (tt, tt) $
