@@ -93,10 +93,11 @@ impl Totals {
 }
 
 /// Runs the nodes of a plan, each in a thread of its own that ends after so many turns: one of each
-/// component, one of each class, and with a ring or forks one of each station. **The grants of the report are a run of the plan's model, with
-/// exact numbers above 0.** A grant that were none is refused by the book before anybody is told of
-/// it, and the fault is NotARun then; else Memory, where it was wanted; else Thread, where one
-/// couldn't be started. Each thread that was started is joined (docs/HOST.md).
+/// component, one of each class, and with a ring or forks one of each station. **The grants of the
+/// report are a run of the plan's model, with exact numbers above 0.** A grant that were none is
+/// refused by the book before anybody is told of it, and the fault is NotARun then; else Memory,
+/// where it was wanted; else Thread, where one couldn't be started. Each thread that was started is
+/// joined (docs/HOST.md).
 pub fn run_host<G: Gate + Sync, R: Threads + Wait + Sync>(
     rt: &R,
     alloc: Global,
