@@ -3,7 +3,7 @@ use Rattle.std.proofs.Common.{◌≡◌, ℕ, ◌+◌, Bool, true, false, List, 
 use Rattle.std.proofs.lemmas.List.{append_cancel_right, map-append}
 use Rattle.bip_model.specs.Texts.{is_comment, is_plain, words}
 use Rattle.bip_model.specs.declared.clauses.Spelling.{Spelling}
-use Rattle.bip_explain.specs.Expected.{after, after_all, can_end}
+use Rattle.bip_explain.specs.Expected.{after_word, after_all, can_end}
 use Rattle.bip_explain.specs.Forms.{IsFormReason}
 use Rattle.bip_explain.specs.Hints.{IsHintOf}
 use Rattle.bip_explain.specs.Placed.{IsPlacedOn, said_words}
@@ -24,7 +24,7 @@ pub record IsGoneTo (spelling : Spelling) (start : Expected) (all : List (List �
 pub gone-none : (spelling : Spelling) (start : Expected) (all : List (List ℕ)) → IsGoneTo spelling start all [] start all
 gone-none spelling start all = record { taken = refl; split = refl }
 
-pub gone-more : (spelling : Spelling) (start expected next : Expected) (all left after' : List (List ℕ)) (gone : List Placed) (p : Placed) → IsGoneTo spelling start all gone expected left → left ≡ p.word.now ∷ after' → after spelling expected p.word.now ≡ Some next
+pub gone-more : (spelling : Spelling) (start expected next : Expected) (all left after' : List (List ℕ)) (gone : List Placed) (p : Placed) → IsGoneTo spelling start all gone expected left → left ≡ p.word.now ∷ after' → after_word spelling expected p.word.now ≡ Some next
     → IsGoneTo spelling start all (gone ++ p ∷ []) next after'
 gone-more spelling start expected next all left after' gone p so is at = record {
   taken = ap (λ ws. after_all spelling start ws) (map-append (λ (q : Placed). q.word.now) gone (p ∷ [])) ∙ (behind spelling start expected (words_in gone) (p.word.now ∷ []) so.taken ∙ rw at refl);
@@ -33,7 +33,7 @@ gone-more spelling start expected next all left after' gone p so is at = record 
 
 -- a word that can't stand where the words before it lead
 pub misplaced : (spelling : Spelling) (start expected : Expected) (front all left : List (List ℕ)) (line rest new : List ℕ) (gone : List Placed) (placed : Placed) (hint : Hint) → words line ≡ front ++ all → IsGoneTo spelling start all gone expected left → left ≡ placed.word.now ∷ words new
-    → (at : IsPlacedOn line placed) → words at.behind ≡ words new → after spelling expected placed.word.now ≡ None → IsHintOf placed.word.now hint → IsFormReason spelling start front line (Word placed spelling expected hint)
+    → (at : IsPlacedOn line placed) → words at.behind ≡ words new → after_word spelling expected placed.word.now ≡ None → IsHintOf placed.word.now hint → IsFormReason spelling start front line (Word placed spelling expected hint)
 misplaced spelling start expected front all left line rest new gone placed hint whole so is at same none hinted =
     let there : at.front ++ (placed.word.now ∷ words new) ≡ (front ++ words_in gone) ++ (placed.word.now ∷ words new)
     = ap (λ (ws : List (List ℕ)). at.front ++ placed.word.now ∷ ws) (sym same) ∙ (sym at.words_are ∙ (whole ∙ (ap (λ (ws : List (List ℕ)). front ++ ws) (so.split ∙ ap (λ (ws : List (List ℕ)). words_in gone ++ ws) is) ∙ sym (append_assoc front (words_in gone) (placed.word.now ∷ words new))))) in

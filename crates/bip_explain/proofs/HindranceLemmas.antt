@@ -30,7 +30,10 @@ use Rattle.bip_model.specs.Texts.{is_plain, lines, numbered, numbered_lines, wor
 use Rattle.bip_model.specs.declared.grants.Grant.{Grant}
 use Rattle.bip_model.specs.declared.parts.System.{System}
 use Rattle.bip_model.proofs.LineLemmas.{AreLeft, all_read, line_read, none_read}
-use Rattle.bip_replay.specs.Faults.{IsFaultOf, of_step}
+use Rattle.bip_replay.specs.Faults.{IsFaultOf, expected_after, of_step}
+use Rattle.bip_replay.specs.Laws.{times_moved}
+use Rattle.bip_replay.specs.declared.faults.BookFault.TheVariants.{Number}
+use Rattle.bip_explain.specs.Grants.{IsCountOf}
 use Rattle.bip_replay.specs.Items.{before_rest, items_from, one_more}
 use Rattle.std.specs.Option.{option_map, option_map_or}
 use Rattle.bip_model.specs.declared.wants.Role.TheVariants.{Moved}
@@ -46,8 +49,8 @@ use Rattle.bip_replay.specs.declared.faults.LineFault.{LineFault}
 use Rattle.bip_replay.specs.declared.faults.ReplayFault.TheVariants.{NotARun}
 use Rattle.bip_replay.specs.declared.faults.StepFault.{StepFault}
 use Rattle.bip_replay.proofs.ItemLemmas.{first_read}
-use Rattle.bip_replay.proofs.RunLemmas.{end_of-push, grants-back}
-use Rattle.bip_explain.specs.Hindrances.{IsFirstFailed, IsFree, IsLedBy, IsLedOn, IsStateBefore, IsUnoffered, IsUnofferedIn}
+use Rattle.bip_replay.proofs.RunLemmas.{counts_moves, end_of-push, grants-back}
+use Rattle.bip_explain.specs.Hindrances.{IsFirstFailed, IsUnhindered, IsLedBy, IsLedOn, IsStateBefore, IsUnoffered, IsUnofferedIn}
 use Rattle.bip_explain.specs.Placed.{first_two, line_at, line_in, said_words, words_told}
 use Rattle.bip_explain.proofs.LineLemmas.{neq-eqb}
 
@@ -225,16 +228,16 @@ led_on m s t a (Err NotEnabled) fired refused may = absurd (refused may.enabled)
 led_on m s t a (Err (Below b)) fired refused may = absurd (may.clear b.0 refused.1.above refused.1.enabled)
 
 -- what the fault says keeps it from running
-pub not_free : (m : System) (base : ℕ) (text : List ℕ) (number : ℕ) (fault : BookFault) (s : State) (a : ℕ) (is : IsFaultOn m base text number fault) → s ≡ state_after m is.grants → a ≡ is.grant.inter.0 → IsFree m s a fault → ⊥
+pub not_free : (m : System) (base : ℕ) (text : List ℕ) (number : ℕ) (fault : BookFault) (s : State) (a : ℕ) (is : IsFaultOn m base text number fault) → s ≡ state_after m is.grants → a ≡ is.grant.inter.0 → IsUnhindered m s a fault → ⊥
 not_free m base text number fault s a is there same free = by_step is.step is.same is.why where
-  here : IsFree m (state_after m is.grants) is.grant.inter.0 fault
-  here = subst (λ (u : State). IsFree m u is.grant.inter.0 fault) there (subst (λ (n : ℕ). IsFree m s n fault) same free)
+  here : IsUnhindered m (state_after m is.grants) is.grant.inter.0 fault
+  here = subst (λ (u : State). IsUnhindered m u is.grant.inter.0 fault) there (subst (λ (n : ℕ). IsUnhindered m s n fault) same free)
 
   by_step : (step : StepFault) → fault ≡ of_step step → IsFaultOf m (state_after m is.grants) (used_after base is.grants) is.grant step → ⊥
-  by_step step.NotEnabled e why = why (subst (λ (f : BookFault). IsFree m (state_after m is.grants) is.grant.inter.0 f) e here)
-  by_step (step.Below b) e why = subst (λ (f : BookFault). IsFree m (state_after m is.grants) is.grant.inter.0 f) e here b.0 why.1.above why.1.enabled
-  by_step (step.Number c next) e why = subst (λ (f : BookFault). IsFree m (state_after m is.grants) is.grant.inter.0 f) e here
-  by_step step.Parties e why = subst (λ (f : BookFault). IsFree m (state_after m is.grants) is.grant.inter.0 f) e here
+  by_step step.NotEnabled e why = why (subst (λ (f : BookFault). IsUnhindered m (state_after m is.grants) is.grant.inter.0 f) e here)
+  by_step (step.Below b) e why = subst (λ (f : BookFault). IsUnhindered m (state_after m is.grants) is.grant.inter.0 f) e here b.0 why.1.above why.1.enabled
+  by_step (step.Number c next) e why = subst (λ (f : BookFault). IsUnhindered m (state_after m is.grants) is.grant.inter.0 f) e here
+  by_step step.Parties e why = subst (λ (f : BookFault). IsUnhindered m (state_after m is.grants) is.grant.inter.0 f) e here
 
 -- components that are there
 pub get_there : {X : Type 0} (xs : List X) (i : ℕ) → i < length xs → (x : X) × (slice_get xs i ≡ Some x)
@@ -308,3 +311,18 @@ led_by m s t inter line r fired refused named silent None says = let none : Some
 led_by m s t inter line r fired refused named silent (Some g) says = λ may.
     let same : inter.0 ≡ g.inter.0 = let e : Some inter.0 ≡ Some g.inter.0 = named g says in cc in
     led_on m s t inter.0 r fired refused (subst (λ (a : ℕ). MayRun m s a) (sym same) may) ∙ ap (λ (a : ℕ). after m s a) same
+
+-- how often a component has moved before the line whose number is wrong
+pub counted : (m : System) (base : ℕ) (text : List ℕ) (number : ℕ) (comp : CompId) (next : ℕ) → IsCountOf m base text number comp next
+counted m base text number comp next first some = by_step first.why.0 first.why.1 first.why.2.why
+  where
+    by_step : (step : StepFault) → Number comp next ≡ of_step step → IsFaultOf m (state_after m first.grants) (used_after base first.grants) first.why.2.grant step → (next - base) - 1 ≡ times_moved first.grants comp.0
+    by_step step.NotEnabled e why = cc
+    by_step (step.Below b) e why = cc
+    by_step step.Parties e why = cc
+    by_step (step.Number c k) e why =
+        let same : c.0 ≡ comp.0 = cc in
+        let is : next ≡ k = cc in
+        let used = counts_moves m (start_of m) (λ _. base) first.grants comp.0 first.run in
+        let after : k ≡ expected_after (used_after base first.grants comp.0) = why.2 ∙ ap (λ (n : ℕ). expected_after (used_after base first.grants n)) same in
+        grind arith

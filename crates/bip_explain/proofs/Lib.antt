@@ -1,8 +1,10 @@
+pub mod EndLemmas
 pub mod FormLemmas
 pub mod HindranceLemmas
 pub mod LineLemmas
 pub mod PlacedLemmas
 pub mod SayLemmas
 pub mod ScopeLemmas
+pub mod TraceLemmas
 pub mod TwiceLemmas
 pub mod WantedLemmas

@@ -38,7 +38,7 @@ use Rattle.bip_model.specs.declared.wants.Role.{Role}
 use Rattle.bip_model.specs.declared.wants.Role.TheVariants.{Moved, Seen}
 use Rattle.bip_replay.specs.Lines.{NamedGrant, colon, is_named, said, want_of, want_said, wants_said, with_want}
 use Rattle.bip_explain.specs.Traces.{IsGrantWords}
-use Rattle.bip_explain.specs.Expected.{after, after_all, can_end, ends, takes_all}
+use Rattle.bip_explain.specs.Expected.{after_word, after_all, can_end, ends, takes_all}
 use Rattle.bip_explain.specs.Words.{is_pair, is_sign, is_term, is_value, is_variable, is_want}
 use Rattle.bip_model.specs.Texts.{words}
 use Rattle.bip_explain.specs.Forms.{IsFormReason, IsNoLine, LeadsTo, NoLineBegins}
@@ -55,10 +55,10 @@ use Rattle.bip_explain.specs.declared.expected.Expected.TheVariants.{One, Name, 
 -- words behind words
 pub behind : (spelling : Spelling) (e n : Expected) (xs ys : List (List ℕ)) → after_all spelling e xs ≡ Some n → after_all spelling e (xs ++ ys) ≡ after_all spelling n ys
 behind spelling e n [] ys at = let same : e ≡ n = cc in ap (λ (k : Expected). after_all spelling k ys) same
-behind spelling e n (x ∷ xs) ys at = option_and_then_some (λ k. after_all spelling k xs) (after spelling e x) n at (λ k is led. rw is (behind spelling k n xs ys led))
+behind spelling e n (x ∷ xs) ys at = option_and_then_some (λ k. after_all spelling k xs) (after_word spelling e x) n at (λ k is led. rw is (behind spelling k n xs ys led))
 
 -- a word in front
-step : (spelling : Spelling) (e n : Expected) (x : List ℕ) (xs : List (List ℕ)) → after spelling e x ≡ Some n → after_all spelling e (x ∷ xs) ≡ after_all spelling n xs
+step : (spelling : Spelling) (e n : Expected) (x : List ℕ) (xs : List (List ℕ)) → after_word spelling e x ≡ Some n → after_all spelling e (x ∷ xs) ≡ after_all spelling n xs
 step spelling e n x xs at = rw at refl
 
 -- names, pairs, variables and terms
@@ -75,8 +75,8 @@ term_taken spelling word (Of v) spells = rw (variable_taken spelling word v spel
 
 -- sums, from the place of a term to the one behind it
 module _ (spelling : Spelling) (term more : Expected)
-    (takes : (word : List ℕ) → is_term spelling word ≡ true → after spelling term word ≡ Some more)
-    (signs : (s : Sign) → after spelling more (sign_word s) ≡ Some term) where
+    (takes : (word : List ℕ) → is_term spelling word ≡ true → after_word spelling term word ≡ Some more)
+    (signs : (s : Sign) → after_word spelling more (sign_word s) ≡ Some term) where
   signed_taken : (parts : List (List (List ℕ))) (ts : List (Sign × Term VariableName)) → AllZip (SpellsSigned spelling) parts ts → after_all spelling more (flat_map (λ part. part) parts) ≡ Some more
   signed_taken [] [] spell = refl
   signed_taken (part ∷ parts) (t ∷ ts) spell =
@@ -91,7 +91,7 @@ sign_taken : (s : Sign) → is_sign (sign_word s) ≡ true
 sign_taken Plus = refl
 sign_taken Minus = refl
 
-relation_taken : (spelling : Spelling) (r : Relation) → after spelling LeftMore (relation_word r) ≡ Some RightTerm
+relation_taken : (spelling : Spelling) (r : Relation) → after_word spelling LeftMore (relation_word r) ≡ Some RightTerm
 relation_taken spelling relation.Equal = refl
 relation_taken spelling relation.NotEqual = refl
 relation_taken spelling relation.Less = refl
@@ -119,7 +119,7 @@ module _ (spelling : Spelling) where
   assignment_taken ws a s = rw (s.says, variable_taken spelling s.target a.target s.on_left) (assigned_taken s.sum a.sum s.on_right)
 
   -- parts behind their marks
-  marked_taken : {P : Type 0} (R : List (List ℕ) → P → Type 0) (first more : Expected) (mark : List ℕ) → after spelling more mark ≡ Some first → ((ws : List (List ℕ)) (p : P) → R ws p → after_all spelling first ws ≡ Some more)
+  marked_taken : {P : Type 0} (R : List (List ℕ) → P → Type 0) (first more : Expected) (mark : List ℕ) → after_word spelling more mark ≡ Some first → ((ws : List (List ℕ)) (p : P) → R ws p → after_all spelling first ws ≡ Some more)
       → (parts : List (List (List ℕ))) (ps : List P) → AllZip R parts ps → after_all spelling more (flat_map (λ part. mark ∷ part) parts) ≡ Some more
   marked_taken R first more mark at each [] [] are = refl
   marked_taken R first more mark at each (ws ∷ parts) (p ∷ ps) are =
@@ -128,7 +128,7 @@ module _ (spelling : Spelling) where
   marked_taken R first more mark at each parts ps are = absurd (search)
 
   -- behind a place at which a line can end
-  assigns_taken : (head : Expected) → after spelling head (codes "do") ≡ Some Target → can_end head ≡ true → (parts : List (List (List ℕ))) (assigned : List (Assignment VariableName)) → AllZip (SpellsAssignment spelling) parts assigned
+  assigns_taken : (head : Expected) → after_word spelling head (codes "do") ≡ Some Target → can_end head ≡ true → (parts : List (List (List ℕ))) (assigned : List (Assignment VariableName)) → AllZip (SpellsAssignment spelling) parts assigned
       → takes_all spelling head (words_of_list (codes "do") (codes ";") (λ part. part) parts) ≡ true
   assigns_taken head goes last [] [] are = last
   assigns_taken head goes last (ws ∷ parts) (a ∷ assigned) are =
@@ -137,7 +137,7 @@ module _ (spelling : Spelling) where
       ∙ (behind spelling Target SumMore ws rest (assignment_taken ws a are.0) ∙ marked_taken (SpellsAssignment spelling) Target SumMore (codes ";") refl assignment_taken parts assigned are.1))
   assigns_taken head goes last parts assigned are = absurd (search)
 
-  clauses_taken : (head : Expected) → after spelling head (codes "when") ≡ Some LeftTerm → after spelling head (codes "do") ≡ Some Target → can_end head ≡ true → (comparing assigning : List (List (List ℕ))) (cs : List (Comparison VariableName)) (assigned : List (Assignment VariableName))
+  clauses_taken : (head : Expected) → after_word spelling head (codes "when") ≡ Some LeftTerm → after_word spelling head (codes "do") ≡ Some Target → can_end head ≡ true → (comparing assigning : List (List (List ℕ))) (cs : List (Comparison VariableName)) (assigned : List (Assignment VariableName))
       → AllZip (SpellsComparison spelling) comparing cs → AllZip (SpellsAssignment spelling) assigning assigned
       → takes_all spelling head (words_of_list (codes "when") (codes "and") (λ part. part) comparing ++ words_of_list (codes "do") (codes ";") (λ part. part) assigning) ≡ true
   clauses_taken head guards goes last [] assigning [] assigned are also = assigns_taken head goes last assigning assigned also
@@ -328,12 +328,12 @@ module _ (keyword : List ℕ) (rest : List (List ℕ)) (start : Expected) (state
   line_taken (Inside component) is = inside_taken is
 
 -- words that lead to a place where a word can't stand, or none can end, are no line
-stuck : (spelling : Spelling) (start expected : Expected) (front rest : List (List ℕ)) (word : List ℕ) → after_all spelling start front ≡ Some expected → after spelling expected word ≡ None → takes_all spelling start (front ++ word ∷ rest) ≡ false
+stuck : (spelling : Spelling) (start expected : Expected) (front rest : List (List ℕ)) (word : List ℕ) → after_all spelling start front ≡ Some expected → after_word spelling expected word ≡ None → takes_all spelling start (front ++ word ∷ rest) ≡ false
 stuck spelling start expected front rest word leads none = ap ends (behind spelling start expected front (word ∷ rest) leads) ∙ rw none refl
 
 -- a language whose lines are taken from a place on, behind words in front
 module _ (IsLine : List (List ℕ) → Type 0) (spelling : Spelling) (start : Expected) (first : List (List ℕ)) (takes : (ws : List (List ℕ)) → IsLine (first ++ ws) → takes_all spelling start ws ≡ true) where
-  stops_there : (line : List ℕ) (placed : Placed) (expected : Expected) (at : IsPlacedOn line placed) → LeadsTo spelling start first at.front expected → after spelling expected placed.word.now ≡ None → NoLineBegins IsLine (at.front ++ placed.word.now ∷ [])
+  stops_there : (line : List ℕ) (placed : Placed) (expected : Expected) (at : IsPlacedOn line placed) → LeadsTo spelling start first at.front expected → after_word spelling expected placed.word.now ≡ None → NoLineBegins IsLine (at.front ++ placed.word.now ∷ [])
   stops_there line placed expected at (more, split, leads) none rest is =
       let whole : (at.front ++ placed.word.now ∷ []) ++ rest ≡ first ++ (more ++ placed.word.now ∷ rest) = rw split (simp append_assoc) in
       false≢true (sym (stuck spelling start expected more rest placed.word.now leads none) ∙ takes (more ++ placed.word.now ∷ rest) (subst IsLine whole is))

@@ -98,8 +98,8 @@ or_else None other = other
 or_else (Some next) other = Some next
 
 -- the place behind a word; none where the word can't stand
-abbrev pub after : Spelling → Expected → List ℕ → Option Expected
-after spelling expected word =
+abbrev pub after_word : Spelling → Expected → List ℕ → Option Expected
+after_word spelling expected word =
     or_else (after_declared expected word)
     (or_else (after_clause spelling expected word) (after_step expected word))
 
@@ -107,7 +107,7 @@ after spelling expected word =
 abbrev pub after_all : Spelling → Expected → List (List ℕ) → Option Expected
 after_all spelling expected [] = Some expected
 after_all spelling expected (word ∷ rest) =
-    option_and_then (λ next. after_all spelling next rest) (after spelling expected word)
+    option_and_then (λ next. after_all spelling next rest) (after_word spelling expected word)
 
 -- whether a line can end at a place
 abbrev pub can_end : Expected → Bool

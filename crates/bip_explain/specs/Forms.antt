@@ -4,7 +4,7 @@ use Rattle.std.specs.Prelude.{List, [], ◌∷◌, ◌++◌, length, slice_index
 use Rattle.std.specs.Fmt.{decimal}
 use Rattle.bip_model.specs.Texts.{is_plain, words}
 use Rattle.bip_model.specs.declared.clauses.Spelling.{Spelling}
-use Rattle.bip_explain.specs.Expected.{after, after_all, can_end, wanted_text}
+use Rattle.bip_explain.specs.Expected.{after_word, after_all, can_end, wanted_text}
 use Rattle.bip_explain.specs.Explanations.{column_parts, placed_parts}
 use Rattle.bip_explain.specs.Hints.{IsHintOf, hint_parts}
 use Rattle.bip_explain.specs.Placed.{IsPlacedOn}
@@ -37,7 +37,7 @@ IsFormReason spelling start front line (Byte column byte) = ⊥
 IsFormReason spelling start front line (Word placed other expected hint) =
     (at : IsPlacedOn line placed) × (other ≡ spelling)
     × LeadsTo spelling start front at.front expected
-    × (after spelling expected placed.word.now ≡ None)
+    × (after_word spelling expected placed.word.now ≡ None)
     × IsHintOf placed.word.now hint
 IsFormReason spelling start front line (End column other expected) =
     (column ≡ length line + 1) × (other ≡ spelling)

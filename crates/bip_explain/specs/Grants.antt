@@ -6,7 +6,11 @@ use Rattle.std.specs.List.{slice_get}
 use Rattle.bip_model.specs.Naming.{same_text}
 use Rattle.bip_model.specs.Steps.{IsLookedAt, moves}
 use Rattle.bip_model.specs.declared.parts.System.{System}
+use Rattle.bip_model.specs.declared.numbering.CompId.{CompId}
+use Rattle.bip_replay.specs.Laws.{times_moved}
+use Rattle.bip_replay.specs.Replays.{IsFirstFault}
 use Rattle.bip_replay.specs.declared.faults.BookFault.{BookFault}
+use Rattle.bip_replay.specs.declared.faults.ReplayFault.TheVariants.{NotARun}
 use Rattle.bip_replay.specs.declared.faults.BookFault.TheVariants.{Number, Parties}
 use Rattle.bip_explain.specs.Explanations.{marked, placed_parts}
 use Rattle.bip_explain.specs.Placed.{IsPlacedOn, first_two, said_words}
@@ -55,6 +59,12 @@ IsOfFault (Number comp number) (Next placed other expected) =
     (other ≡ comp) × (expected ≡ number)
 IsOfFault Parties (Party placed inter comp named) = ⊤
 IsOfFault fault reason = ⊥
+
+-- where this is the trace's fault, the component has moved so often in the lines before, as is told
+abbrev pub IsCountOf : System → ℕ → List ℕ → ℕ → CompId → ℕ → Type 0
+IsCountOf model base text number comp next =
+    (first : IsFirstFault model base text number (NotARun (Number comp next)))
+    → ¬ (next ≡ 0) → (next - base) - 1 ≡ times_moved first.grants comp.0
 
 -- a name, if a list has one at this place
 abbrev pub marked_name : Option (List ℕ) → List (List ℕ)

@@ -104,10 +104,10 @@ IsHindrance m s a (Below other) (Above b) = IsLowestAbove m s a b.0
 IsHindrance m s a fault reason = ⊥
 
 -- this doesn't keep an interaction from running in a state
-abbrev pub IsFree : System → State → ℕ → BookFault → Type 0
-IsFree m s a NotEnabled = IsEnabled m s a
-IsFree m s a (Below other) = (b : ℕ) → IsAbove m.priorities a b → ¬ IsEnabled m s b
-IsFree m s a fault = ⊥
+abbrev pub IsUnhindered : System → State → ℕ → BookFault → Type 0
+IsUnhindered m s a NotEnabled = IsEnabled m s a
+IsUnhindered m s a (Below other) = (b : ℕ) → IsAbove m.priorities a b → ¬ IsEnabled m s b
+IsUnhindered m s a fault = ⊥
 
 -- a fault is one of a state: the interaction isn't enabled there, or is below one that is
 abbrev pub IsOfState : BookFault → Type 0

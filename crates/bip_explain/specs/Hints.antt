@@ -29,13 +29,13 @@ is_mark_byte b =
     b == 43 || b == 45 || b == 61 || b == 33 || b == 60 || b == 62 || b == 59
 
 -- whether a word is one of those
-abbrev pub is_mark : List ℕ → Bool
-is_mark word =
+abbrev pub is_mark_alone : List ℕ → Bool
+is_mark_alone word =
     is_sign word || is_relation word || same_text word (codes ";") || same_text word (codes ":=")
 
 -- whether a word has such a byte, and is none of them
-abbrev pub is_joined : List ℕ → Bool
-is_joined word = list_any is_mark_byte word && not (is_mark word)
+abbrev pub is_run_together : List ℕ → Bool
+is_run_together word = list_any is_mark_byte word && not (is_mark_alone word)
 
 -- a hint is true of a word
 abbrev pub IsHintOf : List ℕ → Hint → Type 0
@@ -49,7 +49,7 @@ IsHintOf word (BadValue digits) =
     IsTrue (are_digits word) × (value_said word ≡ None) × (digits ≡ length word)
 IsHintOf word (BadNumber numeral) =
     IsPartOf numeral.now word × IsTrue (are_digits numeral.now) × (number_of numeral.now ≡ None)
-IsHintOf word Joined = IsTrue (is_joined word)
+IsHintOf word Joined = IsTrue (is_run_together word)
 IsHintOf word Comment = slice_index word 0 ≡ number_sign
 IsHintOf word OfModel = IsTrue (same_text word (codes "bip"))
 

@@ -1,5 +1,6 @@
 -- Why a line of a trace says no grant, and how it is told.
-use Rattle.std.specs.Prelude.{◌≡◌, ◌⊎◌, ℕ, ◌<◌, List, [], ◌∷◌, ◌++◌, Ok, Some, codes, ⊤}
+use Rattle.std.specs.Prelude.{◌≡◌, ◌⊎◌, ℕ, ◌<◌, ◌≤◌, List, [], ◌∷◌, ◌++◌, Ok, Some, codes, ⊤}
+use Rattle.std.specs.Prelude.{count_by}
 use Rattle.bip_model.specs.Naming.{IsName}
 use Rattle.bip_model.specs.Texts.{words}
 use Rattle.bip_model.specs.declared.parts.System.{System}
@@ -10,9 +11,10 @@ use Rattle.bip_replay.specs.declared.faults.TraceFault.TheVariants.{Syntax, Unkn
 use Rattle.bip_explain.specs.Explanations.{column_parts, marked, placed_parts}
 use Rattle.bip_explain.specs.Forms.{IsByteReason, IsFormReason, IsNoLine, form_parts}
 use Rattle.bip_explain.specs.Placed.{IsPlacedOn, IsWordAt, first_two}
-use Rattle.bip_explain.specs.Words.{HasNot, IsWant}
+use Rattle.bip_explain.specs.Words.{HasNot, IsWant, is_want}
 use Rattle.bip_explain.specs.declared.expected.Expected.TheVariants.{Grant}
 use Rattle.bip_explain.specs.declared.forms.FormReason.{FormReason}
+use Rattle.bip_explain.specs.declared.placed.Placed.{Placed}
 use Rattle.bip_explain.specs.declared.traces.TraceReason.{TraceReason}
 use Rattle.bip_explain.specs.declared.traces.TraceReason.TheVariants.{Form, Twice, TooMany}
 use Rattle.bip_explain.specs.declared.traces.TraceReason.TheVariants.{NoInteraction, NoComponent}
@@ -34,15 +36,22 @@ IsTraceForm line reason =
     IsByteReason line reason
     ⊎ (IsFormReason Own Grant [] line reason × IsNoLine IsGrantWords line reason)
 
+-- a word names a component, and so do 32 words in front of it
+abbrev pub IsOneTooMany : List ℕ → Placed → Type 0
+IsOneTooMany line placed =
+    (at : IsPlacedOn line placed) × ((component : List ℕ) × IsWant component placed.word.now)
+    × (32 ≤ count_by is_want at.front)
+
 -- a reason is true of a line and a model: the word that is told stands at its column; a component
--- that stands twice is named by a word before; a name that is missing is no name of the model
+-- that stands twice is named by a word before, and 32 are where one is too many; a name that is
+-- missing is no name of the model
 abbrev pub IsTraceReason : System → List ℕ → TraceFault → TraceReason → Type 0
 IsTraceReason model line fault (Form reason) = IsTraceForm line reason
 IsTraceReason model line fault (Twice placed) =
     IsPlacedOn line placed
     × ((component : List ℕ) × IsWant component placed.word.now
     × IsNamedBefore line placed.column component)
-IsTraceReason model line fault (TooMany placed) = IsPlacedOn line placed
+IsTraceReason model line fault (TooMany placed) = IsOneTooMany line placed
 IsTraceReason model line fault (NoInteraction placed) =
     IsPlacedOn line placed × HasNot model.interaction_names placed.word.now
 IsTraceReason model line fault (NoComponent placed component) =

@@ -1,16 +1,16 @@
 //! What the text of a model lacks as a whole.
-ghost use Rattle.std.specs.Prelude.{◌≡◌, ◌⊎◌, IfOk, IfSome, IsTrue, false};
+ghost use Rattle.std.specs.Prelude.{◌≡◌, ◌⊎◌, ◌||◌, ℕ, All, IfOk, IfSome, IsTrue, List, false};
 ghost use Rattle.bip_explain.specs.Ends.{HasClassWith, IsEndReason, NoClassWith, end_parts};
-ghost use Rattle.bip_explain.specs.Ends.{members};
+ghost use Rattle.bip_explain.specs.Ends.{IsAboveIn, IsSaidIn, SaysPriority, members};
 ghost use Rattle.bip_explain.specs.Twice.{IsWordAgain};
 ghost use Rattle.bip_explain.specs.Explanations.{with_parts};
 ghost use Rattle.bip_explain.specs.Placed.{IsPlacedOn, said_words};
-ghost use Rattle.bip_model.specs.Naming.{is_known};
+ghost use Rattle.bip_model.specs.Naming.{is_known, same_text};
 ghost use Rattle.bip_model.specs.Texts.{words};
 
 use crate::Explanation;
 use crate::declarations::Declared;
-use crate::placed::{Placed, PlacedWords, line_at, words_of};
+use crate::placed::{Placed, PlacedWords, four_words, line_at, words_of};
 use crate::scopes::{Standing, standing_at};
 use crate::twice::is_word_again;
 use crate::unknown::behind_first;
@@ -20,9 +20,6 @@ use std::alloc::{AllocError, Global};
 
 /// How many interactions a model has at most.
 const MOST_INTERACTIONS: usize = 128;
-
-/// How many pairs of them there are.
-const MOST_PAIRS: usize = 16_384;
 
 /// What the text of a model lacks as a whole.
 #[derive(Clone, Copy)]
@@ -124,83 +121,111 @@ pub(crate) fn find_cycle<'t>(
     ensures { IfOk result (λ found. IfSome found (IsEndReason text.now number)) }
 {
     let declared = Declared::before(alloc, text, u64::MAX)?;
-    let names = &declared.interactions;
-    let pairs = pairs_of(text, names);
-    for (index, name) in names.as_slice().iter().enumerate() {
-        if is_above_itself(&pairs, index) {
+    let said = priorities_in(alloc, text)?;
+    for name in declared.interactions.as_slice() {
+        if is_above_itself(alloc, said.as_slice(), name)? {
             return Ok(Some(EndReason::Above(*name)));
         }
     }
     Ok(None)
 }
 
-// Which interaction a text puts above which, by low and high number.
-fn pairs_of(text: &[u8], names: &Names) -> [bool; MOST_PAIRS] {
-    let mut pairs = [false; MOST_PAIRS];
-    for (_, line) in NumberedLines::of(text) {
-        if let Some((low, high)) = priority_on(names, line) {
-            if low < MOST_INTERACTIONS && high < MOST_INTERACTIONS {
-                pairs[low * MOST_INTERACTIONS + high] = true;
-            }
-        }
-    }
-    pairs
+/// A priority that a line says: the second interaction stands above the first.
+#[derive(Clone, Copy)]
+pub(crate) struct SaidPriority<'t> {
+    low: &'t [u8],
+    high: &'t [u8],
 }
 
-// Whether an interaction is reached from itself. Each turn goes on from what is reached, so as many
-// as there are interactions reach all.
-fn is_above_itself(pairs: &[bool; MOST_PAIRS], from: usize) -> bool {
-    let mut reached = [false; MOST_INTERACTIONS];
-    for _ in 0..MOST_INTERACTIONS {
-        if !reach_more(pairs, from, &mut reached) {
-            break;
+// The priorities that the lines of a text say.
+fn priorities_in<'t>(alloc: Global, text: &'t [u8]) -> Result<Vec<SaidPriority<'t>>, AllocError>
+    ensures { IfOk result (λ said. All (IsSaidIn text.now) said.items) }
+{
+    let mut said = Vec::new(alloc);
+    for (_number, line) in NumberedLines::of(text) {
+        if let Some(priority) = priority_on(line) {
+            said.push(priority)?;
         }
     }
-    from < MOST_INTERACTIONS && reached[from]
+    Ok(said)
 }
 
-// Reaches what stands above what is reached, and says whether that is more.
-fn reach_more(
-    pairs: &[bool; MOST_PAIRS],
-    from: usize,
-    reached: &mut [bool; MOST_INTERACTIONS],
-) -> bool {
-    let mut is_more = false;
-    for low in 0..MOST_INTERACTIONS {
-        if (low == from || reached[low]) && reach_from(pairs, low, reached) {
-            is_more = true;
-        }
-    }
-    is_more
-}
-
-// Reaches what stands above one, and says whether that is more.
-fn reach_from(
-    pairs: &[bool; MOST_PAIRS],
-    low: usize,
-    reached: &mut [bool; MOST_INTERACTIONS],
-) -> bool {
-    let mut is_more = false;
-    for high in 0..MOST_INTERACTIONS {
-        let is_pair = low < MOST_INTERACTIONS && pairs[low * MOST_INTERACTIONS + high];
-        if is_pair && !reached[high] {
-            reached[high] = true;
-            is_more = true;
-        }
-    }
-    is_more
-}
-
-// The interactions of a line that says a priority.
-fn priority_on(names: &Names, line: &[u8]) -> Option<(usize, usize)> {
-    let (keyword, mut words) = words_of(line)?;
-    if !is_text(keyword.word, b"priority") {
+fn priority_on(line: &[u8]) -> Option<SaidPriority<'_>>
+    ensures { IfSome result (SaysPriority (said_words line.now)) }
+{
+    let (keyword, low, _below, high) = four_words(line)?;
+    if !is_text(keyword, b"priority") {
         return None;
     }
-    let low = words.next()?;
-    let _below = words.next()?;
-    let high = words.next()?;
-    Some((number_of(names, low.word)?, number_of(names, high.word)?))
+    Some(SaidPriority { low, high })
+}
+
+fn is_above_itself(
+    alloc: Global,
+    said: &[SaidPriority<'_>],
+    name: &Name,
+) -> Result<bool, AllocError>
+    ensures { (text : List ℕ) → All (IsSaidIn text) said.now
+        → IfOk result (λ is_above. IsTrue is_above → IsAboveIn text name.now name.now) }
+{
+    let reached = reached_from(alloc, said, name)?;
+    Ok(reached.contains(name))
+}
+
+// What is reached from an interaction. Each turn goes on from what is reached, so as many as there
+// are interactions reach all.
+fn reached_from(alloc: Global, said: &[SaidPriority<'_>], name: &Name) -> Result<Names, AllocError>
+    ensures { (text : List ℕ) → All (IsSaidIn text) said.now
+        → IfOk result (λ reached. All (IsAboveIn text name.now) reached) }
+{
+    let mut reached = Names::new(alloc);
+    for _turn in 0..MOST_INTERACTIONS {
+        if !reach_more(said, name, &mut reached)? {
+            return Ok(reached);
+        }
+    }
+    Ok(reached)
+}
+
+// Reaches what stands above an interaction, or above what is reached, and says whether that is
+// more.
+fn reach_more(
+    said: &[SaidPriority<'_>],
+    from: &Name,
+    reached: &mut Names,
+) -> Result<bool, AllocError>
+    ensures { (text : List ℕ) → All (IsSaidIn text) said.now
+        → All (IsAboveIn text from.now) reached.old → All (IsAboveIn text from.now) reached.new }
+{
+    let mut is_more = false;
+    for priority in said {
+        if let Some(high) = reached_by(*priority, from, reached) {
+            reached.push(high)?;
+            is_more = true;
+        }
+    }
+    Ok(is_more)
+}
+
+// The interaction that a priority reaches, if it isn't reached yet.
+fn reached_by(priority: SaidPriority<'_>, from: &Name, reached: &Names) -> Option<Name>
+    ensures new { IfSome result (λ high. is_known high reached.now ≡ false) }
+    ensures above { (text : List ℕ) → IsSaidIn text priority.entry
+        → All (IsAboveIn text from.now) reached.now → IfSome result (IsAboveIn text from.now) }
+{
+    let low = Name::of(priority.low)?;
+    let high = Name::of(priority.high)?;
+    if leads_from(&low, from, reached) && !reached.contains(&high) {
+        Some(high)
+    } else {
+        None
+    }
+}
+
+fn leads_from(low: &Name, from: &Name, reached: &Names) -> bool
+    ensures { result ≡ (same_text low.now from.now || is_known low.now reached.now) }
+{
+    is_text(low.as_bytes(), from.as_bytes()) || reached.contains(low)
 }
 
 fn number_of(names: &Names, word: &[u8]) -> Option<usize> {

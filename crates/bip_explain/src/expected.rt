@@ -1,6 +1,6 @@
 //! What can stand at a place of a line.
 ghost use Rattle.std.specs.Prelude.{◌≡◌};
-ghost use Rattle.bip_explain.specs.Expected.{after, after_clause, after_declared, after_head};
+ghost use Rattle.bip_explain.specs.Expected.{after_word, after_clause, after_declared, after_head};
 ghost use Rattle.bip_explain.specs.Expected.{after_step, can_end, wanted_in_clause};
 ghost use Rattle.bip_explain.specs.Expected.{wanted_in_step, wanted_text};
 
@@ -77,7 +77,7 @@ pub(crate) enum Sort {
 impl Expected {
     /// What the line goes on with behind a word; none where the word can't stand here.
     pub(crate) fn after(self, spelling: Spelling, word: &[u8]) -> Option<Expected>
-        ensures { result ≡ after spelling self word.now }
+        ensures { result ≡ after_word spelling self word.now }
     {
         if let Some(next) = self.after_declared(word) {
             return Some(next);

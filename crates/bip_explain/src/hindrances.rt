@@ -5,8 +5,8 @@ ghost use Rattle.std.specs.Prelude.{slice_get, true};
 ghost use Rattle.std.specs.List.{list_all};
 ghost use Rattle.std.specs.Option.{option_map};
 ghost use Rattle.bip_explain.specs.Explanations.{with_parts};
-ghost use Rattle.bip_explain.specs.Hindrances.{IsFirstFailed, IsFree, IsHindered, IsHindrance};
-ghost use Rattle.bip_explain.specs.Hindrances.{IsLedOn, IsOfState, IsPortReason, IsStateBefore};
+ghost use Rattle.bip_explain.specs.Hindrances.{IsFirstFailed, IsHindered, IsHindrance, IsOfState};
+ghost use Rattle.bip_explain.specs.Hindrances.{IsLedOn, IsPortReason, IsStateBefore, IsUnhindered};
 ghost use Rattle.bip_explain.specs.Hindrances.{IsUnoffered, MayKeepStep, hindered_parts};
 ghost use Rattle.bip_explain.specs.Hindrances.{IsUnofferedIn, failed_parts, hindrance_parts};
 ghost use Rattle.bip_explain.specs.Hindrances.{above_parts, guard_parts, guarded_parts};
@@ -272,8 +272,8 @@ fn participants_of(model: &Model, inter: InterId) -> &[(CompId, PortId)]
     }
 }
 
-/// What keeps the grant of a line from being next, if its interaction isn't enabled, or is below one
-/// that is, in the state before the line.
+/// What keeps the grant of a line from being next, if its interaction isn't enabled, or is below
+/// one that is, in the state before the line.
 pub(crate) fn find_hindered(
     alloc: Global,
     model: &Model,
@@ -340,7 +340,7 @@ fn find_hindrance(
     requires fault { IsOfState fault.now }
     ensures some { IfSome result
         (IsHindrance model.now (state_of state.now) inter.0 fault.now) }
-    ensures none { IfNone result (IsFree model.now (state_of state.now) inter.0 fault.now) }
+    ensures none { IfNone result (IsUnhindered model.now (state_of state.now) inter.0 fault.now) }
 {
     match fault {
         BookFault::NotEnabled => find_disabled(model, state, inter),

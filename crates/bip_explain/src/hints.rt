@@ -3,8 +3,9 @@ ghost use Rattle.std.specs.Prelude.{◌≡◌, ℕ, IsTrue, List, slice_index};
 ghost use Rattle.std.specs.List.{list_all, list_any};
 ghost use Rattle.bip_explain.specs.Explanations.{with_parts};
 ghost use Rattle.bip_explain.specs.Hints.{IsHintOf, IsPartOf, are_digits, bad_number_parts};
-ghost use Rattle.bip_explain.specs.Hints.{bad_value_parts, hint_parts, is_joined, is_mark};
-ghost use Rattle.bip_explain.specs.Hints.{is_mark_byte, long_part_parts, reserved_part_parts};
+ghost use Rattle.bip_explain.specs.Hints.{bad_value_parts, hint_parts, is_mark_alone};
+ghost use Rattle.bip_explain.specs.Hints.{is_mark_byte, is_run_together, long_part_parts};
+ghost use Rattle.bip_explain.specs.Hints.{reserved_part_parts};
 ghost use Rattle.bip_model.specs.Naming.{is_name_byte, is_name_start, is_spelled_as_name};
 ghost use Rattle.bip_model.specs.Texts.{number_sign};
 
@@ -100,7 +101,7 @@ pub(crate) fn hint_of<'t>(spelling: Spelling, expected: Expected, word: &'t [u8]
     if is_comment(word) {
         return Hint::Comment;
     }
-    if is_joined(word) {
+    if is_run_together(word) {
         return Hint::Joined;
     }
     match expected.sort(spelling) {
@@ -123,10 +124,10 @@ fn is_comment(word: &[u8]) -> bool
     !word.is_empty() && word[0] == b'#'
 }
 
-fn is_joined(word: &[u8]) -> bool
-    ensures { result ≡ is_joined word.now }
+fn is_run_together(word: &[u8]) -> bool
+    ensures { result ≡ is_run_together word.now }
 {
-    has_mark_byte(word) && !is_mark(word)
+    has_mark_byte(word) && !is_mark_alone(word)
 }
 
 fn has_mark_byte(word: &[u8]) -> bool
@@ -147,8 +148,8 @@ fn is_mark_byte(byte: u8) -> bool
         || byte == b';'
 }
 
-fn is_mark(word: &[u8]) -> bool
-    ensures { result ≡ is_mark word.now }
+fn is_mark_alone(word: &[u8]) -> bool
+    ensures { result ≡ is_mark_alone word.now }
 {
     is_sign(word) || is_relation(word) || is_text(word, b";") || is_text(word, b":=")
 }

@@ -118,10 +118,10 @@ fn find_want(line: &[u8]) -> Option<TraceReason<'_>>
             if is_named_before(line, placed.column, &component) {
                 return Some(TraceReason::Twice(placed));
             }
-            count = count.saturating_add(1);
-            if MOST_WANTS < count {
+            if MOST_WANTS <= count {
                 return Some(TraceReason::TooMany(placed));
             }
+            count += 1;
         }
     }
     None

@@ -1,8 +1,9 @@
 use Rattle.std.proofs.Common.{refl, sym, ◌∙◌}
-use Rattle.bip_explain.specs.Grants.{IsGrantReason, IsOfFault, grant_parts}
+use Rattle.bip_explain.specs.Grants.{IsCountOf, IsGrantReason, IsOfFault, grant_parts}
 use Rattle.bip_explain.specs.Placed.{line_at}
 use Rattle.bip_explain.specs.declared.grants.GrantReason.TheVariants.{Next}
 use Rattle.bip_replay.specs.declared.faults.BookFault.TheVariants.{Number, Parties}
+use Rattle.bip_explain.proofs.HindranceLemmas.{counted}
 use Rattle.bip_explain.proofs.SayLemmas.{tells}
 use Rattle.bip_explain.proofs.steps.explain_step.Goals as goal
 
@@ -11,10 +12,10 @@ returns-in-Number-clause-told c =
     let model = c.args.model.now in
     let line = line_at c.args.text.now c.args.number in
     let n = c.in-Number in
-    rw n.is (tells ⊥ (λ r. IsGrantReason model line r × IsOfFault (Number n.comp n.expected) r) (grant_parts model c.args.base) c.args.explanation.now c.say.new.explanation
+    rw n.is (tells ⊥ (λ r. IsGrantReason model line r × IsOfFault (Number n.comp n.expected) r × IsCountOf model c.args.base c.args.text.now c.args.number n.comp n.expected) (grant_parts model c.args.base) c.args.explanation.now c.say.new.explanation
     (Next c.want_on-placed.result n.comp n.expected)
     (sym c.is_open.ensures ∙ c.if-not-is_open.false)
-    (rw c.line_at.ensures at c.want_on-placed.ensures, (refl, refl))
+    (rw c.line_at.ensures at c.want_on-placed.ensures, (refl, refl), counted model c.args.base c.args.text.now c.args.number n.comp n.expected)
     c.say.ensures)
 
 pub returns-in-Some-clause-told : goal.returns-in-Some-clause-told
