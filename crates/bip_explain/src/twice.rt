@@ -1,8 +1,8 @@
 //! Names of a model's text that are there already.
-ghost use Rattle.std.specs.Prelude.{◌≡◌, ◌<◌, ◌∷◌, ℕ, List, [], IfOk, IfSome, IsTrue, codes};
+ghost use Rattle.std.specs.Prelude.{◌≡◌, ◌<◌, ◌∷◌, ℕ, List, [], IfOk, IfSome, IsTrue, Some, codes};
 ghost use Rattle.std.specs.Fmt.{decimal};
 ghost use Rattle.bip_explain.specs.Explanations.{with_parts};
-ghost use Rattle.bip_explain.specs.Placed.{line_at, said_words};
+ghost use Rattle.bip_explain.specs.Placed.{first_four, first_three, line_at, said_words};
 ghost use Rattle.bip_explain.specs.Twice.{IsDeclaration, IsPartyAgain, IsPartyBefore};
 ghost use Rattle.bip_explain.specs.Twice.{IsSameTransition, IsTwiceReason, IsWordAgain};
 ghost use Rattle.bip_explain.specs.Twice.{declares_outer};
@@ -126,36 +126,41 @@ fn declares_outer(keyword: &[u8]) -> bool
 fn find_said<'t>(text: &'t [u8], number: u64, line: &[u8]) -> Option<TwiceReason<'t>>
     ensures { IfSome result (IsTwiceReason text.now number line.now) }
 {
+    // The line may be long, so its words are cut once.
+    let said = four_words(line)?;
     for (other, bytes) in NumberedLines::of(text) {
         if number <= other {
             return None;
         }
-        if say_same(line, bytes) {
+        if say_same(line, said, bytes) {
             return Some(TwiceReason::Said(other));
         }
     }
     None
 }
 
-// Whether two lines begin with the same four words.
-fn say_same(line: &[u8], other: &[u8]) -> bool
-    ensures { result ≡ say_same (said_words line.now) (said_words other.now) }
+// Whether a line, whose first four words these are, begins with the same ones as another line.
+fn say_same(_line: &[u8], said: (&[u8], &[u8], &[u8], &[u8]), other: &[u8]) -> bool
+    requires { first_four (said_words _line.now)
+        ≡ Some (said.0.now, said.1.now, said.2.now, said.3.now) }
+    ensures { result ≡ say_same (said_words _line.now) (said_words other.now) }
 {
-    match (four_words(line), four_words(other)) {
-        (Some((a, b, c, d)), Some((e, f, g, h))) => {
-            is_text(a, e) && is_text(b, f) && is_text(c, g) && is_text(d, h)
+    match four_words(other) {
+        Some((e, f, g, h)) => {
+            is_text(said.0, e) && is_text(said.1, f) && is_text(said.2, g) && is_text(said.3, h)
         }
-        _ => false,
+        None => false,
     }
 }
 
-// Whether two lines begin with the same three words.
-fn leave_same(line: &[u8], other: &[u8]) -> bool
-    ensures { result ≡ leave_same (said_words line.now) (said_words other.now) }
+// Whether a line, whose first three words these are, begins with the same ones as another line.
+fn leave_same(_line: &[u8], left: (&[u8], &[u8], &[u8]), other: &[u8]) -> bool
+    requires { first_three (said_words _line.now) ≡ Some (left.0.now, left.1.now, left.2.now) }
+    ensures { result ≡ leave_same (said_words _line.now) (said_words other.now) }
 {
-    match (three_words(line), three_words(other)) {
-        (Some((a, b, c)), Some((d, e, f))) => is_text(a, d) && is_text(b, e) && is_text(c, f),
-        _ => false,
+    match three_words(other) {
+        Some((d, e, f)) => is_text(left.0, d) && is_text(left.1, e) && is_text(left.2, f),
+        None => false,
     }
 }
 
@@ -276,6 +281,7 @@ pub(crate) fn find_transition<'t>(
 fn transition_before(text: &[u8], number: u64, line: &[u8]) -> Option<u64>
     ensures { IfSome result (IsSameTransition text.now number line.now) }
 {
+    let left = three_words(line)?;
     let mut found = None;
     for (other, bytes) in NumberedLines::of(text) {
         if number <= other {
@@ -283,7 +289,7 @@ fn transition_before(text: &[u8], number: u64, line: &[u8]) -> Option<u64>
         }
         if begins_component(bytes) {
             found = None;
-        } else if found.is_none() && leave_same(line, bytes) {
+        } else if found.is_none() && leave_same(line, left, bytes) {
             found = Some(other);
         }
     }
