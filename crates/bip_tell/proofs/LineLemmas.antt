@@ -10,7 +10,7 @@ use Rattle.bip_core.specs.declared.messages.Message.{Message}
 use Rattle.bip_model.specs.Texts.{line_feed}
 use Rattle.bip_model.specs.declared.numbering.InterId.{InterId}
 use Rattle.bip_partition.specs.Plans.{AreStations, Planned}
-use Rattle.bip_tell.specs.Lines.{IsToldEvent, count_left, done_text, handed_on, head_text, put_text, told_line}
+use Rattle.bip_tell.specs.Lines.{IsToldEvent, count_left, done_text, handed_on, line_head, put_text, told_line}
 use Rattle.bip_tell.specs.Messages.{message_text}
 use Rattle.bip_tell.specs.Words.{counted}
 
@@ -36,13 +36,13 @@ put_one p place m mail start t a b c within found behind number message before =
 -- the head of a line, what was done, and a line feed
 pub event_told : (p : Planned) (w v : WorldContent) (number left : ℕ) (event : Event) (did : Option Did) (stations : List InterId) (t a b c : List ℕ)
     → p ≡ w.plan → AreSteps (event ∷ []) (did ∷ []) w v → AreStations p stations
-    → a ≡ t ++ head_text p stations number event (handed_on event w.mail)
+    → a ≡ t ++ line_head p stations number event (handed_on event w.mail)
     → left ≡ count_left (handed_on event w.mail) (length w.mail)
     → b ≡ a ++ done_text p left did v.mail → c ≡ b ++ line_feed ∷ []
     → (line : List ℕ) × IsToldEvent number event did w v line × (c ≡ t ++ line)
 event_told p w v number left event did stations t a b c same steps are begun count done ended =
     let handed = handed_on event w.mail in
-    let head = head_text p stations number event handed in
+    let head = line_head p stations number event handed in
     let tail = done_text p (count_left handed (length w.mail)) did v.mail in
     let line = told_line p stations number event did w.mail v.mail in (
       line,

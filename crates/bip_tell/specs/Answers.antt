@@ -19,7 +19,7 @@ use Rattle.bip_observe.specs.declared.offers.Receipt.TheVariants as receipt
 use Rattle.bip_observe.specs.declared.offers.Receipt.{Receipt}
 use Rattle.bip_observe.specs.declared.verdicts.Verdict.TheVariants as verdict
 use Rattle.bip_observe.specs.declared.verdicts.Verdict.{Verdict}
-use Rattle.bip_tell.specs.Words.{counted, named, wants_text}
+use Rattle.bip_tell.specs.Words.{counted, named, each_want_text}
 
 -- a class's to an offer
 abbrev pub receipt_text : Receipt → List ℕ
@@ -34,35 +34,35 @@ learned_text answered.Dropped = codes " dropped"
 learned_text answered.Stale = codes " stale"
 
 -- a component's to a notification
-abbrev pub moved_text : Notified → List ℕ
-moved_text (notified.Moved offer) = codes " moved"
-moved_text notified.Spent = codes " spent"
-moved_text notified.Stale = codes " stale"
+abbrev pub notified_text : Notified → List ℕ
+notified_text (notified.Moved offer) = codes " moved"
+notified_text notified.Spent = codes " spent"
+notified_text notified.Stale = codes " stale"
 
 -- why an interaction isn't ready, and for which component or interaction
-abbrev pub verdict_text : System → Verdict → List ℕ
-verdict_text m verdict.Ready = codes " ready"
-verdict_text m (verdict.NotReady c) = codes " not ready for" ++ named m.component_names c.0
-verdict_text m (verdict.PortOff c) = codes " port off at" ++ named m.component_names c.0
-verdict_text m verdict.GuardFalse = codes " guard false"
-verdict_text m (verdict.Below b) = codes " below" ++ named m.interaction_names b.0
+abbrev pub why_not_text : System → Verdict → List ℕ
+why_not_text m verdict.Ready = codes " ready"
+why_not_text m (verdict.NotReady c) = codes " not ready for" ++ named m.component_names c.0
+why_not_text m (verdict.PortOff c) = codes " port off at" ++ named m.component_names c.0
+why_not_text m verdict.GuardFalse = codes " guard false"
+why_not_text m (verdict.Below b) = codes " below" ++ named m.interaction_names b.0
 
 -- a class's to a try
 abbrev pub tried_text : System → Tried → List ℕ
 tried_text m tried.Foreign = codes " foreign"
 tried_text m (tried.Pending b) = codes " pending" ++ named m.interaction_names b.0
-tried_text m (tried.Not why) = verdict_text m why
-tried_text m (tried.Local g notifies) = codes " granted" ++ wants_text m g.wants
+tried_text m (tried.Not why) = why_not_text m why
+tried_text m (tried.Local g notifies) = codes " granted" ++ each_want_text m g.wants
 tried_text m tried.Ended = codes " ended"
-tried_text m (tried.Sent q) = codes " sent" ++ (counted q.request ++ wants_text m q.wants)
+tried_text m (tried.Sent q) = codes " sent" ++ (counted q.request ++ each_want_text m q.wants)
 
 -- what the bank decides on wants: ` granted 0 A:1 R:1`, with the serial of the grant, or
 -- ` refused A:1 R:1 since R used 1`, with the component that isn't fresh and its used number
 abbrev pub decision_text : System → List Want → Decision → List ℕ
 decision_text m wants (decision.Granted serial) =
-    codes " granted" ++ (counted serial ++ wants_text m wants)
+    codes " granted" ++ (counted serial ++ each_want_text m wants)
 decision_text m wants (decision.Refused c used) =
-    codes " refused" ++ (wants_text m wants ++ (codes " since" ++ (named m.component_names c.0
+    codes " refused" ++ (each_want_text m wants ++ (codes " since" ++ (named m.component_names c.0
     ++ (codes " used" ++ counted used))))
 
 -- the bank's to a step
@@ -77,6 +77,6 @@ what_text m Nothing = codes " nothing there"
 what_text m (Hears receipt) = receipt_text receipt
 what_text m Submits = codes " submitted"
 what_text m (Learns answer) = learned_text answer
-what_text m (Moves answer) = moved_text answer
+what_text m (Moves answer) = notified_text answer
 what_text m (Tries answer) = tried_text m answer
 what_text m (Acts answer) = acted_text m answer

@@ -49,8 +49,8 @@ done_text p left (Some did) mail =
     what_text p.model did.what ++ (put_text p left (drop left mail) ++ lost_text did.lost)
 
 -- the number of an event, its words, and the message that it hands on
-abbrev pub head_text : Planned → List InterId → ℕ → Event → Option Message → List ℕ
-head_text p stations number event handed =
+abbrev pub line_head : Planned → List InterId → ℕ → Event → Option Message → List ℕ
+line_head p stations number event handed =
     decimal number ++ (codes " " ++ (event_line p stations event
     ++ (codes ":" ++ handed_text p handed)))
 
@@ -59,7 +59,7 @@ abbrev pub told_line :
     Planned → List InterId → ℕ → Event → Option Did → List Message → List Message → List ℕ
 told_line p stations number event did before after =
     let handed = handed_on event before in
-    head_text p stations number event handed
+    line_head p stations number event handed
     ++ (done_text p (count_left handed (length before)) did after ++ line_feed ∷ [])
 
 -- an event leads from one world to another or is skipped, and this is its line

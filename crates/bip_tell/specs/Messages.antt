@@ -9,12 +9,12 @@ use Rattle.bip_model.specs.declared.messages.Reply.TheVariants.{Granted, Refused
 use Rattle.bip_model.specs.declared.messages.Reply.{Reply}
 use Rattle.bip_model.specs.declared.messages.Request.{Request}
 use Rattle.bip_partition.specs.Plans.{Planned}
-use Rattle.bip_tell.specs.Words.{asked_text, named, numbered, port_named}
+use Rattle.bip_tell.specs.Words.{asked_text, named, move_named, port_named}
 
 -- ` offer A:1 to P`
 abbrev pub offer_text : Planned → ℕ → Offer → List ℕ
 offer_text p k offer =
-    codes " offer" ++ (numbered p.model offer.comp.0 offer.number
+    codes " offer" ++ (move_named p.model offer.comp.0 offer.number
     ++ (codes " to" ++ named p.classes.names k))
 
 -- ` request P x 1`
@@ -29,7 +29,7 @@ reply_text p (Refused k n a c used) = codes " refused" ++ asked_text p k.0 a.0 n
 -- ` notify A:1 p`
 abbrev pub notify_text : Planned → Notify → List ℕ
 notify_text p notify =
-    codes " notify" ++ (numbered p.model notify.comp.0 notify.number
+    codes " notify" ++ (move_named p.model notify.comp.0 notify.number
     ++ port_named p.model notify.comp.0 notify.port.0)
 
 -- a message

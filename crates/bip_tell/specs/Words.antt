@@ -22,8 +22,8 @@ abbrev pub counted : ℕ → List ℕ
 counted n = spaced (decimal n)
 
 -- ` C:N`: a component and a number of its
-abbrev pub numbered : System → ℕ → ℕ → List ℕ
-numbered m c n = named m.component_names c ++ colon ∷ decimal n
+abbrev pub move_named : System → ℕ → ℕ → List ℕ
+move_named m c n = named m.component_names c ++ colon ∷ decimal n
 
 -- the name of a component's port
 abbrev pub port_named : System → ℕ → ℕ → List ℕ
@@ -31,8 +31,8 @@ port_named m c port =
     spaced (option_map_or (λ (x : Component). name_in x.ports port) (slice_get m.components c) [])
 
 -- ` A:1 R:1 see B:2`: wants as a trace spells them
-abbrev pub wants_text : System → List Want → List ℕ
-wants_text m wants =
+abbrev pub each_want_text : System → List Want → List ℕ
+each_want_text m wants =
     flat_map spaced (want_words m Moved wants)
     ++ flat_map spaced (behind_see (want_words m Seen wants))
 

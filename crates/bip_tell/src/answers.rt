@@ -1,7 +1,7 @@
 //! Answers of nodes to events, told.
 ghost use Rattle.std.specs.Prelude.{◌≡◌, ◌++◌, OnOk};
-ghost use Rattle.bip_tell.specs.Answers.{acted_text, decision_text, learned_text, moved_text};
-ghost use Rattle.bip_tell.specs.Answers.{receipt_text, tried_text, verdict_text, what_text};
+ghost use Rattle.bip_tell.specs.Answers.{acted_text, decision_text, learned_text, notified_text};
+ghost use Rattle.bip_tell.specs.Answers.{receipt_text, tried_text, why_not_text, what_text};
 
 use crate::words::{write_comp, write_count, write_inter, write_wants};
 use bip_bank::{Acted, Decision};
@@ -21,7 +21,7 @@ pub(crate) fn write_what(text: &mut Vec<u8>, model: &Model, what: &What) -> Resu
         What::Hears(receipt) => text.extend_from_slice(receipt_text(receipt)),
         What::Submits => text.extend_from_slice(b" submitted"),
         What::Learns(answer) => text.extend_from_slice(learned_text(answer)),
-        What::Moves(answer) => text.extend_from_slice(moved_text(answer)),
+        What::Moves(answer) => text.extend_from_slice(notified_text(answer)),
         What::Tries(answer) => write_tried(text, model, answer),
         What::Acts(answer) => write_acted(text, model, answer),
     }
@@ -47,8 +47,8 @@ fn learned_text(answer: &Answered) -> &'static [u8]
     }
 }
 
-fn moved_text(answer: &Notified) -> &'static [u8]
-    ensures { result.now ≡ moved_text answer.now }
+fn notified_text(answer: &Notified) -> &'static [u8]
+    ensures { result.now ≡ notified_text answer.now }
 {
     match answer {
         Notified::Moved(_) => b" moved",
@@ -79,7 +79,7 @@ fn write_tried(text: &mut Vec<u8>, model: &Model, answer: &Tried) -> Result<(), 
 
 /// Writes why an interaction isn't ready, and for which component or interaction.
 fn write_verdict(text: &mut Vec<u8>, model: &Model, verdict: Verdict) -> Result<(), AllocError>
-    ensures { OnOk result (text.new.items ≡ text.old.items ++ verdict_text model.now verdict) }
+    ensures { OnOk result (text.new.items ≡ text.old.items ++ why_not_text model.now verdict) }
 {
     match verdict {
         Verdict::Ready => text.extend_from_slice(b" ready"),

@@ -10,7 +10,7 @@ ghost use Rattle.bip_core.specs.Worlds.{world_of};
 ghost use Rattle.bip_core.specs.declared.events.Did.{Did};
 ghost use Rattle.bip_schedule.specs.Writing.{HasSpelling, HaveSpelling, event_line};
 ghost use Rattle.bip_tell.specs.Lines.{IsToldEvent, count_left, done_text, handed_on, handed_text};
-ghost use Rattle.bip_tell.specs.Lines.{head_text, lost_text, put_text};
+ghost use Rattle.bip_tell.specs.Lines.{line_head, lost_text, put_text};
 
 use crate::answers::write_what;
 use crate::messages::write_message;
@@ -65,7 +65,7 @@ fn begin_line<'p, B: Bank>(
     requires plan { plan.now ≡ world.now.plan }
     requires spelled { HaveSpelling plan.now (event ∷ []) }
     ensures text { OnOk result ((stations : List InterId) × AreStations plan.now stations
-        × (text.new.items ≡ text.old.items ++ head_text plan.now stations number event
+        × (text.new.items ≡ text.old.items ++ line_head plan.now stations number event
         (handed_on event world.now.mail))) }
     ensures left { IfOk result (λ left. left
         ≡ count_left (handed_on event world.now.mail) (length world.now.mail)) }

@@ -4,8 +4,8 @@ ghost use Rattle.std.specs.List.{flat_map, list_any};
 ghost use Rattle.bip_model.specs.Texts.{spaced};
 ghost use Rattle.bip_model.specs.declared.wants.Role.TheVariants.{Seen};
 ghost use Rattle.bip_replay.specs.Writing.{has_role, want_words};
-ghost use Rattle.bip_tell.specs.Words.{asked_text, counted, named, numbered, port_named};
-ghost use Rattle.bip_tell.specs.Words.{wants_text};
+ghost use Rattle.bip_tell.specs.Words.{asked_text, counted, named, move_named, port_named};
+ghost use Rattle.bip_tell.specs.Words.{each_want_text};
 
 use bip_model::{ClassId, CompId, InterId, Model, Name, Number, PortId, Role, Want, write_word};
 use bip_partition::Plan;
@@ -72,7 +72,7 @@ pub(crate) fn write_numbered(
     number: Number,
 ) -> Result<(), AllocError>
     ensures { OnOk result
-        (text.new.items ≡ text.old.items ++ numbered model.now comp.0 number) }
+        (text.new.items ≡ text.old.items ++ move_named model.now comp.0 number) }
 {
     write_name(text, model.component_names(), comp.0)?;
     text.push(b':')?;
@@ -101,7 +101,7 @@ pub(crate) fn write_wants(
     model: &Model,
     wants: &[Want],
 ) -> Result<(), AllocError>
-    ensures { OnOk result (text.new.items ≡ text.old.items ++ wants_text model.now wants.now) }
+    ensures { OnOk result (text.new.items ≡ text.old.items ++ each_want_text model.now wants.now) }
 {
     write_role(text, model, wants, Role::Moved)?;
     if look(wants) {
