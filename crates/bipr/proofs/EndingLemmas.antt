@@ -2,7 +2,7 @@
 use Rattle.std.proofs.Common.{◌≡◌, ◌⊎◌, arith, inl, inr, ℕ, Bool, false, true, List, [], Result, Ok, Err, refl, sym, subst}
 use Rattle.std.specs.Result.{IsErrAnd}
 use Rattle.bipr.specs.Endings.{AllOutcomes, AllOutcomesTelling, Ends, EndsExplaining, EndsTelling, IsOutcome, explaining}
-use Rattle.bipr.specs.Streams.{Puts, none_put, nothing}
+use Rattle.bipr.specs.Streams.{Put, Puts, none_put, nothing}
 use Rattle.bipr.specs.declared.answers.Status.{Status}
 use Rattle.bipr.specs.declared.answers.Status.TheVariants.{Done, Refused, BadCommandLine, NoMemory, NoThread, NotARun}
 use Rattle.bipr.specs.Stops.{answer_of_stop, out_of_memory}
@@ -30,22 +30,22 @@ pub outcome_lacking : (result : Result Answer Stop) (P : Answer → Type 0) → 
 outcome_lacking result P is lacking = outcome_stopped result P OutOfMemory is lacking lacking
 
 -- a command that tells nothing on its way
-pub ends_quietly : {S : Type 0} (may : Answer → Type 0) (may_telling : List (List ℕ) → Answer → Type 0) (says : List ℕ → Bool → Type 0) (writes : S → List ℕ → Bool → S → Type 0) (before after : S) (status : Status)
+pub ends_quietly : {S : Type 0} (may : Answer → Type 0) (may_telling : List Put → Answer → Type 0) (says : List ℕ → Bool → Type 0) (writes : S → List ℕ → Bool → S → Type 0) (before after : S) (status : Status)
     → Ends may says (Puts writes before after) status → ((answer : Answer) → may answer → may_telling [] answer)
     → EndsTelling may_telling says writes before after status
 ends_quietly may may_telling says writes before after status ends turn =
     record { told = []; middle = before; on_the_way = none_put; ends = (ends.0, turn ends.0 ends.1, ends.2) }
 
 -- one that does, and then ends with its answer or with what stopped it
-pub ends_telling : {S : Type 0} (may_telling : List (List ℕ) → Answer → Type 0) (says : List ℕ → Bool → Type 0) (writes : S → List ℕ → Bool → S → Type 0) (before middle after : S) (given : Result Answer Stop) (status : Status)
+pub ends_telling : {S : Type 0} (may_telling : List Put → Answer → Type 0) (says : List ℕ → Bool → Type 0) (writes : S → List ℕ → Bool → S → Type 0) (before middle after : S) (given : Result Answer Stop) (status : Status)
     → AllOutcomesTelling writes before middle given may_telling → Ends (IsOutcome given) says (Puts writes middle after) status
     → EndsTelling may_telling says writes before after status
 ends_telling may_telling says writes before middle after given status all ends =
     record { told = all.told; middle = middle; on_the_way = all.on_the_way; ends = (ends.0, all.outcomes ends.0 ends.1, ends.2) }
 
 -- and one whose told lines are given
-pub ends_told : {S : Type 0} (may may_telling : List (List ℕ) → Answer → Type 0) (says : List ℕ → Bool → Type 0) (writes : S → List ℕ → Bool → S → Type 0) (before after : S) (status : Status)
-    → EndsTelling may says writes before after status → ((told : List (List ℕ)) (answer : Answer) → may told answer → may_telling told answer)
+pub ends_told : {S : Type 0} (may may_telling : List Put → Answer → Type 0) (says : List ℕ → Bool → Type 0) (writes : S → List ℕ → Bool → S → Type 0) (before after : S) (status : Status)
+    → EndsTelling may says writes before after status → ((told : List Put) (answer : Answer) → may told answer → may_telling told answer)
     → EndsTelling may_telling says writes before after status
 ends_told may may_telling says writes before after status all turn =
     record { told = all.told; middle = all.middle; on_the_way = all.on_the_way; ends = (all.ends.0, turn all.told all.ends.0 all.ends.1, all.ends.2) }
@@ -60,7 +60,7 @@ explaining-none NoThread = refl
 explaining-none NotARun = refl
 
 -- a command that isn't asked to explain
-pub ends_unexplained : {S : Type 0} (may : Bool → List (List ℕ) → Answer → Type 0) (says : List ℕ → Bool → Type 0) (writes : S → List ℕ → Bool → S → Type 0) (before after : S) (status : Status)
+pub ends_unexplained : {S : Type 0} (may : Bool → List Put → Answer → Type 0) (says : List ℕ → Bool → Type 0) (writes : S → List ℕ → Bool → S → Type 0) (before after : S) (status : Status)
     → EndsTelling (may false) says writes before after status → EndsExplaining may says writes before after status
 ends_unexplained may says writes before after status ends =
     record { is_asked = false; last = after; ends = ends; why = []; shown = refl; short = omega arith; explained = (true, rw (explaining-none status) (nothing refl)); unasked = λ _. refl }

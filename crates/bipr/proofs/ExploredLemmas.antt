@@ -11,6 +11,7 @@ use Rattle.bipr.specs.Commands.Explore.{IsExplore, IsTextExplored, of_no_text, o
 use Rattle.bipr.specs.Explored.{IsExploreAnswer, ends_hundredth, explored, told_at, told_until}
 use Rattle.bipr.specs.Resolvers.{IsSharedAtFirst}
 use Rattle.bipr.specs.Stops.{answer_of_stop, out_of_memory, unread}
+use Rattle.bipr.specs.Streams.{Put, texts}
 use Rattle.bipr.specs.Wording.{progress_text, seeds_text}
 use Rattle.bipr.specs.declared.answers.Answer.{Answer}
 use Rattle.bipr.specs.declared.answers.Status.TheVariants.{Done}
@@ -37,14 +38,14 @@ told_lacking (Ok answer) P Q is held = cc
 told_lacking (Err e) P Q is held = held
 
 -- that all are runs is said
-pub explored_said : (p : Planned) (asked : ExploreArguments) (grants : ℕ) (answer : Answer) (text : List ℕ)
-    → AreExplored (IsSharedAtFirst asked.resolver p) p 0 asked.events asked.seeds grants
-    → answer ≡ saying Done text → text ≡ seeds_text asked.seeds → IsExploreAnswer p asked (told_until asked asked.seeds) answer
-explored_said p asked grants answer text so said spelled =
-    subst (IsExploreAnswer p asked (told_until asked asked.seeds)) (sym (said ∙ ap (saying Done) spelled)) (explored grants so)
+pub explored_said : (p : Planned) (asked : ExploreArguments) (grants : ℕ) (told : List Put) (answer : Answer) (text : List ℕ)
+    → AreExplored (IsSharedAtFirst asked.resolver p) p 0 asked.events asked.seeds grants → texts told ≡ told_until asked asked.seeds
+    → answer ≡ saying Done text → text ≡ seeds_text asked.seeds → IsExploreAnswer p asked told answer
+explored_said p asked grants told answer text so lines said spelled =
+    subst (IsExploreAnswer p asked told) (sym (said ∙ ap (saying Done) spelled)) (explored grants told so lines)
 
 -- what the exploring of a plan says, of the text that has it
-pub text_explored : (model : List ℕ) (asked : ExploreArguments) (p : Planned) (told : List (List ℕ)) (result : Result Answer AllocError) → HasPlan model p
+pub text_explored : (model : List ℕ) (asked : ExploreArguments) (p : Planned) (told : List Put) (result : Result Answer AllocError) → HasPlan model p
     → MatchResult result (IsExploreAnswer p asked told) (λ (e : AllocError). IsExploreAnswer p asked told out_of_memory)
     → MatchResult result (IsTextExplored model asked told) (λ (e : AllocError). IsTextExplored model asked told out_of_memory)
 text_explored model asked p told (Ok answer) has is = of_plan p told answer has is

@@ -19,4 +19,5 @@ pub mod SomeAnswerLemmas
 pub mod StatusLemmas
 pub mod StepsLemmas
 pub mod StreamLemmas
+pub mod TellingLemmas
 pub mod ViewLemmas

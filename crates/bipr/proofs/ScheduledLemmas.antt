@@ -1,5 +1,7 @@
 -- Answers to schedules that were written out are those that the texts have.
-use Rattle.std.proofs.Common.{◌≡◌, ◌≢◌, ◌++◌, ℕ, List, Ok, length, sym, ap, ◌∙◌, subst}
+use Rattle.std.proofs.Common.{◌≡◌, ◌≢◌, ◌++◌, ℕ, Bool, false, List, [], Result, Ok, Err, length, sym, ap, ◌∙◌, subst}
+use Rattle.std.specs.Prelude.{IfOk, MatchResult}
+use Rattle.std.specs.declared.alloc.AllocError.{AllocError}
 use Rattle.bip_bank.specs.Banks.{BankContent}
 use Rattle.bip_core.specs.Laws.{WorldsKeepTheirPlan}
 use Rattle.bip_model.specs.declared.grants.Grant.{Grant}
@@ -17,36 +19,56 @@ use Rattle.bip_replay.specs.Writing.{text_of}
 use Rattle.bip_replay.specs.declared.faults.TraceFault.TheVariants.{Memory}
 use Rattle.bip_replay.specs.declared.faults.TraceFault.{TraceFault}
 use Rattle.bip_schedule.specs.Schedules.{IsEventText, IsScheduleFault}
-use Rattle.bipr.specs.Answers.{IsAnswer, complaining, run, saying}
+use Rattle.bipr.specs.Answers.{HasPlan, IsAnswer, complaining, run, saying}
 use Rattle.bipr.specs.Laws.{StepsReplay}
 use Rattle.bipr.specs.Resolvers.{IsSharedAtFirst}
-use Rattle.bipr.specs.Scheduled.{IsScheduleAnswer, no_schedule, reporting, stepped}
+use Rattle.bipr.specs.Scheduled.{IsScheduleAnswer, IsScheduleAnswered, IsScheduleRefused, IsStepped, IsToldAnswer, aloud, lacking, no_schedule, quietly, reporting, stepped, told_lacking, told_stepped, unheard, untold}
+use Rattle.bipr.specs.Stops.{out_of_memory}
+use Rattle.bipr.specs.Streams.{Put}
 use Rattle.bipr.specs.Wording.{report_text, run_text, schedule_refusal}
 use Rattle.bipr.specs.declared.answers.Answer.{Answer}
 use Rattle.bipr.specs.declared.answers.Status.TheVariants.{Done, Refused}
 use Rattle.bipr.specs.declared.resolvers.Resolver.{Resolver}
 
-pub has_answered-no_schedule : (p : Planned) (base : ℕ) (resolver : Resolver) (schedule complaint : List ℕ) (answer : Answer) (number : ℕ) (fault : TraceFault)
+pub has_refused : (p : Planned) (schedule complaint : List ℕ) (answer : Answer) (number : ℕ) (fault : TraceFault)
     → answer ≡ complaining Refused complaint → complaint ≡ schedule_refusal number fault → (fault ≢ Memory)
-    → IsScheduleFault p schedule number fault → IsScheduleAnswer p base resolver schedule answer
-has_answered-no_schedule p base resolver schedule complaint answer number fault same written other is =
-    subst (IsScheduleAnswer p base resolver schedule) (sym (same ∙ ap (complaining Refused) written)) (no_schedule number fault other is)
+    → IsScheduleFault p schedule number fault → IsScheduleRefused p schedule answer
+has_refused p schedule complaint answer number fault same written other is =
+    record { number = number; fault = fault; other = other; why = is; is = same ∙ ap (complaining Refused) written }
 
-pub has_answered-stepped : (p : Planned) (base : ℕ) (resolver : Resolver) (schedule trace told : List ℕ) (answer : Answer) (events : List Event) (w v : WorldContent) (report : Report)
-    → answer ≡ reporting trace told → trace ≡ text_of p.model v.trace → told ≡ report_text report
-    → IsEventText p schedule events → IsNewWorld p base w → IsSharedAtFirst resolver p w.bank.sharing → IsRunOfEvents events w v report → IsRunOf p.model base (text_of p.model v.trace) report.grants → IsScheduleAnswer p base resolver schedule answer
-has_answered-stepped p base resolver schedule trace told answer events w v report same written reported is begins sharing steps leads =
-    stepped report answer (record {
-      events = events;
-      first = w;
-      last = v;
-      says = is;
-      new = begins;
-      shared = sharing;
-      ran = steps;
-      run = leads;
-      is = same ∙ (ap (λ (t : List ℕ). reporting t told) written ∙ ap (λ (r : List ℕ). reporting (text_of p.model v.trace) r) reported);
-    })
+abbrev pub has_stepped : (p : Planned) (base : ℕ) (resolver : Resolver) (schedule : List ℕ) (answer : Answer) (events : List Event) (w v : WorldContent) (report : Report)
+    → answer ≡ reporting (text_of p.model v.trace) (report_text report)
+    → IsEventText p schedule events → IsNewWorld p base w → IsSharedAtFirst resolver p w.bank.sharing → IsRunOfEvents events w v report → IsRunOf p.model base (text_of p.model v.trace) report.grants → IsStepped p base resolver schedule report answer
+has_stepped p base resolver schedule answer events w v report same is begins sharing steps leads = record {
+  events = events;
+  first = w;
+  last = v;
+  says = is;
+  new = begins;
+  shared = sharing;
+  ran = steps;
+  run = leads;
+  is = same;
+}
+
+-- two facts of an answer that was made
+pub both_said : {R : Type 0} (result : Result Answer AllocError) (text : Answer) (Q : Answer → Type 0)
+    → IfOk result (λ a. a ≡ text) → IfOk result (λ a. R) → ((a : Answer) → a ≡ text → R → Q a) → IfOk result Q
+both_said (Ok a) text Q is also turn = turn a is also
+both_said (Err e) text Q is also turn = tt
+
+-- the same, where want of memory is told as such
+pub both_told : {R : Type 0} (result : Result Answer AllocError) (text : Answer) (Q : Answer → Type 0)
+    → IfOk result (λ a. a ≡ text) → IfOk result (λ a. R) → ((a : Answer) → a ≡ text → R → Q a) → Q out_of_memory
+    → MatchResult result Q (λ (e : AllocError). Q out_of_memory)
+both_told (Ok a) text Q is also turn none = turn a is also
+both_told (Err e) text Q is also turn none = none
+
+pub quiet : (p : Planned) (base : ℕ) (resolver : Resolver) (is_told : Bool) (schedule : List ℕ) (result : Result Answer AllocError)
+    → is_told ≡ false → IfOk result (IsScheduleAnswer p base resolver schedule)
+    → MatchResult result (IsScheduleAnswered p base resolver is_told schedule []) (λ (e : AllocError). IsScheduleAnswered p base resolver is_told schedule [] out_of_memory)
+quiet p base resolver is_told schedule (Ok answer) off is = quietly answer off is
+quiet p base resolver is_told schedule (Err e) off is = lacking
 
 -- the trace of a world to which events lead from the new one is that of a run above its base
 pub is_run : (p : Planned) (base : ℕ) (events : List Event) (w v : WorldContent) (report : Report) (text : List ℕ) → WorldsKeepTheirPlan → IsNewWorld p base w → IsRunOfEvents events w v report
@@ -65,9 +87,29 @@ is_run p base events w v report text keep begins steps ran grown reads =
     }
 
 -- what is written of a schedule is replayed as a run
+run_of_stepped : (base : ℕ) (resolver : Resolver) (model schedule : List ℕ) (p : Planned) (report : Report) (a : Answer) → HasPlan model p
+    → IsStepped p base resolver schedule report a → (count : ℕ) × IsAnswer base model a.output (saying Done (run_text count))
+run_of_stepped base resolver model schedule p report a has is =
+    (report.grants, subst (λ (text : List ℕ). IsAnswer base model text (saying Done (run_text report.grants))) (sym (ap (λ (x : Answer). x.output) is.is)) (run p.model p.classes report.grants has.means is.run))
+
+not_done : (p : Planned) (schedule : List ℕ) (a : Answer) → IsScheduleRefused p schedule a → a.status ≡ Done → ⊥
+not_done p schedule a refused done =
+    let both : Refused ≡ Done = sym (ap (λ (x : Answer). x.status) refused.is) ∙ done in cc
+
 pub steps_replay : StepsReplay
-steps_replay base resolver model schedule p answer has is done = by_answer answer is done
+steps_replay base resolver is_told model schedule p told answer has is done = by_answered told answer is done
   where
     by_answer : (a : Answer) → IsScheduleAnswer p base resolver schedule a → a.status ≡ Done → (count : ℕ) × IsAnswer base model a.output (saying Done (run_text count))
-    by_answer a (stepped report _ is) done = (report.grants, subst (λ (text : List ℕ). IsAnswer base model text (saying Done (run_text report.grants))) (sym (ap (λ (x : Answer). x.output) is.is)) (run p.model p.classes report.grants has.means is.run))
-    by_answer _ (no_schedule number fault other is) done = cc
+    by_answer a (stepped report _ is) done = run_of_stepped base resolver model schedule p report a has is
+    by_answer a (no_schedule _ refused) done = absurd (not_done p schedule a refused done)
+
+    by_told : (ts : List Put) (a : Answer) → IsToldAnswer p base resolver schedule ts a → a.status ≡ Done → (count : ℕ) × IsAnswer base model a.output (saying Done (run_text count))
+    by_told ts a (told_stepped report _ _ is) done = run_of_stepped base resolver model schedule p report a has is.stepped
+    by_told ts _ (unheard _ last until) done = cc
+    by_told ts _ (told_lacking _ heard until) done = cc
+
+    by_answered : (ts : List Put) (a : Answer) → IsScheduleAnswered p base resolver is_told schedule ts a → a.status ≡ Done → (count : ℕ) × IsAnswer base model a.output (saying Done (run_text count))
+    by_answered _ a (quietly _ off is) done = by_answer a is done
+    by_answered ts a (aloud _ _ on is) done = by_told ts a is done
+    by_answered _ a (untold _ refused) done = absurd (not_done p schedule a refused done)
+    by_answered _ _ lacking done = cc

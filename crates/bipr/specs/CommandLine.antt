@@ -84,6 +84,7 @@ pub record AreStepsAsked (values : List Row) (arguments : StepsArguments) : Type
   pub schedule : first_of (codes "schedule") values ≡ Some arguments.schedule.now
   pub resolver : IsResolverAsked values arguments.resolver
   pub base : IsBaseAsked values arguments.base
+  pub tell : IsFlagAsked values (codes "tell") arguments.is_told
 
 -- the values behind `explore` ask
 pub record IsExploreAsked (values : List Row) (arguments : ExploreArguments) : Type 0 where

@@ -26,7 +26,7 @@ use Rattle.bipr.specs.Endings.{Ends, EndsExplaining}
 use Rattle.bipr.specs.Program.{IsNoParse, IsParse, Parsed}
 use Rattle.bipr.specs.Refusals.{IsErrorAnswer, IsWordsAnswer, bad_base}
 use Rattle.bipr.specs.Stops.{out_of_memory}
-use Rattle.bipr.specs.Streams.{Puts}
+use Rattle.bipr.specs.Streams.{Put, Puts}
 use Rattle.bipr.specs.declared.answers.Answer.{Answer}
 use Rattle.bipr.specs.declared.answers.Status.{Status}
 use Rattle.bipr.specs.declared.command_line.ChartArguments.{ChartArguments}
@@ -46,7 +46,7 @@ use Rattle.bipr.specs.declared.inputs.InputFault.{InputFault}
 pub data IsCarriedOutBy (parsed : Parsed)
     (gives : List ℕ → Result (List ℕ) InputFault → Type 0)
     (hosts : Planned → Resolver → ℕ → Result Hosted HostFault → Type 0)
-    : List (List ℕ) → Answer → Type 0 where
+    : List Put → Answer → Type 0 where
   chart_asked : (arguments : ChartArguments) (answer : Answer) → AsksToChart parsed arguments
       → IsChart gives arguments answer → IsCarriedOutBy parsed gives hosts [] answer
   check_asked : (arguments : CheckArguments) (answer : Answer) → AsksToCheck parsed arguments
@@ -55,9 +55,10 @@ pub data IsCarriedOutBy (parsed : Parsed)
       → IsDraw gives arguments answer → IsCarriedOutBy parsed gives hosts [] answer
   asked : (arguments : ReplayArguments) (answer : Answer) → AsksToReplay parsed arguments
       → IsReplay gives arguments answer → IsCarriedOutBy parsed gives hosts [] answer
-  steps_asked : (arguments : StepsArguments) (answer : Answer) → AsksForSteps parsed arguments
-      → IsSteps gives arguments answer → IsCarriedOutBy parsed gives hosts [] answer
-  explore_asked : (arguments : ExploreArguments) (told : List (List ℕ)) (answer : Answer)
+  steps_asked : (arguments : StepsArguments) (told : List Put) (answer : Answer)
+      → AsksForSteps parsed arguments → IsSteps gives arguments told answer
+      → IsCarriedOutBy parsed gives hosts told answer
+  explore_asked : (arguments : ExploreArguments) (told : List Put) (answer : Answer)
       → AsksToExplore parsed arguments → IsExplore gives arguments told answer
       → IsCarriedOutBy parsed gives hosts told answer
   run_asked : (arguments : RunArguments) (answer : Answer) → AsksToRun parsed arguments
@@ -69,8 +70,8 @@ pub data IsCarriedOutBy (parsed : Parsed)
 pub data IsCarriedOut (words : List Text)
     (gives : List ℕ → Result (List ℕ) InputFault → Type 0)
     (hosts : Planned → Resolver → ℕ → Result Hosted HostFault → Type 0) :
-    Bool → List (List ℕ) → Answer → Type 0 where
-  parsed : (said : Parsed) (is_asked : Bool) (told : List (List ℕ)) (answer : Answer)
+    Bool → List Put → Answer → Type 0 where
+  parsed : (said : Parsed) (is_asked : Bool) (told : List Put) (answer : Answer)
       → IsParse words said → IsExplainAsked said is_asked
       → IsCarriedOutBy said gives hosts told answer
       → IsCarriedOut words gives hosts is_asked told answer

@@ -5,7 +5,7 @@ use Rattle.std.specs.List.{list_all}
 use Rattle.std.specs.declared.alloc.AllocError.{AllocError}
 use Rattle.bip_explain.specs.Explanations.{is_shown}
 use Rattle.bipr.specs.Stops.{answer_of_stop, out_of_memory}
-use Rattle.bipr.specs.Streams.{Puts, PutsEach}
+use Rattle.bipr.specs.Streams.{Put, Puts, PutsEach}
 use Rattle.bipr.specs.Wording.{complaint_text}
 use Rattle.bipr.specs.declared.answers.Answer.{Answer}
 use Rattle.bipr.specs.declared.answers.Status.{Status}
@@ -39,10 +39,10 @@ Ends may_answer says complains status =
 
 -- the end of a command that tells lines on its way: these were put on standard error, and then the
 -- command ended with an answer that it may have with them
-pub record EndsTelling {S : Type 0} (may_answer : List (List ℕ) → Answer → Type 0)
+pub record EndsTelling {S : Type 0} (may_answer : List Put → Answer → Type 0)
     (says : List ℕ → Bool → Type 0) (writes : S → List ℕ → Bool → S → Type 0) (before after : S)
     (status : Status) : Type 0 where
-  pub told : List (List ℕ)
+  pub told : List Put
   pub middle : S
   pub on_the_way : PutsEach writes before told middle
   pub ends : Ends (may_answer told) says (Puts writes middle after) status
@@ -64,7 +64,7 @@ Explains writes before after status why =
 
 -- the end of a command that may be asked to explain: it ended, and then a fault was explained, by
 -- 480 bytes at most that a terminal shows as they are; where that isn't asked, nothing more was put
-pub record EndsExplaining {S : Type 0} (may_answer : Bool → List (List ℕ) → Answer → Type 0)
+pub record EndsExplaining {S : Type 0} (may_answer : Bool → List Put → Answer → Type 0)
     (says : List ℕ → Bool → Type 0) (writes : S → List ℕ → Bool → S → Type 0) (before after : S)
     (status : Status) : Type 0 where
   pub is_asked : Bool
@@ -87,15 +87,15 @@ AllOutcomes given holds = (answer : Answer) → IsOutcome given answer → holds
 
 -- the same, where lines were told on the way
 pub record AllOutcomesTelling {S : Type 0} (writes : S → List ℕ → Bool → S → Type 0)
-    (before after : S) (given : Result Answer Stop) (holds : List (List ℕ) → Answer → Type 0)
+    (before after : S) (given : Result Answer Stop) (holds : List Put → Answer → Type 0)
     : Type 0 where
-  pub told : List (List ℕ)
+  pub told : List Put
   pub on_the_way : PutsEach writes before told after
   pub outcomes : AllOutcomes given (holds told)
 
 -- the same, where it has an answer or wants memory, and is stopped by nothing else
 abbrev pub IsAnsweredTelling : {S : Type 0} → (S → List ℕ → Bool → S → Type 0) → S → S
-    → Result Answer AllocError → (List (List ℕ) → Answer → Type 0) → Type 0
+    → Result Answer AllocError → (List Put → Answer → Type 0) → Type 0
 IsAnsweredTelling writes before after given holds =
-    (told : List (List ℕ)) × PutsEach writes before told after
+    (told : List Put) × PutsEach writes before told after
     × MatchResult given (holds told) (λ (e : AllocError). holds told out_of_memory)

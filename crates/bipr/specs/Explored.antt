@@ -1,11 +1,12 @@
 -- The answer to exploring a plan by many seeds, and what is told on the way.
 use Rattle.std.specs.Prelude.{List, [], ℕ, zero, suc, nat_lt, if◌then◌else◌, ◌&&◌, ◌*◌, ◌++◌}
-use Rattle.std.specs.Prelude.{Bool, ◌-◌, ◌/◌, ◌∷◌, ◌≤◌}
+use Rattle.std.specs.Prelude.{Bool, ◌-◌, ◌/◌, ◌∷◌, ◌≡◌, ◌≤◌}
 use Rattle.bip_partition.specs.Plans.{Planned}
 use Rattle.bip_schedule.specs.Exploring.{AreExplored}
 use Rattle.bipr.specs.Answers.{saying}
 use Rattle.bipr.specs.Resolvers.{IsSharedAtFirst}
 use Rattle.bipr.specs.Stops.{out_of_memory}
+use Rattle.bipr.specs.Streams.{Put, texts}
 use Rattle.bipr.specs.Wording.{progress_text, seeds_text}
 use Rattle.bipr.specs.declared.answers.Answer.{Answer}
 use Rattle.bipr.specs.declared.answers.Status.TheVariants.{Done}
@@ -27,13 +28,14 @@ told_until asked (suc done) = told_until asked done ++ told_at asked (suc done)
 
 -- the answer to exploring a plan with a resolver's bank, and what is told on the way
 pub data IsExploreAnswer (p : Planned) (asked : ExploreArguments) :
-    List (List ℕ) → Answer → Type 0 where
+    List Put → Answer → Type 0 where
   -- the trace of each seed is a run of the model: that one is none can't be
-  explored : (grants : ℕ)
+  explored : (grants : ℕ) (told : List Put)
       → AreExplored (IsSharedAtFirst asked.resolver p) p 0 asked.events asked.seeds grants
-      → IsExploreAnswer p asked (told_until asked asked.seeds)
-      (saying Done (seeds_text asked.seeds))
+      → texts told ≡ told_until asked asked.seeds
+      → IsExploreAnswer p asked told (saying Done (seeds_text asked.seeds))
   -- so many seeds are explored, and memory is out
-  ends_without_memory : (done grants : ℕ) → done ≤ asked.seeds
+  ends_without_memory : (done grants : ℕ) (told : List Put) → done ≤ asked.seeds
       → AreExplored (IsSharedAtFirst asked.resolver p) p 0 asked.events done grants
-      → IsExploreAnswer p asked (told_until asked done) out_of_memory
+      → texts told ≡ told_until asked done
+      → IsExploreAnswer p asked told out_of_memory

@@ -19,8 +19,9 @@ use Rattle.bipr.specs.Drawn.{IsDrawingAnswer}
 use Rattle.bipr.specs.Hosted.{IsHostAnswer}
 use Rattle.bipr.specs.Inputs.{IsReading, Named, bytes, most_bytes}
 use Rattle.bipr.specs.Resolvers.{IsSharedAtFirst}
-use Rattle.bipr.specs.Scheduled.{IsScheduleAnswer, IsStepped}
+use Rattle.bipr.specs.Scheduled.{IsScheduleAnswered, IsStepped}
 use Rattle.bipr.specs.Stops.{out_of_memory, unread_text}
+use Rattle.bipr.specs.Streams.{Put}
 use Rattle.bipr.specs.Wording.{run_text}
 use Rattle.bipr.specs.declared.answers.Answer.{Answer}
 use Rattle.bipr.specs.declared.answers.Status.{Status}
@@ -57,8 +58,9 @@ SomeAnswer = (base : ℕ) (model trace : List ℕ)
 -- the same model from the same base, says that it is a run
 abbrev pub StepsReplay : Type 0
 StepsReplay =
-    (base : ℕ) (resolver : Resolver) (model schedule : List ℕ) (p : Planned) (answer : Answer)
-    → HasPlan model p → IsScheduleAnswer p base resolver schedule answer → answer.status ≡ Done
+    (base : ℕ) (resolver : Resolver) (is_told : Bool) (model schedule : List ℕ) (p : Planned)
+    (told : List Put) (answer : Answer) → HasPlan model p
+    → IsScheduleAnswered p base resolver is_told schedule told answer → answer.status ≡ Done
     → (count : ℕ) × IsAnswer base model answer.output (saying Done (run_text count))
 
 -- and so it is with what `run` writes where it ends as done, from base 0, whatever a host gave

@@ -90,7 +90,7 @@ replay_command = with_arguments (codes "replay")
 abbrev pub steps_command : Bor (List (Bor Text)) → Shape
 steps_command resolvers = with_arguments (codes "steps")
     (path (codes "model") ∷ path (codes "schedule") ∷ resolver_option resolvers ∷ base_option
-    ∷ flag (codes "explain") ∷ [])
+    ∷ flag (codes "tell") ∷ flag (codes "explain") ∷ [])
 
 abbrev pub explore_command : Bor (List (Bor Text)) → Shape
 explore_command resolvers = with_arguments (codes "explore")

@@ -1,8 +1,11 @@
 -- The answer to a schedule: the trace of the world to which its events lead, and their report.
-use Rattle.std.specs.Prelude.{List, ℕ, ◌≡◌, ◌≢◌}
-use Rattle.bip_core.specs.Runs.{IsRunOfEvents}
+use Rattle.std.specs.Prelude.{Bool, Err, List, None, Ok, Option, Result, Some, [], false, true}
+use Rattle.std.specs.Prelude.{ℕ, ◌++◌, ◌≡◌, ◌≢◌, ◌⊎◌}
+use Rattle.std.specs.declared.alloc.AllocError.{AllocError}
+use Rattle.bip_core.specs.Runs.{IsRunOfEvents, report_of}
 use Rattle.bip_core.specs.Starting.{IsNewWorld}
 use Rattle.bip_core.specs.Worlds.{WorldContent}
+use Rattle.bip_core.specs.declared.events.Did.{Did}
 use Rattle.bip_core.specs.declared.events.Event.{Event}
 use Rattle.bip_core.specs.declared.runs.Report.{Report}
 use Rattle.bip_partition.specs.Plans.{Planned}
@@ -11,8 +14,12 @@ use Rattle.bip_replay.specs.Writing.{text_of}
 use Rattle.bip_replay.specs.declared.faults.TraceFault.TheVariants.{Memory}
 use Rattle.bip_replay.specs.declared.faults.TraceFault.{TraceFault}
 use Rattle.bip_schedule.specs.Schedules.{IsEventText, IsScheduleFault}
+use Rattle.bip_tell.specs.Lines.{AreTold}
 use Rattle.bipr.specs.Answers.{complaining}
+use Rattle.bipr.specs.Endings.{unwritten_text}
 use Rattle.bipr.specs.Resolvers.{IsSharedAtFirst}
+use Rattle.bipr.specs.Stops.{out_of_memory}
+use Rattle.bipr.specs.Streams.{AreOut, IsLastUnheard, Put, texts}
 use Rattle.bipr.specs.Wording.{report_text, schedule_refusal}
 use Rattle.bipr.specs.declared.answers.Answer.{Answer}
 use Rattle.bipr.specs.declared.answers.Status.TheVariants.{Done, Refused}
@@ -37,6 +44,36 @@ pub record IsStepped (p : Planned) (base : ℕ) (resolver : Resolver) (schedule 
   pub run : IsRunOf p.model base (text_of p.model last.trace) report.grants
   pub is : answer ≡ reporting (text_of p.model last.trace) (report_text report)
 
+-- the same, where each event was told on the way by its line
+pub record IsToldStepped (p : Planned) (base : ℕ) (resolver : Resolver) (schedule : List ℕ)
+    (report : Report) (told : List Put) (answer : Answer) : Type 0 where
+  pub stepped : IsStepped p base resolver schedule report answer
+  pub dids : List (Option Did)
+  pub lines : AreTold stepped.first stepped.events dids (texts told) stepped.last
+  pub heard : AreOut told
+  pub sums : report ≡ report_of dids
+
+-- the first events of a schedule are done, each told by its line
+pub record IsToldUntil (p : Planned) (base : ℕ) (resolver : Resolver) (schedule : List ℕ)
+    (told : List Put) : Type 0 where
+  pub done : List Event
+  pub rest : List Event
+  pub dids : List (Option Did)
+  pub first : WorldContent
+  pub last : WorldContent
+  pub says : IsEventText p schedule (done ++ rest)
+  pub new : IsNewWorld p base first
+  pub shared : IsSharedAtFirst resolver p first.bank.sharing
+  pub lines : AreTold first done dids (texts told) last
+
+-- a text that is no schedule is refused by its first fault
+pub record IsScheduleRefused (p : Planned) (schedule : List ℕ) (answer : Answer) : Type 0 where
+  pub number : ℕ
+  pub fault : TraceFault
+  pub other : fault ≢ Memory
+  pub why : IsScheduleFault p schedule number fault
+  pub is : answer ≡ complaining Refused (schedule_refusal number fault)
+
 -- the answer to the text of a schedule for a plan, with a resolver's bank, from a base
 pub data IsScheduleAnswer (p : Planned) (base : ℕ) (resolver : Resolver) (schedule : List ℕ)
     : Answer → Type 0 where
@@ -44,7 +81,52 @@ pub data IsScheduleAnswer (p : Planned) (base : ℕ) (resolver : Resolver) (sche
   stepped : (report : Report) (answer : Answer) → IsStepped p base resolver schedule report answer
       → IsScheduleAnswer p base resolver schedule answer
   -- the text is none
-  no_schedule : (number : ℕ) (fault : TraceFault) → fault ≢ Memory
-      → IsScheduleFault p schedule number fault
-      → IsScheduleAnswer p base resolver schedule
-      (complaining Refused (schedule_refusal number fault))
+  no_schedule : (answer : Answer) → IsScheduleRefused p schedule answer
+      → IsScheduleAnswer p base resolver schedule answer
+
+-- the same, where each event is told on the way
+pub data IsToldAnswer (p : Planned) (base : ℕ) (resolver : Resolver) (schedule : List ℕ)
+    : List Put → Answer → Type 0 where
+  -- all its events are done and told
+  told_stepped : (report : Report) (told : List Put) (answer : Answer)
+      → IsToldStepped p base resolver schedule report told answer
+      → IsToldAnswer p base resolver schedule told answer
+  -- the line of an event isn't out, and no more are done
+  unheard : (told : List Put) → IsLastUnheard told → IsToldUntil p base resolver schedule told
+      → IsToldAnswer p base resolver schedule told (complaining Refused unwritten_text)
+  -- memory is out on the way
+  told_lacking : (told : List Put) → AreOut told ⊎ IsLastUnheard told
+      → IsToldUntil p base resolver schedule told
+      → IsToldAnswer p base resolver schedule told out_of_memory
+
+-- the answer where events are told, if that is asked for
+pub data IsScheduleAnswered (p : Planned) (base : ℕ) (resolver : Resolver) (is_told : Bool)
+    (schedule : List ℕ) : List Put → Answer → Type 0 where
+  quietly : (answer : Answer) → is_told ≡ false
+      → IsScheduleAnswer p base resolver schedule answer
+      → IsScheduleAnswered p base resolver is_told schedule [] answer
+  aloud : (told : List Put) (answer : Answer) → is_told ≡ true
+      → IsToldAnswer p base resolver schedule told answer
+      → IsScheduleAnswered p base resolver is_told schedule told answer
+  -- the text is none, so nothing is told
+  untold : (answer : Answer) → IsScheduleRefused p schedule answer
+      → IsScheduleAnswered p base resolver is_told schedule [] answer
+  -- memory is out before the first event
+  lacking : IsScheduleAnswered p base resolver is_told schedule [] out_of_memory
+
+-- What contracts of private functions say.
+
+-- what telling the events of a schedule comes to
+pub data IsTelling (p : Planned) (schedule : List ℕ) (w v : WorldContent) (told : List Put)
+    : Result (Option Report) AllocError → Type 0 where
+  all_told : (events : List Event) (dids : List (Option Did)) (report : Report)
+      → IsEventText p schedule events → AreTold w events dids (texts told) v → AreOut told
+      → report ≡ report_of dids → IsTelling p schedule w v told (Ok (Some report))
+  one_unheard : (done rest : List Event) (dids : List (Option Did))
+      → IsEventText p schedule (done ++ rest) → AreTold w done dids (texts told) v
+      → IsLastUnheard told → IsTelling p schedule w v told (Ok None)
+  nothing_told : (e : AllocError) → told ≡ [] → IsTelling p schedule w v told (Err e)
+  some_told : (done rest : List Event) (dids : List (Option Did)) (last : WorldContent)
+      (e : AllocError) → IsEventText p schedule (done ++ rest)
+      → AreTold w done dids (texts told) last → AreOut told
+      → IsTelling p schedule w v told (Err e)

@@ -44,13 +44,14 @@ pub struct ChartArguments<'a> {
 }
 
 /// What the command line asks: the steps of a schedule from the new world of a model above a base,
-/// with a resolver's bank, each text named by its path.
+/// with a resolver's bank, each text named by its path; and whether each event is told.
 #[derive(Drop)]
 pub struct StepsArguments<'a> {
     pub model: &'a str,
     pub schedule: &'a str,
     pub resolver: Resolver,
     pub base: Number,
+    pub is_told: bool,
 }
 
 /// What the command line asks: to explore the model that a path names, with a resolver's bank, by
@@ -192,6 +193,7 @@ fn read_steps<'a>(matches: &ArgMatches<'a>) -> Option<StepsArguments<'a>>
         schedule: matches.get_str("schedule")?,
         resolver,
         base,
+        is_told: matches.get_flag("tell"),
     })
 }
 

@@ -1,8 +1,8 @@
 //! Answers to exploring: what the seeds come to, and what is told on the way.
-ghost use Rattle.std.specs.Prelude.{◌≡◌, OnErr, OnOk};
+ghost use Rattle.std.specs.Prelude.{◌≡◌, List, OnErr, OnOk};
 ghost use Rattle.bipr.specs.Endings.{IsAnsweredTelling};
 ghost use Rattle.bipr.specs.Explored.{IsExploreAnswer, ends_hundredth, told_at};
-ghost use Rattle.bipr.specs.Streams.{PutsEach};
+ghost use Rattle.bipr.specs.Streams.{Put, PutsEach, texts};
 
 use crate::ahead::{Ahead, jobs_of, keep_ahead, outcome};
 use crate::answers::{Answer, Status, said};
@@ -57,7 +57,8 @@ fn tell<E: Stream>(
     done: u32,
     errors: &mut E,
 ) -> Result<(), AllocError>
-    ensures ok { OnOk result (PutsEach E.writes errors.old (told_at asked.now done) errors.new) }
+    ensures ok { OnOk result ((told : List Put) × PutsEach E.writes errors.old told errors.new
+        × (texts told ≡ told_at asked.now done)) }
     ensures err { OnErr result (errors.new ≡ errors.old) }
 {
     if asked.is_told && ends_hundredth(asked.seeds, done) {

@@ -10,7 +10,7 @@ ghost use Rattle.bipr.specs.Program.{steps_command, table_option};
 use clap::{Arg, ArgAction, Command, value_parser};
 use std::alloc::{AllocError, Global};
 
-const ABOUT: &str = "Says of a trace of grants whether it is an execution of a BIP model";
+const ABOUT: &str = "Runs BIP models as distributed nodes, and says which traces are runs of them";
 
 const HELP: &str = "\
 A model is a text of components and interactions:
@@ -25,6 +25,21 @@ A model is a text of components and interactions:
     end
     interaction x A.s
     class P x
+
+Its lines, each name declared before it is used:
+
+    bip 1                     the first one
+    component NAME .. end     with the lines of these four inside it:
+    var NAME VALUE            a variable with its value at the start
+    loc NAME                  a location; the first one is the start
+    port NAME
+    trans PORT FROM TO [when GUARD] [do UPDATE]
+    interaction NAME COMPONENT.PORT .. [when GUARD] [do TRANSFER]
+    priority LOW < HIGH       where HIGH may run, LOW may not
+    class NAME INTERACTION .. a node that asks for these interactions
+
+Blanks stand between all words: a guard is `n < 3 and m != 0`, an update `n := n + 1 ; m := 0`.
+In an interaction a variable is named `COMPONENT.n`.
 
 A trace is a text of grants, each an interaction with its components, and of each the
 number of its move, from 1:
@@ -55,6 +70,7 @@ its first line at fault:
     priority cycle   an interaction above itself
     not a partition  an interaction in no class, in two, or twice in one
     touches too many more than 32 components that it moves or looks at
+    a chart has at most 2000 rows    --from and --to show some of a longer one
 
 With `--explain` one more line says what is wrong, and in which column.
 
@@ -111,7 +127,7 @@ const STEPS_ABOUT: &str = "Runs the steps of a schedule, and says which grants t
 const STEPS_HELP: &str = "\
 A schedule is a text of protocol steps, one a line:
 
-    mail K          the K-th message in flight, from 0, is handed on
+    mail K          the K-th message in flight, from 0, is handed on, and is in flight no more
     try CLASS INTER the class tries the interaction
     serve S         the bank decides on the oldest open request of S
     deliver K       what is K-th in flight inside the bank arrives
@@ -119,15 +135,23 @@ A schedule is a text of protocol steps, one a line:
     ask S T         the station of S asks for it
 
 S and T are reserved interactions. At first each component's offer is in flight to each
-class that touches it, by component, then class. Of the model of `bipr --help`,
+class that touches it, by component, then class. Requests of classes, the bank's replies,
+what granted components are told and their next offers are mail too, put last: for a reserved
+interaction the request has to be handed on before `serve`, and then the reply, and what its
+components are told. Of the model of `bipr --help`,
 
     mail 0
     try P x
 
 are steps that lead to the trace `grant x A:1`, which `bipr replay` takes, as any of at most
-16,777,216 bytes. The report on
-standard error has one line: events, grants, refused requests, steps that did nothing, and
-what was skipped or lost for want of memory.";
+16,777,216 bytes. The report on standard error has one line: events, grants, refused requests,
+steps that did nothing, and what was skipped or lost for want of memory: a trace is cut short
+where that isn't 0. With --tell a line for each step stands before
+it: the message that it hands on, what was answered, and each message that this sent, with
+its place in flight from then on:
+
+    1 mail 0: offer A:1 to P held
+    2 try P x: granted A:1, 0 notify A:1 s";
 
 const EXPLORE_ABOUT: &str = "Runs steps by chance, and checks that each trace is a run";
 
@@ -141,7 +165,8 @@ they lead is checked as `bipr replay` does. Of the model of `bipr --help`,
 writes `seeds 3 runs 3`: the traces of all three seeds are runs of the model. Were one
 none, the answer would be `seed S: not a run`, of the lowest such seed. A seed draws the
 same steps each time. Where there is memory for all threads, the answer is the same however
-many explore.";
+many explore. Most steps that are drawn do nothing: with a ring or forks, and with many
+components, seeds of fewer than 100,000 steps may grant little or nothing.";
 
 const RUN_ABOUT: &str = "Runs the nodes of a model as threads, and says which grants they made";
 
@@ -255,6 +280,7 @@ fn steps<'a>(alloc: Global, resolvers: &'a [&'a str]) -> Result<Command<'a>, All
         .arg(schedule)?
         .arg(resolver(alloc, resolvers))?
         .arg(base(alloc).help("the number that each component has used at first"))?
+        .arg(tell(alloc))?
         .arg(explain(alloc))
 }
 
@@ -413,6 +439,14 @@ fn stats<'a>(alloc: Global) -> Arg<'a>
     ensures { HasRule (flag (codes "stats")) result }
 {
     flag(alloc, "stats").help("write what is counted in one line on standard error")
+}
+
+// The option that tells each event.
+fn tell<'a>(alloc: Global) -> Arg<'a>
+    ensures { HasRule (flag (codes "tell")) result }
+{
+    let help = "tell on standard error what each step did, and what it put into flight";
+    flag(alloc, "tell").help(help)
 }
 
 // The option that tells progress.

@@ -1,16 +1,28 @@
-//! Answers to schedules: what their events lead to.
-ghost use Rattle.std.specs.Prelude.{◌≡◌, ◌≤◌, IfOk};
+//! Answers to schedules: what their events lead to, and what is told on the way.
+ghost use Rattle.std.specs.Prelude.{◌≡◌, ◌≤◌, IfOk, List, Ok, true};
 ghost use Rattle.bip_bank.specs.Banks.{content_of};
 ghost use Rattle.bip_core.specs.Starting.{IsUnasked};
+ghost use Rattle.bip_core.specs.Worlds.{world_of};
+ghost use Rattle.bip_replay.specs.Runs.{IsModelRun};
+ghost use Rattle.bip_replay.specs.Traces.{grants_of};
+ghost use Rattle.bip_replay.specs.Writing.{text_of};
+ghost use Rattle.bipr.specs.Answers.{complaining};
 ghost use Rattle.bipr.specs.CommandLine.{greatest_base};
+ghost use Rattle.bipr.specs.Commands.Steps.{IsScheduleOf};
+ghost use Rattle.bipr.specs.Endings.{IsAnsweredTelling, unwritten_text};
 ghost use Rattle.bipr.specs.Resolvers.{IsSharedAtFirst};
-ghost use Rattle.bipr.specs.Scheduled.{IsScheduleAnswer, reporting};
+ghost use Rattle.bipr.specs.Scheduled.{IsScheduleAnswer, IsTelling, IsToldAnswer, reporting};
+ghost use Rattle.bipr.specs.Streams.{Put, PutsEach};
+ghost use Rattle.bipr.specs.Wording.{report_text};
+ghost use Rattle.bipr.specs.declared.answers.Status.TheVariants.{Refused};
 
 use crate::answers::{Answer, Status, complained};
+use crate::command_line::StepsArguments;
 use crate::resolvers::Resolver;
-use crate::wording::{report_text, schedule_refusal};
+use crate::streams::{Stream, put};
+use crate::wording::{report_text, schedule_refusal, unwritten_text};
 use bip_bank::{Bank, Central};
-use bip_core::{World, world_laws};
+use bip_core::{Report, World, world_laws};
 use bip_explain::{Explanation, explain_schedule};
 use bip_forks::Forks;
 use bip_model::{Number, Seq};
@@ -18,24 +30,28 @@ use bip_partition::Plan;
 use bip_replay::write_trace;
 use bip_ring::Ring;
 use bip_schedule::Schedule;
+use bip_tell::tell_event;
 use std::alloc::{AllocError, Global};
 
 /// The answer to a schedule's text for a plan, with a resolver's bank, from a base: the trace of
 /// the world to which its events lead from the new one, with their report; else the first fault of
-/// the text (docs/ANSWERS.md, "Answers"). The only error is want of memory.
-pub fn answer_schedule(
+/// the text. Where that is asked for, each event is told on standard error when it is done; where
+/// its line isn't out, no more are done (docs/ANSWERS.md, "Answers"). The only error is want of
+/// memory.
+pub fn answer_schedule<E: Stream>(
     alloc: Global,
     explanation: &mut Explanation,
     plan: &Plan,
-    resolver: Resolver,
+    asked: &StepsArguments<'_>,
     schedule: &[u8],
-    base: Number,
+    errors: &mut E,
 ) -> Result<Answer, AllocError>
-    requires { base ≤ greatest_base }
-    ensures { IfOk result (IsScheduleAnswer plan.now base resolver schedule.now) }
+    requires { asked.now.base ≤ greatest_base }
+    ensures { IsAnsweredTelling E.writes errors.old errors.new result
+        (IsScheduleOf plan.now asked.now schedule.now) }
 {
     match Schedule::of(plan, schedule) {
-        Ok(schedule) => answer_resolved(alloc, plan, resolver, &schedule, base),
+        Ok(schedule) => answer_resolved(alloc, plan, asked, &schedule, errors),
         Err((line, fault)) => {
             explain_schedule(explanation, plan, schedule, line, &fault);
             let complaint = schedule_refusal(alloc, line, &fault)?;
@@ -45,34 +61,119 @@ pub fn answer_schedule(
 }
 
 // The answer to a schedule of the plan, with a resolver's bank.
-fn answer_resolved(
+fn answer_resolved<E: Stream>(
     alloc: Global,
     plan: &Plan,
-    resolver: Resolver,
+    asked: &StepsArguments<'_>,
     schedule: &Schedule<'_>,
-    base: Number,
+    errors: &mut E,
 ) -> Result<Answer, AllocError>
-    requires base { base ≤ greatest_base }
+    requires base { asked.now.base ≤ greatest_base }
     requires plan { schedule.now.plan ≡ plan.now }
-    ensures { IfOk result (IsScheduleAnswer plan.now base resolver schedule.now.text) }
+    ensures { IsAnsweredTelling E.writes errors.old errors.new result
+        (IsScheduleOf plan.now asked.now schedule.now.text) }
 {
-    match resolver {
+    let base = asked.base;
+    match asked.resolver {
         Resolver::Central => {
             let bank = Central::new(alloc, plan, base)?;
-            answer_events(alloc, plan, bank, schedule, base)
+            answer_with_bank(alloc, plan, bank, asked, schedule, errors)
         }
         Resolver::Ring => {
             let bank = Ring::new(alloc, plan, base)?;
-            answer_events(alloc, plan, bank, schedule, base)
+            answer_with_bank(alloc, plan, bank, asked, schedule, errors)
         }
         Resolver::Forks => {
             let bank = Forks::new(alloc, plan, base)?;
-            answer_events(alloc, plan, bank, schedule, base)
+            answer_with_bank(alloc, plan, bank, asked, schedule, errors)
         }
     }
 }
 
-// The answer to a schedule of the plan, with a new bank.
+// The answer to a schedule of the plan, with a new bank of the resolver.
+fn answer_with_bank<B: Bank + Drop, E: Stream>(
+    alloc: Global,
+    plan: &Plan,
+    bank: B,
+    asked: &StepsArguments<'_>,
+    schedule: &Schedule<'_>,
+    errors: &mut E,
+) -> Result<Answer, AllocError>
+    requires base { asked.now.base ≤ greatest_base }
+    requires plan { schedule.now.plan ≡ plan.now }
+    requires unasked { IsUnasked plan.now asked.now.base (content_of (B.kept bank)) }
+    requires shared { IsSharedAtFirst asked.now.resolver plan.now (B.kept bank).sharing }
+    ensures { IsAnsweredTelling E.writes errors.old errors.new result
+        (IsScheduleOf plan.now asked.now schedule.now.text) }
+{
+    if asked.is_told {
+        answer_telling(alloc, plan, bank, asked, schedule, errors)
+    } else {
+        answer_events(alloc, plan, bank, schedule, asked.base)
+    }
+}
+
+// The same where each event is told.
+fn answer_telling<B: Bank + Drop, E: Stream>(
+    alloc: Global,
+    plan: &Plan,
+    bank: B,
+    asked: &StepsArguments<'_>,
+    schedule: &Schedule<'_>,
+    errors: &mut E,
+) -> Result<Answer, AllocError>
+    requires base { asked.now.base ≤ greatest_base }
+    requires plan { schedule.now.plan ≡ plan.now }
+    requires unasked { IsUnasked plan.now asked.now.base (content_of (B.kept bank)) }
+    requires shared { IsSharedAtFirst asked.now.resolver plan.now (B.kept bank).sharing }
+    requires told { asked.now.is_told ≡ true }
+    ensures { IsAnsweredTelling E.writes errors.old errors.new result
+        (IsScheduleOf plan.now asked.now schedule.now.text) }
+{
+    world_laws();
+    let mut world = World::new(alloc, plan, bank, asked.base)?;
+    match tell_events(alloc, schedule, &mut world, errors)? {
+        Some(report) => answer_run(alloc, plan, &world, &report),
+        None => answer_unwritten(alloc),
+    }
+}
+
+// The answer where what is told on the way isn't out.
+fn answer_unwritten(alloc: Global) -> Result<Answer, AllocError>
+    ensures { IfOk result (λ answer. answer ≡ complaining Refused unwritten_text) }
+{
+    let text = unwritten_text(alloc)?;
+    Ok(complained(alloc, Status::Refused, text))
+}
+
+// Does the events of a schedule one after another, and tells each by its line; none where a line
+// isn't out. The only error is want of memory.
+fn tell_events<'p, B: Bank, E: Stream>(
+    alloc: Global,
+    schedule: &Schedule<'_>,
+    world: &mut World<'p, B>,
+    errors: &mut E,
+) -> Result<Option<Report>, AllocError>
+    requires { schedule.now.plan ≡ world.old.plan }
+    ensures plan { world.new.plan ≡ world.old.plan }
+    ensures told { (told : List Put) × PutsEach E.writes errors.old told errors.new
+        × IsTelling schedule.now.plan schedule.now.text (world_of world.old) (world_of world.new)
+        told result }
+{
+    let events = schedule.events(alloc)?;
+    let mut report = Report::empty();
+    let mut line = Vec::new(alloc);
+    for event in &events {
+        line.clear();
+        tell_event(&mut line, world, *event, &mut report)?;
+        if !put(errors, line.as_slice()) {
+            return Ok(None);
+        }
+    }
+    Ok(Some(report))
+}
+
+// The answer to a schedule of the plan, with a new bank, where nothing is told on the way.
 fn answer_events<B: Bank + Drop>(
     alloc: Global,
     plan: &Plan,
@@ -90,9 +191,26 @@ fn answer_events<B: Bank + Drop>(
     world_laws();
     let mut world = World::new(alloc, plan, bank, base)?;
     let report = schedule.follow(&mut world);
+    answer_run(alloc, plan, &world, &report)
+}
+
+// The answer to a run of events: the trace of the world to which they led, and their report.
+fn answer_run<'p, B: Bank>(
+    alloc: Global,
+    plan: &Plan,
+    world: &World<'p, B>,
+    report: &Report,
+) -> Result<Answer, AllocError>
+    requires { world.now.plan ≡ plan.now }
+    ensures answer { IfOk result (λ answer. answer
+        ≡ reporting (text_of plan.now.model world.now.trace) (report_text report.now)) }
+    ensures reads { IfOk result (λ answer.
+        grants_of plan.now.model (text_of plan.now.model world.now.trace) ≡ Ok world.now.trace) }
+    ensures ran { IsModelRun world.now.plan.model (world_of world.now).bank.base world.now.trace }
+{
     plan.recall();
     let trace = write_trace(alloc, plan.model(), world.trace())?;
-    let told = report_text(alloc, &report)?;
+    let told = report_text(alloc, report)?;
     Ok(reported(trace, told))
 }
 

@@ -1,9 +1,9 @@
-use Rattle.std.proofs.Common.{Some, codes, sym}
+use Rattle.std.proofs.Common.{◌∙◌, Some, codes, sym}
 use Rattle.clap.specs.Words.{found_of, rows_of}
 use Rattle.bipr.specs.CommandLine.{AreStepsAsked}
 use Rattle.bipr.specs.declared.command_line.StepsArguments.{StepsArguments}
 use Rattle.bipr.proofs.CommandLineLemmas.{if_none}
-use Rattle.bipr.proofs.ProgramLemmas.{first_read, no_first}
+use Rattle.bipr.proofs.ProgramLemmas.{first_read, no_first, one_read}
 use Rattle.bipr.proofs.command_line.read_steps.Goals as goal
 
 pub returns-in_err-resolver-clause-none : goal.returns-in_err-resolver-clause-none
@@ -32,4 +32,9 @@ returns-clause-some c = record {
   schedule = sym (first_read c.args.matches.now (codes "schedule") (Some c.in_ok-get_str-2.field-0.now) c.in_ok-get_str-2.ensures);
   resolver = c.in_ok-resolver.ensures.some;
   base = c.in_ok-base.ensures.some;
+  tell = record {
+    on = λ given. c.get_flag.ensures.value (one_read _ _ ∙ given);
+    off = λ given. c.get_flag.ensures.other (one_read _ _ ∙ given);
+    absent = λ given. c.get_flag.ensures.none (one_read _ _ ∙ given);
+  };
 }

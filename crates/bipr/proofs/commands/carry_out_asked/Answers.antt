@@ -43,8 +43,8 @@ pub returns-in-Some-Steps : goal.returns-in-Some-Steps
 returns-in-Some-Steps g c =
     let gives = g.I.Inputs.gives c.args.inputs.now in
     let hosts = g.H.Hosting.hosts c.args.hosting.now in
-    ends_quietly (IsSteps gives c.in-Some-Steps.asked) (IsCarriedOutBy (subcommand_rows_of c.args.matches.now) gives hosts) _ g.E.Stream.writes _ _ _ c.steps.ensures
-    (λ answer is. steps_asked c.in-Some-Steps.asked answer (rw c.in-Some-Steps.field-0-is at c.in-Some-Steps.ensures.some) is)
+    ends_told (IsSteps gives c.in-Some-Steps.asked) (IsCarriedOutBy (subcommand_rows_of c.args.matches.now) gives hosts) _ g.E.Stream.writes _ _ _ c.steps.ensures
+    (λ told answer is. steps_asked c.in-Some-Steps.asked told answer (rw c.in-Some-Steps.field-0-is at c.in-Some-Steps.ensures.some) is)
 
 pub returns-in-Some-Explore : goal.returns-in-Some-Explore
 returns-in-Some-Explore g c =

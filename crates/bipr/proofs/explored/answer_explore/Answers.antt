@@ -1,25 +1,30 @@
-use Rattle.std.proofs.Common.{◌≡◌, ◌+◌, ◌≤◌, ℕ, List, arith, rules, subst}
+use Rattle.std.proofs.Common.{◌≡◌, ◌∙◌, ◌+◌, ◌++◌, ◌≤◌, ℕ, [], ap, arith, refl, rules, subst}
 use Rattle.bip_schedule.specs.Exploring.{AreExplored, none_explored, one_explored}
 use Rattle.bipr.specs.Explored.{ends_without_memory, told_until}
 use Rattle.bipr.specs.Resolvers.{IsSharedAtFirst}
-use Rattle.bipr.specs.Streams.{PutsEach, none_put}
+use Rattle.bipr.specs.Streams.{none_put}
 use Rattle.bipr.proofs.AheadLemmas.{none_ahead}
 use Rattle.bipr.proofs.ExploredLemmas.{explored_said, told_lacking, told_more}
-use Rattle.bipr.proofs.StreamLemmas.{puts_each_append}
+use Rattle.bipr.proofs.StreamLemmas.{puts_each_append, texts_append}
 use Rattle.bipr.proofs.explored.answer_explore.Goals as goal
 
 pub loop-done-init : goal.loop-done-init
 loop-done-init g c =
-    (0, none_explored, none_put, none_ahead c.args.plan.now c.args.asked.now c.nothing-ahead.result c.nothing-ahead.ensures.none c.nothing-ahead.ensures.sized)
+    (0, none_explored, ([], none_put, refl), none_ahead c.args.plan.now c.args.asked.now c.nothing-ahead.result c.nothing-ahead.ensures.none c.nothing-ahead.ensures.sized)
 
 pub loop-done-preserved : goal.loop-done-preserved
 loop-done-preserved g c =
     let writes = g.E.Stream.writes in
-    let so = c.loop-done.invariant in (
+    let so = c.loop-done.invariant in
+    let before = so.2 in
+    let more = c.in_ok-tell.ensures.ok in (
       so.0 + c.in-Ok.ensures.run.0,
       one_explored c.loop-done.done so.0 c.in-Ok.ensures.run.0 so.1 c.in-Ok.ensures.run.1,
-      subst (λ (texts : List (List ℕ)). PutsEach writes c.args.errors.now texts c.tell.new.errors) (told_more c.args.asked.now c.loop-done.done)
-          (puts_each_append writes c.args.errors.now c.loop-done.errors c.tell.new.errors _ _ so.2 c.in_ok-tell.ensures.ok),
+      (
+        before.0 ++ more.0,
+        puts_each_append writes c.args.errors.now c.loop-done.errors c.tell.new.errors _ _ before.1 more.1,
+        texts_append before.0 more.0 ∙ rw (before.2, more.2) (told_more c.args.asked.now c.loop-done.done),
+      ),
       c.keep_ahead.ensures,
     )
 
@@ -27,7 +32,7 @@ pub returns-in_err-seed_verdict-in-Err-NotARun : goal.returns-in_err-seed_verdic
 returns-in_err-seed_verdict-in-Err-NotARun g c =
     let so = c.loop-done.invariant in
     let few : c.loop-done.done ≤ c.args.asked.now.seeds = omega arith in
-    (_, so.2, told_lacking c.from_residual.result _ _ (search rules) (ends_without_memory c.loop-done.done so.0 few so.1))
+    (so.2.0, so.2.1, told_lacking c.from_residual.result _ _ (search rules) (ends_without_memory c.loop-done.done so.0 so.2.0 few so.1 so.2.2))
 
 pub returns-in-Err-NotARun : goal.returns-in-Err-NotARun
 returns-in-Err-NotARun g c = absurd (let never = rw c.in-Err-NotARun.field-0-is at c.in-Err-NotARun.ensures.fault in cc)
@@ -36,29 +41,29 @@ pub returns-in-Err-Memory : goal.returns-in-Err-Memory
 returns-in-Err-Memory g c =
     let so = c.loop-done.invariant in
     let few : c.loop-done.done ≤ c.args.asked.now.seeds = omega arith in
-    (_, so.2, ends_without_memory c.loop-done.done so.0 few so.1)
+    (so.2.0, so.2.1, ends_without_memory c.loop-done.done so.0 so.2.0 few so.1 so.2.2)
 
 pub returns-in_err-tell : goal.returns-in_err-tell
 returns-in_err-tell g c =
     let so = c.loop-done.invariant in
     let few : c.loop-done.done ≤ c.args.asked.now.seeds = omega arith in (
-      _,
-      rw c.in_err-tell.ensures.err so.2,
-      told_lacking c.from_residual-in_err-tell.result _ _ (search rules) (ends_without_memory c.loop-done.done so.0 few so.1),
+      so.2.0,
+      rw c.in_err-tell.ensures.err so.2.1,
+      told_lacking c.from_residual-in_err-tell.result _ _ (search rules) (ends_without_memory c.loop-done.done so.0 so.2.0 few so.1 so.2.2),
     )
 
 pub returns-in_err-seeds_text : goal.returns-in_err-seeds_text
 returns-in_err-seeds_text g c =
     let so = c.loop-done.invariant in
     let few : c.loop-done.done ≤ c.args.asked.now.seeds = omega arith in
-    (_, so.2, told_lacking c.from_residual-in_err-seeds_text.result _ _ (search rules) (ends_without_memory c.loop-done.done so.0 few so.1))
+    (so.2.0, so.2.1, told_lacking c.from_residual-in_err-seeds_text.result _ _ (search rules) (ends_without_memory c.loop-done.done so.0 so.2.0 few so.1 so.2.2))
 
 pub returns : goal.returns
 returns g c =
-    let writes = g.E.Stream.writes in
     let so = c.loop-done.invariant in
     let all : c.loop-done.done ≡ c.args.asked.now.seeds = omega (arith, c.loop-done-test.false) in (
-      told_until c.args.asked.now c.args.asked.now.seeds,
-      subst (λ (n : ℕ). PutsEach writes c.args.errors.now (told_until c.args.asked.now n) c.loop-done.errors) all so.2,
-      explored_said c.args.plan.now c.args.asked.now so.0 c.said-2.result _ (subst (λ (n : ℕ). AreExplored (IsSharedAtFirst c.args.asked.now.resolver c.args.plan.now) c.args.plan.now 0 c.args.asked.now.events n so.0) all so.1) c.said-2.ensures c.in_ok-seeds_text.ensures,
+      so.2.0,
+      so.2.1,
+      explored_said c.args.plan.now c.args.asked.now so.0 so.2.0 c.said-2.result _ (subst (λ (n : ℕ). AreExplored (IsSharedAtFirst c.args.asked.now.resolver c.args.plan.now) c.args.plan.now 0 c.args.asked.now.events n so.0) all so.1)
+          (so.2.2 ∙ ap (told_until c.args.asked.now) all) c.said-2.ensures c.in_ok-seeds_text.ensures,
     )
