@@ -1,6 +1,6 @@
 use super::worked::{CHAIN, CLIMB};
 use super::{over_plan, read};
-use bip_model::{ClassId, CompId, InterId, PortId, Request, Role, Want, Wants};
+use bip_model::{ClassId, CompId, InterId, Request, Role, Want, Wants};
 use bip_partition::{Plan, PlanFault, first_touching_too_many};
 use std::alloc::Global;
 use std::process::Abort;
@@ -39,50 +39,6 @@ const P: ClassId = ClassId(0);
 
 const Q: ClassId = ClassId(1);
 
-/// What a plan says of an interaction.
-struct OfInter {
-    inter: InterId,
-    moves: &'static [(CompId, PortId)],
-    looks: &'static [CompId],
-    touches: &'static [CompId],
-    class: ClassId,
-    is_reserved: bool,
-}
-
-/// What a plan says of a component.
-struct OfComp {
-    comp: CompId,
-    classes: &'static [ClassId],
-    is_tabled: bool,
-}
-
-/// What a plan says of its interactions and components, how many components have a row, and what it
-/// says of some pairs of interactions.
-struct Told {
-    inters: &'static [OfInter],
-    comps: &'static [OfComp],
-    tabled: usize,
-    stations: &'static [InterId],
-    conflicts: &'static [(InterId, InterId, bool)],
-}
-
-fn says_of_inter(rt: &impl Abort, plan: &Plan, told: &OfInter) {
-    let inter = told.inter;
-    assert!(rt; (inter.0 as usize) < plan.model().interactions().len());
-    assert!(rt; plan.moves(inter) == told.moves);
-    assert!(rt; plan.looks(inter) == told.looks);
-    assert!(rt; plan.touches(inter) == told.touches);
-    assert!(rt; plan.class_of(inter) == told.class);
-    assert!(rt; plan.reserved(inter) == told.is_reserved);
-}
-
-fn says_of_comp(rt: &impl Abort, plan: &Plan, told: &OfComp) {
-    let comp = told.comp;
-    assert!(rt; (comp.0 as usize) < plan.model().components().len());
-    assert!(rt; plan.classes_of(comp) == told.classes);
-    assert!(rt; plan.tabled(comp) == told.is_tabled);
-}
-
 /// Numbers that the model lacks have no row, aren't reserved, and are in no conflict.
 fn says_nothing_of_others(rt: &impl Abort, _: Global, plan: &Plan, _: ()) {
     const OTHER: InterId = InterId(2);
@@ -92,263 +48,28 @@ fn says_nothing_of_others(rt: &impl Abort, _: Global, plan: &Plan, _: ()) {
     assert!(rt; !plan.conflict(OTHER, OTHER));
 }
 
-fn says(rt: &impl Abort, _: Global, plan: &Plan, told: &Told) {
-    for of_inter in told.inters {
-        says_of_inter(rt, plan, of_inter);
-    }
-    for of_comp in told.comps {
-        says_of_comp(rt, plan, of_comp);
-    }
-    assert!(rt; plan.count_tabled() == told.tabled);
-    assert!(rt; plan.stations() == told.stations);
-    for (inter, other, wanted) in told.conflicts {
+/// Two interactions, and whether they are in conflict.
+type Pair = (InterId, InterId, bool);
+
+fn conflict(rt: &impl Abort, _: Global, plan: &Plan, pairs: &[Pair]) {
+    for (inter, other, wanted) in pairs {
         assert!(rt; plan.conflict(*inter, *other) == *wanted);
+        assert!(rt; plan.conflict(*other, *inter) == *wanted);
     }
-}
-
-#[test]
-fn what_two_classes_move_has_a_row_with_all_beside_it(rt: HostRuntime) {
-    const TOLD: Told = Told {
-        inters: &[
-            OfInter {
-                inter: X,
-                moves: &[(A, PortId(0)), (R, PortId(0))],
-                looks: &[],
-                touches: &[A, R],
-                class: P,
-                is_reserved: true,
-            },
-            OfInter {
-                inter: Y,
-                moves: &[(B, PortId(0)), (R, PortId(0))],
-                looks: &[],
-                touches: &[B, R],
-                class: Q,
-                is_reserved: true,
-            },
-        ],
-        comps: &[
-            OfComp {
-                comp: A,
-                classes: &[P],
-                is_tabled: true,
-            },
-            OfComp {
-                comp: B,
-                classes: &[Q],
-                is_tabled: true,
-            },
-            OfComp {
-                comp: R,
-                classes: &[P, Q],
-                is_tabled: true,
-            },
-        ],
-        tabled: 3,
-        stations: &[X, Y],
-        conflicts: &[(X, Y, true), (Y, X, true), (X, X, true)],
-    };
-    over_plan(&rt, rt.alloc(), MEETING, &TOLD, says);
-}
-
-#[test]
-fn what_is_looked_at_is_touched_from_both_classes(rt: HostRuntime) {
-    const TOLD: Told = Told {
-        inters: &[
-            OfInter {
-                inter: X,
-                moves: &[(A, PortId(0)), (R, PortId(0))],
-                looks: &[B],
-                touches: &[A, B, R],
-                class: P,
-                is_reserved: true,
-            },
-            OfInter {
-                inter: Y,
-                moves: &[(B, PortId(0)), (R, PortId(0))],
-                looks: &[],
-                touches: &[B, R],
-                class: Q,
-                is_reserved: true,
-            },
-        ],
-        comps: &[
-            OfComp {
-                comp: A,
-                classes: &[P],
-                is_tabled: true,
-            },
-            OfComp {
-                comp: B,
-                classes: &[P, Q],
-                is_tabled: true,
-            },
-            OfComp {
-                comp: R,
-                classes: &[P, Q],
-                is_tabled: true,
-            },
-        ],
-        tabled: 3,
-        stations: &[X, Y],
-        conflicts: &[(X, Y, true), (Y, X, true), (Y, Y, true)],
-    };
-    over_plan(&rt, rt.alloc(), LOOKING, &TOLD, says);
-}
-
-#[test]
-fn what_one_class_touches_has_no_row(rt: HostRuntime) {
-    const TOLD: Told = Told {
-        inters: &[
-            OfInter {
-                inter: X,
-                moves: &[(A, PortId(0))],
-                looks: &[],
-                touches: &[A],
-                class: P,
-                is_reserved: false,
-            },
-            OfInter {
-                inter: Y,
-                moves: &[(B, PortId(0))],
-                looks: &[],
-                touches: &[B],
-                class: Q,
-                is_reserved: false,
-            },
-        ],
-        comps: &[
-            OfComp {
-                comp: A,
-                classes: &[P],
-                is_tabled: false,
-            },
-            OfComp {
-                comp: B,
-                classes: &[Q],
-                is_tabled: false,
-            },
-        ],
-        tabled: 0,
-        stations: &[],
-        conflicts: &[(X, Y, false), (Y, X, false), (X, X, true)],
-    };
-    over_plan(&rt, rt.alloc(), APART, &TOLD, says);
 }
 
 const THIRD: InterId = InterId(2);
 
-const CHAIN_TOLD: Told = Told {
-    inters: &[
-        OfInter {
-            inter: X,
-            moves: &[(A, PortId(0))],
-            looks: &[],
-            touches: &[A],
-            class: P,
-            is_reserved: true,
-        },
-        OfInter {
-            inter: Y,
-            moves: &[(A, PortId(0)), (B, PortId(0))],
-            looks: &[],
-            touches: &[A, B],
-            class: P,
-            is_reserved: true,
-        },
-        OfInter {
-            inter: THIRD,
-            moves: &[(B, PortId(0))],
-            looks: &[],
-            touches: &[B],
-            class: Q,
-            is_reserved: true,
-        },
-    ],
-    comps: &[
-        OfComp {
-            comp: A,
-            classes: &[P],
-            is_tabled: true,
-        },
-        OfComp {
-            comp: B,
-            classes: &[P, Q],
-            is_tabled: true,
-        },
-    ],
-    tabled: 2,
-    stations: &[X, Y, THIRD],
-    conflicts: &[
-        (X, Y, true),
-        (Y, THIRD, true),
-        (X, THIRD, false),
-        (THIRD, X, false),
-    ],
-};
-
 #[test]
-fn a_chain_has_rows_throughout(rt: HostRuntime) {
-    over_plan(&rt, rt.alloc(), CHAIN, &CHAIN_TOLD, says);
-}
-
-const CLIMB_TOLD: Told = Told {
-    inters: &[
-        OfInter {
-            inter: X,
-            moves: &[(A, PortId(0))],
-            looks: &[B, R],
-            touches: &[A, B, R],
-            class: P,
-            is_reserved: true,
-        },
-        OfInter {
-            inter: Y,
-            moves: &[(B, PortId(0))],
-            looks: &[R],
-            touches: &[B, R],
-            class: P,
-            is_reserved: true,
-        },
-        OfInter {
-            inter: THIRD,
-            moves: &[(R, PortId(0))],
-            looks: &[],
-            touches: &[R],
-            class: P,
-            is_reserved: true,
-        },
-    ],
-    comps: &[
-        OfComp {
-            comp: A,
-            classes: &[P],
-            is_tabled: true,
-        },
-        OfComp {
-            comp: B,
-            classes: &[P],
-            is_tabled: true,
-        },
-        OfComp {
-            comp: R,
-            classes: &[P],
-            is_tabled: true,
-        },
-    ],
-    tabled: 3,
-    stations: &[X, Y, THIRD],
-    conflicts: &[
-        (X, Y, true),
-        (X, THIRD, true),
-        (Y, THIRD, true),
-        (THIRD, THIRD, true),
-    ],
-};
-
-#[test]
-fn what_is_looked_at_has_a_row_in_one_class(rt: HostRuntime) {
-    over_plan(&rt, rt.alloc(), CLIMB, &CLIMB_TOLD, says);
+fn who_moves_what_the_other_touches_is_in_conflict(rt: HostRuntime) {
+    const BOTH_MOVE: &[Pair] = &[(X, Y, true), (Y, Y, true)];
+    const EACH_ALONE: &[Pair] = &[(X, Y, false), (X, X, true)];
+    const IN_A_ROW: &[Pair] = &[(X, Y, true), (Y, THIRD, true), (X, THIRD, false)];
+    const ONE_LOOKS: &[Pair] = &[(X, Y, true), (X, THIRD, true), (Y, THIRD, true)];
+    over_plan(&rt, rt.alloc(), LOOKING, BOTH_MOVE, conflict);
+    over_plan(&rt, rt.alloc(), APART, EACH_ALONE, conflict);
+    over_plan(&rt, rt.alloc(), CHAIN, IN_A_ROW, conflict);
+    over_plan(&rt, rt.alloc(), CLIMB, ONE_LOOKS, conflict);
 }
 
 #[test]
