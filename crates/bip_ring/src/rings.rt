@@ -76,6 +76,7 @@ impl<'p> Ring<'p> {
     }
 
     /// Decides on the oldest open request of a station that has the token, if it has one.
+    #[inline(always)]
     fn serve(&mut self, station: StationId) -> Result<Acted, AllocError>
         ensures does { IfOk result (λ acted. DoesStep (content_of (kept_ring self.old))
             (Serve station) acted (content_of (kept_ring self.new))) }
@@ -99,6 +100,7 @@ impl<'p> Ring<'p> {
     }
 
     /// Lets the token go where a step takes it, if it takes it anywhere.
+    #[inline(always)]
     fn let_go(&mut self, step: BankStep) -> Acted
         requires { (s : StationId) → ¬ (step ≡ Serve s) }
         ensures does { DoesStep (content_of (kept_ring self.old)) step result
@@ -132,7 +134,9 @@ impl<'p> Bank for Ring<'p> {
     }
 
     /// Does a step, as any bank does. A grant's serial is the number of the grants before it, and
-    /// memory is wanted only in place of a grant.
+    /// memory is wanted only in place of a grant. It stands in place where it is called, as most
+    /// steps do nothing, and what decides has much room to clear.
+    #[inline(always)]
     fn act(&mut self, step: BankStep) -> Result<Acted, AllocError>
         ensures does { IfOk result (λ acted. DoesStep (content_of (kept_ring self.old)) step acted
             (content_of (kept_ring self.new))) }
