@@ -111,7 +111,9 @@ impl<'p> Bank for Forks<'p> {
         self.stations[place].submit(request)
     }
 
-    /// Does a step, as any bank does, and as the machine of forks with their numbers does it.
+    /// Does a step, as any bank does, and as the machine of forks with their numbers does it. It
+    /// stands in place where it is called, as most steps do nothing.
+    #[inline(always)]
     fn act(&mut self, step: BankStep) -> Result<Acted, AllocError>
         ensures machine { IfOk result (λ acted. IsForkStep (machine_of self.old) step acted
             (machine_of self.new)) }

@@ -33,6 +33,7 @@ pub(crate) enum Sent {
 
 /// Does a step on stations, on what is in flight between them, and on the grants. Without memory
 /// all of them stay as they were; it is wanted only where the step applies.
+#[inline(always)]
 pub(crate) fn do_step(
     stations: &mut Vec<Station>,
     flight: &mut Vec<Sent>,
@@ -62,6 +63,7 @@ pub(crate) fn do_step(
 }
 
 /// Sends the fork that two stations share, where the first may.
+#[inline(always)]
 fn pass(
     stations: &mut Vec<Station>,
     flight: &mut Vec<Sent>,
@@ -91,6 +93,7 @@ fn pass(
 }
 
 /// Sends the request token of the fork that two stations share, where the first may ask.
+#[inline(always)]
 fn ask(
     stations: &mut Vec<Station>,
     flight: &mut Vec<Sent>,
@@ -121,6 +124,7 @@ fn ask(
 }
 
 /// Lets what stands at a place in flight arrive.
+#[inline(always)]
 fn deliver(stations: &mut Vec<Station>, flight: &mut Vec<Sent>, place: usize) -> Acted
     requires arrive { (x : Sent) → slice_get flight.old.items place ≡ Some x
         → CanArrive stations.old.items x }
@@ -154,6 +158,7 @@ fn arrive(stations: &mut Vec<Station>, sent: Sent)
 }
 
 /// Decides on the oldest open request of a station that has all its forks.
+#[inline(always)]
 fn serve(
     stations: &mut Vec<Station>,
     grants: &mut Vec<Grant>,
@@ -178,6 +183,7 @@ fn serve(
 
 /// Decides on the oldest open request of a station that is ready. It stands apart from `serve`,
 /// since room for a decision is cleared where a function begins.
+#[inline(never)]
 fn decide(
     stations: &mut Vec<Station>,
     grants: &mut Vec<Grant>,

@@ -13,31 +13,32 @@ use bip_table::Row;
 /// Two stations that share a fork, the lower and the higher.
 #[derive(Clone, Copy, Debug, PartialEq, Eq)]
 pub struct Pair {
-    pub low: StationId,
-    pub high: StationId,
+    pub(crate) low: StationId,
+    pub(crate) high: StationId,
 }
 
-/// The request token of a fork.
+/// The request token of a fork. Only a station makes one.
 #[derive(Drop)]
 pub struct AskToken {
-    pub pair: Pair,
+    pub(crate) pair: Pair,
 }
 
-/// A fork: its two stations, and the number of each component that both touch.
+/// A fork: its two stations, and the number of each component that both touch. Only a station makes
+/// one.
 #[derive(Drop)]
 pub struct Fork {
-    pub pair: Pair,
-    pub rows: Seq<Row>,
+    pub(crate) pair: Pair,
+    pub(crate) rows: Seq<Row>,
 }
 
 /// What a station has of what it shares with another one: whether they share anything; the fork,
 /// if it lies here, and whether it is clean; and whether its request token is here.
 #[derive(Drop)]
 pub struct Side {
-    pub shared: bool,
-    pub fork: Option<Fork>,
-    pub clean: bool,
-    pub asked: bool,
+    pub(crate) shared: bool,
+    pub(crate) fork: Option<Fork>,
+    pub(crate) clean: bool,
+    pub(crate) asked: bool,
 }
 
 /// The pair of two stations.
