@@ -1,5 +1,6 @@
 -- Lines that are written piece by piece.
-use Rattle.std.proofs.Common.{◌≡◌, ◌∙◌, ◌+◌, ◌++◌, ◌∷◌, ◌<◌, ℕ, List, Option, Some, [], ap, codes, drop, length, slice_get, subst, sym}
+use Rattle.std.proofs.Common.{◌≡◌, ◌∙◌, ◌+◌, ◌++◌, ◌∷◌, ◌<◌, ℕ, List, Option, Some, Result, Ok, Err, [], ap, codes, drop, length, slice_get, subst, sym}
+use Rattle.std.specs.Prelude.{IfErr}
 use Rattle.std.proofs.lemmas.List.{append_assoc, drop_more}
 use Rattle.std.proofs.lemmas.Option.{get_or_from_slice_get}
 use Rattle.bip_core.specs.Runs.{AreSteps}
@@ -56,3 +57,8 @@ event_told p w v number left event did stations t a b c same steps are begun cou
           ∙ (ap (λ (x : List ℕ). x ++ line_feed ∷ []) (done ∙ (ap (λ (n : ℕ). a ++ done_text p n did v.mail) count ∙ ap (λ (x : List ℕ). x ++ tail) begun))
           ∙ (append_assoc (t ++ head) tail (line_feed ∷ []) ∙ append_assoc t head (tail ++ line_feed ∷ []))),
     )
+
+-- what holds whatever the error is
+pub if_err : {T E : Type 0} (r : Result T E) (A : Type 0) → A → IfErr r (λ e. A)
+if_err (Ok x) A is = tt
+if_err (Err e) A is = is

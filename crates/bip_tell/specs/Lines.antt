@@ -3,12 +3,13 @@ use Rattle.std.specs.Fmt.{decimal}
 use Rattle.std.specs.Option.{option_map_or}
 use Rattle.std.specs.Prelude.{List, None, Option, Some, [], codes, drop, length}
 use Rattle.std.specs.Prelude.{slice_get, zero, suc, ℕ, ◌+◌, ◌++◌, ◌-◌, ◌∷◌, ◌≡◌}
-use Rattle.bip_core.specs.Runs.{AreSteps}
+use Rattle.bip_core.specs.Runs.{AreSteps, report_with}
 use Rattle.bip_core.specs.Worlds.{WorldContent}
 use Rattle.bip_core.specs.declared.events.Did.{Did}
 use Rattle.bip_core.specs.declared.events.Event.TheVariants.{Mail}
 use Rattle.bip_core.specs.declared.events.Event.{Event}
 use Rattle.bip_core.specs.declared.messages.Message.{Message}
+use Rattle.bip_core.specs.declared.runs.Report.{Report}
 use Rattle.bip_model.specs.Texts.{line_feed}
 use Rattle.bip_model.specs.declared.numbering.InterId.{InterId}
 use Rattle.bip_partition.specs.Plans.{AreStations, Planned}
@@ -69,6 +70,12 @@ pub record IsToldEvent (number : ℕ) (event : Event) (did : Option Did) (w v : 
   pub stations : List InterId
   pub are : AreStations w.plan stations
   pub told : line ≡ told_line w.plan stations number event did w.mail v.mail
+
+-- an event isn't told for want of memory: nothing was done yet, or it is done or skipped, and counted
+pub data IsLeftUntold (event : Event) (w v : WorldContent) (before after : Report) : Type 0 where
+  not_done : v ≡ w → after ≡ before → IsLeftUntold event w v before after
+  done_untold : (did : Option Did) → AreSteps (event ∷ []) (did ∷ []) w v
+      → after ≡ report_with before did → IsLeftUntold event w v before after
 
 -- events lead from one world to another, each done or skipped, and these are their lines, in order
 pub data AreTold (w : WorldContent) :

@@ -1,6 +1,6 @@
 //! The line of an event.
-ghost use Rattle.std.specs.Prelude.{◌≡◌, ◌<◌, ◌++◌, ◌+◌, [], ◌∷◌, List, Option, OnOk, IfOk, codes};
-ghost use Rattle.std.specs.Prelude.{drop, length, map, ℕ};
+ghost use Rattle.std.specs.Prelude.{◌≡◌, ◌<◌, ◌++◌, ◌+◌, [], ◌∷◌, List, Option, OnOk, IfErr, IfOk};
+ghost use Rattle.std.specs.Prelude.{codes, drop, length, map, ℕ};
 ghost use Rattle.std.specs.Fmt.{decimal};
 ghost use Rattle.std.specs.Option.{option_map};
 ghost use Rattle.bip_model.specs.Numbering.{last_number};
@@ -9,8 +9,8 @@ ghost use Rattle.bip_core.specs.Runs.{AddsUp, report_with};
 ghost use Rattle.bip_core.specs.Worlds.{world_of};
 ghost use Rattle.bip_core.specs.declared.events.Did.{Did};
 ghost use Rattle.bip_schedule.specs.Writing.{HasSpelling, HaveSpelling, event_line};
-ghost use Rattle.bip_tell.specs.Lines.{IsToldEvent, count_left, done_text, handed_on, handed_text};
-ghost use Rattle.bip_tell.specs.Lines.{line_head, lost_text, put_text};
+ghost use Rattle.bip_tell.specs.Lines.{IsLeftUntold, IsToldEvent, count_left, done_text};
+ghost use Rattle.bip_tell.specs.Lines.{handed_on, handed_text, line_head, lost_text, put_text};
 
 use crate::answers::write_what;
 use crate::messages::write_message;
@@ -26,8 +26,8 @@ use std::alloc::AllocError;
 /// Does one event, counts it, and tells it in a line, which is put last in a text: its number in
 /// the run, as the report counts it; the event as schedules spell it; the message that it hands on;
 /// what the node answered that it addresses; and each message that this put into flight, at its
-/// place from then on (docs/TELL.md). The only error is want of memory for the text: the event may
-/// be done then, and the text have a part of the line.
+/// place from then on (docs/TELL.md). The only error is want of memory for the text, which may have
+/// a part of the line then: the event wasn't begun, or it is done, and counted.
 pub fn tell_event<'p, B: Bank>(
     text: &mut Vec<u8>,
     world: &mut World<'p, B>,
@@ -41,6 +41,8 @@ pub fn tell_event<'p, B: Bank>(
         × IsToldEvent (report.old.events + 1) event did (world_of world.old) (world_of world.new)
         line × (text.new.items ≡ text.old.items ++ line)
         × (report.new ≡ report_with report.old did)) }
+    ensures untold { IfErr result (λ e. IsLeftUntold event (world_of world.old)
+        (world_of world.new) report.old report.new) }
     ensures adds_up { AddsUp report.new }
     ensures plan { world.new.plan ≡ world.old.plan }
 {

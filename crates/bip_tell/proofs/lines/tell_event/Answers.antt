@@ -1,5 +1,6 @@
 use Rattle.bip_core.specs.Worlds.{world_of}
-use Rattle.bip_tell.proofs.LineLemmas.{event_told}
+use Rattle.bip_tell.proofs.LineLemmas.{event_told, if_err}
+use Rattle.bip_tell.specs.Lines.{done_untold}
 use Rattle.bip_tell.proofs.lines.tell_event.Goals as goal
 
 pub begin_line-requires-clause-spelled : goal.begin_line-requires-clause-spelled
@@ -13,3 +14,9 @@ returns-clause-told g c =
     c.args.text.now.items c.begin_line.new.text.items c.write_done.new.text.items c.push.new.self.items
     c.plan-plan.ensures c.watch_event-did.ensures.done begun.1 begun.2 c.in_ok-left.ensures.left c.in_ok-write_done.ensures c.in_ok-push.ensures.items in
     (c.watch_event-did.result, told.0, told.1, told.2, c.watch_event-did.ensures.counted)
+
+pub returns-in_err-write_done-clause-untold : goal.returns-in_err-write_done-clause-untold
+returns-in_err-write_done-clause-untold g c = if_err c.from_residual-in_err-write_done.result _ (done_untold c.watch_event-did.result c.watch_event-did.ensures.done c.watch_event-did.ensures.counted)
+
+pub returns-in_err-push-clause-untold : goal.returns-in_err-push-clause-untold
+returns-in_err-push-clause-untold g c = if_err c.from_residual-in_err-push.result _ (done_untold c.watch_event-did.result c.watch_event-did.ensures.done c.watch_event-did.ensures.counted)
