@@ -8,7 +8,7 @@ use Rattle.bip_schedule.specs.Exploring.{AreExplored, IsSeedRun}
 use Rattle.bip_schedule.specs.declared.exploring.ExploreFault.{ExploreFault}
 use Rattle.bipr.specs.Answers.{HasPlan, saying}
 use Rattle.bipr.specs.Commands.Explore.{IsExplore, IsTextExplored, of_no_text, of_plan}
-use Rattle.bipr.specs.Explored.{IsExploreAnswer, ends_hundredth, explored, told_at, told_until}
+use Rattle.bipr.specs.Explored.{IsExploreAnswer, IsProgressAt, IsProgressUntil, by_count, ends_hundredth, explored, more_progress, told_at}
 use Rattle.bipr.specs.Resolvers.{IsSharedAtFirst}
 use Rattle.bipr.specs.Stops.{answer_of_stop, out_of_memory, unread}
 use Rattle.bipr.specs.Streams.{Put, texts}
@@ -19,18 +19,30 @@ use Rattle.bipr.specs.declared.command_line.ExploreArguments.{ExploreArguments}
 use Rattle.bipr.specs.declared.inputs.InputFault.{InputFault}
 use Rattle.bipr.specs.declared.stops.Stop.{Stop}
 
--- what is told with a seed
-pub told_here : (asked : ExploreArguments) (seed : ℕ) → asked.is_told ≡ true → true ≡ ends_hundredth asked.seeds seed → progress_text seed asked.seeds ∷ [] ≡ told_at asked seed
-told_here asked seed told ends = rw (told, ← ends) refl
+-- the line of a hundredth, or none
+told_line : (asked : ExploreArguments) (seed : ℕ) → asked.is_told ≡ true → true ≡ ends_hundredth asked.seeds seed → told_at asked seed ≡ progress_text seed asked.seeds ∷ []
+told_line asked seed told ends = rw (told, ← ends) refl
 
-pub untold : (asked : ExploreArguments) (seed : ℕ) → asked.is_told ≡ false → [] ≡ told_at asked seed
-untold asked seed told = rw told refl
+no_line : (asked : ExploreArguments) (seed : ℕ) → asked.is_told ≡ false → told_at asked seed ≡ []
+no_line asked seed told = rw told refl
 
-pub untold_yet : (asked : ExploreArguments) (seed : ℕ) → asked.is_told ≡ true → false ≡ ends_hundredth asked.seeds seed → [] ≡ told_at asked seed
-untold_yet asked seed told ends = rw (told, ← ends) refl
+no_line_yet : (asked : ExploreArguments) (seed : ℕ) → asked.is_told ≡ true → false ≡ ends_hundredth asked.seeds seed → told_at asked seed ≡ []
+no_line_yet asked seed told ends = rw (told, ← ends) refl
 
-pub told_more : (asked : ExploreArguments) (done : ℕ) → told_until asked done ++ told_at asked (done + 1) ≡ told_until asked (done + 1)
-told_more asked done = rw (add-one done) refl
+-- what is told with a seed where nothing is with the time
+pub told_here : (asked : ExploreArguments) (seed : ℕ) → asked.is_told ≡ true → true ≡ ends_hundredth asked.seeds seed → IsProgressAt asked seed (progress_text seed asked.seeds ∷ [])
+told_here asked seed told ends = subst (IsProgressAt asked seed) (told_line asked seed told ends) by_count
+
+pub untold : (asked : ExploreArguments) (seed : ℕ) → asked.is_told ≡ false → IsProgressAt asked seed []
+untold asked seed told = subst (IsProgressAt asked seed) (no_line asked seed told) by_count
+
+pub untold_yet : (asked : ExploreArguments) (seed : ℕ) → asked.is_told ≡ true → false ≡ ends_hundredth asked.seeds seed → IsProgressAt asked seed []
+untold_yet asked seed told ends = subst (IsProgressAt asked seed) (no_line_yet asked seed told ends) by_count
+
+-- what is told until one more seed is done
+pub told_more : (asked : ExploreArguments) (done : ℕ) (told more : List (List ℕ)) → IsProgressUntil asked done told → IsProgressAt asked (done + 1) more → IsProgressUntil asked (done + 1) (told ++ more)
+told_more asked done told more so here =
+    subst (λ (n : ℕ). IsProgressAt asked n more → IsProgressUntil asked n (told ++ more)) (sym (add-one done)) (more_progress done told more so) here
 
 -- want of memory ends with an error
 pub told_lacking : (result : Result Answer AllocError) (P : Answer → Type 0) (Q : Type 0) → IsErr result → Q → MatchResult result P (λ (e : AllocError). Q)
@@ -39,7 +51,7 @@ told_lacking (Err e) P Q is held = held
 
 -- that all are runs is said
 pub explored_said : (p : Planned) (asked : ExploreArguments) (grants : ℕ) (told : List Put) (answer : Answer) (text : List ℕ)
-    → AreExplored (IsSharedAtFirst asked.resolver p) p 0 asked.events asked.seeds grants → texts told ≡ told_until asked asked.seeds
+    → AreExplored (IsSharedAtFirst asked.resolver p) p 0 asked.events asked.seeds grants → IsProgressUntil asked asked.seeds (texts told)
     → answer ≡ saying Done text → text ≡ seeds_text asked.seeds → IsExploreAnswer p asked told answer
 explored_said p asked grants told answer text so lines said spelled =
     subst (IsExploreAnswer p asked told) (sym (said ∙ ap (saying Done) spelled)) (explored grants told so lines)

@@ -1,13 +1,13 @@
 -- The answer to exploring a plan by many seeds, and what is told on the way.
 use Rattle.std.specs.Prelude.{List, [], ℕ, zero, suc, nat_lt, if◌then◌else◌, ◌&&◌, ◌*◌, ◌++◌}
-use Rattle.std.specs.Prelude.{Bool, ◌-◌, ◌/◌, ◌∷◌, ◌≡◌, ◌≤◌}
+use Rattle.std.specs.Prelude.{Bool, ◌-◌, ◌/◌, ◌∷◌, ◌≡◌, ◌≤◌, false, true}
 use Rattle.bip_partition.specs.Plans.{Planned}
 use Rattle.bip_schedule.specs.Exploring.{AreExplored}
 use Rattle.bipr.specs.Answers.{saying}
 use Rattle.bipr.specs.Resolvers.{IsSharedAtFirst}
 use Rattle.bipr.specs.Stops.{out_of_memory}
 use Rattle.bipr.specs.Streams.{Put, texts}
-use Rattle.bipr.specs.Wording.{progress_text, seeds_text}
+use Rattle.bipr.specs.Wording.{progress_text, seeds_text, timed_text}
 use Rattle.bipr.specs.declared.answers.Answer.{Answer}
 use Rattle.bipr.specs.declared.answers.Status.TheVariants.{Done}
 use Rattle.bipr.specs.declared.command_line.ExploreArguments.{ExploreArguments}
@@ -16,15 +16,26 @@ use Rattle.bipr.specs.declared.command_line.ExploreArguments.{ExploreArguments}
 abbrev pub ends_hundredth : ℕ → ℕ → Bool
 ends_hundredth seeds seed = nat_lt ((seed - 1) * 100 / seeds) (seed * 100 / seeds)
 
--- what is told when a seed is done, and what until so many are
+-- the line that is told when a seed is done with which another hundredth is
 abbrev pub told_at : ExploreArguments → ℕ → List (List ℕ)
 told_at asked seed =
     if asked.is_told && ends_hundredth asked.seeds seed
     then progress_text seed asked.seeds ∷ [] else []
 
-abbrev pub told_until : ExploreArguments → ℕ → List (List ℕ)
-told_until asked zero = []
-told_until asked (suc done) = told_until asked done ++ told_at asked (suc done)
+-- what may be told when a seed is done
+pub data IsProgressAt (asked : ExploreArguments) (seed : ℕ) : List (List ℕ) → Type 0 where
+  -- no more than that line
+  by_count : IsProgressAt asked seed (told_at asked seed)
+  -- between such lines one with the time: how many seeds are done, and how many events they did
+  by_time : (rate left : ℕ) → asked.is_told ≡ true → ends_hundredth asked.seeds seed ≡ false
+      → IsProgressAt asked seed
+        (timed_text seed asked.seeds (seed * asked.events) rate left ∷ [])
+
+-- what may be told until so many seeds are done
+pub data IsProgressUntil (asked : ExploreArguments) : ℕ → List (List ℕ) → Type 0 where
+  no_progress : IsProgressUntil asked zero []
+  more_progress : (done : ℕ) (told more : List (List ℕ)) → IsProgressUntil asked done told
+      → IsProgressAt asked (suc done) more → IsProgressUntil asked (suc done) (told ++ more)
 
 -- the answer to exploring a plan with a resolver's bank, and what is told on the way
 pub data IsExploreAnswer (p : Planned) (asked : ExploreArguments) :
@@ -32,10 +43,10 @@ pub data IsExploreAnswer (p : Planned) (asked : ExploreArguments) :
   -- the trace of each seed is a run of the model: that one is none can't be
   explored : (grants : ℕ) (told : List Put)
       → AreExplored (IsSharedAtFirst asked.resolver p) p 0 asked.events asked.seeds grants
-      → texts told ≡ told_until asked asked.seeds
+      → IsProgressUntil asked asked.seeds (texts told)
       → IsExploreAnswer p asked told (saying Done (seeds_text asked.seeds))
   -- so many seeds are explored, and memory is out
   ends_without_memory : (done grants : ℕ) (told : List Put) → done ≤ asked.seeds
       → AreExplored (IsSharedAtFirst asked.resolver p) p 0 asked.events done grants
-      → texts told ≡ told_until asked done
+      → IsProgressUntil asked done (texts told)
       → IsExploreAnswer p asked told out_of_memory

@@ -20,8 +20,9 @@ use std::thread::Threads;
 /// The most threads where their number isn't asked for.
 const MOST_JOBS: u32 = 256;
 
-/// The most seeds of a block.
-const LARGEST_BLOCK: u32 = 64;
+/// How many events a block has at most, unless one seed has more: they take some tenths of a
+/// second, beside which making a thread takes little.
+const LARGEST_BLOCK: u32 = 4_000_000;
 
 /// In how many rounds about the seeds that are left are explored, so that no thread waits long for
 /// another one, and progress is told at times.
@@ -122,7 +123,7 @@ fn explore_ahead<R: Threads + Sync>(
 {
     let left = asked.seeds - done;
     let blocks = jobs.min(left);
-    let size = block_size(left, blocks);
+    let size = block_size(left, blocks, asked.events);
     let last = done + blocks * size;
     let explore = |block: usize| explore_block_of(alloc, plan, asked, done, size, block as u32);
     match thread::map_indices(rt, alloc, blocks as usize, &explore) {
@@ -155,14 +156,15 @@ pub fn outcome(
     Ok(())
 }
 
-// How many seeds a block has, of so many that are left for so many blocks.
-fn block_size(left: u32, blocks: u32) -> u32
+// How many seeds of so many events a block has, of those that are left for so many blocks.
+fn block_size(left: u32, blocks: u32, events: u32) -> u32
     requires some { 0 < blocks }
     requires enough { blocks ≤ left }
     ensures some { 0 < result }
     ensures enough { blocks * result ≤ left }
 {
-    (left / blocks / ROUNDS).clamp(1, LARGEST_BLOCK)
+    let most = LARGEST_BLOCK / events.max(1);
+    (left / blocks / ROUNDS).min(most).max(1)
 }
 
 // Explores the block of this number, of those that stand behind so many seeds.

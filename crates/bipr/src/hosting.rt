@@ -89,8 +89,8 @@ fn kind_of(resolver: Resolver) -> Kind
     }
 }
 
-// How long ago a moment was; 0 where the clock can't be read.
-fn milliseconds_since<R: Clock>(rt: &R, start: &Instant) -> u64 {
+/// How long ago a moment was, in milliseconds; 0 where the clock can't be read.
+pub fn milliseconds_since<R: Clock>(rt: &R, start: &Instant) -> u64 {
     match start.elapsed(rt) {
         Ok(elapsed) => u64::try_from(elapsed.as_millis()).unwrap_or(u64::MAX),
         Err(_) => 0,

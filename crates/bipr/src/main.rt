@@ -15,6 +15,7 @@ mod hosting;
 mod inputs;
 mod laws;
 mod program;
+mod progress;
 mod refusals;
 mod resolvers;
 mod scheduled;

@@ -453,7 +453,8 @@ fn tell<'a>(alloc: Global) -> Arg<'a>
 fn progress<'a>(alloc: Global) -> Arg<'a>
     ensures { HasRule (flag (codes "progress")) result }
 {
-    let help = "write `seeds D of K` on standard error with each hundredth that is done";
+    let help = "write `seeds D of K` on standard error with each hundredth that is done, \
+        and between them the time that is left";
     flag(alloc, "progress").help(help)
 }
 

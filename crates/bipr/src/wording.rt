@@ -8,10 +8,11 @@ ghost use Rattle.bipr.specs.Wording.{counts_text, interaction_on, model_refusal,
 ghost use Rattle.bipr.specs.Wording.{decisions_text, losses_text, report_text, run_text};
 ghost use Rattle.bipr.specs.Wording.{progress_text, schedule_refusal, seed_verdict, seeds_text};
 ghost use Rattle.bipr.specs.Wording.{host_refusal, host_work_text, host_end_text, no_thread_text};
-ghost use Rattle.bipr.specs.Wording.{seconds_text, stats_text, step_text};
-ghost use Rattle.bipr.specs.Wording.{trace_refusal, verdict_text};
+ghost use Rattle.bipr.specs.Wording.{pace_text, place_text, seconds_text, stats_text, step_text};
+ghost use Rattle.bipr.specs.Wording.{timed_text, trace_refusal, verdict_text};
 
 use crate::hosted::Hosted;
+use crate::progress::Pace;
 use bip_core::Report;
 use bip_model::{CompId, InterId, Model, NumberedLines, split_word};
 use bip_reader::ReadFault;
@@ -203,6 +204,36 @@ pub fn progress_text(alloc: Global, done: u32, seeds: u32) -> Result<Vec<u8>, Al
     ensures { IfOk result (λ text. text.items ≡ progress_text done seeds) }
 {
     Ok(format!(in alloc; "seeds {done} of {seeds}\n")?.into_bytes())
+}
+
+/// `at seed D of K: E events, S seeds a second, T seconds left`, where so many of the seeds are done
+/// and did so many events.
+pub fn timed_text(
+    alloc: Global,
+    done: u32,
+    seeds: u32,
+    events: u64,
+    pace: &Pace,
+) -> Result<Vec<u8>, AllocError>
+    ensures { IfOk result (λ text. text.items
+        ≡ timed_text done seeds events pace.now.rate pace.now.left) }
+{
+    let mut text = place_text(alloc, done, seeds, events)?.into_bytes();
+    text.extend_from_slice(pace_text(alloc, pace)?.as_bytes())?;
+    Ok(text)
+}
+
+fn place_text(alloc: Global, done: u32, seeds: u32, events: u64) -> Result<String, AllocError>
+    ensures { IfOk result (λ text. text.bytes.items ≡ place_text done seeds events) }
+{
+    format!(in alloc; "at seed {done} of {seeds}: {events} events, ")
+}
+
+fn pace_text(alloc: Global, pace: &Pace) -> Result<String, AllocError>
+    ensures { IfOk result (λ text. text.bytes.items ≡ pace_text pace.now.rate pace.now.left) }
+{
+    let Pace { rate, left } = *pace;
+    format!(in alloc; "{rate} seeds a second, {left} seconds left\n")
 }
 
 /// The verdict on a trace whose line with this number has a grant that can't be next.

@@ -14,11 +14,12 @@ use crate::streams::Stream;
 use bip_explain::Explanation;
 use std::alloc::{AllocError, Global};
 use std::thread::Threads;
+use std::time::Clock;
 
 /// Explores the plan of the model that the path names by so many seeds, with the resolver's bank:
 /// tells progress on standard error where that is asked for, writes the answer, and says with which
 /// status the command ends (docs/ANSWERS.md, "The exploring that is asked for").
-pub fn explore<R: Threads + Sync, I: Inputs, O: Stream, E: Stream>(
+pub fn explore<R: Threads + Clock + Sync, I: Inputs, O: Stream, E: Stream>(
     rt: &R,
     alloc: Global,
     explanation: &mut Explanation,
@@ -35,7 +36,7 @@ pub fn explore<R: Threads + Sync, I: Inputs, O: Stream, E: Stream>(
 }
 
 // The answer to what is asked, with what is told on the way.
-fn answer_asked<'a, R: Threads + Sync, I: Inputs, E: Stream>(
+fn answer_asked<'a, R: Threads + Clock + Sync, I: Inputs, E: Stream>(
     rt: &R,
     alloc: Global,
     explanation: &mut Explanation,
@@ -52,7 +53,7 @@ fn answer_asked<'a, R: Threads + Sync, I: Inputs, E: Stream>(
 }
 
 // The answer where the path names this text. The only error is want of memory.
-fn answer_text<R: Threads + Sync, E: Stream>(
+fn answer_text<R: Threads + Clock + Sync, E: Stream>(
     rt: &R,
     alloc: Global,
     explanation: &mut Explanation,

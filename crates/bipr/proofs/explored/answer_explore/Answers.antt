@@ -1,8 +1,8 @@
-use Rattle.std.proofs.Common.{◌≡◌, ◌∙◌, ◌+◌, ◌++◌, ◌≤◌, ℕ, [], ap, arith, refl, rules, subst}
+use Rattle.std.proofs.Common.{◌≡◌, ◌+◌, ◌++◌, ◌≤◌, ℕ, [], arith, rules, subst, sym}
 use Rattle.bip_schedule.specs.Exploring.{AreExplored, none_explored, one_explored}
-use Rattle.bipr.specs.Explored.{ends_without_memory, told_until}
+use Rattle.bipr.specs.Explored.{IsProgressUntil, ends_without_memory, no_progress}
 use Rattle.bipr.specs.Resolvers.{IsSharedAtFirst}
-use Rattle.bipr.specs.Streams.{none_put}
+use Rattle.bipr.specs.Streams.{none_put, texts}
 use Rattle.bipr.proofs.AheadLemmas.{none_ahead}
 use Rattle.bipr.proofs.ExploredLemmas.{explored_said, told_lacking, told_more}
 use Rattle.bipr.proofs.StreamLemmas.{puts_each_append, texts_append}
@@ -10,7 +10,7 @@ use Rattle.bipr.proofs.explored.answer_explore.Goals as goal
 
 pub loop-done-init : goal.loop-done-init
 loop-done-init g c =
-    (0, none_explored, ([], none_put, refl), none_ahead c.args.plan.now c.args.asked.now c.nothing-ahead.result c.nothing-ahead.ensures.none c.nothing-ahead.ensures.sized)
+    (0, none_explored, ([], none_put, no_progress), none_ahead c.args.plan.now c.args.asked.now c.nothing-ahead.result c.nothing-ahead.ensures.none c.nothing-ahead.ensures.sized)
 
 pub loop-done-preserved : goal.loop-done-preserved
 loop-done-preserved g c =
@@ -23,7 +23,7 @@ loop-done-preserved g c =
       (
         before.0 ++ more.0,
         puts_each_append writes c.args.errors.now c.loop-done.errors c.tell.new.errors _ _ before.1 more.1,
-        texts_append before.0 more.0 ∙ rw (before.2, more.2) (told_more c.args.asked.now c.loop-done.done),
+        subst (IsProgressUntil c.args.asked.now (c.loop-done.done + 1)) (sym (texts_append before.0 more.0)) (told_more c.args.asked.now c.loop-done.done _ _ before.2 more.2),
       ),
       c.keep_ahead.ensures,
     )
@@ -65,5 +65,5 @@ returns g c =
       so.2.0,
       so.2.1,
       explored_said c.args.plan.now c.args.asked.now so.0 so.2.0 c.said-2.result _ (subst (λ (n : ℕ). AreExplored (IsSharedAtFirst c.args.asked.now.resolver c.args.plan.now) c.args.plan.now 0 c.args.asked.now.events n so.0) all so.1)
-          (so.2.2 ∙ ap (told_until c.args.asked.now) all) c.said-2.ensures c.in_ok-seeds_text.ensures,
+          (subst (λ (n : ℕ). IsProgressUntil c.args.asked.now n (texts so.2.0)) all so.2.2) c.said-2.ensures c.in_ok-seeds_text.ensures,
     )
