@@ -22,6 +22,7 @@ pub mod StartLemmas
 pub mod StayLemmas
 pub mod TakeLemmas
 pub mod ToldLemmas
+pub mod TraceLemmas
 pub mod TryLemmas
 pub mod UsedLemmas
 pub mod ViewLemmas

@@ -44,6 +44,7 @@ use Rattle.bip_ip.specs.declared.nodes.WhyNot.TheVariants as why_not
 use Rattle.bip_bank.specs.Banks.{BankContent, CanWantMemory, DoesStep, IsActed, KeptBank, content_of, with_request}
 use Rattle.bip_bank.specs.declared.banks.BankStep.TheVariants.{Ask, Deliver, Pass, Serve}
 use Rattle.bip_core.specs.Worlds.{FitsIfRequest, IsKnownGrant, IsKeptWorld, KeptWorld, WorldContent, with_class_node, with_component_node, world_of}
+use Rattle.bip_core.specs.Traces.{trace_by}
 use Rattle.bip_model.specs.declared.numbering.ClassId.{ClassId}
 use Rattle.bip_observe.specs.Offers.{IsReceipt, observed}
 use Rattle.bip_core.specs.Events.{AreSent, CanBeSkipped, IsCounted, IsDelivered, IsDone, IsHandedOn, IsSending, IsTakenIn, IsTraced, SendsWhatFits, StepCanBeSkipped, TakesOut, class_named, grant_acted, grant_in, grant_tried, is_serving, kind_of, trace_with}
@@ -57,9 +58,25 @@ use Rattle.bip_core.specs.declared.outcomes.Kind.TheVariants as kind
 use Rattle.bip_core.specs.declared.outcomes.Outcome.{Outcome}
 use Rattle.bip_core.proofs.SendLemmas.{put_fit, sends_nothing}
 
--- what is kept of a world, by its parts
+-- what is kept of a world, by its parts, of which one is its own list of grants
 abbrev pub kept_by : Planned → List Node → List KeptNode → List Message → List Grant → KeptBank → KeptWorld
-kept_by p components classes mail trace bank = record { plan = p; components = components; classes = classes; mail = mail; trace = trace; bank = bank }
+kept_by p components classes mail own bank = record { plan = p; components = components; classes = classes; mail = mail; trace = trace_by own (content_of bank).grants; bank = bank }
+
+-- with another bank of the same content the world is the same
+pub same_bank : (p : Planned) (components : List Node) (classes : List KeptNode) (mail : List Message) (own : List Grant) (bank b : KeptBank) → content_of b ≡ content_of bank → world_of (kept_by p components classes mail own b) ≡ world_of (kept_by p components classes mail own bank)
+same_bank p components classes mail own bank b is =
+    ap (λ (x : BankContent). record (world_of (kept_by p components classes mail own bank)) { trace = trace_by own x.grants; bank = x }) is
+
+-- and with one more open request the trace is
+pub asked_bank : (p : Planned) (components : List Node) (classes : List KeptNode) (mail : List Message) (own : List Grant) (bank b : KeptBank) (q : Request) → content_of b ≡ with_request q (content_of bank)
+    → world_of (kept_by p components classes mail own b) ≡ record (world_of (kept_by p components classes mail own bank)) { bank = with_request q (content_of bank) }
+asked_bank p components classes mail own bank b q is =
+    ap (λ (x : BankContent). record (world_of (kept_by p components classes mail own bank)) { trace = trace_by own x.grants; bank = x }) is
+
+-- with a bank of the same grants
+pub traced_kept : (w : KeptWorld) (own : List Grant) (b : KeptBank) → b.grants ≡ w.bank.grants → w.trace ≡ trace_by own w.bank.grants → IsKeptWorld (record w { bank = b }) → IsKeptWorld (record w { trace = trace_by own b.grants; bank = b })
+traced_kept w own b same is kept =
+    subst (λ (trace : List Grant). IsKeptWorld (record w { trace = trace; bank = b })) (is ∙ ap (trace_by own) (sym same)) kept
 
 -- a list with another element at a place, as a function of places
 pub slice_get-set : {X : Type 0} (xs : List X) (n : ℕ) (x : X) → n < length xs → (λ k. slice_get (set xs n x) k) ≡ put (λ k. slice_get xs k) n (Some x)
@@ -424,17 +441,17 @@ unserved_grants_nothing b (Ask s t) acted.Moved later does unserved = refl
 unserved_grants_nothing b (Ask s t) (acted.Answered q d) later does unserved = absurd does
 
 -- the steps of a bank that can be skipped
-pub serving_skipped : (b : BankContent) (step : BankStep) → is_serving step ≡ true → StepCanBeSkipped b step
-serving_skipped b (Serve s) serves = tt
-serving_skipped b (Deliver k) serves = absurd (false≢true serves)
-serving_skipped b (Pass s t) serves = absurd (false≢true serves)
-serving_skipped b (Ask s t) serves = absurd (false≢true serves)
+pub serving_skipped : (w : WorldContent) (step : BankStep) → is_serving step ≡ true → length w.bank.grants < length w.trace → StepCanBeSkipped w step
+serving_skipped w (Serve s) serves more = inr more
+serving_skipped w (Deliver k) serves more = absurd (false≢true serves)
+serving_skipped w (Pass s t) serves more = absurd (false≢true serves)
+serving_skipped w (Ask s t) serves more = absurd (false≢true serves)
 
-pub wanting_skipped : (b : BankContent) (step : BankStep) → CanWantMemory b step → StepCanBeSkipped b step
-wanting_skipped b (Serve s) wants = tt
-wanting_skipped b (Deliver k) wants = wants
-wanting_skipped b (Pass s t) wants = wants
-wanting_skipped b (Ask s t) wants = wants
+pub wanting_skipped : (w : WorldContent) (step : BankStep) → CanWantMemory w.bank step → StepCanBeSkipped w step
+wanting_skipped w (Serve s) wants = inl wants
+wanting_skipped w (Deliver k) wants = wants
+wanting_skipped w (Pass s t) wants = wants
+wanting_skipped w (Ask s t) wants = wants
 
 -- a try that asks for a local interaction can be skipped
 pub try_skipped : (w : KeptWorld) (k : ClassId) (a : InterId) → k.0 < length w.classes → ((node : KeptNode) → slice_get w.classes k.0 ≡ Some node → CanBeAsked (node_of node) a.0) → (¬ IsReserved w.plan a.0) → CanBeSkipped (world_of w) (Try k a)

@@ -156,11 +156,13 @@ pub record IsStep (w : WorldContent) (event : Event) (did : Did) (v : WorldConte
   pub put : ArePut sent did.lost middle.mail v.mail
   pub others : v ≡ record middle { mail = v.mail }
 
--- a step of the bank that want of memory can skip: one that serves a station, since room for its
--- grant is made before the bank is asked; or one that moves something
-abbrev pub StepCanBeSkipped : BankContent → BankStep → Type 0
-StepCanBeSkipped b (Serve s) = ⊤
-StepCanBeSkipped b step = CanWantMemory b step
+-- a step of the bank that want of memory can skip: one for which the bank can want it; or, where
+-- some grant was local, one that serves a station, since room for its grant is made before the bank
+-- is asked
+abbrev pub StepCanBeSkipped : WorldContent → BankStep → Type 0
+StepCanBeSkipped w (Serve s) =
+    CanWantMemory w.bank (Serve s) ⊎ (length w.bank.grants < length w.trace)
+StepCanBeSkipped w step = CanWantMemory w.bank step
 
 -- the events that want of memory can skip: a submission, a try that asks for a local interaction,
 -- and such a step of the bank
@@ -170,7 +172,7 @@ CanBeSkipped w (Mail place) =
 CanBeSkipped w (Try k a) =
     (node : ClassNode) × (w.classes k.0 ≡ Some node) × CanBeAsked node a.0
     × ¬ IsReserved w.plan a.0
-CanBeSkipped w (Bank step) = StepCanBeSkipped w.bank step
+CanBeSkipped w (Bank step) = StepCanBeSkipped w step
 
 -- What contracts of private functions say.
 

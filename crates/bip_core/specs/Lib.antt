@@ -11,5 +11,6 @@ pub mod Repeats
 pub mod Runs
 pub mod Sentences
 pub mod Starting
+pub mod Traces
 pub mod Views
 pub mod Worlds

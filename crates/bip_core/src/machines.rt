@@ -26,10 +26,11 @@ use crate::messages::{Message, Posted};
 use crate::outcomes::{Kind, Outcome, Witness};
 use crate::sending::{send_acted, send_moved, send_told, send_tried};
 use crate::starting::{first_classes, first_components, first_offers};
+use crate::traces::{join_acted, join_tried, make_room, make_room_to_serve, trace_by};
 use crate::{Event, What};
-use bip_bank::{Acted, BankStep, Decision};
+use bip_bank::BankStep;
 use bip_component::SrComponent;
-use bip_ip::{IpNode, Tried};
+use bip_ip::IpNode;
 use bip_model::{ClassId, Grant, InterId, Notify, Number, Offer, Reply, Request};
 use bip_partition::Plan;
 use std::alloc::{AllocError, Global};
@@ -42,11 +43,14 @@ pub(crate) struct Machine<'p, B: bip_bank::Bank> {
     components: Vec<SrComponent<'p>>,
     classes: Vec<IpNode<'p>>,
     mail: Mailbag,
-    trace: Vec<Grant>,
+    /// All grants, from the first local one on. Before, it has none, and the bank's list has all.
+    own: Vec<Grant>,
     bank: B,
 }
 
 impl<'p, B: bip_bank::Bank> marker::Model for Machine<'p, B> {
+    ghost use Rattle.bip_bank.specs.Banks.{content_of};
+    ghost use Rattle.bip_core.specs.Traces.{trace_by};
     ghost use Rattle.bip_core.specs.Worlds.{IsKeptWorld, KeptWorld};
 
     ghost Value = { KeptWorld };
@@ -56,7 +60,7 @@ impl<'p, B: bip_bank::Bank> marker::Model for Machine<'p, B> {
       components = m.components.items;
       classes = m.classes.items;
       mail = m.mail;
-      trace = m.trace.items;
+      trace = trace_by m.own.items (content_of (B.kept m.bank)).grants;
       bank = B.kept m.bank;
     } };
 
@@ -65,7 +69,7 @@ impl<'p, B: bip_bank::Bank> marker::Model for Machine<'p, B> {
       components = m.components.items;
       classes = m.classes.items;
       mail = m.mail;
-      trace = m.trace.items;
+      trace = trace_by m.own.items (content_of (B.kept m.bank)).grants;
       bank = B.kept m.bank;
     }) };
 }
@@ -95,7 +99,7 @@ impl<'p, B: bip_bank::Bank> Machine<'p, B> {
             components,
             classes,
             mail,
-            trace: Vec::new(alloc),
+            own: Vec::new(alloc),
             bank,
         })
     }
@@ -112,7 +116,7 @@ impl<'p, B: bip_bank::Bank> Machine<'p, B> {
         ensures trace { result.now ≡ self.now.trace }
         ensures known { All (IsKnownGrant self.now.plan.model) result.now }
     {
-        &self.trace
+        trace_by(&self.own, self.bank.grants())
     }
 
     /// How many messages are in flight.
@@ -209,9 +213,10 @@ impl<'p, B: bip_bank::Bank> Machine<'p, B> {
         self.ask_one(class, inter, witness)
     }
 
-    /// Lets a class ask for an interaction that can be asked for; a local grant joins the trace,
-    /// for which room is made first. It is never inlined: what it keeps in place is some 2,000
-    /// bytes, which are cleared where it begins.
+    /// Lets a class ask for an interaction that can be asked for. A local grant joins the trace,
+    /// which is a list of the world's own from then on; room for it is made first. This call is
+    /// never inlined: what it keeps in place is some 2,000 bytes, which are cleared where it
+    /// begins.
     #[inline(never)]
     fn ask_one<W: Witness>(
         &mut self,
@@ -227,16 +232,17 @@ impl<'p, B: bip_bank::Bank> Machine<'p, B> {
         ensures skipped { IfErr result (λ e. CanBeSkipped (world_of self.old) (Try class inter)) }
         ensures err { OnErr result (self.new ≡ self.old) }
     {
-        make_room(self.plan, &mut self.trace, inter)?;
+        make_room(self.plan, &mut self.own, self.bank.grants(), inter)?;
         let did = self.classes[class.0 as usize].ask(inter);
-        join_tried(&mut self.trace, &did);
+        join_tried(&mut self.own, self.bank.grants(), &did);
         let outcome = send_tried(self.plan, &mut self.mail, &did);
         witness.see(What::Tries(did));
         Ok(outcome)
     }
 
-    /// Lets the bank do a step; a grant joins the trace, for which room is made first, where the
-    /// step serves a station: no other one grants.
+    /// Lets the bank do a step. A grant joins the bank's list, and the trace thereby, or else the
+    /// list of the world's own, for which room is made first, where the step serves a station: no
+    /// other one grants.
     fn act<W: Witness>(&mut self, step: BankStep, witness: &mut W) -> Result<Outcome, AllocError>
         ensures counted { IfOk result (λ outcome. IsCounted (λ what. W.saw what witness.new)
             (world_of self.old) (Bank step) outcome (world_of self.new)) }
@@ -244,9 +250,10 @@ impl<'p, B: bip_bank::Bank> Machine<'p, B> {
         ensures err { OnErr result (world_of self.new ≡ world_of self.old) }
     {
         self.plan.recall();
-        make_room_to_serve(&mut self.trace, step)?;
+        let granted = self.bank.grants().len();
+        make_room_to_serve(&mut self.own, granted, step)?;
         let did = self.bank.act(step)?;
-        join_acted(&mut self.trace, &did);
+        join_acted(&mut self.own, granted, &did);
         let outcome = send_acted(self.plan, &mut self.mail, &did);
         witness.see(What::Acts(did));
         Ok(outcome)
@@ -352,61 +359,6 @@ fn let_go<W: Witness>(_posted: Posted, witness: &mut W) -> Outcome
 {
     witness.see(What::Submits);
     Outcome::of(Kind::Done)
-}
-
-/// Makes room in a trace for the grant of an interaction, if it is local.
-fn make_room(plan: &Plan, trace: &mut Vec<Grant>, inter: InterId) -> Result<(), AllocError>
-    ensures same { trace.new.items ≡ trace.old.items }
-    ensures room { OnOk result (IsReserved plan.now inter.0
-        ⊎ (vec_len trace.new < vec_capacity trace.new)) }
-    ensures local { IfErr result (λ e. ¬ IsReserved plan.now inter.0) }
-    ensures valid { IsSystem plan.now.model }
-{
-    if plan.reserved(inter) {
-        return Ok(());
-    }
-    trace.reserve(1)
-}
-
-/// Makes room in a trace for the grant that a step of the bank can give, if it serves a station.
-fn make_room_to_serve(trace: &mut Vec<Grant>, step: BankStep) -> Result<(), AllocError>
-    ensures same { trace.new.items ≡ trace.old.items }
-    ensures room { OnOk result ((is_serving step ≡ false)
-        ⊎ (vec_len trace.new < vec_capacity trace.new)) }
-    ensures serves { IfErr result (λ e. is_serving step ≡ true) }
-{
-    match step {
-        BankStep::Serve(_) => trace.reserve(1),
-        _ => Ok(()),
-    }
-}
-
-/// The grant that a try gives joins the trace, if there is one. There is room for it.
-fn join_tried(trace: &mut Vec<Grant>, did: &Tried)
-    requires { (grant_tried did.now ≡ None) ⊎ (vec_len trace.old < vec_capacity trace.old) }
-    ensures { trace.new.items ≡ trace_with trace.old.items (grant_tried did.now) }
-{
-    match did {
-        Tried::Local(grant, _) => trace.push_reserved(grant.copy()),
-        _ => {}
-    }
-}
-
-/// The grant that a step of a bank gives joins the trace, if there is one. There is room for it.
-fn join_acted(trace: &mut Vec<Grant>, did: &Acted)
-    requires { (grant_acted did.now ≡ None) ⊎ (vec_len trace.old < vec_capacity trace.old) }
-    ensures { trace.new.items ≡ trace_with trace.old.items (grant_acted did.now) }
-{
-    match did {
-        Acted::Answered { request, decision } => match decision {
-            Decision::Granted(_) => trace.push_reserved(Grant {
-                inter: request.inter,
-                wants: request.wants.copy(),
-            }),
-            Decision::Refused { .. } => {}
-        },
-        _ => {}
-    }
 }
 
 /// The class that a reply names.

@@ -8,13 +8,13 @@ use Rattle.bip_core.proofs.machines.Machine.hear.Goals as goal
 
 pub returns-then-class-len : goal.returns-then-class-len
 returns-then-class-len g c =
-    let w = kept_by c.self.inside.plan.now c.self.inside.components.items c.self.inside.classes.items c.self.inside.mail c.self.inside.trace.items (g.B.Bank.kept c.self.inside.bank) in
+    let w = kept_by c.self.inside.plan.now c.self.inside.components.items c.self.inside.classes.items c.self.inside.mail c.self.inside.own.items (g.B.Bank.kept c.self.inside.bank) in
     let past : length w.classes ≤ c.args.class.0 = search rules in
     rw (← c.self.view_is) (idle_taken _ (world_of w) _ _ c.see.ensures (no_class w c.args.class.0 past, refl) c.of.ensures)
 
 pub invariant_of-self : goal.invariant_of-self
 invariant_of-self g c =
-    let w = kept_by c.self.inside.plan.now c.self.inside.components.items c.self.inside.classes.items c.self.inside.mail c.self.inside.trace.items (g.B.Bank.kept c.self.inside.bank) in
+    let w = kept_by c.self.inside.plan.now c.self.inside.components.items c.self.inside.classes.items c.self.inside.mail c.self.inside.own.items (g.B.Bank.kept c.self.inside.bank) in
     let old = c.index_mut.result.now in
     let within : c.args.class.0 < length w.classes = search rules in
     let is = read_here w.classes c.args.class.0 old within c.index_mut.ensures.value in
@@ -23,7 +23,7 @@ invariant_of-self g c =
 
 pub returns : goal.returns
 returns g c =
-    let w = kept_by c.self.inside.plan.now c.self.inside.components.items c.self.inside.classes.items c.self.inside.mail c.self.inside.trace.items (g.B.Bank.kept c.self.inside.bank) in
+    let w = kept_by c.self.inside.plan.now c.self.inside.components.items c.self.inside.classes.items c.self.inside.mail c.self.inside.own.items (g.B.Bank.kept c.self.inside.bank) in
     let old = c.index_mut.result.now in
     let within : c.args.class.0 < length w.classes = search rules in
     let is = read_here w.classes c.args.class.0 old within c.index_mut.ensures.value in

@@ -6,6 +6,7 @@ use Rattle.bip_ip.specs.Nodes.{ClassNode}
 use Rattle.bip_bank.specs.Banks.{content_of}
 use Rattle.bip_core.specs.Worlds.{IsKnownGrant}
 use Rattle.bip_core.proofs.StartLemmas.{class_at, component_at, offers_fit, unasked_content}
+use Rattle.bip_core.proofs.TraceLemmas.{no_trace}
 use Rattle.bip_core.proofs.machines.Machine.new.Goals as goal
 
 pub invariant_of-result : goal.invariant_of-result
@@ -21,7 +22,7 @@ invariant_of-result g c = record {
   bank = c.requires.unasked.plan;
   requests = offers_fit _ c.args.plan.now _ c.in_ok-mail.mail c.in_ok-mail.ensures;
   waiting = λ a. rw (ap (λ (f : ℕ → List Request). f a) c.requires.unasked.waiting) (All-nil (λ (q : Request). IsFit c.args.plan.now q));
-  grants = rw c.new.ensures.items (All-nil (IsKnownGrant c.args.plan.now.model));
+  grants = rw (no_trace c.new.result.items _ c.new.ensures.items c.requires.unasked.grants) (All-nil (IsKnownGrant c.args.plan.now.model));
 }
 
 pub returns-clause-new : goal.returns-clause-new
@@ -30,6 +31,6 @@ returns-clause-new g c = record {
   components = λ k. component_at c.args.plan.now c.args.base c.in_ok-components.components.items k c.in_ok-components.ensures;
   classes = λ k. class_at c.args.plan.now c.args.base c.in_ok-classes.classes.items k c.in_ok-classes.ensures;
   mail = rw (← c.deref.ensures.value) c.in_ok-mail.ensures;
-  trace = c.new.ensures.items;
+  trace = no_trace c.new.result.items _ c.new.ensures.items c.requires.unasked.grants;
   bank = unasked_content c.args.plan.now c.args.base (content_of (g.B.Bank.kept c.args.bank)) c.requires.unasked (c.recall_unused.ensures c.requires.unasked.grants);
 }
