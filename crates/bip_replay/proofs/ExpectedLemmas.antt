@@ -1,6 +1,6 @@
 -- Lines that are written as is expected: such a line reads as a grant that is expected.
 use Rattle.std.proofs.Common.{◌≡◌, ℕ, ◌+◌, ◌<◌, ◌≤◌, Bool, true, false, not, ◌||◌, eqb, eqb-true, eq-eqb, List, [], ◌∷◌, ◌++◌, length, map, take, get_or, Option, None, Some, refl, sym, ◌∙◌, inl, inr, arith}
-use Rattle.std.specs.Prelude.{◌↔◌, All, codes, MatchOption, IfSome}
+use Rattle.std.specs.Prelude.{◌↔◌, All, codes, if◌then◌else◌, MatchOption, IfSome}
 use Rattle.std.specs.Fmt.{decimal}
 use Rattle.std.specs.List.{AllByRecursion, AllZip, IsDistinct, flat_map, list_any}
 use Rattle.std.specs.List.Sorted.{IsPermutation, IsStrictlyIncreasing}
@@ -10,7 +10,7 @@ use Rattle.std.proofs.lemmas.Grind.{flat_map-append}
 use Rattle.std.proofs.lemmas.List.{append_assoc, append-nil, get_or_default, length-append, length-map, map-append, take_more}
 use Rattle.std.proofs.lemmas.List.Elements.{All-append, All-cons, All-from_recursion, All-head, All-map, All-nil, All-tail, All-weaker, Contains-get_or, recursion_from_All}
 use Rattle.std.proofs.lemmas.List.Folds.{Any-from_list_any, list_any-append, list_any-from_Any}
-use Rattle.std.proofs.lemmas.List.Sorted.{All-permutation, length_permutation, list_any-IsPermutation}
+use Rattle.std.proofs.lemmas.List.Sorted.{All-permutation, IsPermutation-append_left, IsPermutation-append_right, IsPermutation-map, IsPermutation-refl, IsPermutation-sym, IsPermutation-trans, length_permutation, list_any-IsPermutation}
 use Rattle.std.proofs.lemmas.Map.Keys.{IsDistinct-cons, IsDistinct-head, IsDistinct-tail}
 use Rattle.std.proofs.lemmas.Option.{slice_get-get_or, slice_get_cases, slice_get_within}
 use Rattle.std.proofs.lemmas.Simd.{map-map}
@@ -24,7 +24,7 @@ use Rattle.bip_model.specs.Numbering.{by_number}
 use Rattle.bip_model.specs.Parties.{AreParties, IsWanted, is_moving, is_seeing}
 use Rattle.bip_model.specs.Parts.{IsInteraction, IsSystem, Participant, components_in}
 use Rattle.bip_model.specs.Steps.{IsListLookedAt, moves, participants_of}
-use Rattle.bip_model.specs.Texts.{spaced}
+use Rattle.bip_model.specs.Texts.{is_comment, is_plain, spaced, words, words_said}
 use Rattle.bip_model.specs.Wants.{is_moved}
 use Rattle.bip_model.specs.declared.grants.Grant.{Grant}
 use Rattle.bip_model.specs.declared.numbering.CompId.{CompId}
@@ -35,7 +35,7 @@ use Rattle.bip_model.specs.declared.wants.Role.TheVariants.{Moved, Seen}
 use Rattle.bip_model.specs.declared.wants.Want.{Want}
 use Rattle.bip_replay.proofs.GrantLemmas.{line_reads}
 use Rattle.bip_replay.proofs.NamedLemmas.{comp_of}
-use Rattle.bip_replay.specs.Expected.{BeginsWith, BeginsWithWants, Expects, HasNextWord, IsInterName, comps_of, next_word}
+use Rattle.bip_replay.specs.Expected.{BeginsWith, BeginsWithWants, Expects, HasNextWord, IsInterName, SaysExpected, comps_of, next_word}
 use Rattle.bip_replay.specs.Laws.{IsGrantLine, IsNameOf, Spells}
 use Rattle.bip_replay.specs.Runs.{HasNextNumber, Standing}
 use Rattle.bip_replay.specs.Writing.{behind_see}
@@ -51,11 +51,14 @@ some_weaker P Q None tells is = tt
 some_weaker P Q (Some x) tells is = tells x is
 
 -- a component by its number, piece by piece
-pub begins_one : (p : Standing) (c : CompId) (text first second third rest : List ℕ) → HasNextWord p c → text ≡ 32 ∷ first → first ≡ name_in p.model.component_names c.0 ++ second → second ≡ 58 ∷ third → third ≡ decimal (p.used c.0 + 1) ++ rest
-    → BeginsWith p (c ∷ []) text rest
-begins_one p c text first second third rest next e f g h =
+pub word_of : (p : Standing) (c : CompId) (text second third rest : List ℕ) → text ≡ name_in p.model.component_names c.0 ++ second → second ≡ 58 ∷ third → third ≡ decimal (p.used c.0 + 1) ++ rest → text ≡ next_word p c ++ rest
+word_of p c text second third rest f g h = rw (f, g, h) (simp append_assoc)
+
+-- it begins a text behind a space
+pub begins_one : (p : Standing) (c : CompId) (text first rest : List ℕ) → HasNextWord p c → text ≡ 32 ∷ first → first ≡ next_word p c ++ rest → BeginsWith p (c ∷ []) text rest
+begins_one p c text first rest next e f =
     record {
-      begins = rw (e, f, g, h) (simp (append_assoc, append-nil));
+      begins = rw (e, f) (simp (append_assoc, append-nil));
       words = All-cons (HasNextWord p) c [] next (All-nil (HasNextWord p));
     }
 
@@ -185,7 +188,7 @@ seen-words [] all = all
 seen-words (w ∷ ws) all = All-cons IsWord (codes "see") (w ∷ ws) (refl, refl) all
 
 -- what holds of the participants of each interaction holds of those of a declared one
-of_interaction : (m : System) (a : ℕ) (P : List Participant → Type 0) → IsSystem m → a < length m.interactions → ((i : Interaction) → IsInteraction m.components i → P i.participants) → P (participants_of m a)
+pub of_interaction : (m : System) (a : ℕ) (P : List Participant → Type 0) → IsSystem m → a < length m.interactions → ((i : Interaction) → IsInteraction m.components i → P i.participants) → P (participants_of m a)
 of_interaction m a P valid declared tells = elim (slice_get_cases m.interactions a).1 [
   | inl here ↦ rw here.2 (tells here.0 (All-slice_get (IsInteraction m.components) m.interactions a here.0 valid.so_far.interactions here.2))
   | inr past ↦ absurd (omega (arith, past.0, declared))
@@ -247,7 +250,39 @@ module _ (p : Standing) (a : ℕ) (ds : List CompId) (valid : IsSystem p.model) 
       All-permutation (HasNextNumber p.used) (moved_wants ++ seen_wants) expected.wants permuted
       (All-append (HasNextNumber p.used) moved_wants seen_wants (next-numbers p Moved moved_comps mine) (next-numbers p Seen ds theirs))
 
-  -- such a line is that grant's
+  -- a line with such words, in any order, is that grant's
+  module _ (line name : List ℕ) (ms ss : List CompId) (few : length (participants_of p.model a) + length ds ≤ 32) (is : IsNameOf p.model.interaction_names name a) (all_moved : IsPermutation moved_comps ms) (all_seen : IsPermutation ds ss) (plain : is_plain line ≡ true) (says : words line ≡ codes "grant" ∷ name ∷ (map (next_word p) ms ++ behind_see (map (next_word p) ss))) where
+    same_wants : IsPermutation (next_wants p.used Moved ms ++ next_wants p.used Seen ss) expected.wants
+    same_wants =
+        IsPermutation-trans (next_wants p.used Moved ms ++ next_wants p.used Seen ss) (moved_wants ++ seen_wants) expected.wants
+        (IsPermutation-sym (moved_wants ++ seen_wants) (next_wants p.used Moved ms ++ next_wants p.used Seen ss)
+        (IsPermutation-trans (moved_wants ++ seen_wants) (next_wants p.used Moved ms ++ seen_wants) (next_wants p.used Moved ms ++ next_wants p.used Seen ss)
+        (IsPermutation-append_left seen_wants moved_wants (next_wants p.used Moved ms) (IsPermutation-map (next_want p.used Moved) moved_comps ms all_moved))
+        (IsPermutation-append_right (next_wants p.used Moved ms) seen_wants (next_wants p.used Seen ss) (IsPermutation-map (next_want p.used Seen) ds ss all_seen))))
+        permuted
+
+    line_is : IsGrantLine p.model line expected
+    line_is = record {
+      interaction = name;
+      moved_words = map (next_word p) ms;
+      seen_words = map (next_word p) ss;
+      moved = next_wants p.used Moved ms;
+      seen = next_wants p.used Seen ss;
+      plain = plain;
+      says = says;
+      named = is;
+      moves = next-spelled p Moved ms (All-permutation (HasNextWord p) moved_comps ms all_moved mine);
+      sees = next-spelled p Seen ss (All-permutation (HasNextWord p) ds ss all_seen theirs);
+      some = rw (length-map ms (next_want p.used Moved), length_permutation moved_comps ms all_moved, length-map (participants_of p.model a) (λ (q : Participant). q.0)) (of_interaction p.model a (λ qs. 0 < length qs) valid declared (λ i is'. is'.some));
+      few = rw (length_permutation (moved_wants ++ seen_wants) expected.wants permuted, length-append moved_wants seen_wants, length-map moved_comps (next_want p.used Moved), length-map (participants_of p.model a) (λ (q : Participant). q.0), length-map ds (next_want p.used Seen)) few;
+      wants = same_wants;
+      rising = increasing_from_rises (map comp_of expected.wants) (by_number-rises comp_of (moved_wants ++ seen_wants) apart);
+    }
+
+    expects : Expects p line a
+    expects = record { grant = expected; reads = line_reads p.model line expected valid line_is; is = record { inter = refl; numbers = numbers; parties = parties } }
+
+  -- so is a line that is written with them
   module _ (line name : List ℕ) (few : length (participants_of p.model a) + length ds ≤ 32) (is : IsNameOf p.model.interaction_names name a) (written : line ≡ codes "grant" ++ flat_map spaced (name ∷ (map (next_word p) moved_comps ++ behind_see (map (next_word p) ds)))) where
     abbrev behind : List (List ℕ)
     behind = name ∷ (map (next_word p) moved_comps ++ behind_see (map (next_word p) ds))
@@ -257,32 +292,39 @@ module _ (p : Standing) (a : ℕ) (ds : List CompId) (valid : IsSystem p.model) 
         All-cons IsWord name (map (next_word p) moved_comps ++ behind_see (map (next_word p) ds)) (name-word name is.name)
         (All-append IsWord (map (next_word p) moved_comps) (behind_see (map (next_word p) ds)) (next-words p moved_comps mine) (seen-words (map (next_word p) ds) (next-words p ds theirs)))
 
-    line_is : IsGrantLine p.model line expected
-    line_is = record {
-      interaction = name;
-      moved_words = map (next_word p) moved_comps;
-      seen_words = map (next_word p) ds;
-      moved = moved_wants;
-      seen = seen_wants;
-      plain = rw written (plain_spaced (codes "grant") behind refl all);
-      says = rw written (words_spaced (codes "grant") behind (refl, refl) all);
-      named = is;
-      moves = next-spelled p Moved moved_comps mine;
-      sees = next-spelled p Seen ds theirs;
-      some = rw (length-map moved_comps (next_want p.used Moved), length-map (participants_of p.model a) (λ (q : Participant). q.0)) (of_interaction p.model a (λ qs. 0 < length qs) valid declared (λ i is'. is'.some));
-      few = rw (length_permutation (moved_wants ++ seen_wants) expected.wants permuted, length-append moved_wants seen_wants, length-map moved_comps (next_want p.used Moved), length-map (participants_of p.model a) (λ (q : Participant). q.0), length-map ds (next_want p.used Seen)) few;
-      wants = permuted;
-      rising = increasing_from_rises (map comp_of expected.wants) (by_number-rises comp_of (moved_wants ++ seen_wants) apart);
-    }
-
-    expects : Expects p line a
-    expects = record { grant = expected; reads = line_reads p.model line expected valid line_is; is = record { inter = refl; numbers = numbers; parties = parties } }
+    expects_written : Expects p line a
+    expects_written =
+        expects line name moved_comps ds few is (IsPermutation-refl moved_comps) (IsPermutation-refl ds)
+        (rw written (plain_spaced (codes "grant") behind refl all)) (rw written (words_spaced (codes "grant") behind (refl, refl) all))
 
 -- a line that is written as is expected of an interaction reads as it
 pub expects_as_written : (p : Standing) (line name rest : List ℕ) (a : ℕ) → IsInterName p.model name a → line ≡ codes "grant " ++ (name ++ rest) → BeginsWithWants p a rest [] → Expects p line a
 expects_as_written p line name rest a inter is wants =
-    expects p a wants.looks inter.valid (omega (arith, slice_get_within p.model.interaction_names a name inter.named.known, inter.valid.so_far.interactions_named)) wants.listed wants.moved wants.seen line name wants.few inter.named
+    expects_written p a wants.looks inter.valid (omega (arith, slice_get_within p.model.interaction_names a name inter.named.known, inter.valid.so_far.interactions_named)) wants.listed wants.moved wants.seen line name wants.few inter.named
     (is ∙ rw wants.begins (simp (flat_map-append, append_assoc, append-nil)))
+
+-- a line that says a grant has no bad byte, and these words
+words_of : (line : List ℕ) (said : List (List ℕ)) (name : List ℕ) (behind : List (List ℕ)) → words_said line ≡ Some said → said ≡ codes "grant" ∷ name ∷ behind → (is_plain line ≡ true) × (words line ≡ codes "grant" ∷ name ∷ behind)
+words_of line said name behind read says = elim (cases_Bool (is_plain line)) [
+  | inl plain ↦ (plain, by_comment (is_comment (words line)) refl (rw plain at read))
+  | inr bad ↦ absurd (let never = rw bad at read in cc)
+]
+  where
+    by_comment : (b : Bool) → is_comment (words line) ≡ b → Some (if is_comment (words line) then [] else words line) ≡ Some said → words line ≡ codes "grant" ∷ name ∷ behind
+    by_comment true is kept = absurd (let none = rw is at kept in let two = says in cc)
+    by_comment false is kept = let same = rw is at kept in let its = says in cc
+
+-- a line that says an expected grant in any order reads as it
+pub expects_as_said : (p : Standing) (line : List ℕ) (said : List (List ℕ)) (a : ℕ) → words_said line ≡ Some said → SaysExpected p said a → Expects p line a
+expects_as_said p line said a read is =
+    let wants = is.wants in
+    let comps = comps_of (participants_of p.model a) in
+    let line_words = words_of line said is.name (words is.text) read is.says in
+    expects p a wants.looks is.named.valid (omega (arith, slice_get_within p.model.interaction_names a is.name is.named.named.known, is.named.valid.so_far.interactions_named)) wants.listed
+    (All-permutation (HasNextWord p) wants.moved comps (IsPermutation-sym comps wants.moved wants.all_moved) wants.moves)
+    (All-permutation (HasNextWord p) wants.seen wants.looks (IsPermutation-sym wants.looks wants.seen wants.all_seen) wants.sees)
+    line is.name wants.moved wants.seen wants.few is.named.named wants.all_moved wants.all_seen line_words.0
+    (line_words.1 ∙ rw (wants.says, is.ends) (simp append-nil))
 
 -- one participant more, and one more that is looked at
 pub more_participants : (p : Standing) (qs : List Participant) (i : ℕ) (d : Participant) (text mid rest : List ℕ) → i < length qs → BeginsWith p (comps_of (take i qs)) text mid → BeginsWith p ((get_or qs i d).0 ∷ []) mid rest → BeginsWith p (comps_of (take (i + 1) qs)) text rest

@@ -7,6 +7,7 @@ pub mod LineByLineLemmas
 pub mod NamedLemmas
 pub mod NextLemmas
 pub mod ReadingLemmas
+pub mod ReorderedLemmas
 pub mod RunLemmas
 pub mod TextLemmas
 pub mod TraceLemmas

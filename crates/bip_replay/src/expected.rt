@@ -3,7 +3,8 @@
 ghost use Rattle.std.specs.Prelude.{◌≡◌, ◌<◌, ◌++◌, [], ◌∷◌, length, All, IfSome};
 ghost use Rattle.bip_model.specs.Parts.{Participant};
 ghost use Rattle.bip_model.specs.declared.numbering.CompId.{CompId};
-ghost use Rattle.bip_replay.specs.Expected.{BeginsWith, BeginsWithWants, Expects, comps_of};
+ghost use Rattle.bip_replay.specs.Expected.{BeginsWith, BeginsWithWants, Expects, HasNextWord};
+ghost use Rattle.bip_replay.specs.Expected.{comps_of, next_word};
 ghost use Rattle.bip_replay.specs.Runs.{standing_of};
 
 use crate::Position;
@@ -13,7 +14,7 @@ use itoa::Buffer;
 
 /// The interaction of a line that is the one spelling of an expected grant; none of any other line,
 /// which can be right all the same.
-pub(crate) fn read_expected(
+pub(crate) fn read_spelled(
     guesses: &mut Guesses,
     position: &Position<'_>,
     line: &[u8],
@@ -93,9 +94,23 @@ fn strip_next<'t>(position: &Position<'_>, comp: CompId, text: &'t [u8]) -> Opti
     ensures { IfSome result (λ rest.
         BeginsWith (standing_of position.now) (comp ∷ []) text.now rest.now) }
 {
-    let number = position.used(comp).checked_add(1)?;
+    strip_word(position, comp, strip(text, b" ")?)
+}
+
+/// What follows a component by the number of its next move, without a space before.
+pub(crate) fn strip_word<'t>(
+    position: &Position<'_>,
+    comp: CompId,
+    text: &'t [u8],
+) -> Option<&'t [u8]>
+    requires { comp.0 < length position.now.model.component_names }
+    ensures word { IfSome result (λ rest.
+        text.now ≡ next_word (standing_of position.now) comp ++ rest.now) }
+    ensures has { IfSome result (λ rest. HasNextWord (standing_of position.now) comp) }
+{
     let name = position.model().component_names()[comp.0 as usize].as_bytes();
-    let rest = strip(strip(strip(text, b" ")?, name)?, b":")?;
+    let rest = strip(strip(text, name)?, b":")?;
+    let number = position.used(comp).checked_add(1)?;
     strip(rest, Buffer::new().format(number).as_bytes())
 }
 

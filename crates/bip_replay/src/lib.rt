@@ -8,6 +8,7 @@ mod grants;
 mod guesses;
 mod laws;
 mod lines;
+mod reordered;
 mod replays;
 mod rooms;
 mod runs;

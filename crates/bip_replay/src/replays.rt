@@ -1,14 +1,16 @@
 //! Replaying a trace: whether the grants of a text are a run of a model.
-ghost use Rattle.std.specs.Prelude.{◌<◌, ℕ, [], IfOk, IfErr};
+ghost use Rattle.std.specs.Prelude.{◌<◌, ℕ, [], IfOk, IfErr, IfSome};
 ghost use Rattle.bip_model.specs.Numbering.{last_number};
+ghost use Rattle.bip_replay.specs.Expected.{Expects};
 ghost use Rattle.bip_replay.specs.Runs.{StandsAfter, standing_of};
 ghost use Rattle.bip_replay.specs.Replays.{IsFirstFault, IsReplayFault, IsRunOf, Takes};
 
-use crate::expected::read_expected;
+use crate::expected::read_spelled;
 use crate::guesses::Guesses;
+use crate::reordered::read_reordered;
 use crate::rooms::Room;
 use crate::{Position, ReplayFault};
-use bip_model::{Model, Number, NumberedLines};
+use bip_model::{InterId, Model, Number, NumberedLines};
 use std::alloc::Global;
 
 /// Reads and checks a trace line by line: how many grants it has where they are a run of the model
@@ -87,4 +89,15 @@ fn take_line(
     };
     position.step(&grant)?;
     Ok(true)
+}
+
+// The interaction of a line that is an expected grant, as it is found without reading the line; none
+// of any other line, which can be right all the same.
+fn read_expected(guesses: &mut Guesses, position: &Position<'_>, line: &[u8]) -> Option<InterId>
+    ensures { IfSome result (λ a. Expects (standing_of position.now) line.now a.0) }
+{
+    match read_spelled(guesses, position, line) {
+        Some(inter) => Some(inter),
+        None => read_reordered(guesses, position, line),
+    }
 }

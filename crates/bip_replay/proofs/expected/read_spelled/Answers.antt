@@ -3,7 +3,7 @@ use Rattle.std.specs.Prelude.{codes}
 use Rattle.bip_model.proofs.ListLemmas.{empty_is}
 use Rattle.bip_replay.proofs.ExpectedLemmas.{expects_as_written}
 use Rattle.bip_replay.specs.Runs.{standing_of}
-use Rattle.bip_replay.proofs.expected.read_expected.Goals as goal
+use Rattle.bip_replay.proofs.expected.read_spelled.Goals as goal
 
 pub returns : goal.returns
 returns c =
