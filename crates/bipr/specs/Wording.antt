@@ -138,11 +138,6 @@ abbrev pub progress_text : ℕ → ℕ → List ℕ
 progress_text done seeds =
     codes "seeds " ++ (decimal done ++ (codes " of " ++ (decimal seeds ++ line_feed ∷ [])))
 
--- `at seed D of K: E events, S seeds a second, T seconds left`, where so many of the seeds are done
--- and did so many events
-abbrev pub timed_text : ℕ → ℕ → ℕ → ℕ → ℕ → List ℕ
-timed_text done seeds events rate left = place_text done seeds events ++ pace_text rate left
-
 abbrev pub place_text : ℕ → ℕ → ℕ → List ℕ
 place_text done seeds events =
     codes "at seed " ++ (decimal done ++ (codes " of " ++ (decimal seeds
@@ -152,3 +147,8 @@ abbrev pub pace_text : ℕ → ℕ → List ℕ
 pace_text rate left =
     decimal rate ++ (codes " seeds a second, " ++ (decimal left
     ++ (codes " seconds left" ++ line_feed ∷ [])))
+
+-- `at seed D of K: E events, S seeds a second, T seconds left`, where so many of the seeds are done
+-- and did so many events
+abbrev pub timed_text : ℕ → ℕ → ℕ → ℕ → ℕ → List ℕ
+timed_text done seeds events rate left = place_text done seeds events ++ pace_text rate left

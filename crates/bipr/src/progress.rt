@@ -1,5 +1,5 @@
 //! What is told on the way while seeds are explored.
-ghost use Rattle.std.specs.Prelude.{◌≡◌, ◌<◌, ◌≤◌, ◌×◌, List, OnErr, OnOk};
+ghost use Rattle.std.specs.Prelude.{◌≡◌, List, OnErr, OnOk, false, true};
 ghost use Rattle.bipr.specs.Explored.{IsProgressAt, ends_hundredth};
 ghost use Rattle.bipr.specs.Streams.{Put, PutsEach, texts};
 
