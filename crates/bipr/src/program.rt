@@ -39,12 +39,14 @@ Its lines, each name declared before it is used:
     class NAME INTERACTION .. a node that asks for these interactions
 
 Blanks stand between all words: a guard is `n < 3 and m != 0`, an update `n := n + 1 ; m := 0`.
-In an interaction a variable is named `COMPONENT.n`.
+In an interaction a variable is named `COMPONENT.n`. Values are 0 to 4294967295, and sums go
+round there: `0 - 1` is 4294967295. A guard has `and` and no `or`, a sum `+` and `-`.
 
 A trace is a text of grants, each an interaction with its components, and of each the
 number of its move, from 1:
 
     grant x A:1
+    grant low A:2 see B:1     B is looked at: an interaction above `low` moves it
 
 The verdict is `run N` where the trace's N grants are a run of the model from its start;
 else `line N: ..`, the first line that can't be next, and why:
@@ -134,11 +136,14 @@ A schedule is a text of protocol steps, one a line:
     pass S T        the station of S hands over what it shares with that of T
     ask S T         the station of S asks for it
 
-S and T are reserved interactions. At first each component's offer is in flight to each
-class that touches it, by component, then class. Requests of classes, the bank's replies,
-what granted components are told and their next offers are mail too, put last: for a reserved
-interaction the request has to be handed on before `serve`, and then the reply, and what its
-components are told. Of the model of `bipr --help`,
+S and T are reserved interactions. At first the token is at the first one of the text;
+it goes to the next, and behind the last to the first. A fork is with the lower of its
+two at first, and goes only where it was asked for and is dirty. At first each
+component's offer is in flight to each class that touches it, by component, then class.
+Requests of classes, the bank's replies, what granted components are told and their next
+offers are mail too, put last: for a reserved interaction the request has to be handed
+on before `serve`, and then the reply, and what its components are told. Of the model of
+`bipr --help`,
 
     mail 0
     try P x
@@ -166,7 +171,8 @@ writes `seeds 3 runs 3`: the traces of all three seeds are runs of the model. We
 none, the answer would be `seed S: not a run`, of the lowest such seed. A seed draws the
 same steps each time. Where there is memory for all threads, the answer is the same however
 many explore. Most steps that are drawn do nothing: with a ring or forks, and with many
-components, seeds of fewer than 100,000 steps may grant little or nothing.";
+components, seeds of fewer than 100,000 steps may grant little or nothing, of which the
+answer doesn't tell.";
 
 const RUN_ABOUT: &str = "Runs the nodes of a model as threads, and says which grants they made";
 
