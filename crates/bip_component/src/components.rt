@@ -2,7 +2,8 @@
 ghost use Rattle.std.specs.Prelude.{◌≡◌, ◌↔◌, ◌<◌, IfSome, IsTrue, length, slice_get};
 ghost use Rattle.bip_model.specs.Numbering.{last_number};
 ghost use Rattle.bip_model.specs.States.{IsLocalStateOf, local_of};
-ghost use Rattle.bip_component.specs.Components.{IsFirst, IsFirstOffer, IsNodeAfter, IsNotified};
+ghost use Rattle.bip_component.specs.Components.{IsFirst, IsFirstOffer, IsNode, IsNodeAfter};
+ghost use Rattle.bip_component.specs.Components.{IsNotified};
 ghost use Rattle.bip_component.specs.Components.{IsOffered, CanMoveBy, led_by};
 ghost use Rattle.bip_frame.specs.Views.{notify_shown};
 
@@ -71,6 +72,14 @@ impl<'p> SrComponent<'p> {
         }
     }
 
+    /// Does nothing, and costs nothing: it reminds the prover of what holds of each node.
+    #[inline(always)]
+    pub fn recall(&self)
+        ensures { IsNode self.now }
+    {
+        let _spent = self.spent;
+    }
+
     /// What the component offers: its next move. A spent one offers nothing.
     pub fn offer(&self) -> Option<Offer>
         ensures { IsOffered self.now result }
@@ -110,8 +119,11 @@ impl<'p> SrComponent<'p> {
     pub fn on_notify_frame(&mut self, frame: &NotifyFrame<'_>) -> Notified
         ensures answer { IsNotified self.old (notify_shown frame.now) result }
         ensures after { IsNodeAfter self.old (notify_shown frame.now) result self.new }
+        ensures node { IsNode self.new }
     {
-        self.on_notify(&frame.notify())
+        let did = self.on_notify(&frame.notify());
+        self.recall();
+        did
     }
 
     /// Whether the component moves by a notification.

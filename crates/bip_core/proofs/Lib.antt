@@ -5,7 +5,9 @@ pub mod BookLemmas
 pub mod DeliveryLemmas
 pub mod EventLemmas
 pub mod FirstLemmas
+pub mod FitLemmas
 pub mod KeepLemmas
+pub mod LetterLemmas
 pub mod ListLemmas
 pub mod LocalLemmas
 pub mod MailLemmas

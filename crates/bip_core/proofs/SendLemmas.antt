@@ -8,7 +8,9 @@ use Rattle.bip_component.specs.declared.components.Notified.TheVariants as notif
 use Rattle.bip_ip.specs.declared.nodes.Answered.TheVariants as answered
 use Rattle.bip_ip.specs.declared.nodes.Tried.TheVariants as tried
 use Rattle.bip_bank.specs.declared.banks.Acted.TheVariants as acted
-use Rattle.bip_core.specs.Worlds.{FitsIfRequest}
+use Rattle.bip_partition.specs.Laws.{IsPlanned}
+use Rattle.bip_core.specs.Letters.{CanBeHandedOn}
+use Rattle.bip_core.proofs.LetterLemmas.{sent_accepted}
 use Rattle.bip_core.specs.declared.events.What.{What}
 use Rattle.bip_core.specs.declared.events.What.TheVariants.{Acts, Hears, Learns, Moves, Nothing, Submits, Tries}
 use Rattle.bip_core.specs.declared.messages.Message.TheVariants.{NotifyComponent, OfferTo, ReplyToClass, RequestToBank}
@@ -68,28 +70,15 @@ sends_nothing p what outcome mail sends is = record {
   kind = ap (λ (o : Outcome). o.kind) is;
 }
 
--- what is put are requests that fit, or none
-pub sent_fit : (p : Planned) (what : What) (sent : List Message) → SendsWhatFits p what → AreSent p what sent → All (FitsIfRequest p) sent
-sent_fit p Nothing sent fits sends = rw sends (All-nil (FitsIfRequest p))
-sent_fit p (Hears r) sent fits sends = rw sends (All-nil (FitsIfRequest p))
-sent_fit p Submits sent fits sends = rw sends (All-nil (FitsIfRequest p))
-sent_fit p (Learns (answered.Told notifies)) sent fits sends = rw sends (All-map (FitsIfRequest p) (λ n. NotifyComponent n) notifies (λ k d within q same. absurd (cc)))
-sent_fit p (Learns answered.Dropped) sent fits sends = rw sends (All-nil (FitsIfRequest p))
-sent_fit p (Learns answered.Stale) sent fits sends = rw sends (All-nil (FitsIfRequest p))
-sent_fit p (Moves (notified.Moved offer)) sent fits sends = rw sends.each (All-map (FitsIfRequest p) (λ k. OfferTo k offer) sends.classes (λ k d within q same. absurd (cc)))
-sent_fit p (Moves notified.Spent) sent fits sends = rw sends (All-nil (FitsIfRequest p))
-sent_fit p (Moves notified.Stale) sent fits sends = rw sends (All-nil (FitsIfRequest p))
-sent_fit p (Tries tried.Foreign) sent fits sends = rw sends (All-nil (FitsIfRequest p))
-sent_fit p (Tries (tried.Pending b)) sent fits sends = rw sends (All-nil (FitsIfRequest p))
-sent_fit p (Tries (tried.Not x)) sent fits sends = rw sends (All-nil (FitsIfRequest p))
-sent_fit p (Tries (tried.Local g notifies)) sent fits sends = rw sends (All-map (FitsIfRequest p) (λ n. NotifyComponent n) notifies (λ k d within q same. absurd (cc)))
-sent_fit p (Tries tried.Ended) sent fits sends = rw sends (All-nil (FitsIfRequest p))
-sent_fit p (Tries (tried.Sent r)) sent fits sends = rw sends (All-cons (FitsIfRequest p) (RequestToBank r) [] (λ q same. let is : r ≡ q = cc in rw (← is) fits) (All-nil (FitsIfRequest p)))
-sent_fit p (Acts acted.Nothing) sent fits sends = rw sends (All-nil (FitsIfRequest p))
-sent_fit p (Acts acted.Moved) sent fits sends = rw sends (All-nil (FitsIfRequest p))
-sent_fit p (Acts (acted.Answered r d)) sent fits sends = rw sends (All-cons (FitsIfRequest p) (ReplyToClass (reply_to r d)) [] (λ q same. absurd (cc)) (All-nil (FitsIfRequest p)))
+-- all are missed
+pub all_missed : (xs : List Message) (mail : List Message) → ArePut xs (length xs) mail mail
+all_missed xs mail = record { put = []; kept = none_kept xs; count = omega arith; last = sym (append-nil mail) }
+  where
+    none_kept : (xs : List Message) → AreKeptOf [] xs
+    none_kept [] = all_done
+    none_kept (x ∷ xs) = one_lost (none_kept xs)
 
--- so requests in flight fit after they are put
-pub put_fit : (p : Planned) (what : What) (outcome : Outcome) (mail later : List Message) → SendsWhatFits p what → IsSending p what outcome mail later → All (FitsIfRequest p) mail → All (FitsIfRequest p) later
-put_fit p what outcome mail later fits sending all =
-    rw sending.put.last (All-append (FitsIfRequest p) mail sending.put.put all (kept_all (FitsIfRequest p) sending.put.put sending.sent sending.put.kept (sent_fit p what sending.sent fits sending.sends)))
+-- so what is in flight is accepted after it is put
+pub put_fit : (p : Planned) (what : What) (outcome : Outcome) (mail later : List Message) → IsPlanned p → SendsWhatFits p what → IsSending p what outcome mail later → All (CanBeHandedOn p) mail → All (CanBeHandedOn p) later
+put_fit p what outcome mail later planned fits sending all =
+    rw sending.put.last (All-append (CanBeHandedOn p) mail sending.put.put all (kept_all (CanBeHandedOn p) sending.put.put sending.sent sending.put.kept (sent_accepted p what sending.sent planned fits sending.sends)))

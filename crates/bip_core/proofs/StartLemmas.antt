@@ -10,7 +10,7 @@ use Rattle.bip_component.specs.Components.{IsOffered, Node}
 use Rattle.bip_ip.specs.Nodes.{KeptNode, node_of}
 use Rattle.bip_bank.specs.Banks.{BankContent, asked_nothing}
 use Rattle.bip_core.specs.Starting.{AreFirstClasses, AreFirstComponents, AreOffersBelow, IsFirstClass, IsFirstComponent, IsUnasked}
-use Rattle.bip_core.specs.Worlds.{AreOffersOf, FitsIfRequest}
+use Rattle.bip_core.specs.Worlds.{AreOffersOf}
 use Rattle.bip_model.specs.declared.messages.Offer.{Offer}
 use Rattle.bip_core.specs.Events.{AreKeptOf, ArePut, all_done, one_kept, one_lost}
 use Rattle.bip_core.specs.declared.messages.Message.{Message}
@@ -82,13 +82,6 @@ offers_more c p nodes node offer before last is offered sent so = rw (succ_of c)
   where
     succ_of : (n : ℕ) → n + 1 ≡ suc n
     succ_of n = omega arith
-
--- none of what is offered is a request
-pub offers_fit : (c : ℕ) (p : Planned) (nodes : ℕ → Option Node) (mail : List Message) → AreOffersBelow c p nodes mail → All (FitsIfRequest p) mail
-offers_fit zero p nodes mail none = rw none (All-nil (FitsIfRequest p))
-offers_fit (suc c) p nodes mail (node, offer, before, last, is, offered, sent, so, whole) =
-    rw whole (All-append (FitsIfRequest p) before last (offers_fit c p nodes before so)
-    (rw sent.each (All-map (FitsIfRequest p) (λ k. OfferTo k offer) sent.classes (λ k d within q same. absurd (cc)))))
 
 -- a bank that was asked nothing and granted nothing
 pub unasked_content : (p : Planned) (base : ℕ) (b : BankContent) → IsUnasked p base b → b.used ≡ (λ c. b.base) → b ≡ asked_nothing p base b.sharing

@@ -31,7 +31,7 @@ use Rattle.bip_bank.specs.declared.banks.Acted.TheVariants as acted
 use Rattle.bip_ip.proofs.LawLemmas.{asked_fits}
 use Rattle.bip_observe.specs.declared.offers.Receipt.{Receipt}
 use Rattle.bip_observe.specs.declared.offers.Receipt.TheVariants.{Held, Old, Stranger}
-use Rattle.bip_component.specs.Components.{IsNodeAfter, Node}
+use Rattle.bip_component.specs.Components.{IsNodeAfter, IsNotified, Node}
 use Rattle.bip_component.specs.declared.components.Notified.{Notified}
 use Rattle.bip_component.specs.declared.components.Notified.TheVariants as notified
 use Rattle.bip_ip.specs.Nodes.{CanBeAsked, ClassNode, IsAnswered, IsLeftByReply, IsTried, KeptNode, after_offer, after_try, node_of, tried_of}
@@ -43,8 +43,10 @@ use Rattle.bip_ip.specs.declared.nodes.WhyNot.{WhyNot}
 use Rattle.bip_ip.specs.declared.nodes.WhyNot.TheVariants as why_not
 use Rattle.bip_bank.specs.Banks.{BankContent, CanWantMemory, DoesStep, IsActed, KeptBank, content_of, with_request}
 use Rattle.bip_bank.specs.declared.banks.BankStep.TheVariants.{Ask, Deliver, Pass, Serve}
-use Rattle.bip_core.specs.Worlds.{FitsIfRequest, IsKnownGrant, IsKeptWorld, KeptWorld, WorldContent, with_class_node, with_component_node, world_of}
+use Rattle.bip_core.specs.Worlds.{IsKnownGrant, IsKeptWorld, KeepsWhatFits, KeptWorld, WorldContent, with_class_node, with_component_node, world_of}
+use Rattle.bip_core.specs.Letters.{CanBeHandedOn, IsNumberedRequest}
 use Rattle.bip_core.specs.Traces.{trace_by}
+use Rattle.bip_partition.specs.Laws.{IsPlanned}
 use Rattle.bip_model.specs.declared.numbering.ClassId.{ClassId}
 use Rattle.bip_observe.specs.Offers.{IsReceipt, observed}
 use Rattle.bip_core.specs.Events.{AreSent, CanBeSkipped, IsCounted, IsDelivered, IsDone, IsHandedOn, IsSending, IsTakenIn, IsTraced, SendsWhatFits, StepCanBeSkipped, TakesOut, class_named, grant_acted, grant_in, grant_tried, is_serving, kind_of, trace_with}
@@ -125,8 +127,8 @@ put_read {X} xs n x k y within is =
     ]
 
 -- a node of the same plan and class stands well in its place
-pub class_kept : (w : KeptWorld) (k : ℕ) (n old : KeptNode) → k < length w.classes → slice_get w.classes k ≡ Some old → n.offers.plan ≡ old.offers.plan → n.offers.class ≡ old.offers.class → IsKeptWorld w → IsKeptWorld (record w { classes = set w.classes k n })
-class_kept w k n old within is plan class kept = record {
+pub class_kept : (w : KeptWorld) (k : ℕ) (n old : KeptNode) → k < length w.classes → slice_get w.classes k ≡ Some old → n.offers.plan ≡ old.offers.plan → n.offers.class ≡ old.offers.class → KeepsWhatFits w.plan (node_of n) → IsKeptWorld w → IsKeptWorld (record w { classes = set w.classes k n })
+class_kept w k n old within is plan class fits kept = record {
   each_component = kept.each_component;
   each_class = length-set w.classes k n ∙ kept.each_class;
   components = kept.components;
@@ -136,8 +138,12 @@ class_kept w k n old within is plan class kept = record {
         rw (← here.1, here.0) (plan ∙ before.0, class ∙ before.1)
     | inr there ↦ kept.classes j node there
   ];
+  fits = λ j node read. elim (put_read w.classes k n j node within read) [
+    | inl here ↦ rw (← here.1) fits
+    | inr there ↦ kept.fits j node there
+  ];
   bank = kept.bank;
-  requests = kept.requests;
+  mail = kept.mail;
   waiting = kept.waiting;
   grants = kept.grants;
 }
@@ -153,8 +159,9 @@ component_kept w c n old within is plan comp kept = record {
     | inr there ↦ kept.components j node there
   ];
   classes = kept.classes;
+  fits = kept.fits;
   bank = kept.bank;
-  requests = kept.requests;
+  mail = kept.mail;
   waiting = kept.waiting;
   grants = kept.grants;
 }
@@ -198,6 +205,18 @@ pub heard_on : (w : KeptWorld) (k : ClassId) (offer : Offer) (receipt : Receipt)
 heard_on w k offer receipt old n is receives left =
     (node_of old, ap (option_map node_of) is, receives, class_put w k.0 n (after_offer offer receipt (node_of old)) (slice_get_within w.classes k.0 old is) left)
 
+-- a notification
+pub moved_on : (w : KeptWorld) (c : ℕ) (n : Notify) (did : Notified) (old later : Node) → c ≡ n.comp.0 → slice_get w.components c ≡ Some old → c < length w.components → IsNotified old n did → IsNodeAfter old n did later
+    → IsHandedOn (world_of w) (NotifyComponent n) (Moves did) (world_of (record w { components = set w.components c later }))
+moved_on w c n did old later named is within answer after = (
+  old,
+  later,
+  subst (λ (k : ℕ). slice_get w.components k ≡ Some old) named is,
+  answer,
+  after,
+  subst (λ (k : ℕ). world_of (record w { components = set w.components c later }) ≡ with_component_node k later (world_of w)) named (component_put w c later within),
+)
+
 -- a reply
 pub learned_on : (w : KeptWorld) (k : ℕ) (r : Reply) (did : Answered) (old n : KeptNode) → k ≡ class_named r → slice_get w.classes k ≡ Some old → IsAnswered (node_of old) r did → IsLeftByReply r did (node_of old) (node_of n)
     → IsHandedOn (world_of w) (ReplyToClass r) (Learns did) (world_of (record w { classes = set w.classes k n }))
@@ -237,15 +256,6 @@ tried_grant v a (tried.Local g notifies) valid is =
 tried_grant v a tried.Ended valid is = tt
 tried_grant v a (tried.Sent q) valid is = tt
 
--- what a try sends fits the plan
-pub tried_fits : (v : ClassNode) (a : ℕ) (did : Tried) → IsTried v a did → SendsWhatFits v.offers.plan (Tries did)
-tried_fits v a tried.Foreign is = tt
-tried_fits v a (tried.Pending b) is = tt
-tried_fits v a (tried.Not x) is = tt
-tried_fits v a (tried.Local g notifies) is = tt
-tried_fits v a tried.Ended is = tt
-tried_fits v a (tried.Sent q) is = asked_fits v a q is
-
 -- a world whose trace a grant joins
 pub trace_kept : (w : KeptWorld) (given : Option Grant) → IfSome given (IsKnownGrant w.plan.model) → IsKeptWorld w → IsKeptWorld (record w { trace = trace_with w.trace given })
 trace_kept w given one kept = record {
@@ -253,8 +263,9 @@ trace_kept w given one kept = record {
   each_class = kept.each_class;
   components = kept.components;
   classes = kept.classes;
+  fits = kept.fits;
   bank = kept.bank;
-  requests = kept.requests;
+  mail = kept.mail;
   waiting = kept.waiting;
   grants = grants_with w.plan.model w.trace given kept.grants one;
 }
@@ -269,11 +280,11 @@ tried_on w k a did old n is tries left = record {
 }
 
 -- what a step of a bank leaves of requests that fit
-pub acted_fit : (p : Planned) (did : Acted) (b later : BankContent) → IsActed did b later → ((a : ℕ) → All (λ (q : Request). IsFit p q) (b.waiting a)) → (a : ℕ) → All (λ (q : Request). IsFit p q) (later.waiting a)
+pub acted_fit : (p : Planned) (did : Acted) (b later : BankContent) → IsActed did b later → ((a : ℕ) → All (IsNumberedRequest p) (b.waiting a)) → (a : ℕ) → All (IsNumberedRequest p) (later.waiting a)
 acted_fit p acted.Nothing b later is fit a = rw (ap (λ (c : BankContent). c.waiting a) is) (fit a)
 acted_fit p acted.Moved b later is fit a = rw (ap (λ (c : BankContent). c.waiting a) is) (fit a)
 acted_fit p (acted.Answered q d) b later is fit a = rw (ap (λ (c : BankContent). c.waiting a) is.after) (elim (eqb_tells a q.inter.0) [
-  | inl same ↦ rw same.0 (All-tail (λ (r : Request). IsFit p r) q is.rest (subst (λ (l : List Request). All (λ (r : Request). IsFit p r) l) is.oldest (fit q.inter.0)))
+  | inl same ↦ rw same.0 (All-tail (IsNumberedRequest p) q is.rest (subst (λ (l : List Request). All (IsNumberedRequest p) l) is.oldest (fit q.inter.0)))
   | inr other ↦ rw other.0 (fit a)
 ])
 
@@ -285,12 +296,12 @@ acted_plan (acted.Answered q (decision.Granted serial)) b later is = ap (λ (c :
 acted_plan (acted.Answered q (decision.Refused c n)) b later is = ap (λ (x : BankContent). x.plan) is.after
 
 -- what a bank grants is of the model
-pub acted_grant : (p : Planned) (did : Acted) (b later : BankContent) → IsSystem p.model → IsActed did b later → ((a : ℕ) → All (λ (q : Request). IsFit p q) (b.waiting a)) → IfSome (grant_acted did) (IsKnownGrant p.model)
+pub acted_grant : (p : Planned) (did : Acted) (b later : BankContent) → IsSystem p.model → IsActed did b later → ((a : ℕ) → All (IsNumberedRequest p) (b.waiting a)) → IfSome (grant_acted did) (IsKnownGrant p.model)
 acted_grant p acted.Nothing b later valid is fit = tt
 acted_grant p acted.Moved b later valid is fit = tt
 acted_grant p (acted.Answered q (decision.Granted serial)) b later valid is fit =
-    let fits = All-head (λ (r : Request). IsFit p r) q is.rest (subst (λ (l : List Request). All (λ (r : Request). IsFit p r) l) is.oldest (fit q.inter.0)) in
-    wanted_grant p.model (grant_of q) valid (reserved_known p q.inter.0 valid fits.reserved) fits.parties
+    let fits = All-head (IsNumberedRequest p) q is.rest (subst (λ (l : List Request). All (IsNumberedRequest p) l) is.oldest (fit q.inter.0)) in
+    wanted_grant p.model (grant_of q) valid (reserved_known p q.inter.0 valid fits.fit.reserved) fits.fit.parties
 acted_grant p (acted.Answered q (decision.Refused c n)) b later valid is fit = tt
 
 -- a world whose bank did a step
@@ -300,8 +311,9 @@ bank_kept w b did is kept = record {
   each_class = kept.each_class;
   components = kept.components;
   classes = kept.classes;
+  fits = kept.fits;
   bank = acted_plan did (content_of w.bank) (content_of b) is ∙ kept.bank;
-  requests = kept.requests;
+  mail = kept.mail;
   waiting = acted_fit w.plan did (content_of w.bank) (content_of b) is kept.waiting;
   grants = kept.grants;
 }
@@ -345,35 +357,37 @@ taken_out mail place message is =
       others = refl;
     }
 
--- requests fit without one message
-pub rest_fits : (p : Planned) (mail : List Message) (place : ℕ) → place < length mail → All (FitsIfRequest p) mail → All (FitsIfRequest p) (take place mail ++ drop (suc place) mail)
-rest_fits p mail place within all = All-append (FitsIfRequest p) (take place mail) (drop (suc place) mail) (All-take (FitsIfRequest p) place mail all) (All-drop (FitsIfRequest p) (suc place) mail all)
+-- what is in flight is accepted without one message
+pub rest_fits : (p : Planned) (mail : List Message) (place : ℕ) → place < length mail → All (CanBeHandedOn p) mail → All (CanBeHandedOn p) (take place mail ++ drop (suc place) mail)
+rest_fits p mail place within all = All-append (CanBeHandedOn p) (take place mail) (drop (suc place) mail) (All-take (CanBeHandedOn p) place mail all) (All-drop (CanBeHandedOn p) (suc place) mail all)
 
 -- a request that is submitted
-pub submitted_kept : (w : KeptWorld) (b : KeptBank) (q : Request) → IsFit w.plan q → content_of b ≡ with_request q (content_of w.bank) → IsKeptWorld w → IsKeptWorld (record w { bank = b })
+pub submitted_kept : (w : KeptWorld) (b : KeptBank) (q : Request) → IsNumberedRequest w.plan q → content_of b ≡ with_request q (content_of w.bank) → IsKeptWorld w → IsKeptWorld (record w { bank = b })
 submitted_kept w b q fit is kept = record {
   each_component = kept.each_component;
   each_class = kept.each_class;
   components = kept.components;
   classes = kept.classes;
+  fits = kept.fits;
   bank = ap (λ (x : BankContent). x.plan) is ∙ kept.bank;
-  requests = kept.requests;
+  mail = kept.mail;
   waiting = λ a. rw (ap (λ (x : BankContent). x.waiting a) is) (elim (eqb_tells a q.inter.0) [
-    | inl same ↦ rw same.0 (All-push (λ (r : Request). IsFit w.plan r) ((content_of w.bank).waiting q.inter.0) q (kept.waiting q.inter.0) fit)
+    | inl same ↦ rw same.0 (All-push (IsNumberedRequest w.plan) ((content_of w.bank).waiting q.inter.0) q (kept.waiting q.inter.0) fit)
     | inr other ↦ rw other.0 (kept.waiting a)
   ]);
   grants = kept.grants;
 }
 
--- with other messages whose requests fit
-pub mail_kept : (w : KeptWorld) (mail : List Message) → All (FitsIfRequest w.plan) mail → IsKeptWorld w → IsKeptWorld (record w { mail = mail })
+-- with other messages that are accepted
+pub mail_kept : (w : KeptWorld) (mail : List Message) → All (CanBeHandedOn w.plan) mail → IsKeptWorld w → IsKeptWorld (record w { mail = mail })
 mail_kept w mail fits kept = record {
   each_component = kept.each_component;
   each_class = kept.each_class;
   components = kept.components;
   classes = kept.classes;
+  fits = kept.fits;
   bank = kept.bank;
-  requests = fits;
+  mail = fits;
   waiting = kept.waiting;
   grants = kept.grants;
 }
@@ -419,11 +433,7 @@ delivered w k place message what v taken same on =
 pub no_mail : (w : KeptWorld) (place : ℕ) → length w.mail ≤ place → IsTraced (world_of w) (Mail place) Nothing (world_of w)
 no_mail w place past = record { middle = world_of w; done = inl (past, refl); after = refl }
 
--- a request in flight fits
-pub request_fits : (w : KeptWorld) (place : ℕ) (q : Request) → IsKeptWorld w → slice_get w.mail place ≡ Some (RequestToBank q) → IsFit w.plan q
-request_fits w place q kept is = All-slice_get (FitsIfRequest w.plan) w.mail place (RequestToBank q) kept.requests is q refl
-
--- and can be lost for want of memory
+-- a request in flight can be lost for want of memory
 pub request_skipped : (w : KeptWorld) (place : ℕ) (q : Request) → slice_get w.mail place ≡ Some (RequestToBank q) → CanBeSkipped (world_of w) (Mail place)
 request_skipped w place q is = (q, take place w.mail ++ drop (suc place) w.mail, taken_out w.mail place (RequestToBank q) is)
 
@@ -480,8 +490,8 @@ if_err X (Ok a) x = tt
 if_err X (Err e) x = x
 
 -- what an answer sends leaves the world whole
-pub sent_kept : (w : KeptWorld) (what : What) (outcome : Outcome) (later : List Message) → SendsWhatFits w.plan what → IsSending w.plan what outcome w.mail later → IsKeptWorld w → IsKeptWorld (record w { mail = later })
-sent_kept w what outcome later fits sending kept = mail_kept w later (put_fit w.plan what outcome w.mail later fits sending kept.requests) kept
+pub sent_kept : (w : KeptWorld) (what : What) (outcome : Outcome) (later : List Message) → IsPlanned w.plan → SendsWhatFits w.plan what → IsSending w.plan what outcome w.mail later → IsKeptWorld w → IsKeptWorld (record w { mail = later })
+sent_kept w what outcome later planned fits sending kept = mail_kept w later (put_fit w.plan what outcome w.mail later planned fits sending kept.mail) kept
 
 -- there is no such node
 pub no_class : (w : KeptWorld) (k : ℕ) → length w.classes ≤ k → (world_of w).classes k ≡ None

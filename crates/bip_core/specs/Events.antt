@@ -1,7 +1,7 @@
 -- Events: what one does, and what it leaves.
 use Rattle.std.specs.Prelude.{◌≡◌, ℕ, ◌+◌, ◌<◌, ◌≤◌, List, [], ◌∷◌, ◌++◌, Option}
 use Rattle.std.specs.Prelude.{None, Some, length}
-use Rattle.std.specs.Prelude.{◌⊎◌, map, ⊤, Bool, true, false}
+use Rattle.std.specs.Prelude.{◌⊎◌, map, ⊤, All, Bool, true, false}
 use Rattle.bip_model.specs.declared.grants.Grant.{Grant}
 use Rattle.bip_model.specs.declared.messages.Notify.{Notify}
 use Rattle.bip_model.specs.declared.messages.Reply.{Reply}
@@ -10,7 +10,7 @@ use Rattle.bip_model.specs.declared.messages.Request.{Request}
 use Rattle.bip_bank.specs.Decisions.{grant_of, reply_to}
 use Rattle.bip_bank.specs.Decisions.Decision.{Decision}
 use Rattle.bip_bank.specs.Decisions.Decision.TheVariants as decision
-use Rattle.bip_partition.specs.Plans.{IsFit, IsReserved, Planned}
+use Rattle.bip_partition.specs.Plans.{IsReserved, Planned}
 use Rattle.bip_component.specs.Components.{IsNodeAfter, IsNotified, Node}
 use Rattle.bip_component.specs.declared.components.Notified.TheVariants as notified
 use Rattle.bip_ip.specs.Nodes.{CanBeAsked, ClassNode, IsAnswered, IsLeftByReply, IsTried}
@@ -25,6 +25,7 @@ use Rattle.bip_bank.specs.declared.banks.Acted.{Acted}
 use Rattle.bip_bank.specs.declared.banks.Acted.TheVariants as acted
 use Rattle.bip_bank.specs.declared.banks.BankStep.TheVariants.{Serve}
 use Rattle.bip_bank.specs.declared.banks.BankStep.{BankStep}
+use Rattle.bip_core.specs.Letters.{CanBeOffered, CanBeReplied, CanBeSubmitted, CanBeTold}
 use Rattle.bip_core.specs.Worlds.{AreOffersOf, WorldContent, with_class_node, with_component_node}
 use Rattle.bip_core.specs.declared.events.Did.{Did}
 use Rattle.bip_core.specs.declared.events.Event.{Event}
@@ -176,10 +177,13 @@ CanBeSkipped w (Bank step) = StepCanBeSkipped w step
 
 -- What contracts of private functions say.
 
--- what an answer sends is of the plan: a request fits it, and an offer is of a component
+-- what an answer sends can be written, and is accepted by those for whom it is
 abbrev pub SendsWhatFits : Planned → What → Type 0
-SendsWhatFits p (Tries (tried.Sent q)) = IsFit p q
-SendsWhatFits p (Moves (notified.Moved offer)) = offer.comp.0 < length p.model.components
+SendsWhatFits p (Learns (answered.Told notifies)) = All (CanBeTold p) notifies
+SendsWhatFits p (Moves (notified.Moved offer)) = CanBeOffered p offer
+SendsWhatFits p (Tries (tried.Local g notifies)) = All (CanBeTold p) notifies
+SendsWhatFits p (Tries (tried.Sent q)) = CanBeSubmitted p q
+SendsWhatFits p (Acts (acted.Answered q d)) = CanBeReplied p (reply_to q d)
 SendsWhatFits p what = ⊤
 
 -- a step serves a station

@@ -3,6 +3,7 @@ pub mod Agreement
 pub mod Books
 pub mod Events
 pub mod Laws
+pub mod Letters
 pub mod Lists
 pub mod Locals
 pub mod Mailbags

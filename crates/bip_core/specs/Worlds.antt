@@ -1,19 +1,21 @@
 -- The world: the nodes of a plan, the messages in flight between them, a bank, and the grants.
-use Rattle.std.specs.Prelude.{◌≡◌, ℕ, ◌<◌, List, Option, Some, length, map, slice_get, All}
+use Rattle.std.specs.Prelude.{◌≡◌, ℕ, ◌<◌, ◌≤◌, List, Option, Some, length, map, slice_get, All}
 use Rattle.std.specs.Option.{option_map}
 use Rattle.bip_model.specs.Numbering.{put}
 use Rattle.bip_model.specs.declared.grants.Grant.{Grant}
 use Rattle.bip_model.specs.declared.messages.Offer.{Offer}
-use Rattle.bip_model.specs.declared.messages.Request.{Request}
 use Rattle.bip_model.specs.declared.numbering.ClassId.{ClassId}
 use Rattle.bip_model.specs.declared.parts.System.{System}
 use Rattle.bip_model.specs.declared.wants.Want.{Want}
-use Rattle.bip_partition.specs.Plans.{IsFit, IsListTouching, Planned}
+use Rattle.bip_partition.specs.Plans.{IsListTouching, Planned}
 use Rattle.bip_component.specs.Components.{Node}
 use Rattle.bip_ip.specs.Nodes.{ClassNode, KeptNode, node_of}
+use Rattle.bip_ip.specs.declared.nodes.OpenRecord.{OpenRecord}
+use Rattle.bip_observe.specs.Offers.{AreOwn}
 use Rattle.bip_bank.specs.Banks.{BankContent, KeptBank, content_of}
 use Rattle.bip_core.specs.declared.messages.Message.{Message}
-use Rattle.bip_core.specs.declared.messages.Message.TheVariants.{OfferTo, RequestToBank}
+use Rattle.bip_core.specs.declared.messages.Message.TheVariants.{OfferTo}
+use Rattle.bip_core.specs.Letters.{CanBeHandedOn, CanBeTold, IsNumberedRequest}
 
 -- the world: the node of each component and of each class, the messages in flight, the oldest
 -- first, what the bank has, and the grants in order
@@ -64,12 +66,15 @@ pub record IsKnownGrant (m : System) (g : Grant) : Type 0 where
   pub inter : g.inter.0 < length m.interactions
   pub wants : All (λ (w : Want). w.comp.0 < length m.components) g.wants
 
--- a message that is a request has one that fits the plan
-abbrev pub FitsIfRequest : Planned → Message → Type 0
-FitsIfRequest p message = (q : Request) → message ≡ RequestToBank q → IsFit p q
+-- what the node of a class has, and may send: the offers that it holds are of their components,
+-- which can make them; what its records tell can be told; and request numbers begin at 1
+pub record KeepsWhatFits (p : Planned) (v : ClassNode) : Type 0 where
+  pub held : AreOwn v.offers
+  pub told : (a : ℕ) (e : OpenRecord) → v.pending a ≡ Some e → All (CanBeTold p) e.notifies
+  pub next : 1 ≤ v.next
 
 -- what is kept of any world: a node of each component and each class of the plan, and its bank;
--- requests in flight and open fit the plan, and grants are of its model
+-- what is in flight is accepted, requests that are open fit the plan, and grants are of its model
 pub record IsKeptWorld (w : KeptWorld) : Type 0 where
   pub each_component : length w.components ≡ length w.plan.model.components
   pub each_class : length w.classes ≡ length w.plan.classes.members
@@ -77,7 +82,9 @@ pub record IsKeptWorld (w : KeptWorld) : Type 0 where
       → (node.plan ≡ w.plan) × (node.comp ≡ c)
   pub classes : (k : ℕ) (node : KeptNode) → slice_get w.classes k ≡ Some node
       → (node.offers.plan ≡ w.plan) × (node.offers.class ≡ k)
+  pub fits : (k : ℕ) (node : KeptNode) → slice_get w.classes k ≡ Some node
+      → KeepsWhatFits w.plan (node_of node)
   pub bank : (content_of w.bank).plan ≡ w.plan
-  pub requests : All (FitsIfRequest w.plan) w.mail
-  pub waiting : (a : ℕ) → All (λ (q : Request). IsFit w.plan q) ((content_of w.bank).waiting a)
+  pub mail : All (CanBeHandedOn w.plan) w.mail
+  pub waiting : (a : ℕ) → All (IsNumberedRequest w.plan) ((content_of w.bank).waiting a)
   pub grants : All (IsKnownGrant w.plan.model) w.trace

@@ -9,8 +9,9 @@ ghost use Rattle.bip_partition.specs.Plans.{IsFit, IsReserved};
 ghost use Rattle.bip_bank.specs.Banks.{content_of, with_request};
 ghost use Rattle.bip_ip.specs.Nodes.{CanBeAsked, KeptNode, node_of};
 ghost use Rattle.bip_core.specs.Events.{CanBeSkipped, IsCounted, IsTakenIn, TakesOut};
-ghost use Rattle.bip_core.specs.Events.{class_named, grant_acted, grant_tried, is_serving};
-ghost use Rattle.bip_core.specs.Events.{submitted, trace_with};
+ghost use Rattle.bip_core.specs.Events.{submitted};
+ghost use Rattle.bip_core.specs.Letters.{CanBeHandedOn, IsLetterOf, IsNumberedRequest};
+ghost use Rattle.bip_frame.specs.Views.{notify_shown, offer_shown, reply_shown};
 ghost use Rattle.bip_core.specs.Starting.{IsNewWorld, IsUnasked};
 ghost use Rattle.bip_core.specs.Worlds.{IsKeptWorld, IsKnownGrant, world_of};
 ghost use Rattle.bip_core.specs.declared.events.Event.TheVariants.{Bank, Mail, Try};
@@ -21,17 +22,19 @@ ghost use Rattle.bip_core.specs.declared.messages.Message.TheVariants.{ReplyToCl
 ghost use Rattle.bip_core.specs.declared.messages.Message.TheVariants.{RequestToBank};
 ghost use Rattle.bip_core.specs.declared.outcomes.Kind.TheVariants.{Done};
 
+use crate::letters::Letter;
 use crate::mailbags::Mailbag;
-use crate::messages::{Message, Posted};
+use crate::messages::Message;
 use crate::outcomes::{Kind, Outcome, Witness};
 use crate::sending::{send_acted, send_moved, send_told, send_tried};
 use crate::starting::{first_classes, first_components, first_offers};
 use crate::traces::{join_acted, join_tried, make_room, make_room_to_serve, trace_by};
-use crate::{Event, What};
+use crate::{Address, Event, What, accept};
 use bip_bank::BankStep;
 use bip_component::SrComponent;
+use bip_frame::{Frame, NotifyFrame, OfferFrame, ReplyFrame};
 use bip_ip::IpNode;
-use bip_model::{ClassId, Grant, InterId, Notify, Number, Offer, Reply, Request};
+use bip_model::{ClassId, Grant, InterId, Number, Request};
 use bip_partition::Plan;
 use std::alloc::{AllocError, Global};
 use std::marker;
@@ -126,16 +129,28 @@ impl<'p, B: bip_bank::Bank> Machine<'p, B> {
         self.mail.len()
     }
 
-    /// The message at a place among those in flight, from 0; none past the last.
-    pub fn message(&self, place: usize) -> Option<&Message>
-        ensures some { IfSome result (λ m. slice_get self.now.mail place ≡ Some m.now) }
+    /// For whom the message at a place among those in flight is, from 0, and its frame; none past
+    /// the last.
+    pub fn mail(&self, place: usize) -> Option<(Address, &[u8])>
+        ensures some { IfSome result (λ letter. (m : Message)
+            × (slice_get self.now.mail place ≡ Some m) × IsLetterOf m letter.0 letter.1.now) }
         ensures none { IfNone result (length self.now.mail ≤ place) }
     {
-        if place < self.mail.len() {
-            Some(self.mail.get(place))
-        } else {
-            None
+        if place >= self.mail.len() {
+            return None;
         }
+        let letter = self.mail.get(place);
+        Some((letter.to(), letter.frame()))
+    }
+
+    /// That message; none past the last.
+    pub fn message(&self, place: usize) -> Option<Message>
+        ensures { result ≡ slice_get self.now.mail place }
+    {
+        if place >= self.mail.len() {
+            return None;
+        }
+        Some(self.mail.get(place).message())
     }
 
     pub fn bank(&self) -> &B
@@ -145,45 +160,53 @@ impl<'p, B: bip_bank::Bank> Machine<'p, B> {
     }
 
     /// Hands an offer on to a class.
-    fn hear<W: Witness>(&mut self, class: ClassId, offer: Offer, witness: &mut W) -> Outcome
+    fn hear<W: Witness>(
+        &mut self,
+        class: ClassId,
+        offer: &OfferFrame<'_>,
+        witness: &mut W,
+    ) -> Outcome
         ensures { IsTakenIn (λ what. W.saw what witness.new) (world_of self.old)
-            (OfferTo class offer) result (world_of self.new) }
+            (OfferTo class (offer_shown offer.now)) result (world_of self.new) }
     {
         if class.0 as usize >= self.classes.len() {
             witness.see(What::Nothing);
             return Outcome::of(Kind::Idle);
         }
-        let receipt = self.classes[class.0 as usize].on_offer(offer);
+        let receipt = self.classes[class.0 as usize].on_offer_frame(offer);
         witness.see(What::Hears(receipt));
         Outcome::of(Kind::Done)
     }
 
     /// Hands a reply on to the class that it names.
-    fn learn<W: Witness>(&mut self, reply: &Reply, witness: &mut W) -> Outcome
+    fn learn<W: Witness>(&mut self, reply: &ReplyFrame<'_>, witness: &mut W) -> Outcome
         ensures { IsTakenIn (λ what. W.saw what witness.new) (world_of self.old)
-            (ReplyToClass reply.now) result (world_of self.new) }
+            (ReplyToClass (reply_shown reply.now)) result (world_of self.new) }
     {
-        let class = class_named(reply);
+        self.plan.recall();
+        let class = reply.class();
         if class.0 as usize >= self.classes.len() {
             witness.see(What::Nothing);
             return Outcome::of(Kind::Idle);
         }
-        let did = self.classes[class.0 as usize].on_reply(reply);
+        let did = self.classes[class.0 as usize].on_reply_frame(reply);
         let outcome = send_told(self.plan, &mut self.mail, &did);
         witness.see(What::Learns(did));
         outcome
     }
 
     /// Hands a notification on to its component.
-    fn move_by<W: Witness>(&mut self, notify: &Notify, witness: &mut W) -> Outcome
+    fn move_by<W: Witness>(&mut self, notify: &NotifyFrame<'_>, witness: &mut W) -> Outcome
         ensures { IsTakenIn (λ what. W.saw what witness.new) (world_of self.old)
-            (NotifyComponent notify.now) result (world_of self.new) }
+            (NotifyComponent (notify_shown notify.now)) result (world_of self.new) }
     {
-        if notify.comp.0 as usize >= self.components.len() {
+        self.plan.recall();
+        let comp = notify.comp();
+        if comp.0 as usize >= self.components.len() {
             witness.see(What::Nothing);
             return Outcome::of(Kind::Idle);
         }
-        let did = self.components[notify.comp.0 as usize].on_notify(notify);
+        let did = self.components[comp.0 as usize].on_notify_frame(notify);
         let outcome = send_moved(self.plan, &mut self.mail, &did);
         witness.see(What::Moves(did));
         outcome
@@ -232,6 +255,7 @@ impl<'p, B: bip_bank::Bank> Machine<'p, B> {
         ensures skipped { IfErr result (λ e. CanBeSkipped (world_of self.old) (Try class inter)) }
         ensures err { OnErr result (self.new ≡ self.old) }
     {
+        self.plan.recall();
         make_room(self.plan, &mut self.own, self.bank.grants(), inter)?;
         let did = self.classes[class.0 as usize].ask(inter);
         join_tried(&mut self.own, self.bank.grants(), &did);
@@ -271,13 +295,27 @@ impl<'p, B: bip_bank::Bank> Machine<'p, B> {
             return Ok(Outcome::of(Kind::Idle));
         }
         self.submit_at(place)?;
-        let outcome = match self.take_out(place) {
-            Message::OfferTo(class, offer) => self.hear(class, offer, witness),
-            Message::RequestToBank(posted) => let_go(posted, witness),
-            Message::ReplyToClass(reply) => self.learn(&reply, witness),
-            Message::NotifyComponent(notify) => self.move_by(&notify, witness),
-        };
-        Ok(outcome)
+        let letter = self.take_out(place);
+        match letter.to() {
+            Address::Layer => Ok(let_go(witness)),
+            _ => Ok(self.hand_on(&letter, witness)),
+        }
+    }
+
+    /// Hands a message that isn't for the bank on to its node, which reads it where it lies.
+    fn hand_on<W: Witness>(&mut self, letter: &Letter, witness: &mut W) -> Outcome
+        requires accepted { CanBeHandedOn self.old.plan letter.now }
+        requires other { (q : Request) → ¬ (letter.now ≡ RequestToBank q) }
+        ensures { IsTakenIn (λ what. W.saw what witness.new) (world_of self.old) letter.now result
+            (world_of self.new) }
+    {
+        match accept(self.plan, letter.to(), letter.frame()) {
+            Ok(Frame::Offer(offer)) => self.hear(letter.class(), &offer, witness),
+            Ok(Frame::Reply(reply)) => self.learn(&reply, witness),
+            Ok(Frame::Notify(notify)) => self.move_by(&notify, witness),
+            Ok(Frame::Reserve(_)) => unreachable!(),
+            Err(_) => unreachable!(),
+        }
     }
 
     /// Hands the message at a place on to the bank, if it is a request. It isn't taken out yet.
@@ -286,35 +324,42 @@ impl<'p, B: bip_bank::Bank> Machine<'p, B> {
         ensures ok { OnOk result ((m : Message) → slice_get self.old.mail place ≡ Some m
             → world_of self.new ≡ submitted m (world_of self.old)) }
         ensures mail { self.new.mail ≡ self.old.mail }
+        ensures plan { self.new.plan ≡ self.old.plan }
         ensures skipped { IfErr result (λ e. CanBeSkipped (world_of self.old) (Mail place)) }
         ensures err { OnErr result (world_of self.new ≡ world_of self.old) }
     {
-        let Some(posted) = self.request_at(place) else {
+        let Some(request) = self.request_at(place) else {
             return Ok(());
         };
-        let request = posted.copy();
         self.submit(request)
     }
 
     /// The request that is the message at a place; none where it is another message.
-    fn request_at(&self, place: usize) -> Option<&Request>
+    fn request_at(&self, place: usize) -> Option<Request>
         requires { place < length self.now.mail }
-        ensures some { IfSome result (λ q.
-            slice_get self.now.mail place ≡ Some (RequestToBank q.now)) }
+        ensures some { IfSome result (λ q. slice_get self.now.mail place ≡ Some (RequestToBank q)) }
+        ensures fits { IfSome result (IsNumberedRequest self.now.plan) }
         ensures none { IfNone result
             ((q : Request) → ¬ (slice_get self.now.mail place ≡ Some (RequestToBank q))) }
-        ensures kept { IsKeptWorld self.now }
     {
-        match self.mail.get(place) {
-            Message::RequestToBank(posted) => Some(posted.request()),
+        let letter = self.mail.get(place);
+        match letter.to() {
+            Address::Layer => match accept(self.plan, Address::Layer, letter.frame()) {
+                Ok(Frame::Reserve(request)) => Some(request.value()),
+                Ok(Frame::Offer(_)) => unreachable!(),
+                Ok(Frame::Reply(_)) => unreachable!(),
+                Ok(Frame::Notify(_)) => unreachable!(),
+                Err(_) => unreachable!(),
+            },
             _ => None,
         }
     }
 
     /// Takes the message at a place out.
-    fn take_out(&mut self, place: usize) -> Message
+    fn take_out(&mut self, place: usize) -> Letter
         requires { place < length self.old.mail }
         ensures message { slice_get self.old.mail place ≡ Some result }
+        ensures accepted { CanBeHandedOn self.old.plan result }
         ensures taken { TakesOut place result self.old.mail self.new.mail }
         ensures others { self.new ≡ record self.old { mail = self.new.mail } }
     {
@@ -323,7 +368,7 @@ impl<'p, B: bip_bank::Bank> Machine<'p, B> {
 
     /// Hands a request on to the bank.
     fn submit(&mut self, request: Request) -> Result<(), AllocError>
-        requires { IsFit self.old.plan request }
+        requires { IsNumberedRequest self.old.plan request }
         ensures ok { OnOk result (world_of self.new
             ≡ record (world_of self.old) { bank = with_request request (world_of self.old).bank }) }
         ensures err { OnErr result (world_of self.new ≡ world_of self.old) }
@@ -352,23 +397,13 @@ impl<'p, B: bip_bank::Bank> Machine<'p, B> {
     }
 }
 
-/// Lets a request go that the bank has.
-fn let_go<W: Witness>(_posted: Posted, witness: &mut W) -> Outcome
+/// A request has been handed on to the bank.
+fn let_go<W: Witness>(witness: &mut W) -> Outcome
     ensures outcome { result ≡ record { kind = Done; lost = 0 } }
     ensures seen { W.saw Submits witness.new }
 {
     witness.see(What::Submits);
     Outcome::of(Kind::Done)
-}
-
-/// The class that a reply names.
-fn class_named(reply: &Reply) -> ClassId
-    ensures { result.0 ≡ class_named reply.now }
-{
-    match *reply {
-        Reply::Granted { class, .. } => class,
-        Reply::Refused { class, .. } => class,
-    }
 }
 
 /// Does nothing: it reminds the prover that a bank without grants has used up nothing.

@@ -4,7 +4,7 @@ ghost use Rattle.std.specs.Prelude.{slice_get};
 ghost use Rattle.std.specs.List.{remove};
 ghost use Rattle.bip_core.specs.Mailbags.{IsPlaceIn, in_chunks, in_groups, of_chunk, of_group};
 
-use crate::messages::Message;
+use crate::letters::Letter;
 use std::alloc::{AllocError, AllocFailed, Global};
 use std::marker::Model;
 
@@ -25,7 +25,7 @@ struct Spot {
 #[derive(Drop)]
 struct Group {
     count: usize,
-    chunks: Vec<Vec<Message>>,
+    chunks: Vec<Vec<Letter>>,
 }
 
 impl Model for Group {
@@ -84,7 +84,7 @@ impl Mailbag {
     }
 
     /// The message at a place.
-    pub fn get(&self, place: usize) -> &Message
+    pub fn get(&self, place: usize) -> &Letter
         requires { place < length self.now }
         ensures { slice_get self.now place ≡ Some result.now }
     {
@@ -93,7 +93,7 @@ impl Mailbag {
     }
 
     /// Puts a message last. Without memory nothing changes, and the message comes back.
-    pub fn push(&mut self, message: Message) -> Result<(), AllocFailed<Message>>
+    pub fn push(&mut self, message: Letter) -> Result<(), AllocFailed<Letter>>
         ensures ok { OnOk result (self.new ≡ self.old ++ message ∷ []) }
         ensures err { OnErr result (self.new ≡ self.old) }
         ensures back { IfErr result (λ refused. refused.value ≡ message) }
@@ -111,7 +111,7 @@ impl Mailbag {
     }
 
     /// Takes the message at a place out. The others keep their order.
-    pub fn remove(&mut self, place: usize) -> Message
+    pub fn remove(&mut self, place: usize) -> Letter
         requires { place < length self.old }
         ensures message { slice_get self.old place ≡ Some result }
         ensures others { self.new ≡ remove self.old place }
@@ -140,7 +140,7 @@ impl Group {
         self.count
     }
 
-    fn get(&self, place: usize) -> &Message
+    fn get(&self, place: usize) -> &Letter
         requires { place < length self.now }
         ensures { slice_get self.now place ≡ Some result.now }
     {
@@ -148,7 +148,7 @@ impl Group {
         &self.chunks[place.piece][place.within]
     }
 
-    fn push(&mut self, message: Message) -> Result<(), AllocFailed<Message>>
+    fn push(&mut self, message: Letter) -> Result<(), AllocFailed<Letter>>
         requires { length self.old < usize.MAX }
         ensures ok { OnOk result (self.new ≡ self.old ++ message ∷ []) }
         ensures err { OnErr result (self.new ≡ self.old) }
@@ -163,7 +163,7 @@ impl Group {
         Ok(())
     }
 
-    fn remove(&mut self, place: usize) -> Message
+    fn remove(&mut self, place: usize) -> Letter
         requires { place < length self.old }
         ensures message { slice_get self.old place ≡ Some result }
         ensures others { self.new ≡ remove self.old place }
@@ -178,7 +178,7 @@ impl Group {
 }
 
 /// The place of the message that has so many before it.
-fn place_in_chunks(chunks: &[Vec<Message>], before: usize) -> Spot
+fn place_in_chunks(chunks: &[Vec<Letter>], before: usize) -> Spot
     requires { before < length (in_chunks chunks.now) }
     ensures { IsPlaceIn of_chunk chunks.now before result.piece result.within }
 {
@@ -208,7 +208,7 @@ fn place_in_groups(groups: &[Group], before: usize) -> Spot
 }
 
 /// Sees to it that there is a last chunk, and that it isn't full. It grows as a vector does.
-fn ready_last_chunk(chunks: &mut Vec<Vec<Message>>) -> Result<(), AllocError>
+fn ready_last_chunk(chunks: &mut Vec<Vec<Letter>>) -> Result<(), AllocError>
     ensures same { in_chunks chunks.new.items ≡ in_chunks chunks.old.items }
     ensures some { OnOk result (0 < length chunks.new.items) }
 {
@@ -239,7 +239,7 @@ fn ready_last_group(groups: &mut Vec<Group>) -> Result<(), AllocError>
 
 /// Moves the messages of a chunk into the one before it, where there is room for all of them, so
 /// that two neighbours have more than fits in one.
-fn join_with_previous(chunks: &mut Vec<Vec<Message>>, piece: usize)
+fn join_with_previous(chunks: &mut Vec<Vec<Letter>>, piece: usize)
     ensures { in_chunks chunks.new.items ≡ in_chunks chunks.old.items }
 {
     if piece == 0 || piece >= chunks.len() {

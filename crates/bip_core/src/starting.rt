@@ -1,6 +1,7 @@
 //! How a world begins.
-ghost use Rattle.std.specs.Prelude.{◌≡◌, ◌<◌, IfOk, length, slice_get};
+ghost use Rattle.std.specs.Prelude.{◌≡◌, ◌<◌, All, IfOk, length, slice_get};
 ghost use Rattle.bip_model.specs.Numbering.{last_number};
+ghost use Rattle.bip_core.specs.Letters.{CanBeHandedOn};
 ghost use Rattle.bip_core.specs.Starting.{AreFirstClasses, AreFirstComponents, AreOffersBelow};
 
 use crate::mailbags::Mailbag;
@@ -51,11 +52,14 @@ pub(crate) fn first_offers(
     components: &[SrComponent<'_>],
 ) -> Result<Mailbag, AllocError>
     requires { AreFirstComponents plan.now base components.now }
-    ensures { IfOk result (λ mail. AreOffersBelow (length plan.now.model.components) plan.now
-        (λ c. slice_get components.now c) mail) }
+    ensures offers { IfOk result (λ mail. AreOffersBelow (length plan.now.model.components)
+        plan.now (λ c. slice_get components.now c) mail) }
+    ensures accepted { IfOk result (All (CanBeHandedOn plan.now)) }
 {
     let mut mail = Mailbag::new(alloc);
+    plan.recall();
     for component in components {
+        component.recall();
         let Some(offer) = component.offer() else {
             unreachable!();
         };

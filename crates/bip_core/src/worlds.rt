@@ -7,12 +7,13 @@ ghost use Rattle.bip_replay.specs.Runs.{IsModelRun};
 ghost use Rattle.bip_bank.specs.Banks.{content_of};
 ghost use Rattle.bip_core.specs.Agreement.{Agrees};
 ghost use Rattle.bip_core.specs.Events.{CanBeSkipped, IsCounted, IsStep};
+ghost use Rattle.bip_core.specs.Letters.{IsLetterOf};
 ghost use Rattle.bip_core.specs.Starting.{IsNewWorld, IsUnasked};
 ghost use Rattle.bip_core.specs.Worlds.{IsKnownGrant, world_of};
 
 use crate::machines::Machine;
 use crate::outcomes::{NoOne, Outcome};
-use crate::{Did, Event, Message, What};
+use crate::{Address, Did, Event, Message, What};
 use bip_model::{Grant, Number};
 use bip_partition::Plan;
 use std::alloc::{AllocError, Global};
@@ -137,11 +138,19 @@ impl<'p, B: bip_bank::Bank> World<'p, B> {
         self.machine.mails()
     }
 
-    /// The message at a place among those in flight, in order of sending from 0; none where there
-    /// are no more than so many.
-    pub fn message(&self, place: usize) -> Option<&Message>
-        ensures some { IfSome result (λ m. slice_get self.now.mail place ≡ Some m.now) }
+    /// For whom the message at a place among those in flight is, in order of sending from 0, and
+    /// its frame, lent; none where there are no more than so many.
+    pub fn mail(&self, place: usize) -> Option<(Address, &[u8])>
+        ensures some { IfSome result (λ letter. (m : Message)
+            × (slice_get self.now.mail place ≡ Some m) × IsLetterOf m letter.0 letter.1.now) }
         ensures none { IfNone result (length self.now.mail ≤ place) }
+    {
+        self.machine.mail(place)
+    }
+
+    /// That message, read off its frame.
+    pub fn message(&self, place: usize) -> Option<Message>
+        ensures { result ≡ slice_get self.now.mail place }
     {
         self.machine.message(place)
     }

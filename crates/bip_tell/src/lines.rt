@@ -2,7 +2,6 @@
 ghost use Rattle.std.specs.Prelude.{◌≡◌, ◌<◌, ◌++◌, ◌+◌, [], ◌∷◌, List, Option, OnOk, IfErr, IfOk};
 ghost use Rattle.std.specs.Prelude.{codes, drop, length, map, ℕ};
 ghost use Rattle.std.specs.Fmt.{decimal};
-ghost use Rattle.std.specs.Option.{option_map};
 ghost use Rattle.bip_model.specs.Numbering.{last_number};
 ghost use Rattle.bip_partition.specs.Plans.{AreStations};
 ghost use Rattle.bip_core.specs.Runs.{AddsUp, report_with};
@@ -74,8 +73,8 @@ fn begin_line<'p, B: Bank>(
 {
     let handed = handed_on(world, event);
     write_head(text, plan, plan.stations(), event, number)?;
-    write_handed(text, plan, handed)?;
-    Ok(count_left(handed, world.mails()))
+    write_handed(text, plan, &handed)?;
+    Ok(count_left(&handed, world.mails()))
 }
 
 /// Writes the number of an event, and its words.
@@ -100,9 +99,9 @@ fn write_head(
 }
 
 /// Writes the message that an event hands on, if there is one.
-fn write_handed(text: &mut Vec<u8>, plan: &Plan, handed: Option<&Message>) -> Result<(), AllocError>
+fn write_handed(text: &mut Vec<u8>, plan: &Plan, handed: &Option<Message>) -> Result<(), AllocError>
     ensures { OnOk result (text.new.items
-        ≡ text.old.items ++ handed_text plan.now (option_map (λ m. m.now) handed.entry)) }
+        ≡ text.old.items ++ handed_text plan.now handed.now) }
 {
     match handed {
         Some(message) => write_message(text, plan, message),
@@ -111,8 +110,8 @@ fn write_handed(text: &mut Vec<u8>, plan: &Plan, handed: Option<&Message>) -> Re
 }
 
 /// The message that an event hands on, where there is one at its place.
-fn handed_on<'w, 'p, B: Bank>(world: &'w World<'p, B>, event: Event) -> Option<&'w Message>
-    ensures { option_map (λ m. m.now) result ≡ handed_on event world.now.mail }
+fn handed_on<'p, B: Bank>(world: &World<'p, B>, event: Event) -> Option<Message>
+    ensures { result ≡ handed_on event world.now.mail }
 {
     match event {
         Event::Mail(place) => world.message(place),
@@ -121,8 +120,8 @@ fn handed_on<'w, 'p, B: Bank>(world: &'w World<'p, B>, event: Event) -> Option<&
 }
 
 /// How many messages stay in flight when the one that is handed on is taken out.
-fn count_left(handed: Option<&Message>, count: usize) -> usize
-    ensures { result ≡ count_left (option_map (λ m. m.now) handed.entry) count }
+fn count_left(handed: &Option<Message>, count: usize) -> usize
+    ensures { result ≡ count_left handed.now count }
 {
     match handed {
         Some(_) => count.saturating_sub(1),
@@ -167,7 +166,7 @@ fn write_put<'p, B: Bank>(
         };
         text.push(b',')?;
         write_count(text, place as u64)?;
-        write_message(text, plan, message)?;
+        write_message(text, plan, &message)?;
     }
     Ok(())
 }

@@ -20,7 +20,7 @@ pub(crate) fn write_message(
 {
     match message {
         Message::OfferTo(class, offer) => write_offer(text, plan, *class, offer),
-        Message::RequestToBank(posted) => write_request(text, plan, posted.request()),
+        Message::RequestToBank(request) => write_request(text, plan, request),
         Message::ReplyToClass(reply) => write_reply(text, plan, reply),
         Message::NotifyComponent(notify) => write_notify(text, plan, notify),
     }

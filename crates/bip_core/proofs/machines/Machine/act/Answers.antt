@@ -6,6 +6,7 @@ use Rattle.bip_core.specs.Worlds.{world_of}
 use Rattle.bip_core.specs.declared.events.Event.TheVariants.{Bank}
 use Rattle.bip_core.specs.declared.events.What.TheVariants.{Acts}
 use Rattle.bip_core.proofs.WorldLemmas.{acted_grant, acted_on, bank_kept, counted_by, if_err, kept_by, sent_kept, serving_skipped, trace_kept, traced_kept}
+use Rattle.bip_core.proofs.FitLemmas.{acted_fits}
 use Rattle.bip_core.proofs.TraceLemmas.{acted_trace, longer_own}
 use Rattle.bip_core.proofs.machines.Machine.act.Goals as goal
 
@@ -24,7 +25,7 @@ invariant_of-self-2 g c =
     let granted = acted_grant w.plan did (content_of w.bank) (content_of b) c.recall.ensures.planned.valid acted c.self.invariant.waiting in
     let kept = trace_kept (record w { bank = b }) (grant_acted did) granted (bank_kept w b did acted c.self.invariant) in
     let joined = acted_trace c.self.inside.own.items c.make_room_to_serve.new.own.items c.join_acted.new.own.items (length c.grants-granted.result.now) did (content_of w.bank) (content_of b) (ap length c.grants-granted.ensures.grants) c.make_room_to_serve.ensures.same c.join_acted.ensures acted in
-    rw joined (sent_kept (record w { bank = b; trace = trace_with w.trace (grant_acted did) }) (Acts did) c.send_acted-outcome.result c.send_acted-outcome.new.mail tt c.send_acted-outcome.ensures kept)
+    rw joined (sent_kept (record w { bank = b; trace = trace_with w.trace (grant_acted did) }) (Acts did) c.send_acted-outcome.result c.send_acted-outcome.new.mail c.recall.ensures.planned (acted_fits w.plan did (content_of w.bank) (content_of b) c.recall.ensures.planned acted c.self.invariant.waiting) c.send_acted-outcome.ensures kept)
 
 pub returns-clause-counted : goal.returns-clause-counted
 returns-clause-counted g c =
@@ -40,3 +41,8 @@ returns-in_err-make_room_to_serve-clause-skipped g c =
     let granted : length w.bank.grants < length c.self.inside.own.items = rw (← c.grants-granted.ensures.grants) c.in_err-make_room_to_serve.ensures.longer in
     let more = longer_own c.self.inside.own.items w.bank.grants granted in
     rw (← c.self.view_is) (if_err (CanBeSkipped (world_of w) (Bank c.args.step)) c.from_residual.result (serving_skipped (world_of w) c.args.step c.in_err-make_room_to_serve.ensures.serves more))
+
+pub send_acted-outcome-requires : goal.send_acted-outcome-requires
+send_acted-outcome-requires g c =
+    let w = kept_by c.self.inside.plan.now c.self.inside.components.items c.self.inside.classes.items c.self.inside.mail c.self.inside.own.items (g.B.Bank.kept c.self.inside.bank) in
+    acted_fits w.plan c.in_ok-did.did (content_of w.bank) (content_of (g.B.Bank.kept c.act.new.self)) c.recall.ensures.planned c.in_ok-did.ensures.acted c.self.invariant.waiting

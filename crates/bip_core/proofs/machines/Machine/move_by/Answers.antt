@@ -1,38 +1,57 @@
-use Rattle.std.proofs.Common.{◌<◌, ◌≤◌, length, refl, rules, set}
-use Rattle.bip_core.specs.Events.{SendsWhatFits}
+use Rattle.std.proofs.Common.{◌≡◌, ◌<◌, ◌≤◌, ◌∙◌, ap, length, refl, rules, set}
+use Rattle.bip_model.specs.declared.numbering.CompId.{CompId}
+use Rattle.bip_frame.specs.Views.{notify_shown}
 use Rattle.bip_core.specs.Worlds.{world_of}
 use Rattle.bip_core.specs.declared.events.What.TheVariants.{Moves}
-use Rattle.bip_core.proofs.WorldLemmas.{component_kept, component_put, idle_taken, kept_by, no_component, notified_same, read_here, sent_kept}
+use Rattle.bip_core.proofs.FitLemmas.{moved_fits}
+use Rattle.bip_core.proofs.WorldLemmas.{component_kept, idle_taken, kept_by, moved_on, no_component, notified_same, read_here, sent_kept}
 use Rattle.bip_core.proofs.machines.Machine.move_by.Goals as goal
 
-pub returns-then-notify-len : goal.returns-then-notify-len
-returns-then-notify-len g c =
+pub returns-then-comp-len : goal.returns-then-comp-len
+returns-then-comp-len g c =
     let w = kept_by c.self.inside.plan.now c.self.inside.components.items c.self.inside.classes.items c.self.inside.mail c.self.inside.own.items (g.B.Bank.kept c.self.inside.bank) in
-    let past : length w.components ≤ c.args.notify.now.comp.0 = search rules in
-    rw (← c.self.view_is) (idle_taken _ (world_of w) _ _ c.see.ensures (no_component w c.args.notify.now.comp.0 past, refl) c.of.ensures)
+    let past : length w.components ≤ c.comp-comp.result.0 = search rules in
+    rw (← c.self.view_is) (idle_taken _ (world_of w) _ _ c.see.ensures (rw (← c.comp-comp.ensures) (no_component w c.comp-comp.result.0 past), refl) c.of.ensures)
+
+pub send_moved-outcome-requires : goal.send_moved-outcome-requires
+send_moved-outcome-requires g c =
+    let w = kept_by c.self.inside.plan.now c.self.inside.components.items c.self.inside.classes.items c.self.inside.mail c.self.inside.own.items (g.B.Bank.kept c.self.inside.bank) in
+    let old = c.index_mut.result.now in
+    let n = notify_shown c.args.notify.now in
+    let later = c.on_notify_frame-did.new.self in
+    let within : c.comp-comp.result.0 < length w.components = search rules in
+    let is = read_here w.components c.comp-comp.result.0 old within c.index_mut.ensures.value in
+    let same = notified_same old later n c.on_notify_frame-did.result c.on_notify_frame-did.ensures.after in
+    moved_fits w.plan old later n c.on_notify_frame-did.result c.recall.ensures.valid (same.0 ∙ (c.self.invariant.components c.comp-comp.result.0 old is).0) c.on_notify_frame-did.ensures.node c.on_notify_frame-did.ensures.answer c.on_notify_frame-did.ensures.after
 
 pub invariant_of-self : goal.invariant_of-self
 invariant_of-self g c =
     let w = kept_by c.self.inside.plan.now c.self.inside.components.items c.self.inside.classes.items c.self.inside.mail c.self.inside.own.items (g.B.Bank.kept c.self.inside.bank) in
     let old = c.index_mut.result.now in
-    let within : c.args.notify.now.comp.0 < length w.components = search rules in
-    let is = read_here w.components c.args.notify.now.comp.0 old within c.index_mut.ensures.value in
-    let same = notified_same old c.on_notify-did.new.self c.args.notify.now c.on_notify-did.result c.on_notify-did.ensures.after in
-    let kept = component_kept w c.args.notify.now.comp.0 c.on_notify-did.new.self old within is same.0 same.1 c.self.invariant in
-    let fits : SendsWhatFits w.plan (Moves c.on_notify-did.result) = search rules in
-    sent_kept (record w { components = set w.components c.args.notify.now.comp.0 c.on_notify-did.new.self }) (Moves c.on_notify-did.result) c.send_moved-outcome.result c.send_moved-outcome.new.mail fits c.send_moved-outcome.ensures kept
+    let n = notify_shown c.args.notify.now in
+    let did = c.on_notify_frame-did.result in
+    let later = c.on_notify_frame-did.new.self in
+    let within : c.comp-comp.result.0 < length w.components = search rules in
+    let is = read_here w.components c.comp-comp.result.0 old within c.index_mut.ensures.value in
+    let same = notified_same old later n did c.on_notify_frame-did.ensures.after in
+    let kept = component_kept w c.comp-comp.result.0 later old within is same.0 same.1 c.self.invariant in
+    let fits = moved_fits w.plan old later n did c.recall.ensures.valid (same.0 ∙ (c.self.invariant.components c.comp-comp.result.0 old is).0) c.on_notify_frame-did.ensures.node c.on_notify_frame-did.ensures.answer c.on_notify_frame-did.ensures.after in
+    sent_kept (record w { components = set w.components c.comp-comp.result.0 later }) (Moves did) c.send_moved-outcome.result c.send_moved-outcome.new.mail c.recall.ensures.planned fits c.send_moved-outcome.ensures kept
 
 pub returns : goal.returns
 returns g c =
     let w = kept_by c.self.inside.plan.now c.self.inside.components.items c.self.inside.classes.items c.self.inside.mail c.self.inside.own.items (g.B.Bank.kept c.self.inside.bank) in
     let old = c.index_mut.result.now in
-    let within : c.args.notify.now.comp.0 < length w.components = search rules in
-    let is = read_here w.components c.args.notify.now.comp.0 old within c.index_mut.ensures.value in
+    let n = notify_shown c.args.notify.now in
+    let later = c.on_notify_frame-did.new.self in
+    let within : c.comp-comp.result.0 < length w.components = search rules in
+    let is = read_here w.components c.comp-comp.result.0 old within c.index_mut.ensures.value in
+    let named : c.comp-comp.result.0 ≡ n.comp.0 = ap (λ (k : CompId). k.0) c.comp-comp.ensures in
     rw (← c.self.view_is) (record {
-      what = Moves c.on_notify-did.result;
+      what = Moves c.on_notify_frame-did.result;
       seen = c.see-2.ensures;
-      middle = world_of (record w { components = set w.components c.args.notify.now.comp.0 c.on_notify-did.new.self });
-      on = (old, c.on_notify-did.new.self, is, c.on_notify-did.ensures.answer, c.on_notify-did.ensures.after, component_put w c.args.notify.now.comp.0 c.on_notify-did.new.self within);
+      middle = world_of (record w { components = set w.components c.comp-comp.result.0 later });
+      on = moved_on w c.comp-comp.result.0 n c.on_notify_frame-did.result old later named is within c.on_notify_frame-did.ensures.answer c.on_notify_frame-did.ensures.after;
       sending = c.send_moved-outcome.ensures;
       others = refl;
     })
