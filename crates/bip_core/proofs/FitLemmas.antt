@@ -1,12 +1,12 @@
 -- What nodes and banks send fits, by their contracts: offers that a component can make, what can be
 -- told, requests and replies.
-use Rattle.std.proofs.Common.{◌≡◌, ◌∙◌, ℕ, ◌≤◌, ◌<◌, ◌^◌, Bool, true, false, cond, eqb, eqb-true, List, [], ◌∷◌, None, Option, Some, ap, get_or, inl, inr, length, map, refl, slice_get, subst, sym, arith, ltb}
+use Rattle.std.proofs.Common.{◌≡◌, ◌∙◌, ℕ, ◌≤◌, ◌<◌, Bool, true, false, cond, eqb, eqb-true, List, [], ◌∷◌, None, Option, Some, ap, get_or, inl, inr, length, refl, slice_get, subst, sym, arith}
 use Rattle.std.specs.Prelude.{All, IsSomeAnd, IsTrue, unwrap_or, nat_lt}
 use Rattle.std.specs.Int.{bit_at}
 use Rattle.std.specs.Option.{option_map_or}
 use Rattle.std.proofs.lemmas.Bool.{and_parts, false≢true, ltb-true}
 use Rattle.std.proofs.lemmas.Bool.Decides.{eqb_tells}
-use Rattle.std.proofs.lemmas.List.{get_or_default, get_or-map, length-map}
+use Rattle.std.proofs.lemmas.List.{get_or_default, get_or-map}
 use Rattle.std.proofs.lemmas.List.Elements.{All-contains, All-head}
 use Rattle.std.proofs.lemmas.Option.{none-some, slice_get_cases}
 use Rattle.bip_model.specs.Components.{AreOffered, leaves, offers_at, transition_for}
@@ -39,11 +39,11 @@ use Rattle.bip_component.specs.Components.{IsNode, IsNodeAfter, IsNotified, IsOf
 use Rattle.bip_observe.proofs.DecideLemmas.{counts_held}
 use Rattle.bip_observe.proofs.ShowLemmas.{moves_each}
 use Rattle.bip_observe.specs.Offers.{AreOwn, IsReceipt, Observed}
-use Rattle.bip_observe.specs.Verdicts.{AllCount, is_counted, no_offer, offers_of}
+use Rattle.bip_observe.specs.Verdicts.{is_counted, no_offer, offers_of}
 use Rattle.bip_observe.specs.declared.offers.Receipt.{Receipt}
 use Rattle.bip_observe.specs.declared.offers.Receipt.TheVariants.{Held, Old, Stranger}
-use Rattle.bip_ip.specs.Asking.{notify_of, told_by, values_offered}
-use Rattle.bip_ip.specs.Nodes.{CanBeAsked, ClassNode, IsAnswered, IsLeftByReply, IsTried, after_offer, after_try, first_node, inter_in, told_of}
+use Rattle.bip_ip.specs.Asking.{notify_of, values_offered}
+use Rattle.bip_ip.specs.Nodes.{CanBeAsked, ClassNode, IsAnswered, IsLeftByReply, IsTried, after_offer, after_try, first_node, told_of}
 use Rattle.bip_ip.specs.declared.nodes.Answered.{Answered}
 use Rattle.bip_ip.specs.declared.nodes.Answered.TheVariants as answered
 use Rattle.bip_ip.specs.declared.nodes.OpenRecord.{OpenRecord}
@@ -59,9 +59,8 @@ use Rattle.bip_bank.specs.declared.banks.Acted.{Acted}
 use Rattle.bip_bank.specs.declared.banks.Acted.TheVariants as acted
 use Rattle.bip_component.specs.declared.components.Notified.{Notified}
 use Rattle.bip_component.specs.declared.components.Notified.TheVariants as notified
-use Rattle.bip_core.specs.Accepting.{IsNotifyOf}
 use Rattle.bip_core.specs.Events.{SendsWhatFits}
-use Rattle.bip_core.specs.Letters.{CanBeOffered, CanBeReplied, CanBeSubmitted, CanBeTold, IsNumberedRequest}
+use Rattle.bip_core.specs.Letters.{CanBeOffered, CanBeReplied, CanBeTold, IsNumberedRequest}
 use Rattle.bip_core.specs.Starting.{AreFirstComponents}
 use Rattle.bip_core.specs.Worlds.{KeepsWhatFits}
 use Rattle.bip_core.specs.declared.events.What.TheVariants.{Acts, Learns, Moves, Tries}

@@ -1,11 +1,10 @@
 -- Letters and the messages that they are; what is sent is accepted by those for whom it is.
-use Rattle.std.proofs.Common.{◌≡◌, ◌∙◌, ℕ, ◌≤◌, ◌<◌, List, [], ◌∷◌, None, Option, Some, ap, get_or, inl, inr, length, map, refl, slice_get, subst, sym, arith}
-use Rattle.std.specs.Prelude.{All, Contains, Err, IsSomeAnd, Ok, Result}
+use Rattle.std.proofs.Common.{◌≡◌, ℕ, ◌≤◌, ◌<◌, List, [], ap, get_or, inl, inr, length, map, refl, slice_get, subst, sym}
+use Rattle.std.specs.Prelude.{All, Contains, IsSomeAnd}
 use Rattle.std.proofs.lemmas.List.{get_or_default}
-use Rattle.std.proofs.lemmas.List.Elements.{All-append, All-cons, All-map, All-nil}
-use Rattle.std.proofs.lemmas.Option.{slice_get_cases, slice_get_within}
+use Rattle.std.proofs.lemmas.List.Elements.{All-cons, All-map, All-nil}
+use Rattle.std.proofs.lemmas.Option.{slice_get_cases}
 use Rattle.bip_model.specs.Messages.{IsOfferOf}
-use Rattle.bip_model.specs.Parts.{IsSystem}
 use Rattle.bip_model.specs.declared.messages.Notify.{Notify}
 use Rattle.bip_model.specs.declared.messages.Offer.{Offer}
 use Rattle.bip_model.specs.declared.messages.Reply.{Reply}
@@ -26,12 +25,12 @@ use Rattle.bip_bank.specs.declared.banks.Acted.TheVariants as acted
 use Rattle.bip_bank.specs.Decisions.{reply_to}
 use Rattle.bip_frame.specs.Frames.{IsFrame, of_notify, of_offer, of_reply, of_request}
 use Rattle.bip_frame.specs.Views.{reply_class}
-use Rattle.bip_frame.proofs.ReadingLemmas.{one_message, whole_again}
+use Rattle.bip_frame.proofs.ReadingLemmas.{whole_again}
 use Rattle.bip_core.specs.Events.{AreSent, SendsWhatFits, class_named, submitted}
-use Rattle.bip_core.specs.Letters.{CanBeHandedOn, CanBeOffered, CanBeReplied, CanBeSubmitted, CanBeTold, IsLetterOf, IsNumberedRequest, address_of, as_spelled, message_at, message_in}
+use Rattle.bip_core.specs.Letters.{CanBeHandedOn, CanBeOffered, CanBeSubmitted, CanBeTold, IsLetterOf, IsNumberedRequest, address_of, as_spelled, message_at, message_in}
 use Rattle.bip_core.specs.Worlds.{AreOffersOf, WorldContent}
 use Rattle.bip_core.specs.declared.accepting.Address.{Address}
-use Rattle.bip_core.specs.declared.accepting.Address.TheVariants.{Class, Comp, Layer}
+use Rattle.bip_core.specs.declared.accepting.Address.TheVariants.{Layer}
 use Rattle.bip_core.specs.declared.events.What.{What}
 use Rattle.bip_core.specs.declared.events.What.TheVariants.{Acts, Hears, Learns, Moves, Nothing, Submits, Tries}
 use Rattle.bip_core.specs.declared.messages.Message.{Message}

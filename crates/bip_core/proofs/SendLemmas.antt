@@ -2,20 +2,13 @@
 use Rattle.std.proofs.Common.{◌≡◌, ℕ, ◌+◌, ◌<◌, ◌≤◌, List, [], ◌∷◌, ◌++◌, length, map, take, get_or, refl, sym, ap, subst, ◌∙◌, arith}
 use Rattle.std.specs.Prelude.{All}
 use Rattle.std.proofs.lemmas.List.{append_assoc, append-nil, length-append, map-append, take_more}
-use Rattle.std.proofs.lemmas.List.Elements.{All-append, All-cons, All-head, All-map, All-nil, All-tail}
+use Rattle.std.proofs.lemmas.List.Elements.{All-append, All-cons, All-head, All-tail}
 use Rattle.bip_partition.specs.Plans.{Planned}
-use Rattle.bip_component.specs.declared.components.Notified.TheVariants as notified
-use Rattle.bip_ip.specs.declared.nodes.Answered.TheVariants as answered
-use Rattle.bip_ip.specs.declared.nodes.Tried.TheVariants as tried
-use Rattle.bip_bank.specs.declared.banks.Acted.TheVariants as acted
 use Rattle.bip_partition.specs.Laws.{IsPlanned}
 use Rattle.bip_core.specs.Letters.{CanBeHandedOn}
 use Rattle.bip_core.proofs.LetterLemmas.{sent_accepted}
 use Rattle.bip_core.specs.declared.events.What.{What}
-use Rattle.bip_core.specs.declared.events.What.TheVariants.{Acts, Hears, Learns, Moves, Nothing, Submits, Tries}
-use Rattle.bip_core.specs.declared.messages.Message.TheVariants.{NotifyComponent, OfferTo, ReplyToClass, RequestToBank}
 use Rattle.bip_core.specs.Events.{AreKeptOf, ArePut, AreSent, IsSending, SendsWhatFits, all_done, kind_of, one_kept, one_lost}
-use Rattle.bip_bank.specs.Decisions.{reply_to}
 use Rattle.bip_core.specs.declared.messages.Message.{Message}
 use Rattle.bip_core.specs.declared.outcomes.Outcome.{Outcome}
 

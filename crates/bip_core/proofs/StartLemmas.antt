@@ -1,9 +1,7 @@
 -- The nodes of a new world, and what they offer first.
 use Rattle.std.proofs.Common.{◌≡◌, ◌⊎◌, ◌∙◌, ℕ, zero, suc, ◌+◌, ◌≤◌, List, [], ◌∷◌, ◌++◌, Option, Some, inl, inr, length, slice_get, refl, ap, arith}
-use Rattle.std.specs.Prelude.{All}
 use Rattle.std.specs.Option.{option_map}
 use Rattle.std.proofs.lemmas.List.{length-append}
-use Rattle.std.proofs.lemmas.List.Elements.{All-append, All-map, All-nil}
 use Rattle.std.proofs.lemmas.Option.{slice_get_cases}
 use Rattle.bip_partition.specs.Plans.{Planned}
 use Rattle.bip_component.specs.Components.{IsOffered, Node}
@@ -14,7 +12,6 @@ use Rattle.bip_core.specs.Worlds.{AreOffersOf}
 use Rattle.bip_model.specs.declared.messages.Offer.{Offer}
 use Rattle.bip_core.specs.Events.{AreKeptOf, ArePut, all_done, one_kept, one_lost}
 use Rattle.bip_core.specs.declared.messages.Message.{Message}
-use Rattle.bip_core.specs.declared.messages.Message.TheVariants.{OfferTo}
 
 -- so many things, of which each is so by its place
 pub record AreEach {X : Type 0} (P : ℕ → X → Type 0) (n : ℕ) (xs : List X) : Type 0 where

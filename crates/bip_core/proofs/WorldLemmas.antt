@@ -15,20 +15,19 @@ use Rattle.bip_model.specs.declared.messages.Offer.{Offer}
 use Rattle.bip_model.specs.declared.messages.Reply.{Reply}
 use Rattle.bip_model.specs.declared.messages.Reply.TheVariants as reply
 use Rattle.bip_model.specs.Parties.{AreParties}
-use Rattle.bip_model.proofs.ListLemmas.{All-slice_get, parted}
+use Rattle.bip_model.proofs.ListLemmas.{parted}
 use Rattle.bip_bank.specs.declared.banks.BankStep.{BankStep}
 use Rattle.bip_model.specs.Parts.{IsSystem}
 use Rattle.bip_model.specs.declared.messages.Request.{Request}
 use Rattle.bip_model.specs.declared.numbering.InterId.{InterId}
 use Rattle.bip_model.specs.declared.parts.System.{System}
 use Rattle.bip_model.proofs.PartyLemmas.{party_known}
-use Rattle.bip_partition.specs.Plans.{IsFit, IsReserved, Planned}
+use Rattle.bip_partition.specs.Plans.{IsReserved, Planned}
 use Rattle.bip_partition.proofs.TableLemmas.{reserved_known}
 use Rattle.bip_bank.specs.Decisions.{grant_of}
 use Rattle.bip_bank.specs.Decisions.Decision.TheVariants as decision
 use Rattle.bip_bank.specs.declared.banks.Acted.{Acted}
 use Rattle.bip_bank.specs.declared.banks.Acted.TheVariants as acted
-use Rattle.bip_ip.proofs.LawLemmas.{asked_fits}
 use Rattle.bip_observe.specs.declared.offers.Receipt.{Receipt}
 use Rattle.bip_observe.specs.declared.offers.Receipt.TheVariants.{Held, Old, Stranger}
 use Rattle.bip_component.specs.Components.{IsNodeAfter, IsNotified, Node}

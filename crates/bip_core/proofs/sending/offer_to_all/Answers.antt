@@ -1,8 +1,5 @@
 use Rattle.std.proofs.Common.{map}
 use Rattle.std.proofs.lemmas.List.{length-map}
-use Rattle.bip_model.specs.declared.numbering.ClassId.{ClassId}
-use Rattle.bip_core.specs.Events.{ArePut}
-use Rattle.bip_core.specs.declared.messages.Message.{Message}
 use Rattle.bip_core.specs.declared.messages.Message.TheVariants.{OfferTo}
 use Rattle.bip_core.proofs.SendLemmas.{all_missed}
 use Rattle.bip_core.proofs.sending.offer_to_all.Goals as goal

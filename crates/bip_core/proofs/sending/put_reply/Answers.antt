@@ -1,4 +1,4 @@
-use Rattle.std.proofs.Common.{[], ◌∷◌, ap, refl, subst}
+use Rattle.std.proofs.Common.{[], ◌∷◌, ap, subst}
 use Rattle.bip_core.specs.Events.{ArePut}
 use Rattle.bip_core.specs.declared.accepting.Address.TheVariants.{Class}
 use Rattle.bip_core.specs.declared.messages.Message.{Message}

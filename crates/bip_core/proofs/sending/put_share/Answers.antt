@@ -1,5 +1,4 @@
 use Rattle.std.proofs.Common.{◌≡◌, [], ◌∷◌, refl, rules, subst}
-use Rattle.bip_frame.specs.Frames.{IsFrame, of_offer}
 use Rattle.bip_core.specs.Events.{ArePut}
 use Rattle.bip_core.specs.declared.messages.Message.{Message}
 use Rattle.bip_core.specs.declared.messages.Message.TheVariants.{OfferTo}

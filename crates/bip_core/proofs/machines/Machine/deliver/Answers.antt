@@ -5,7 +5,7 @@ use Rattle.bip_core.specs.Worlds.{world_of}
 use Rattle.bip_core.specs.declared.events.Event.TheVariants.{Mail}
 use Rattle.bip_core.specs.declared.events.What.TheVariants.{Nothing, Submits}
 use Rattle.bip_core.specs.declared.messages.Message.{Message}
-use Rattle.bip_core.specs.declared.messages.Message.TheVariants.{NotifyComponent, OfferTo, ReplyToClass, RequestToBank}
+use Rattle.bip_core.specs.declared.messages.Message.TheVariants.{RequestToBank}
 use Rattle.bip_model.specs.declared.messages.Request.{Request}
 use Rattle.bip_core.proofs.LetterLemmas.{for_bank, submitted_other}
 use Rattle.bip_core.proofs.WorldLemmas.{counted_quiet, handed_in, no_mail, taken_counted}
