@@ -1,11 +1,12 @@
 ghost use Rattle.bip_bank.specs.Banks.{content_of};
 ghost use Rattle.bip_core.specs.Starting.{IsUnasked};
 
+use super::framing::{FIRST_OFFER, bytes_of};
 use super::worked::{COMPETE, COMPETE_TWICE};
 use super::{grants, over_plan};
 use crate::Second;
 use bip_bank::{Bank, BankStep, Central, StationId};
-use bip_core::{Event, Report, What, World, run_steps};
+use bip_core::{Address, Event, Report, What, World, run_steps};
 use bip_forks::Forks;
 use bip_model::{ClassId, Grant, InterId, Number};
 use bip_observe::Receipt;
@@ -121,16 +122,29 @@ fn run_delivered(rt: &impl Abort, alloc: Global, plan: &Plan, run: &Delivered) {
     lead(rt, alloc, plan, second, run.second, run.trace);
 }
 
-/// What an event of a new world did, and what is in flight before and after it.
+/// Whether the offer with this frame is in flight at a place, for a class.
+fn is_offered<'p>(world: &World<'p, Central<'p>>, place: usize, class: u16, frame: &[u8]) -> bool {
+    match world.mail(place) {
+        Some((Address::Class(to), bytes)) => to.0 == class && bytes == frame,
+        Some((_, _)) => false,
+        None => false,
+    }
+}
+
+/// What an event of a new world did, and what is in flight before and after it: the third component
+/// is offered to both classes, by the same frame.
 fn a_step(rt: &impl Abort, alloc: Global, plan: &Plan, _: ()) {
     let mut world = world(rt, alloc, plan, 0);
-    assert!(rt; world.mails() == 4 && world.message(3).is_some() && world.message(4).is_none());
+    let frame = bytes_of(rt, alloc, FIRST_OFFER);
+    assert!(rt; world.mails() == 4 && world.mail(4).is_none() && world.message(4).is_none());
+    assert!(rt; is_offered(&world, 2, 0, &frame) && is_offered(&world, 3, 1, &frame));
     let did = world.step(OLDEST).expect(rt, "memory");
     assert!(rt; matches!(&did.what, What::Hears(Receipt::Held)) && did.lost == 0);
     let did = world
         .step(Event::Try(ClassId(7), InterId(0)))
         .expect(rt, "memory");
     assert!(rt; matches!(&did.what, What::Nothing) && did.lost == 0);
+    assert!(rt; is_offered(&world, 1, 0, &frame) && is_offered(&world, 2, 1, &frame));
     assert!(rt; world.mails() == 3 && world.message(3).is_none());
 }
 
