@@ -26,11 +26,10 @@ use Rattle.bip_bank.specs.Decisions.{reply_to}
 use Rattle.bip_frame.specs.Frames.{IsFrame, of_notify, of_offer, of_reply, of_request}
 use Rattle.bip_frame.specs.Views.{reply_class}
 use Rattle.bip_frame.proofs.ReadingLemmas.{whole_again}
-use Rattle.bip_core.specs.Events.{AreSent, SendsWhatFits, class_named, submitted}
+use Rattle.bip_core.specs.Events.{AreSent, SendsWhatFits, class_named}
 use Rattle.bip_core.specs.Letters.{CanBeHandedOn, CanBeOffered, CanBeSubmitted, CanBeTold, IsLetterOf, IsNumberedRequest, address_of, as_spelled, message_at, message_in}
-use Rattle.bip_core.specs.Worlds.{AreOffersOf, WorldContent}
+use Rattle.bip_core.specs.Worlds.{AreOffersOf}
 use Rattle.bip_core.specs.declared.accepting.Address.{Address}
-use Rattle.bip_core.specs.declared.accepting.Address.TheVariants.{Layer}
 use Rattle.bip_core.specs.declared.events.What.{What}
 use Rattle.bip_core.specs.declared.events.What.TheVariants.{Acts, Hears, Learns, Moves, Nothing, Submits, Tries}
 use Rattle.bip_core.specs.declared.messages.Message.{Message}
@@ -76,13 +75,6 @@ is_notify (RequestToBank q) n is = absurd (cc)
 is_notify (ReplyToClass r) n is = absurd (cc)
 is_notify (NotifyComponent x) n is = let same : x ≡ n = cc in ap NotifyComponent same
 
--- what is for the bank is a request, and nothing else is
-pub for_bank : (m : Message) → Layer ≡ address_of m → (q : Request) × (m ≡ RequestToBank q)
-for_bank (OfferTo k o) is = absurd (cc)
-for_bank (RequestToBank q) is = (q, refl)
-for_bank (ReplyToClass r) is = absurd (cc)
-for_bank (NotifyComponent n) is = absurd (cc)
-
 -- a request that is accepted, and can be framed
 pub numbered : (p : Planned) (m : Message) (q : Request) (bytes : List ℕ) → m ≡ RequestToBank q → CanBeHandedOn p m → IsFrame (as_spelled m) bytes → IsNumberedRequest p q
 numbered p m q bytes is accepted frame =
@@ -94,13 +86,6 @@ numbered p m q bytes is accepted frame =
 pub class_is : (r : Reply) → (reply_class r).0 ≡ class_named r
 class_is (reply.Granted k q a s) = refl
 class_is (reply.Refused k q a c n) = refl
-
--- what isn't a request submits nothing
-pub submitted_other : (m : Message) (w : WorldContent) → ((q : Request) → ¬ (m ≡ RequestToBank q)) → submitted m w ≡ w
-submitted_other (OfferTo k o) w other = refl
-submitted_other (RequestToBank q) w other = absurd (other q refl)
-submitted_other (ReplyToClass r) w other = refl
-submitted_other (NotifyComponent n) w other = refl
 
 -- a component that is read is there
 some_within : (xs : List Component) (c : ℕ) (P : Component → Type 0) → IsSomeAnd (slice_get xs c) P → c < length xs

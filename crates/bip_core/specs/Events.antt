@@ -191,11 +191,6 @@ abbrev pub is_serving : BankStep → Bool
 is_serving (Serve s) = true
 is_serving step = false
 
--- a message that is handed on to the bank, if it is a request
-abbrev pub submitted : Message → WorldContent → WorldContent
-submitted (RequestToBank q) w = record w { bank = with_request q w.bank }
-submitted message w = w
-
 -- what kind of event it was, by what it did: runs count these
 abbrev pub kind_decided : Decision → Kind
 kind_decided (decision.Granted serial) = kind.Granted

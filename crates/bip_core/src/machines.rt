@@ -9,8 +9,9 @@ ghost use Rattle.bip_partition.specs.Plans.{IsFit, IsReserved};
 ghost use Rattle.bip_bank.specs.Banks.{content_of, with_request};
 ghost use Rattle.bip_ip.specs.Nodes.{CanBeAsked, KeptNode, node_of};
 ghost use Rattle.bip_core.specs.Events.{CanBeSkipped, IsCounted, IsTakenIn, TakesOut};
-ghost use Rattle.bip_core.specs.Events.{submitted};
 ghost use Rattle.bip_core.specs.Letters.{CanBeHandedOn, IsLetterOf, IsNumberedRequest};
+ghost use Rattle.bip_core.specs.Letters.{address_of};
+ghost use Rattle.bip_core.specs.declared.accepting.Address.TheVariants.{Layer};
 ghost use Rattle.bip_frame.specs.Views.{notify_shown, offer_shown, reply_shown};
 ghost use Rattle.bip_core.specs.Starting.{IsNewWorld, IsUnasked};
 ghost use Rattle.bip_core.specs.Worlds.{IsKeptWorld, IsKnownGrant, world_of};
@@ -294,18 +295,36 @@ impl<'p, B: bip_bank::Bank> Machine<'p, B> {
             witness.see(What::Nothing);
             return Ok(Outcome::of(Kind::Idle));
         }
-        self.submit_at(place)?;
-        let letter = self.take_out(place);
-        match letter.to() {
-            Address::Layer => Ok(let_go(witness)),
-            _ => Ok(self.hand_on(&letter, witness)),
+        match self.address_at(place) {
+            Address::Layer => self.submit_at(place, witness),
+            _ => Ok(self.hand_on(place, witness)),
         }
     }
 
+    /// For whom the message at a place is.
+    fn address_at(&self, place: usize) -> Address
+        requires { place < length self.now.mail }
+        ensures { (m : Message) → slice_get self.now.mail place ≡ Some m → result ≡ address_of m }
+    {
+        self.mail.get(place).to()
+    }
+
+    /// Hands the message at a place, which isn't for the bank, on to its node, and takes it out.
+    fn hand_on<W: Witness>(&mut self, place: usize, witness: &mut W) -> Outcome
+        requires within { place < length self.old.mail }
+        requires other { (m : Message) → slice_get self.old.mail place ≡ Some m
+            → ¬ (Layer ≡ address_of m) }
+        ensures { IsCounted (λ what. W.saw what witness.new) (world_of self.old) (Mail place) result
+            (world_of self.new) }
+    {
+        let letter = self.take_out(place);
+        self.take_in(&letter, witness)
+    }
+
     /// Hands a message that isn't for the bank on to its node, which reads it where it lies.
-    fn hand_on<W: Witness>(&mut self, letter: &Letter, witness: &mut W) -> Outcome
+    fn take_in<W: Witness>(&mut self, letter: &Letter, witness: &mut W) -> Outcome
         requires accepted { CanBeHandedOn self.old.plan letter.now }
-        requires other { (q : Request) → ¬ (letter.now ≡ RequestToBank q) }
+        requires other { ¬ (Layer ≡ address_of letter.now) }
         ensures { IsTakenIn (λ what. W.saw what witness.new) (world_of self.old) letter.now result
             (world_of self.new) }
     {
@@ -318,40 +337,43 @@ impl<'p, B: bip_bank::Bank> Machine<'p, B> {
         }
     }
 
-    /// Hands the message at a place on to the bank, if it is a request. It isn't taken out yet.
-    fn submit_at(&mut self, place: usize) -> Result<(), AllocError>
-        requires { place < length self.old.mail }
-        ensures ok { OnOk result ((m : Message) → slice_get self.old.mail place ≡ Some m
-            → world_of self.new ≡ submitted m (world_of self.old)) }
-        ensures mail { self.new.mail ≡ self.old.mail }
-        ensures plan { self.new.plan ≡ self.old.plan }
+    /// Hands the request at a place on to the bank, and takes it out then. It is never inlined, as
+    /// a request is some 500 bytes.
+    #[inline(never)]
+    fn submit_at<W: Witness>(
+        &mut self,
+        place: usize,
+        witness: &mut W,
+    ) -> Result<Outcome, AllocError>
+        requires within { place < length self.old.mail }
+        requires request { (m : Message) → slice_get self.old.mail place ≡ Some m
+            → Layer ≡ address_of m }
+        ensures counted { IfOk result (λ outcome. IsCounted (λ what. W.saw what witness.new)
+            (world_of self.old) (Mail place) outcome (world_of self.new)) }
         ensures skipped { IfErr result (λ e. CanBeSkipped (world_of self.old) (Mail place)) }
         ensures err { OnErr result (world_of self.new ≡ world_of self.old) }
     {
-        let Some(request) = self.request_at(place) else {
-            return Ok(());
-        };
-        self.submit(request)
+        let request = self.request_at(place);
+        self.submit(request)?;
+        let _request = self.take_out(place);
+        Ok(let_go(witness))
     }
 
-    /// The request that is the message at a place; none where it is another message.
-    fn request_at(&self, place: usize) -> Option<Request>
-        requires { place < length self.now.mail }
-        ensures some { IfSome result (λ q. slice_get self.now.mail place ≡ Some (RequestToBank q)) }
-        ensures fits { IfSome result (IsNumberedRequest self.now.plan) }
-        ensures none { IfNone result
-            ((q : Request) → ¬ (slice_get self.now.mail place ≡ Some (RequestToBank q))) }
+    /// The request that is the message at a place.
+    fn request_at(&self, place: usize) -> Request
+        requires within { place < length self.now.mail }
+        requires request { (m : Message) → slice_get self.now.mail place ≡ Some m
+            → Layer ≡ address_of m }
+        ensures here { slice_get self.now.mail place ≡ Some (RequestToBank result) }
+        ensures fits { IsNumberedRequest self.now.plan result }
     {
         let letter = self.mail.get(place);
-        match letter.to() {
-            Address::Layer => match accept(self.plan, Address::Layer, letter.frame()) {
-                Ok(Frame::Reserve(request)) => Some(request.value()),
-                Ok(Frame::Offer(_)) => unreachable!(),
-                Ok(Frame::Reply(_)) => unreachable!(),
-                Ok(Frame::Notify(_)) => unreachable!(),
-                Err(_) => unreachable!(),
-            },
-            _ => None,
+        match accept(self.plan, letter.to(), letter.frame()) {
+            Ok(Frame::Reserve(request)) => request.value(),
+            Ok(Frame::Offer(_)) => unreachable!(),
+            Ok(Frame::Reply(_)) => unreachable!(),
+            Ok(Frame::Notify(_)) => unreachable!(),
+            Err(_) => unreachable!(),
         }
     }
 
