@@ -13,7 +13,7 @@ ghost use Rattle.bip_core.specs.Accepting.{IsAccepted, IsDropped, IsJudged, IsNo
 ghost use Rattle.bip_core.specs.Accepting.{number_of_drop, text_of_drop};
 ghost use Rattle.bip_core.specs.declared.accepting.DropFault.{DropFault};
 
-use bip_frame::{Frame, FrameFault, NotifyFrame, OfferFrame, ReserveFrame, read};
+use bip_frame::{Frame, FrameFault, NotifyFrame, OfferFrame, read};
 use bip_model::{ClassId, CompId, Component, InterId, Reply, Request, Want};
 use bip_partition::Plan;
 use std::fmt;
@@ -103,7 +103,7 @@ fn judge(plan: &Plan, to: Address, frame: &Frame<'_>) -> Result<(), DropFault>
     }
     match frame {
         Frame::Offer(offer) => judge_offer(plan, to, offer),
-        Frame::Reserve(request) => judge_reserve(plan, to, request),
+        Frame::Reserve(request) => judge_request(plan, to, &request.value()),
         Frame::Reply(reply) => judge_reply(plan, to, &reply.reply()),
         Frame::Notify(notify) => judge_notify(plan, to, notify),
     }
@@ -120,15 +120,6 @@ fn judge_offer(plan: &Plan, to: Address, offer: &OfferFrame<'_>) -> Result<(), D
         Address::Class(_) if can_offer(component, offer) => Ok(()),
         _ => Err(DropFault::Misfit),
     }
-}
-
-/// It is never inlined, as a request is some 500 bytes.
-#[inline(never)]
-fn judge_reserve(plan: &Plan, to: Address, request: &ReserveFrame<'_>) -> Result<(), DropFault>
-    requires { HasAddress plan.now to }
-    ensures { IsJudged plan.now to (of_request (request_shown request.now)) result }
-{
-    judge_request(plan, to, &request.value())
 }
 
 fn judge_request(plan: &Plan, to: Address, request: &Request) -> Result<(), DropFault>

@@ -337,9 +337,7 @@ impl<'p, B: bip_bank::Bank> Machine<'p, B> {
         }
     }
 
-    /// Hands the request at a place on to the bank, and takes it out then. It is never inlined, as
-    /// a request is some 500 bytes.
-    #[inline(never)]
+    /// Hands the request at a place on to the bank, and takes it out then.
     fn submit_at<W: Witness>(
         &mut self,
         place: usize,
