@@ -34,7 +34,8 @@ address_of (RequestToBank q) = Layer
 address_of (ReplyToClass r) = Class (reply_class r)
 address_of (NotifyComponent n) = Comp n.comp
 
--- an address with bytes is the letter of a message: they are its frame, and it is for this addressee
+-- an address with bytes is the letter of a message: they are its frame, and it is for this
+-- addressee
 pub record IsLetterOf (m : Message) (to : Address) (bytes : List ℕ) : Type 0 where
   pub address : to ≡ address_of m
   pub frame : IsFrame (as_spelled m) bytes
