@@ -74,7 +74,9 @@ pub(crate) fn send_tried(plan: &Plan, mail: &mut Mailbag, did: &Tried) -> Outcom
     }
 }
 
-/// Puts what an answer of the bank sends last.
+/// Puts what an answer of the bank sends last. It stands in place where it is called: most steps of
+/// a bank answer nothing, and an answer has much room to be copied.
+#[inline(always)]
 pub(crate) fn send_acted(plan: &Plan, mail: &mut Mailbag, did: &Acted) -> Outcome
     requires { SendsWhatFits plan.now (Acts did.now) }
     ensures { IsSending plan.now (Acts did.now) result mail.old mail.new }
@@ -121,6 +123,7 @@ fn put_request(mail: &mut Mailbag, request: &Request) -> usize
 }
 
 /// Puts a reply last, and says how many were lost.
+#[inline(never)]
 fn put_reply(mail: &mut Mailbag, reply: &Reply) -> usize
     requires { IsNumbered reply.now }
     ensures { ArePut (ReplyToClass reply.now ∷ []) result mail.old mail.new }

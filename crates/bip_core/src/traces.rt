@@ -98,6 +98,7 @@ fn copy_all(own: &mut Vec<Grant>, granted: &[Grant])
 
 /// The grant that a step of a bank gives joins the world's own list, if there is one, and the list
 /// has more than the so many that the bank had granted before. There is room for it.
+#[inline(always)]
 #[tactic(auto, unfolding(crate::specs::Traces::own_with))]
 pub(crate) fn join_acted(own: &mut Vec<Grant>, granted: usize, did: &Acted)
     requires { (grant_acted did.now ≡ None)
