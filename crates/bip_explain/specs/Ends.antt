@@ -3,6 +3,8 @@ use Rattle.std.specs.Prelude.{◌≡◌, ◌⊎◌, ℕ, ◌+◌, ◌<◌, IsTru
 use Rattle.std.specs.Prelude.{Some, false, drop, if◌then◌else◌}
 use Rattle.bip_model.specs.Naming.{is_known, same_text}
 use Rattle.std.specs.Fmt.{decimal}
+use Rattle.bip_reader.specs.declared.faults.Why.{Why}
+use Rattle.bip_reader.specs.declared.faults.Why.TheVariants.{Missing, NotAPartition, PriorityCycle}
 use Rattle.bip_explain.specs.Declarations.{HasLineWith}
 use Rattle.bip_explain.specs.Explanations.{marked, placed_parts}
 use Rattle.bip_explain.specs.Placed.{IsPlacedOn, first_four, line_at, said_words}
@@ -66,6 +68,13 @@ IsEndReason text number (InNoClass name) = NoClassWith text name
 IsEndReason text number (InClasses n placed) =
     IsPlacedOn (line_at text n) placed × IsClassWith text n placed.word.now
     × (HasClassWith text n placed.word.now ⊎ IsWordAgain (line_at text n) placed)
+
+-- the kind of fault that a reason is one of
+abbrev pub why_of_end : EndReason → Why
+why_of_end (Above name) = PriorityCycle
+why_of_end (InNoClass name) = NotAPartition
+why_of_end (InClasses n placed) = NotAPartition
+why_of_end reason = Missing
 
 -- how a reason is told
 abbrev pub end_parts : EndReason → List (List ℕ)

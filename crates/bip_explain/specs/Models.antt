@@ -1,19 +1,20 @@
 -- Why a text is no model, and how it is told.
 use Rattle.std.specs.Prelude.{◌≡◌, ◌⊎◌, ℕ, ◌||◌, List, [], ◌∷◌, ◌++◌, Option, None, Some, codes}
-use Rattle.std.specs.Prelude.{Bool, false, IsTrue, if◌then◌else◌, is_some, option_and_then, ⊤}
+use Rattle.std.specs.Prelude.{Bool, true, false, IsTrue, if◌then◌else◌, is_some, option_and_then, ⊤}
 use Rattle.bip_model.specs.Naming.{same_text}
 use Rattle.bip_model.specs.declared.clauses.Spelling.{Spelling}
 use Rattle.bip_model.specs.declared.clauses.Spelling.TheVariants.{Own, Shared}
 use Rattle.bip_reader.specs.Statements.{keyword_of, statement_of}
 use Rattle.bip_reader.specs.declared.faults.ReadFault.{ReadFault}
-use Rattle.bip_reader.specs.declared.faults.Why.TheVariants.{Memory, Missing, TooMany}
-use Rattle.bip_explain.specs.Ends.{IsEndReason, end_parts}
+use Rattle.bip_reader.specs.declared.faults.Why.{Why}
+use Rattle.bip_reader.specs.declared.faults.Why.TheVariants as why
+use Rattle.bip_explain.specs.Ends.{IsEndReason, end_parts, why_of_end}
 use Rattle.bip_explain.specs.Explanations.{marked, placed_parts}
 use Rattle.bip_explain.specs.Forms.{IsByteReason, IsFormReason, IsNoLine, form_parts}
 use Rattle.bip_explain.specs.Limits.{IsLimitReason, limit_parts}
 use Rattle.bip_explain.specs.Placed.{IsPlacedOn, line_at, said_words}
 use Rattle.bip_explain.specs.Scopes.{IsStandingAt}
-use Rattle.bip_explain.specs.Twice.{IsTwiceReason, twice_parts}
+use Rattle.bip_explain.specs.Twice.{IsTwiceReason, twice_parts, why_of_twice}
 use Rattle.bip_explain.specs.Unknown.{IsUnknownReason, unknown_parts}
 use Rattle.bip_explain.specs.Words.{is_verb}
 use Rattle.bip_explain.specs.declared.expected.Expected.{Expected}
@@ -95,15 +96,39 @@ IsModelReason text fault (Twice reason) =
     IsTwiceReason text fault.line (line_at text fault.line) reason
 IsModelReason text fault (Limit reason) = IsLimitReason (line_at text fault.line) reason
 IsModelReason text fault (End reason) = IsEndReason text fault.line reason
-IsModelReason text fault NoMemory = fault.why ≡ Memory
+IsModelReason text fault NoMemory = ⊤
 IsModelReason text fault NoMemoryToTell = ⊤
+
+-- a search of this kind of fault keeps the names that are declared, and so takes memory
+abbrev pub takes_memory : Why → Bool
+takes_memory why.Unknown = true
+takes_memory why.Twice = true
+takes_memory why.PriorityCycle = true
+takes_memory why.NotAPartition = true
+takes_memory kind = false
+
+-- a reason is one of this kind of fault; that no memory is left to tell one is said only where the
+-- search takes some
+abbrev pub IsOfWhy : Why → ModelReason → Type 0
+IsOfWhy kind (Form reason) = kind ≡ why.Syntax
+IsOfWhy kind (Keyword placed standing) = kind ≡ why.Syntax
+IsOfWhy kind (Unknown reason) = kind ≡ why.Unknown
+IsOfWhy kind (Twice reason) = kind ≡ why_of_twice reason
+IsOfWhy kind (Limit reason) = kind ≡ why.TooMany
+IsOfWhy kind (End reason) = kind ≡ why_of_end reason
+IsOfWhy kind NoMemory = kind ≡ why.Memory
+IsOfWhy kind NoMemoryToTell = IsTrue (takes_memory kind)
+
+-- what may be told of a text at its fault: a reason that is true there, and one of its kind
+abbrev pub IsReasonOf : List ℕ → ReadFault → ModelReason → Type 0
+IsReasonOf text fault reason = IsModelReason text fault reason × IsOfWhy fault.why reason
 
 -- where no reason may be found: something is told of what is missing, of a line with words that
 -- passes a limit, and of want of memory
 abbrev pub MayKeepModel : List ℕ → ReadFault → Type 0
 MayKeepModel text fault =
-    (fault.why ≡ Missing → ⊥) × (fault.why ≡ Memory → ⊥)
-    × (fault.why ≡ TooMany → said_words (line_at text fault.line) ≡ [])
+    (fault.why ≡ why.Missing → ⊥) × (fault.why ≡ why.Memory → ⊥)
+    × (fault.why ≡ why.TooMany → said_words (line_at text fault.line) ≡ [])
 
 -- what the first word of a text shows that is none of a model
 abbrev pub other_text : List ℕ → List ℕ

@@ -3,6 +3,8 @@ use Rattle.std.specs.Prelude.{◌≡◌, ◌⊎◌, ℕ, ◌<◌, Bool, false, �
 use Rattle.std.specs.Prelude.{List, [], ◌∷◌, ◌++◌, codes}
 use Rattle.std.specs.Fmt.{decimal}
 use Rattle.bip_model.specs.Naming.{same_text}
+use Rattle.bip_reader.specs.declared.faults.Why.{Why}
+use Rattle.bip_reader.specs.declared.faults.Why.TheVariants as why
 use Rattle.bip_explain.specs.Declarations.{IsInnerLine, IsLineWith, begins_component}
 use Rattle.bip_explain.specs.Explanations.{column_parts, marked, placed_parts}
 use Rattle.bip_explain.specs.Placed.{IsPlacedOn, IsWordAt, line_at, said_words}
@@ -70,6 +72,11 @@ IsTwiceReason text number line (Party placed) =
     IsPlacedOn line placed × IsPartyAgain line placed
 IsTwiceReason text number line (Target placed) =
     IsPlacedOn line placed × IsWordAgain line placed
+
+-- the kind of fault that a reason is one of
+abbrev pub why_of_twice : TwiceReason → Why
+why_of_twice (Leaves n) = why.TwoTransitions
+why_of_twice reason = why.Twice
 
 -- how a reason is told
 abbrev pub twice_parts : TwiceReason → List (List ℕ)

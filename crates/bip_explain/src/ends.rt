@@ -1,7 +1,9 @@
 //! What the text of a model lacks as a whole.
 ghost use Rattle.std.specs.Prelude.{◌≡◌, ◌⊎◌, ◌||◌, ℕ, All, IfOk, IfSome, IsTrue, List, false};
 ghost use Rattle.bip_explain.specs.Ends.{HasClassWith, IsEndReason, NoClassWith, end_parts};
-ghost use Rattle.bip_explain.specs.Ends.{IsAboveIn, IsSaidIn, SaysPriority, members};
+ghost use Rattle.bip_explain.specs.Ends.{IsAboveIn, IsSaidIn, SaysPriority, members, why_of_end};
+ghost use Rattle.bip_reader.specs.declared.faults.Why.TheVariants.{Missing, NotAPartition};
+ghost use Rattle.bip_reader.specs.declared.faults.Why.TheVariants.{PriorityCycle};
 ghost use Rattle.bip_explain.specs.Twice.{IsWordAgain};
 ghost use Rattle.bip_explain.specs.Explanations.{with_parts};
 ghost use Rattle.bip_explain.specs.Placed.{IsPlacedOn, said_words};
@@ -81,7 +83,8 @@ impl EndReason<'_> {
 /// What is missing: a location of the component that a line ends, or, at the end of the text, its
 /// first line, an `end`, or a component.
 pub(crate) fn find_missing(text: &[u8], number: u64) -> EndReason<'_>
-    ensures { IsEndReason text.now number result }
+    ensures is { IsEndReason text.now number result }
+    ensures kind { why_of_end result ≡ Missing }
 {
     if is_end(line_at(text, number)) {
         if let Standing::Inside(component) = standing_at(text, number) {
@@ -100,7 +103,8 @@ fn is_end(line: &[u8]) -> bool {
 
 // What a text lacks whose last line this is.
 fn find_last(text: &[u8], last: u64) -> EndReason<'_>
-    ensures { IsEndReason text.now last result }
+    ensures is { IsEndReason text.now last result }
+    ensures kind { why_of_end result ≡ Missing }
 {
     let Some(behind) = last.checked_add(1) else {
         return EndReason::NoComponent;
@@ -118,7 +122,8 @@ pub(crate) fn find_cycle<'t>(
     text: &'t [u8],
     number: u64,
 ) -> Result<Option<EndReason<'t>>, AllocError>
-    ensures { IfOk result (λ found. IfSome found (IsEndReason text.now number)) }
+    ensures is { IfOk result (λ found. IfSome found (IsEndReason text.now number)) }
+    ensures kind { IfOk result (λ found. IfSome found (λ reason. why_of_end reason ≡ PriorityCycle)) }
 {
     let declared = Declared::before(alloc, text, u64::MAX)?;
     let said = priorities_in(alloc, text)?;
@@ -238,7 +243,8 @@ pub(crate) fn find_unparted<'t>(
     text: &'t [u8],
     number: u64,
 ) -> Result<Option<EndReason<'t>>, AllocError>
-    ensures { IfOk result (λ found. IfSome found (IsEndReason text.now number)) }
+    ensures is { IfOk result (λ found. IfSome found (IsEndReason text.now number)) }
+    ensures kind { IfOk result (λ found. IfSome found (λ reason. why_of_end reason ≡ NotAPartition)) }
 {
     let declared = Declared::before(alloc, text, u64::MAX)?;
     let names = &declared.interactions;
@@ -315,7 +321,8 @@ fn count_members(times: &mut [u8; MOST_INTERACTIONS], names: &Names, members: Pl
 
 // In which class an interaction stands again, with the line and the column.
 fn find_again<'t>(text: &'t [u8], number: u64, name: &Name) -> Option<EndReason<'t>>
-    ensures { IfSome result (IsEndReason text.now number) }
+    ensures is { IfSome result (IsEndReason text.now number) }
+    ensures kind { IfSome result (λ reason. why_of_end reason ≡ NotAPartition) }
 {
     let mut is_seen = false;
     for (other, line) in NumberedLines::of(text) {

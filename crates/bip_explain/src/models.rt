@@ -1,8 +1,10 @@
 //! Faults of a model's text.
-ghost use Rattle.std.specs.Prelude.{◌≡◌, IfNone, IfOk, IfSome};
+ghost use Rattle.std.specs.Prelude.{◌≡◌, IfErr, IfNone, IfOk, IfSome, IsTrue};
 ghost use Rattle.bip_reader.specs.declared.faults.Why.{Why};
+ghost use Rattle.bip_reader.specs.declared.faults.Why.TheVariants.{Syntax};
 ghost use Rattle.bip_explain.specs.Explanations.{Tells, with_parts};
-ghost use Rattle.bip_explain.specs.Models.{IsModelReason, MayKeepModel, behind_inside};
+ghost use Rattle.bip_explain.specs.Models.{IsModelReason, IsOfWhy, IsReasonOf, MayKeepModel};
+ghost use Rattle.bip_explain.specs.Models.{behind_inside, takes_memory};
 ghost use Rattle.bip_explain.specs.Models.{behind_keyword, behind_outside, keyword_parts};
 ghost use Rattle.bip_explain.specs.Models.{model_parts, other_text, spelling_behind};
 
@@ -40,7 +42,7 @@ pub(crate) enum ModelReason<'t> {
 /// its column, and what is wrong with it; or what the text lacks as a whole (docs/ANSWERS.md,
 /// "Explanations"). Nothing is said where none is wanted, or something is said already.
 pub fn explain_model(alloc: Global, explanation: &mut Explanation, text: &[u8], fault: &ReadFault)
-    ensures { Tells (MayKeepModel text.now fault.now) (IsModelReason text.now fault.now) model_parts
+    ensures { Tells (MayKeepModel text.now fault.now) (IsReasonOf text.now fault.now) model_parts
         explanation.old explanation.new }
 {
     if explanation.is_open() {
@@ -100,6 +102,8 @@ fn find_reason<'t>(
     fault: &ReadFault,
 ) -> Result<Option<ModelReason<'t>>, AllocError>
     ensures some { IfOk result (λ found. IfSome found (IsModelReason text.now fault.now)) }
+    ensures kind { IfOk result (λ found. IfSome found (IsOfWhy fault.now.why)) }
+    ensures memory { IfErr result (λ error. IsTrue (takes_memory fault.now.why)) }
     ensures none { IfOk result (λ found. IfNone found (MayKeepModel text.now fault.now)) }
 {
     let number = fault.line;
@@ -143,8 +147,9 @@ fn other_text(word: &[u8]) -> &'static [u8]
 }
 
 fn find_form(text: &[u8], number: u64) -> Option<ModelReason<'_>>
-    ensures { (why : Why) → IfSome result
+    ensures is { (why : Why) → IfSome result
         (IsModelReason text.now (record { line = number; why = why })) }
+    ensures kind { IfSome result (IsOfWhy Syntax) }
 {
     let line = line_at(text, number);
     let Some((first, rest)) = words_of(line) else {

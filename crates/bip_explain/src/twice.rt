@@ -6,7 +6,8 @@ ghost use Rattle.bip_explain.specs.Placed.{first_four, first_three, line_at, sai
 ghost use Rattle.bip_explain.specs.Twice.{IsDeclaration, IsPartyAgain, IsPartyBefore};
 ghost use Rattle.bip_explain.specs.Twice.{IsSameTransition, IsTwiceReason, IsWordAgain};
 ghost use Rattle.bip_explain.specs.Twice.{declares_outer};
-ghost use Rattle.bip_explain.specs.Twice.{leave_same, say_same, twice_parts};
+ghost use Rattle.bip_explain.specs.Twice.{leave_same, say_same, twice_parts, why_of_twice};
+ghost use Rattle.bip_reader.specs.declared.faults.Why.TheVariants.{Twice, TwoTransitions};
 
 use crate::Explanation;
 use crate::declarations::{Declared, begins_component, declares_inner, inner_line_with, line_with};
@@ -82,8 +83,9 @@ pub(crate) fn find_twice(
     text: &[u8],
     number: u64,
 ) -> Result<Option<TwiceReason<'_>>, AllocError>
-    ensures { IfOk result (λ found.
+    ensures is { IfOk result (λ found.
         IfSome found (IsTwiceReason text.now number (line_at text.now number))) }
+    ensures kind { IfOk result (λ found. IfSome found (λ reason. why_of_twice reason ≡ Twice)) }
 {
     let line = line_at(text, number);
     let Some((keyword, words)) = words_of(line) else {
@@ -124,7 +126,8 @@ fn declares_outer(keyword: &[u8]) -> bool
 
 // The line before that puts the same interactions above one another.
 fn find_said<'t>(text: &'t [u8], number: u64, line: &[u8]) -> Option<TwiceReason<'t>>
-    ensures { IfSome result (IsTwiceReason text.now number line.now) }
+    ensures is { IfSome result (IsTwiceReason text.now number line.now) }
+    ensures kind { IfSome result (λ reason. why_of_twice reason ≡ Twice) }
 {
     // The line may be long, so its words are cut once.
     let said = four_words(line)?;
@@ -166,8 +169,9 @@ fn leave_same(_line: &[u8], left: (&[u8], &[u8], &[u8]), other: &[u8]) -> bool
 
 // The first component that takes part twice, or else the first target that stands twice.
 fn find_repeated<'t>(declared: &Declared, words: PlacedWords<'t>) -> Option<TwiceReason<'t>>
-    ensures { (text : List ℕ) → (number : ℕ)
+    ensures is { (text : List ℕ) → (number : ℕ)
         → IfSome result (IsTwiceReason text number words.entry.line.now) }
+    ensures kind { IfSome result (λ reason. why_of_twice reason ≡ Twice) }
 {
     let line = words.line;
     let mut seen = [false; MOST_TARGETS];
@@ -272,7 +276,8 @@ pub(crate) fn find_transition<'t>(
     number: u64,
     line: &[u8],
 ) -> Option<TwiceReason<'t>>
-    ensures { IfSome result (IsTwiceReason text.now number line.now) }
+    ensures is { IfSome result (IsTwiceReason text.now number line.now) }
+    ensures kind { IfSome result (λ reason. why_of_twice reason ≡ TwoTransitions) }
 {
     Some(TwiceReason::Leaves(transition_before(text, number, line)?))
 }

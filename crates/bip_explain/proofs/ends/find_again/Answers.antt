@@ -2,8 +2,8 @@ use Rattle.std.proofs.Common.{◌+◌, ◌∙◌, sym}
 use Rattle.bip_explain.proofs.LineLemmas.{at_next}
 use Rattle.bip_explain.proofs.ends.find_again.Goals as goal
 
-pub returns-then-is_again : goal.returns-then-is_again
-returns-then-is_again c =
+pub returns-then-is_again-clause-is : goal.returns-then-is_again-clause-is
+returns-then-is_again-clause-is c =
     let next = at_next _ _ _ _ _ _ c.loop-other.invariant.1 c.in-Some.ensures.steps in
     rw next.line_is (
       c.in-Some-member_again.ensures,

@@ -6,8 +6,8 @@ use Rattle.bip_explain.proofs.FormLemmas.{words_from_said}
 use Rattle.bip_explain.proofs.WantedLemmas.{line_taken, no_line}
 use Rattle.bip_explain.proofs.models.find_form.Goals as goal
 
-pub returns-in_ok-find_word-in-Some-behind_keyword : goal.returns-in_ok-find_word-in-Some-behind_keyword
-returns-in_ok-find_word-in-Some-behind_keyword c = λ why.
+pub returns-in_ok-find_word-in-Some-behind_keyword-clause-is : goal.returns-in_ok-find_word-in-Some-behind_keyword-clause-is
+returns-in_ok-find_word-in-Some-behind_keyword-clause-is c = λ why.
     let line = line_at c.args.text.now c.args.number in
     let keyword = c.in-Some.first.word.now in
     let start = c.in-Some-behind_keyword.start in
