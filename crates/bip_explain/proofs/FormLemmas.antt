@@ -1,9 +1,9 @@
 -- Words that are gone over from a place on, and where the first one can't stand.
-use Rattle.std.proofs.Common.{◌≡◌, ℕ, ◌+◌, Bool, true, false, List, [], ◌∷◌, ◌++◌, length, map, None, Some, refl, sym, ap, ◌∙◌, append_assoc, append-nil}
+use Rattle.std.proofs.Common.{◌≡◌, ℕ, ◌+◌, Bool, true, false, List, [], ◌∷◌, ◌++◌, length, map, IfNone, Option, None, Some, refl, sym, ap, ◌∙◌, append_assoc, append-nil}
 use Rattle.std.proofs.lemmas.List.{append_cancel_right, map-append}
 use Rattle.bip_model.specs.Texts.{is_comment, is_plain, words}
 use Rattle.bip_model.specs.declared.clauses.Spelling.{Spelling}
-use Rattle.bip_explain.specs.Expected.{after_word, after_all, can_end}
+use Rattle.bip_explain.specs.Expected.{after_word, after_all, can_end, ends, takes_all}
 use Rattle.bip_explain.specs.Forms.{IsFormReason}
 use Rattle.bip_explain.specs.Hints.{IsHintOf}
 use Rattle.bip_explain.specs.Placed.{IsPlacedOn, said_words}
@@ -31,6 +31,12 @@ gone-more spelling start expected next all left after' gone p so is at = record 
   split = so.split ∙ rw (is, map-append (λ (q : Placed). q.word.now) gone (p ∷ [])) (simp append_assoc);
 }
 
+-- where no word is left, and the line can end
+pub gone-all : (spelling : Spelling) (start expected : Expected) (all left : List (List ℕ)) (gone : List Placed) → IsGoneTo spelling start all gone expected left → left ≡ [] → can_end expected ≡ true → takes_all spelling start all ≡ true
+gone-all spelling start expected all left gone so is last =
+    let whole : all ≡ words_in gone = so.split ∙ (ap (λ (ws : List (List ℕ)). words_in gone ++ ws) is ∙ append-nil (words_in gone)) in
+    ap ends (ap (λ (ws : List (List ℕ)). after_all spelling start ws) whole ∙ so.taken) ∙ last
+
 -- a word that can't stand where the words before it lead
 pub misplaced : (spelling : Spelling) (start expected : Expected) (front all left : List (List ℕ)) (line rest new : List ℕ) (gone : List Placed) (placed : Placed) (hint : Hint) → words line ≡ front ++ all → IsGoneTo spelling start all gone expected left → left ≡ placed.word.now ∷ words new
     → (at : IsPlacedOn line placed) → words at.behind ≡ words new → after_word spelling expected placed.word.now ≡ None → IsHintOf placed.word.now hint → IsFormReason spelling start front line (Word placed spelling expected hint)
@@ -53,3 +59,16 @@ words_from_said line word rest says = by_tests (is_plain line) refl (is_comment 
     by_tests false e q f = let none : [] ≡ word ∷ rest = rw e at says in cc
     by_tests true e true f = let none : [] ≡ word ∷ rest = rw (e, f) at says in cc
     by_tests true e false f = rw (e, f) at says
+
+-- a line that says words has no byte that can't stand in a text
+pub plain_from_said : (line word : List ℕ) (rest : List (List ℕ)) → said_words line ≡ word ∷ rest → is_plain line ≡ true
+plain_from_said line word rest says = by_test (is_plain line) refl
+  where
+    by_test : (p : Bool) → is_plain line ≡ p → is_plain line ≡ true
+    by_test true e = e
+    by_test false e = let none : [] ≡ word ∷ rest = rw e at says in cc
+
+-- what holds anyway holds where nothing is found
+pub if_none : {A Q : Type 0} (o : Option A) → Q → IfNone o Q
+if_none None holds = holds
+if_none (Some x) holds = tt

@@ -3,6 +3,7 @@ pub mod FormLemmas
 pub mod HindranceLemmas
 pub mod LineLemmas
 pub mod PlacedLemmas
+pub mod SaidLemmas
 pub mod SayLemmas
 pub mod ScopeLemmas
 pub mod TraceLemmas

@@ -1,9 +1,10 @@
 -- Where the words of a line stand.
-use Rattle.std.proofs.Common.{◌≡◌, ℕ, ◌+◌, ◌-◌, ◌≤◌, List, [], ◌∷◌, ◌++◌, length, take, refl, sym, ap, ◌∙◌, append_assoc, arith, length-append}
+use Rattle.std.proofs.Common.{◌≡◌, ℕ, ◌+◌, ◌-◌, ◌≤◌, ◌<◌, List, [], ◌∷◌, ◌++◌, length, take, refl, sym, ap, ◌∙◌, append_assoc, arith, length-append}
 use Rattle.std.proofs.lemmas.List.{take-append-drop}
 use Rattle.std.proofs.Math.Seq.{drop-append_seam}
 use Rattle.bip_model.specs.Texts.{words, IsWordAndRest}
-use Rattle.bip_explain.specs.Placed.{IsEndOf, IsRestOf, IsWordAt}
+use Rattle.bip_explain.specs.Placed.{IsBetween, IsEndOf, IsRestOf, IsWordAt}
+use Rattle.bip_explain.specs.declared.placed.Placed.{Placed}
 
 -- what stands in front of an end
 pub front_of : {A : Type 0} (whole end : List A) → IsEndOf whole end → whole ≡ take (length whole - length end) whole ++ end
@@ -53,3 +54,14 @@ unfolding IsWordAndRest
 word_fits line old word new h parts =
     let front : List ℕ = take (length line - length old) line in
     omega (arith, ap length (front_of line old h.0), length-append front old, ap length parts.2, length-append (parts.0 ++ word) new, length-append parts.0 word)
+
+-- between what was left and what is left
+pub is_between : (line old new : List ℕ) (placed : Placed) → placed.column ≡ length line - length new - length placed.word.now + 1 → IsRestOf line old → IsWordAndRest old placed.word.now new → 0 < length placed.word.now → IsBetween line old placed new
+unfolding IsWordAndRest
+is_between line old new placed at h parts some =
+    let fits = word_fits line old placed.word.now new h parts in
+    record {
+      some = some;
+      fits = omega (arith, ap length parts.2, length-append (parts.0 ++ placed.word.now) new, length-append parts.0 placed.word.now);
+      column = omega (arith, at, fits);
+    }

@@ -47,6 +47,11 @@ begins_component [] = false
 begins_component (first ∷ []) = false
 begins_component (first ∷ second ∷ rest) = same_text first (codes "component")
 
+-- behind one line and in front of another no component is begun
+abbrev pub IsSameComponent : List ℕ → ℕ → ℕ → Type 0
+IsSameComponent text n line =
+    (k : ℕ) → n < k → k < line → begins_component (said_words (line_at text k)) ≡ false
+
 -- whether a line before one declares a name with a keyword inside a component, of lines that have
 -- their numbers; and whether the first of these stands inside it
 abbrev pub has_inside :

@@ -1,11 +1,13 @@
 -- What a model's text lacks as a whole, and how it is told.
-use Rattle.std.specs.Prelude.{◌≡◌, ◌⊎◌, ℕ, ◌+◌, ◌<◌, IsTrue, List, [], ◌∷◌, ◌++◌, codes, ⊤}
-use Rattle.std.specs.Prelude.{Some, false, drop, if◌then◌else◌}
+use Rattle.std.specs.Prelude.{◌≡◌, ◌⊎◌, ℕ, ◌+◌, ◌<◌, IsTrue, List, [], ◌∷◌, ◌++◌, codes}
+use Rattle.std.specs.Prelude.{Bool, Some, true, false, drop, nat_le, if◌then◌else◌, ◌||◌}
+use Rattle.bip_model.specs.Texts.{numbered_lines}
 use Rattle.bip_model.specs.Naming.{is_known, same_text}
 use Rattle.std.specs.Fmt.{decimal}
 use Rattle.bip_reader.specs.declared.faults.Why.{Why}
 use Rattle.bip_reader.specs.declared.faults.Why.TheVariants.{Missing, NotAPartition, PriorityCycle}
-use Rattle.bip_explain.specs.Declarations.{HasLineWith}
+use Rattle.bip_explain.specs.Declarations.{begins_component}
+use Rattle.bip_explain.specs.Scopes.{IsInside, IsOutside, ends_component}
 use Rattle.bip_explain.specs.Explanations.{marked, placed_parts}
 use Rattle.bip_explain.specs.Placed.{IsPlacedOn, first_four, line_at, said_words}
 use Rattle.bip_explain.specs.Twice.{IsWordAgain}
@@ -51,16 +53,55 @@ pub data IsAboveIn (text : List ℕ) (low : List ℕ) : List ℕ → Type 0 wher
   in_turn : (said : SaidPriority) → IsSaidIn text said → IsAboveIn text low said.low.now
       → IsAboveIn text low said.high.now
 
--- a reason is true of a text whose line with this number is at fault: the component that is told is
--- begun by a line before, or on the line; no line up to it says anything; lines put the interaction
--- above itself, or no class has it; the word that is told stands on the line that is told, at its
--- column, in a class, and in one before
+-- words declare a location: `loc NAME`
+abbrev pub declares_location : List (List ℕ) → Bool
+declares_location [] = false
+declares_location (first ∷ []) = false
+declares_location (first ∷ second ∷ rest) = same_text first (codes "loc")
+
+-- whether the component that is begun last has a location, behind a line of these words
+abbrev pub is_located : List (List ℕ) → Bool → Bool
+is_located ws before = if begins_component ws then false else before || declares_location ws
+
+-- whether it has, behind the lines in front of one, of lines that have their numbers; and whether
+-- it had in front of these
+abbrev pub has_located : ℕ → Bool → List (ℕ × List ℕ) → Bool
+has_located line before [] = before
+has_located line before ((n, bytes) ∷ rest) =
+    if nat_le line n then before else has_located line (is_located (said_words bytes) before) rest
+
+-- whether the component that is begun last in front of a line has a location there
+abbrev pub has_location : List ℕ → ℕ → Bool
+has_location text line = has_located line false (numbered_lines text)
+
+-- a line down to this one begins a component
+abbrev pub HasComponent : List ℕ → ℕ → Type 0
+HasComponent text number =
+    (n : ℕ) × (n < number + 1) × (begins_component (said_words (line_at text n)) ≡ true)
+
+-- where a line ends a component, that has a location
+abbrev pub IsLocated : List ℕ → ℕ → Type 0
+IsLocated text number =
+    ends_component (said_words (line_at text number)) ≡ true
+    → (component : List ℕ) → IsInside text number component → has_location text number ≡ true
+
+-- nothing is missing down to a line: a component is begun, each that is begun is ended, and the one
+-- that the line ends has a location
+abbrev pub IsComplete : List ℕ → ℕ → Type 0
+IsComplete text number =
+    HasComponent text number × IsOutside text (number + 1) × IsLocated text number
+
+-- a reason is true of a text whose line with this number is at fault: the line ends a component
+-- that has no location; down to the line the component isn't ended, none is begun, or nothing is
+-- said; lines put the interaction above itself, or no class has it; the word that is told stands on
+-- the line that is told, at its column, in a class, and in one before
 abbrev pub IsEndReason : List ℕ → ℕ → EndReason → Type 0
 IsEndReason text number (NoLocation component) =
-    HasLineWith text number (codes "component") component.now
-IsEndReason text number (NoEnd component) =
-    HasLineWith text (number + 1) (codes "component") component.now
-IsEndReason text number NoComponent = ⊤
+    (ends_component (said_words (line_at text number)) ≡ true)
+    × IsInside text number component.now × (has_location text number ≡ false)
+IsEndReason text number (NoEnd component) = IsInside text (number + 1) component.now
+IsEndReason text number NoComponent =
+    (n : ℕ) → n < number + 1 → begins_component (said_words (line_at text n)) ≡ false
 IsEndReason text number NoFirst =
     (n : ℕ) → n < number + 1 → said_words (line_at text n) ≡ []
 IsEndReason text number (Above name) = IsAboveIn text name name

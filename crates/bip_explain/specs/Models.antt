@@ -2,14 +2,17 @@
 use Rattle.std.specs.Prelude.{◌≡◌, ◌⊎◌, ℕ, ◌||◌, List, [], ◌∷◌, ◌++◌, Option, None, Some, codes}
 use Rattle.std.specs.Prelude.{Bool, true, false, IsTrue, if◌then◌else◌, is_some, option_and_then, ⊤}
 use Rattle.bip_model.specs.Naming.{same_text}
+use Rattle.bip_model.specs.Texts.{is_plain}
+use Rattle.std.specs.Option.{option_map_or}
 use Rattle.bip_model.specs.declared.clauses.Spelling.{Spelling}
 use Rattle.bip_model.specs.declared.clauses.Spelling.TheVariants.{Own, Shared}
 use Rattle.bip_reader.specs.Statements.{keyword_of, statement_of}
 use Rattle.bip_reader.specs.declared.faults.ReadFault.{ReadFault}
 use Rattle.bip_reader.specs.declared.faults.Why.{Why}
 use Rattle.bip_reader.specs.declared.faults.Why.TheVariants as why
-use Rattle.bip_explain.specs.Ends.{IsEndReason, end_parts, why_of_end}
+use Rattle.bip_explain.specs.Ends.{IsComplete, IsEndReason, end_parts, why_of_end}
 use Rattle.bip_explain.specs.Explanations.{marked, placed_parts}
+use Rattle.bip_explain.specs.Expected.{takes_all}
 use Rattle.bip_explain.specs.Forms.{IsByteReason, IsFormReason, IsNoLine, form_parts}
 use Rattle.bip_explain.specs.Limits.{IsLimitReason, limit_parts}
 use Rattle.bip_explain.specs.Placed.{IsPlacedOn, line_at, said_words}
@@ -123,11 +126,27 @@ IsOfWhy kind NoMemoryToTell = IsTrue (takes_memory kind)
 abbrev pub IsReasonOf : List ℕ → ReadFault → ModelReason → Type 0
 IsReasonOf text fault reason = IsModelReason text fault reason × IsOfWhy fault.why reason
 
--- where no reason may be found: something is told of what is missing, of a line with words that
--- passes a limit, and of want of memory
+-- words are taken one by one from where a line stands, and it can end behind them
+abbrev pub takes_line : Standing → List (List ℕ) → Bool
+takes_line standing [] = true
+takes_line standing (keyword ∷ rest) =
+    option_map_or (λ start. takes_all (spelling_behind keyword) start rest)
+    (behind_keyword standing keyword) false
+
+-- the line of a text has a form: each byte can stand in a text, and the words are taken where the
+-- line stands
+abbrev pub HasForm : List ℕ → ℕ → Type 0
+HasForm text number =
+    (is_plain (line_at text number) ≡ true)
+    × ((standing : Standing) × IsStandingAt text number standing
+    × (takes_line standing (said_words (line_at text number)) ≡ true))
+
+-- where no reason may be found: something is told of a text that isn't complete, of a line with
+-- words that passes a limit, of one that has no form, and of want of memory
 abbrev pub MayKeepModel : List ℕ → ReadFault → Type 0
 MayKeepModel text fault =
-    (fault.why ≡ why.Missing → ⊥) × (fault.why ≡ why.Memory → ⊥)
+    (fault.why ≡ why.Missing → IsComplete text fault.line) × (fault.why ≡ why.Memory → ⊥)
+    × (fault.why ≡ why.Syntax → HasForm text fault.line)
     × (fault.why ≡ why.TooMany → said_words (line_at text fault.line) ≡ [])
 
 -- what the first word of a text shows that is none of a model

@@ -1,6 +1,6 @@
 -- Words of lines, with their columns.
-use Rattle.std.specs.Prelude.{◌≡◌, ℕ, ◌+◌, ◌-◌, List, [], ◌∷◌, ◌++◌, length, Option, None, Some}
-use Rattle.std.specs.Prelude.{drop, ◌==◌, if◌then◌else◌}
+use Rattle.std.specs.Prelude.{◌≡◌, ℕ, ◌+◌, ◌-◌, ◌<◌, ◌≤◌, List, [], ◌∷◌, ◌++◌, length, Option}
+use Rattle.std.specs.Prelude.{None, Some, drop, ◌==◌, if◌then◌else◌}
 use Rattle.bip_model.specs.Texts.{numbered_lines, words, words_said}
 use Rattle.bip_explain.specs.declared.placed.Placed.{Placed}
 
@@ -26,12 +26,18 @@ IsEndOf whole end = drop (length whole - length end) whole ≡ end
 abbrev pub IsRestOf : List ℕ → List ℕ → Type 0
 IsRestOf line rest = IsEndOf line rest × IsEndOf (words line) (words rest)
 
+-- a word stands between what was left of a line, with it, and what is left behind it
+pub record IsBetween (line old : List ℕ) (placed : Placed) (new : List ℕ) : Type 0 where
+  pub some : 0 < length placed.word.now
+  pub fits : length placed.word.now + length new ≤ length old
+  pub column : length line + 1 ≡ placed.column + length placed.word.now + length new
+
 -- a step over what is left of a line: its first word, if it has one, with the word's column
 abbrev pub TakesWord : List ℕ → List ℕ → Option Placed → List ℕ → Type 0
 TakesWord line old None new = (words old ≡ []) × (words new ≡ [])
 TakesWord line old (Some placed) new =
     (words old ≡ placed.word.now ∷ words new) × (at : IsPlacedOn line placed)
-    × (words at.behind ≡ words new)
+    × (words at.behind ≡ words new) × IsBetween line old placed new
 
 -- these words stand in front of what is left of a line
 abbrev pub IsBehind : List (List ℕ) → List ℕ → List ℕ → Type 0

@@ -1,14 +1,17 @@
 -- Why a line of a schedule says no event, and how it is told.
 use Rattle.std.specs.Prelude.{◌≡◌, ◌⊎◌, ℕ, ◌||◌, List, [], ◌∷◌, ◌++◌, codes, position, Option, Bool}
-use Rattle.std.specs.Prelude.{None, Some, if◌then◌else◌, is_some, ⊤}
-use Rattle.bip_model.specs.Naming.{same_text}
+use Rattle.std.specs.Prelude.{All, None, Some, if◌then◌else◌, is_some, true, false, ⊤}
+use Rattle.std.specs.Option.{option_map_or}
+use Rattle.bip_model.specs.Naming.{IsName, same_text}
+use Rattle.bip_model.specs.Texts.{is_plain}
 use Rattle.bip_model.specs.declared.clauses.Spelling.TheVariants.{Own}
 use Rattle.bip_partition.specs.Plans.{IsReserved, Planned}
 use Rattle.bip_replay.specs.declared.faults.TraceFault.{TraceFault}
 use Rattle.bip_replay.specs.declared.faults.TraceFault.TheVariants.{Syntax, Unknown, Memory}
 use Rattle.bip_explain.specs.Explanations.{placed_parts}
 use Rattle.bip_explain.specs.Forms.{IsByteReason, IsFormReason, form_parts}
-use Rattle.bip_explain.specs.Placed.{IsPlacedOn}
+use Rattle.bip_explain.specs.Expected.{takes_all}
+use Rattle.bip_explain.specs.Placed.{IsPlacedOn, said_words}
 use Rattle.bip_explain.specs.Words.{HasNot}
 use Rattle.bip_explain.specs.declared.expected.Expected.{Expected}
 use Rattle.bip_explain.specs.declared.expected.Expected.TheVariants.{FlightPlace, Class}
@@ -44,26 +47,71 @@ IsScheduleForm line reason =
 
 -- a reason is true of a line and a plan: the word that is told stands at its column, and is the
 -- name of no class, of no interaction, or of one that has no station
-abbrev pub IsScheduleReason : Planned → List ℕ → TraceFault → ScheduleReason → Type 0
-IsScheduleReason plan line fault (Form reason) = IsScheduleForm line reason
-IsScheduleReason plan line fault (Keyword placed) =
+abbrev pub IsScheduleReason : Planned → List ℕ → ScheduleReason → Type 0
+IsScheduleReason plan line (Form reason) = IsScheduleForm line reason
+IsScheduleReason plan line (Keyword placed) =
     IsPlacedOn line placed × (behind_verb placed.word.now ≡ None)
-IsScheduleReason plan line fault (NoClass placed is_interaction) =
+IsScheduleReason plan line (NoClass placed is_interaction) =
     IsPlacedOn line placed × HasNot plan.classes.names placed.word.now
     × (is_interaction
     ≡ is_some (position (same_text placed.word.now) plan.model.interaction_names))
-IsScheduleReason plan line fault (NoInteraction placed is_class) =
+IsScheduleReason plan line (NoInteraction placed is_class) =
     IsPlacedOn line placed × HasNot plan.model.interaction_names placed.word.now
     × (is_class ≡ is_some (position (same_text placed.word.now) plan.classes.names))
-IsScheduleReason plan line fault (NoStation placed) =
+IsScheduleReason plan line (NoStation placed) =
     IsPlacedOn line placed × StandsAlone plan placed.word.now
-IsScheduleReason plan line fault NoMemory = fault ≡ Memory
+IsScheduleReason plan line NoMemory = ⊤
 
--- where no reason may be found: not for want of memory
-abbrev pub MayKeepSchedule : TraceFault → Type 0
-MayKeepSchedule Syntax = ⊤
-MayKeepSchedule Unknown = ⊤
-MayKeepSchedule Memory = ⊥
+-- the kind of fault that a reason is one of
+abbrev pub schedule_fault_of : ScheduleReason → TraceFault
+schedule_fault_of (Form reason) = Syntax
+schedule_fault_of (Keyword placed) = Syntax
+schedule_fault_of (NoClass placed is_interaction) = Unknown
+schedule_fault_of (NoInteraction placed is_class) = Unknown
+schedule_fault_of (NoStation placed) = Unknown
+schedule_fault_of NoMemory = Memory
+
+-- what may be told of a line with a fault: a reason that is true of it, and of that kind
+abbrev pub IsScheduleReasonOf : Planned → List ℕ → TraceFault → ScheduleReason → Type 0
+IsScheduleReasonOf plan line fault reason =
+    IsScheduleReason plan line reason × (schedule_fault_of reason ≡ fault)
+
+-- words are taken one by one behind the verb that begins a line, and it can end behind them
+abbrev pub takes_event : List (List ℕ) → Bool
+takes_event [] = true
+takes_event (verb ∷ rest) =
+    option_map_or (λ start. takes_all Own start rest) (behind_verb verb) false
+
+-- a name has a station: it is that of a reserved interaction
+abbrev pub HasStation : Planned → List ℕ → Type 0
+HasStation plan word =
+    (a : ℕ) × (position (same_text word) plan.model.interaction_names ≡ Some a) × IsReserved plan a
+
+-- the first word is a class of the plan, if it is a name, and the next one an interaction
+abbrev pub AreTried : Planned → List (List ℕ) → Type 0
+AreTried plan [] = ⊤
+AreTried plan (class ∷ rest) =
+    IsName class → (¬ HasNot plan.classes.names class)
+    × ((inter : List ℕ) → (more : List (List ℕ)) → rest ≡ inter ∷ more → IsName inter
+    → ¬ HasNot plan.model.interaction_names inter)
+
+-- words name what is wanted behind `try`, or else stations
+abbrev pub AreNamesBehind : Planned → List (List ℕ) → Bool → Type 0
+AreNamesBehind plan ws true = AreTried plan ws
+AreNamesBehind plan ws false = All (λ word. IsName word → HasStation plan word) ws
+
+-- the names of a line are what its verb wants
+abbrev pub AreNamesKnown : Planned → List (List ℕ) → Type 0
+AreNamesKnown plan [] = ⊤
+AreNamesKnown plan (verb ∷ rest) = AreNamesBehind plan rest (same_text verb (codes "try"))
+
+-- where no reason may be found: where each byte can stand in a text, and the words are taken behind
+-- their verb; where the names are those that it wants; and not for want of memory
+abbrev pub MayKeepSchedule : Planned → List ℕ → TraceFault → Type 0
+MayKeepSchedule plan line Syntax =
+    (is_plain line ≡ true) × (takes_event (said_words line) ≡ true)
+MayKeepSchedule plan line Unknown = AreNamesKnown plan (said_words line)
+MayKeepSchedule plan line Memory = ⊥
 
 abbrev pub if_interaction : Bool → List ℕ
 if_interaction is_interaction =

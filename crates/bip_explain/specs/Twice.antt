@@ -5,7 +5,7 @@ use Rattle.std.specs.Fmt.{decimal}
 use Rattle.bip_model.specs.Naming.{same_text}
 use Rattle.bip_reader.specs.declared.faults.Why.{Why}
 use Rattle.bip_reader.specs.declared.faults.Why.TheVariants as why
-use Rattle.bip_explain.specs.Declarations.{IsInnerLine, IsLineWith, begins_component}
+use Rattle.bip_explain.specs.Declarations.{IsInnerLine, IsLineWith, IsSameComponent, declares_inner}
 use Rattle.bip_explain.specs.Explanations.{column_parts, marked, placed_parts}
 use Rattle.bip_explain.specs.Placed.{IsPlacedOn, IsWordAt, line_at, said_words}
 use Rattle.bip_explain.specs.Unknown.{IsOf}
@@ -19,21 +19,24 @@ abbrev pub declares_outer : List ℕ → Bool
 declares_outer keyword = same_text keyword (codes "component")
     || same_text keyword (codes "interaction") || same_text keyword (codes "class")
 
--- the line with this number declares a name
-abbrev pub IsDeclaration : List ℕ → ℕ → List ℕ → Type 0
-IsDeclaration text n name =
-    IsInnerLine text n name
-    ⊎ ((keyword : List ℕ) × IsTrue (declares_outer keyword) × IsLineWith text n keyword name)
+-- the line with this number, in front of one that begins with a keyword, declares a name which that
+-- one can't declare too: inside the same component, or with the same keyword outside of components
+abbrev pub IsDeclaration : List ℕ → ℕ → List ℕ → ℕ → List ℕ → Type 0
+IsDeclaration text number keyword n name =
+    (IsTrue (declares_inner keyword) × IsInnerLine text n name × IsSameComponent text n number)
+    ⊎ (IsTrue (declares_outer keyword) × IsLineWith text n keyword name)
 
--- words say the same priority: four of them are the same
+-- words say the same priority: they begin with its keyword, and four of them are the same
 abbrev pub say_same : List (List ℕ) → List (List ℕ) → Bool
 say_same (a ∷ b ∷ c ∷ d ∷ xs) (e ∷ f ∷ g ∷ h ∷ ys) =
-    same_text a e && same_text b f && same_text c g && same_text d h
+    same_text a (codes "priority") && same_text a e && same_text b f && same_text c g
+    && same_text d h
 say_same xs ys = false
 
--- transitions leave a location by a port: three words are the same
+-- transitions leave a location by a port: words begin with their keyword, and three are the same
 abbrev pub leave_same : List (List ℕ) → List (List ℕ) → Bool
-leave_same (a ∷ b ∷ c ∷ xs) (d ∷ e ∷ f ∷ ys) = same_text a d && same_text b e && same_text c f
+leave_same (a ∷ b ∷ c ∷ xs) (d ∷ e ∷ f ∷ ys) =
+    same_text a (codes "trans") && same_text a d && same_text b e && same_text c f
 leave_same xs ys = false
 
 -- the line with this number, of those before one, has the transition of a line; and no component is
@@ -41,7 +44,7 @@ leave_same xs ys = false
 abbrev pub IsSameTransition : List ℕ → ℕ → List ℕ → ℕ → Type 0
 IsSameTransition text number line n =
     (n < number) × IsTrue (leave_same (said_words line) (said_words (line_at text n)))
-    × ((k : ℕ) → n < k → k < number → begins_component (said_words (line_at text k)) ≡ false)
+    × IsSameComponent text n number
 
 -- a word in front of a column names a component
 abbrev pub IsPartyBefore : List ℕ → ℕ → List ℕ → Type 0
@@ -64,7 +67,10 @@ IsWordAgain line placed =
 -- is told stands before, and declares the name, or begins with the same words
 abbrev pub IsTwiceReason : List ℕ → ℕ → List ℕ → TwiceReason → Type 0
 IsTwiceReason text number line (Declared placed n) =
-    IsPlacedOn line placed × (n < number) × IsDeclaration text n placed.word.now
+    IsPlacedOn line placed × (n < number)
+    × ((keyword : List ℕ) × (rest : List (List ℕ))
+    × (said_words line ≡ keyword ∷ placed.word.now ∷ rest)
+    × IsDeclaration text number keyword n placed.word.now)
 IsTwiceReason text number line (Said n) =
     (n < number) × IsTrue (say_same (said_words line) (said_words (line_at text n)))
 IsTwiceReason text number line (Leaves n) = IsSameTransition text number line n

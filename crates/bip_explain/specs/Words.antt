@@ -1,6 +1,6 @@
 -- What words are by themselves.
 use Rattle.std.specs.Prelude.{◌≡◌, ℕ, Bool, false, ◌&&◌, ◌||◌, List, Some, None, codes}
-use Rattle.std.specs.Prelude.{is_some, position}
+use Rattle.std.specs.Prelude.{Option, if◌then◌else◌, is_some, option_and_then, position}
 use Rattle.std.specs.Option.{option_map_or}
 use Rattle.bip_model.specs.Naming.{IsName, is_name, same_text}
 use Rattle.bip_model.specs.Texts.{number_of, pair_of, value_said}
@@ -18,6 +18,13 @@ IsWant component word =
     IsName component
     × ((spelled : List ℕ) × (number : ℕ) × (pair_of colon word ≡ Some (component, spelled))
     × (number_of spelled ≡ Some number))
+
+-- the component that a word names with a number: of `C:N` what stands before the colon
+abbrev pub named_in : List ℕ → Option (List ℕ)
+named_in word =
+    option_and_then (λ (parts : List ℕ × List ℕ).
+    if is_name parts.0 && is_some (number_of parts.1) then Some parts.0 else None)
+    (pair_of colon word)
 
 -- a word names a component with one of its ports, or of its variables: `C.p`
 abbrev pub IsPair : List ℕ → List ℕ → List ℕ → Type 0

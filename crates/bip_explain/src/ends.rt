@@ -1,5 +1,10 @@
 //! What the text of a model lacks as a whole.
-ghost use Rattle.std.specs.Prelude.{◌≡◌, ◌⊎◌, ◌||◌, ℕ, All, IfOk, IfSome, IsTrue, List, false};
+ghost use Rattle.std.specs.Prelude.{◌≡◌, ◌⊎◌, ◌||◌, ◌+◌, ℕ, All, IfNone, IfOk, IfSome, IsTrue};
+ghost use Rattle.std.specs.Prelude.{List, false};
+ghost use Rattle.bip_explain.specs.Ends.{HasComponent, IsComplete, IsLocated, declares_location};
+ghost use Rattle.bip_explain.specs.Ends.{has_location, is_located};
+ghost use Rattle.bip_explain.specs.Scopes.{IsOutside};
+ghost use Rattle.bip_explain.specs.declared.ends.EndReason.TheVariants.{NoComponent, NoLocation};
 ghost use Rattle.bip_explain.specs.Ends.{HasClassWith, IsEndReason, NoClassWith, end_parts};
 ghost use Rattle.bip_explain.specs.Ends.{IsAboveIn, IsSaidIn, SaysPriority, members, why_of_end};
 ghost use Rattle.bip_reader.specs.declared.faults.Why.TheVariants.{Missing, NotAPartition};
@@ -11,9 +16,9 @@ ghost use Rattle.bip_model.specs.Naming.{is_known, same_text};
 ghost use Rattle.bip_model.specs.Texts.{words};
 
 use crate::Explanation;
-use crate::declarations::Declared;
-use crate::placed::{Placed, PlacedWords, four_words, line_at, words_of};
-use crate::scopes::{Standing, standing_at};
+use crate::declarations::{Declared, begins_component};
+use crate::placed::{Placed, PlacedWords, four_words, line_at, two_words, words_of};
+use crate::scopes::{Standing, ends_component, standing_at, standing_behind};
 use crate::twice::is_word_again;
 use crate::unknown::behind_first;
 use crate::words::is_text;
@@ -82,38 +87,98 @@ impl EndReason<'_> {
 
 /// What is missing: a location of the component that a line ends, or, at the end of the text, its
 /// first line, an `end`, or a component.
-pub(crate) fn find_missing(text: &[u8], number: u64) -> EndReason<'_>
-    ensures is { IsEndReason text.now number result }
-    ensures kind { why_of_end result ≡ Missing }
+pub(crate) fn find_missing(text: &[u8], number: u64) -> Option<EndReason<'_>>
+    ensures is { IfSome result (IsEndReason text.now number) }
+    ensures kind { IfSome result (λ reason. why_of_end reason ≡ Missing) }
+    ensures none { IfNone result (IsComplete text.now number) }
 {
-    if is_end(line_at(text, number)) {
-        if let Standing::Inside(component) = standing_at(text, number) {
-            return EndReason::NoLocation(component);
-        }
+    match unlocated(text, number) {
+        Some(component) => Some(EndReason::NoLocation(component)),
+        None => find_last(text, number),
     }
-    find_last(text, number)
 }
 
-fn is_end(line: &[u8]) -> bool {
-    match words_of(line) {
+// The component that a line ends, if it has no location.
+fn unlocated(text: &[u8], number: u64) -> Option<&[u8]>
+    ensures is { IfSome result (λ component. IsEndReason text.now number (NoLocation component)) }
+    ensures none { IfNone result (IsLocated text.now number) }
+{
+    if !ends_component(line_at(text, number)) || has_location(text, number) {
+        return None;
+    }
+    match standing_at(text, number) {
+        Standing::First => None,
+        Standing::Outside => None,
+        Standing::Inside(component) => Some(component),
+    }
+}
+
+// Whether the component that is begun last in front of a line has a location there.
+fn has_location(text: &[u8], line: u64) -> bool
+    ensures { result ≡ has_location text.now line }
+{
+    let mut is_located = false;
+    for (number, bytes) in NumberedLines::of(text) {
+        if line <= number {
+            return is_located;
+        }
+        is_located = is_located_behind(bytes, is_located);
+    }
+    is_located
+}
+
+fn is_located_behind(line: &[u8], before: bool) -> bool
+    ensures { result ≡ is_located (said_words line.now) before }
+{
+    if begins_component(line) {
+        false
+    } else {
+        before || declares_location(line)
+    }
+}
+
+fn declares_location(line: &[u8]) -> bool
+    ensures { result ≡ declares_location (said_words line.now) }
+{
+    match two_words(line) {
         None => false,
-        Some((keyword, _words)) => is_text(keyword.word, b"end"),
+        Some((keyword, _name)) => is_text(keyword, b"loc"),
     }
 }
 
 // What a text lacks whose last line this is.
-fn find_last(text: &[u8], last: u64) -> EndReason<'_>
-    ensures is { IsEndReason text.now last result }
-    ensures kind { why_of_end result ≡ Missing }
+fn find_last(text: &[u8], last: u64) -> Option<EndReason<'_>>
+    ensures is { IfSome result (IsEndReason text.now last) }
+    ensures kind { IfSome result (λ reason. why_of_end reason ≡ Missing) }
+    ensures none { IfNone result (HasComponent text.now last × IsOutside text.now (last + 1)) }
 {
-    let Some(behind) = last.checked_add(1) else {
-        return EndReason::NoComponent;
-    };
-    match standing_at(text, behind) {
-        Standing::First => EndReason::NoFirst,
-        Standing::Inside(component) => EndReason::NoEnd(component),
-        Standing::Outside => EndReason::NoComponent,
+    match standing_behind(text, last) {
+        Standing::First => Some(EndReason::NoFirst),
+        Standing::Inside(component) => Some(EndReason::NoEnd(component)),
+        Standing::Outside => {
+            if has_component(text, last) {
+                None
+            } else {
+                Some(EndReason::NoComponent)
+            }
+        }
     }
+}
+
+// Whether a line down to this one begins a component.
+fn has_component(text: &[u8], last: u64) -> bool
+    ensures some { IsTrue result → HasComponent text.now last }
+    ensures none { result ≡ false → IsEndReason text.now last NoComponent }
+{
+    for (number, bytes) in NumberedLines::of(text) {
+        if last < number {
+            return false;
+        }
+        if begins_component(bytes) {
+            return true;
+        }
+    }
+    false
 }
 
 /// The first interaction that stands above itself.
@@ -123,7 +188,8 @@ pub(crate) fn find_cycle<'t>(
     number: u64,
 ) -> Result<Option<EndReason<'t>>, AllocError>
     ensures is { IfOk result (λ found. IfSome found (IsEndReason text.now number)) }
-    ensures kind { IfOk result (λ found. IfSome found (λ reason. why_of_end reason ≡ PriorityCycle)) }
+    ensures kind { IfOk result (λ found.
+        IfSome found (λ reason. why_of_end reason ≡ PriorityCycle)) }
 {
     let declared = Declared::before(alloc, text, u64::MAX)?;
     let said = priorities_in(alloc, text)?;
@@ -244,7 +310,8 @@ pub(crate) fn find_unparted<'t>(
     number: u64,
 ) -> Result<Option<EndReason<'t>>, AllocError>
     ensures is { IfOk result (λ found. IfSome found (IsEndReason text.now number)) }
-    ensures kind { IfOk result (λ found. IfSome found (λ reason. why_of_end reason ≡ NotAPartition)) }
+    ensures kind { IfOk result (λ found.
+        IfSome found (λ reason. why_of_end reason ≡ NotAPartition)) }
 {
     let declared = Declared::before(alloc, text, u64::MAX)?;
     let names = &declared.interactions;

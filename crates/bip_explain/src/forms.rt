@@ -1,5 +1,7 @@
 //! Faults of a line's form: the byte or the word that can't stand where it stands.
-ghost use Rattle.std.specs.Prelude.{◌≡◌, ℕ, IfSome, List};
+ghost use Rattle.std.specs.Prelude.{◌≡◌, ℕ, IfNone, IfSome, List, true};
+ghost use Rattle.bip_model.specs.Texts.{is_plain, words};
+ghost use Rattle.bip_explain.specs.Expected.{takes_all};
 ghost use Rattle.bip_explain.specs.Explanations.{with_parts};
 ghost use Rattle.bip_explain.specs.Forms.{IsByteReason, IsFormReason, form_parts, hint_of_byte};
 ghost use Rattle.bip_explain.specs.Forms.{wanted_parts};
@@ -73,7 +75,8 @@ fn hint_of_byte(byte: u8) -> &'static [u8]
 
 /// The first byte of a line that can stand in none, if it has one.
 pub(crate) fn find_byte(line: &[u8]) -> Option<FormReason<'_>>
-    ensures { IfSome result (IsByteReason line.now) }
+    ensures some { IfSome result (IsByteReason line.now) }
+    ensures none { IfNone result (is_plain line.now ≡ true) }
 {
     for (place, byte) in line.iter().enumerate() {
         if !is_plain(&[*byte]) {
@@ -88,14 +91,15 @@ pub(crate) fn find_byte(line: &[u8]) -> Option<FormReason<'_>>
 pub(crate) fn find_word<'t>(
     spelling: Spelling,
     start: Expected,
-    words: PlacedWords<'t>,
+    left: PlacedWords<'t>,
 ) -> Option<FormReason<'t>>
-    ensures { (front : List (List ℕ)) → IsBehind front words.entry.line.now words.entry.rest.now
-        → IfSome result (IsFormReason spelling start front words.entry.line.now) }
+    ensures some { (front : List (List ℕ)) → IsBehind front left.entry.line.now left.entry.rest.now
+        → IfSome result (IsFormReason spelling start front left.entry.line.now) }
+    ensures none { IfNone result (takes_all spelling start (words left.entry.rest.now) ≡ true) }
 {
-    let end = words.end();
+    let end = left.end();
     let mut expected = start;
-    for placed in words {
+    for placed in left {
         match expected.after(spelling, placed.word) {
             Some(next) => expected = next,
             None => {

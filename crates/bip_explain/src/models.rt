@@ -4,7 +4,7 @@ ghost use Rattle.bip_reader.specs.declared.faults.Why.{Why};
 ghost use Rattle.bip_reader.specs.declared.faults.Why.TheVariants.{Syntax};
 ghost use Rattle.bip_explain.specs.Explanations.{Tells, with_parts};
 ghost use Rattle.bip_explain.specs.Models.{IsModelReason, IsOfWhy, IsReasonOf, MayKeepModel};
-ghost use Rattle.bip_explain.specs.Models.{behind_inside, takes_memory};
+ghost use Rattle.bip_explain.specs.Models.{HasForm, behind_inside, takes_memory};
 ghost use Rattle.bip_explain.specs.Models.{behind_keyword, behind_outside, keyword_parts};
 ghost use Rattle.bip_explain.specs.Models.{model_parts, other_text, spelling_behind};
 
@@ -117,7 +117,10 @@ fn find_reason<'t>(
         },
         Why::Twice => Ok(find_twice(alloc, text, number)?.map(ModelReason::Twice)),
         Why::TooMany => Ok(find_limit(line).map(ModelReason::Limit)),
-        Why::Missing => Ok(Some(ModelReason::End(find_missing(text, number)))),
+        Why::Missing => match find_missing(text, number) {
+            Some(reason) => Ok(Some(ModelReason::End(reason))),
+            None => Ok(None),
+        },
         Why::TwoTransitions => Ok(find_transition(text, number, line).map(ModelReason::Twice)),
         Why::PriorityCycle => match find_cycle(alloc, text, number) {
             Ok(Some(reason)) => Ok(Some(ModelReason::End(reason))),
@@ -150,12 +153,13 @@ fn find_form(text: &[u8], number: u64) -> Option<ModelReason<'_>>
     ensures is { (why : Why) → IfSome result
         (IsModelReason text.now (record { line = number; why = why })) }
     ensures kind { IfSome result (IsOfWhy Syntax) }
+    ensures none { IfNone result (HasForm text.now number) }
 {
     let line = line_at(text, number);
+    let standing = standing_at(text, number);
     let Some((first, rest)) = words_of(line) else {
         return Some(ModelReason::Form(find_byte(line)?));
     };
-    let standing = standing_at(text, number);
     match behind_keyword(standing, first.word) {
         None => Some(ModelReason::Keyword(first, standing)),
         Some(start) => {

@@ -1,11 +1,13 @@
 //! Faults of a schedule's text.
-ghost use Rattle.std.specs.Prelude.{◌≡◌, ℕ, List, IfNone, IfSome, is_some, position};
-ghost use Rattle.bip_model.specs.Naming.{same_text};
+ghost use Rattle.std.specs.Prelude.{◌≡◌, ℕ, All, List, IfNone, IfSome, is_some, position};
+ghost use Rattle.bip_model.specs.Naming.{IsName, same_text};
+ghost use Rattle.bip_model.specs.Texts.{words};
+ghost use Rattle.bip_replay.specs.declared.faults.TraceFault.TheVariants.{Syntax, Unknown};
 ghost use Rattle.bip_partition.specs.Plans.{Planned};
-ghost use Rattle.bip_replay.specs.declared.faults.TraceFault.{TraceFault};
 ghost use Rattle.bip_explain.specs.Explanations.{Tells, with_parts};
-ghost use Rattle.bip_explain.specs.Placed.{IsPlacedOn, line_at};
-ghost use Rattle.bip_explain.specs.Schedules.{IsScheduleReason, MayKeepSchedule};
+ghost use Rattle.bip_explain.specs.Placed.{IsPlacedOn, line_at, said_words};
+ghost use Rattle.bip_explain.specs.Schedules.{AreNamesKnown, AreTried, HasStation};
+ghost use Rattle.bip_explain.specs.Schedules.{IsScheduleReasonOf, MayKeepSchedule};
 ghost use Rattle.bip_explain.specs.Schedules.{behind_verb, if_class, if_interaction};
 ghost use Rattle.bip_explain.specs.Schedules.{schedule_parts};
 
@@ -43,8 +45,9 @@ pub fn explain_schedule(
     number: u64,
     fault: &TraceFault,
 )
-    ensures { Tells (MayKeepSchedule fault.now)
-        (IsScheduleReason plan.now (line_at text.now number) fault.now) schedule_parts
+    ensures { let line = line_at text.now number in
+        Tells (MayKeepSchedule plan.now line fault.now)
+        (IsScheduleReasonOf plan.now line fault.now) schedule_parts
         explanation.old explanation.new }
 {
     if explanation.is_open() {
@@ -107,8 +110,8 @@ fn if_class(is_class: bool) -> &'static [u8]
 }
 
 fn find_reason<'t>(plan: &Plan, line: &'t [u8], fault: &TraceFault) -> Option<ScheduleReason<'t>>
-    ensures some { IfSome result (IsScheduleReason plan.now line.now fault.now) }
-    ensures none { IfNone result (MayKeepSchedule fault.now) }
+    ensures some { IfSome result (IsScheduleReasonOf plan.now line.now fault.now) }
+    ensures none { IfNone result (MayKeepSchedule plan.now line.now fault.now) }
 {
     match fault {
         TraceFault::Syntax => find_form(line),
@@ -118,8 +121,8 @@ fn find_reason<'t>(plan: &Plan, line: &'t [u8], fault: &TraceFault) -> Option<Sc
 }
 
 fn find_form(line: &[u8]) -> Option<ScheduleReason<'_>>
-    ensures { (plan : Planned) → (fault : TraceFault)
-        → IfSome result (IsScheduleReason plan line.now fault) }
+    ensures some { (plan : Planned) → IfSome result (IsScheduleReasonOf plan line.now Syntax) }
+    ensures none { (plan : Planned) → IfNone result (MayKeepSchedule plan line.now Syntax) }
 {
     let Some((first, rest)) = words_of(line) else {
         return Some(ScheduleReason::Form(find_byte(line)?));
@@ -148,7 +151,8 @@ fn behind_verb(verb: &[u8]) -> Option<Expected>
 
 // The first name of a line that is none of those that its verb wants.
 fn find_name<'t>(plan: &Plan, line: &'t [u8]) -> Option<ScheduleReason<'t>>
-    ensures { (fault : TraceFault) → IfSome result (IsScheduleReason plan.now line.now fault) }
+    ensures some { IfSome result (IsScheduleReasonOf plan.now line.now Unknown) }
+    ensures none { IfNone result (AreNamesKnown plan.now (said_words line.now)) }
 {
     let (verb, words) = words_of(line)?;
     if is_text(verb.word, b"try") {
@@ -158,11 +162,11 @@ fn find_name<'t>(plan: &Plan, line: &'t [u8]) -> Option<ScheduleReason<'t>>
     }
 }
 
-fn find_tried<'t>(plan: &Plan, words: PlacedWords<'t>) -> Option<ScheduleReason<'t>>
-    ensures { (fault : TraceFault)
-        → IfSome result (IsScheduleReason plan.now words.entry.line.now fault) }
+fn find_tried<'t>(plan: &Plan, left: PlacedWords<'t>) -> Option<ScheduleReason<'t>>
+    ensures some { IfSome result (IsScheduleReasonOf plan.now left.entry.line.now Unknown) }
+    ensures none { IfNone result (AreTried plan.now (words left.entry.rest.now)) }
 {
-    let mut words = words;
+    let mut words = left;
     let class = words.next()?;
     let name = Name::of(class.word)?;
     if !is_class(plan, &name) {
@@ -188,11 +192,12 @@ fn is_interaction(plan: &Plan, name: &Name) -> bool
     plan.model().interaction(name).is_some()
 }
 
-fn find_station<'t>(plan: &Plan, words: PlacedWords<'t>) -> Option<ScheduleReason<'t>>
-    ensures { (fault : TraceFault)
-        → IfSome result (IsScheduleReason plan.now words.entry.line.now fault) }
+fn find_station<'t>(plan: &Plan, left: PlacedWords<'t>) -> Option<ScheduleReason<'t>>
+    ensures some { IfSome result (IsScheduleReasonOf plan.now left.entry.line.now Unknown) }
+    ensures none { IfNone result
+        (All (λ word. IsName word → HasStation plan.now word) (words left.entry.rest.now)) }
 {
-    for placed in words {
+    for placed in left {
         if let Some(reason) = reason_of_station(plan, placed) {
             return Some(reason);
         }
@@ -202,8 +207,10 @@ fn find_station<'t>(plan: &Plan, words: PlacedWords<'t>) -> Option<ScheduleReaso
 
 // Why a word names no station.
 fn reason_of_station<'t>(plan: &Plan, placed: Placed<'t>) -> Option<ScheduleReason<'t>>
-    ensures { (line : List ℕ) → (fault : TraceFault) → IsPlacedOn line placed.entry
-        → IfSome result (IsScheduleReason plan.now line fault) }
+    ensures some { (line : List ℕ) → IsPlacedOn line placed.entry
+        → IfSome result (IsScheduleReasonOf plan.now line Unknown) }
+    ensures none { IfNone result
+        (IsName placed.entry.word.now → HasStation plan.now placed.entry.word.now) }
 {
     let name = Name::of(placed.word)?;
     match plan.model().interaction(&name) {

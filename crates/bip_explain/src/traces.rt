@@ -1,12 +1,14 @@
 //! Faults of a trace's text.
-ghost use Rattle.std.specs.Prelude.{◌≡◌, IfNone, IfSome, IsTrue, false};
-ghost use Rattle.bip_model.specs.Naming.{IsName};
+ghost use Rattle.std.specs.Prelude.{◌≡◌, IfNone, IfSome, IsTrue, false, true, [], drop};
+ghost use Rattle.std.specs.List.{list_any};
+ghost use Rattle.bip_model.specs.Naming.{IsName, same_text};
+ghost use Rattle.bip_model.specs.Texts.{words};
 ghost use Rattle.bip_model.specs.declared.parts.System.{System};
 ghost use Rattle.bip_replay.specs.declared.faults.TraceFault.{TraceFault};
-ghost use Rattle.bip_replay.specs.declared.faults.TraceFault.TheVariants.{Unknown};
+ghost use Rattle.bip_replay.specs.declared.faults.TraceFault.TheVariants.{Syntax, Unknown};
 ghost use Rattle.bip_explain.specs.Explanations.{Tells, with_parts};
 ghost use Rattle.bip_explain.specs.Placed.{line_at};
-ghost use Rattle.bip_explain.specs.Traces.{IsNamedBefore, IsTraceReason, MayKeepTrace};
+ghost use Rattle.bip_explain.specs.Traces.{IsTraceReasonOf, MayKeepTrace, are_apart, are_known};
 ghost use Rattle.bip_explain.specs.Traces.{trace_parts};
 ghost use Rattle.bip_explain.specs.Words.{HasNot};
 
@@ -14,7 +16,9 @@ use crate::Explanation;
 use crate::expected::Expected;
 use crate::forms::{FormReason, find_byte, find_word};
 use crate::placed::{Placed, PlacedWords, line_at, words_of};
-use crate::words::want_of;
+use crate::unknown::behind_first;
+use crate::words::{is_text, named_in, want_of};
+use arrayvec::ArrayVec;
 use bip_model::{MOST_WANTS, Model, Name, Spelling};
 use bip_replay::TraceFault;
 
@@ -44,7 +48,7 @@ pub fn explain_trace(
     fault: &TraceFault,
 )
     ensures { let line = line_at text.now number in
-        Tells (MayKeepTrace model.now line fault.now) (IsTraceReason model.now line fault.now)
+        Tells (MayKeepTrace model.now line fault.now) (IsTraceReasonOf model.now line fault.now)
         trace_parts explanation.old explanation.new }
 {
     if explanation.is_open() {
@@ -84,7 +88,7 @@ impl TraceReason<'_> {
 }
 
 fn find_reason<'t>(model: &Model, line: &'t [u8], fault: &TraceFault) -> Option<TraceReason<'t>>
-    ensures some { IfSome result (IsTraceReason model.now line.now fault.now) }
+    ensures some { IfSome result (IsTraceReasonOf model.now line.now fault.now) }
     ensures none { IfNone result (MayKeepTrace model.now line.now fault.now) }
 {
     match fault {
@@ -95,12 +99,12 @@ fn find_reason<'t>(model: &Model, line: &'t [u8], fault: &TraceFault) -> Option<
 }
 
 fn find_form(line: &[u8]) -> Option<TraceReason<'_>>
-    ensures { (model : System) → (fault : TraceFault)
-        → IfSome result (IsTraceReason model line.now fault) }
+    ensures some { (model : System) → IfSome result (IsTraceReasonOf model line.now Syntax) }
+    ensures none { (model : System) → IfNone result (MayKeepTrace model line.now Syntax) }
 {
-    if words_of(line).is_none() {
+    let Some(_words) = words_of(line) else {
         return Some(TraceReason::Form(find_byte(line)?));
-    }
+    };
     match find_word(Spelling::Own, Expected::Grant, PlacedWords::of(line)) {
         Some(reason) => Some(TraceReason::Form(reason)),
         None => find_want(line),
@@ -109,54 +113,51 @@ fn find_form(line: &[u8]) -> Option<TraceReason<'_>>
 
 // The first component that stands twice, or is one more than a grant may name.
 fn find_want(line: &[u8]) -> Option<TraceReason<'_>>
-    ensures { (model : System) → (fault : TraceFault)
-        → IfSome result (IsTraceReason model line.now fault) }
+    ensures some { (model : System) → IfSome result (IsTraceReasonOf model line.now Syntax) }
+    ensures none { IfNone result (are_apart [] (drop 1 (drop 1 (words line.now))) ≡ true) }
 {
-    let mut count = 0usize;
-    for placed in PlacedWords::of(line) {
-        if let Some((component, _number)) = want_of(placed.word) {
-            if is_named_before(line, placed.column, &component) {
+    let mut named: ArrayVec<&[u8], MOST_WANTS> = ArrayVec::new();
+    for placed in behind_first(behind_first(PlacedWords::of(line))) {
+        if let Some(component) = named_in(placed.word) {
+            if is_among(component, named.as_slice()) {
                 return Some(TraceReason::Twice(placed));
             }
-            if MOST_WANTS <= count {
+            if MOST_WANTS <= named.len() {
                 return Some(TraceReason::TooMany(placed));
             }
-            count += 1;
+            named.push(component);
         }
     }
     None
 }
 
-// Whether a word of a line before a column names a component.
-fn is_named_before(line: &[u8], column: usize, component: &Name) -> bool
-    ensures { IsTrue result → IsNamedBefore line.now column component.now }
+fn is_among(name: &[u8], names: &[&[u8]]) -> bool
+    ensures { result ≡ list_any (λ other. same_text name.now other.now) names.now }
 {
-    for placed in PlacedWords::of(line) {
-        if column <= placed.column {
-            return false;
-        }
-        if let Some((other, _number)) = want_of(placed.word) {
-            if other == *component {
-                return true;
-            }
-        }
-    }
-    false
+    names.iter().any(|other| is_text(name, other))
 }
 
 // The interaction that the model lacks, or else the first component.
 fn find_name<'t>(model: &Model, line: &'t [u8]) -> Option<TraceReason<'t>>
-    ensures some { (fault : TraceFault) → IfSome result (IsTraceReason model.now line.now fault) }
+    ensures some { IfSome result (IsTraceReasonOf model.now line.now Unknown) }
     ensures none { IfNone result (MayKeepTrace model.now line.now Unknown) }
 {
-    let mut words = PlacedWords::of(line);
-    let _grant = words.next();
+    let mut words = behind_first(PlacedWords::of(line));
     if let Some(inter) = words.next() {
         if is_missing(model, inter.word) {
             return Some(TraceReason::NoInteraction(inter));
         }
     }
-    for placed in words {
+    find_component(model, words)
+}
+
+// The first component that the model lacks, of the words that are left.
+fn find_component<'t>(model: &Model, left: PlacedWords<'t>) -> Option<TraceReason<'t>>
+    ensures some { IfSome result (IsTraceReasonOf model.now left.entry.line.now Unknown) }
+    ensures none { IfNone result
+        (are_known model.now.component_names (words left.entry.rest.now) ≡ true) }
+{
+    for placed in left {
         if let Some((component, _number)) = want_of(placed.word) {
             if model.component(&component).is_none() {
                 return Some(TraceReason::NoComponent(placed, component));

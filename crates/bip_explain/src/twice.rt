@@ -107,7 +107,8 @@ pub(crate) fn find_twice(
 
 // The line before that declares the name which a line with this keyword declares.
 fn line_of_name(text: &[u8], number: u64, keyword: &[u8], name: &[u8]) -> Option<u64>
-    ensures { IfSome result (λ n. (n < number) × IsDeclaration text.now n name.now) }
+    ensures { IfSome result (λ n.
+        (n < number) × IsDeclaration text.now number keyword.now n name.now) }
 {
     if declares_inner(keyword) {
         inner_line_with(text, number, name)
@@ -150,7 +151,11 @@ fn say_same(_line: &[u8], said: (&[u8], &[u8], &[u8], &[u8]), other: &[u8]) -> b
 {
     match four_words(other) {
         Some((e, f, g, h)) => {
-            is_text(said.0, e) && is_text(said.1, f) && is_text(said.2, g) && is_text(said.3, h)
+            is_text(said.0, b"priority")
+                && is_text(said.0, e)
+                && is_text(said.1, f)
+                && is_text(said.2, g)
+                && is_text(said.3, h)
         }
         None => false,
     }
@@ -162,7 +167,12 @@ fn leave_same(_line: &[u8], left: (&[u8], &[u8], &[u8]), other: &[u8]) -> bool
     ensures { result ≡ leave_same (said_words _line.now) (said_words other.now) }
 {
     match three_words(other) {
-        Some((d, e, f)) => is_text(left.0, d) && is_text(left.1, e) && is_text(left.2, f),
+        Some((d, e, f)) => {
+            is_text(left.0, b"trans")
+                && is_text(left.0, d)
+                && is_text(left.1, e)
+                && is_text(left.2, f)
+        }
         None => false,
     }
 }

@@ -2,7 +2,8 @@
 ghost use Rattle.std.specs.Prelude.{◌≡◌, IfSome};
 ghost use Rattle.bip_model.specs.Naming.{is_name, same_text};
 ghost use Rattle.bip_explain.specs.Words.{IsPair, IsWant, is_pair, is_relation, is_sign, is_term};
-ghost use Rattle.bip_explain.specs.Words.{is_value, is_variable, is_verb, is_want};
+ghost use Rattle.bip_explain.specs.Words.{is_value, is_variable, is_verb, is_want, named_in};
+ghost use Rattle.std.specs.Option.{option_map};
 
 use bip_model::{Name, Spelling, parse_number, parse_value, split_pair};
 
@@ -43,10 +44,23 @@ pub(crate) fn is_pair(word: &[u8]) -> bool
 
 /// A component with its number: `C:N`.
 pub(crate) fn want_of(word: &[u8]) -> Option<(Name, u64)>
-    ensures { IfSome result (λ want. IsWant want.0 word.now) }
+    ensures is { IfSome result (λ want. IsWant want.0 word.now) }
+    ensures exact { option_map (λ want. want.0) result ≡ named_in word.now }
 {
     let (component, number) = split_pair(word, b':')?;
     Some((Name::of(component)?, parse_number(number)?))
+}
+
+/// The component that a word names with a number: of `C:N` what stands before the colon.
+pub(crate) fn named_in(word: &[u8]) -> Option<&[u8]>
+    ensures { option_map (λ name. name.now) result ≡ named_in word.now }
+{
+    let (component, number) = split_pair(word, b':')?;
+    if is_name(component) && parse_number(number).is_some() {
+        Some(component)
+    } else {
+        None
+    }
 }
 
 pub(crate) fn is_want(word: &[u8]) -> bool

@@ -1,8 +1,8 @@
-use Rattle.std.proofs.Common.{◌∷◌, [], inr, sym, ◌∙◌}
+use Rattle.std.proofs.Common.{◌≡◌, ◌∷◌, [], inr, sym, ◌∙◌, true}
 use Rattle.bip_explain.specs.Forms.{IsFormReason}
-use Rattle.bip_explain.specs.Models.{IsModelLine, spelling_behind}
-use Rattle.bip_explain.specs.Placed.{line_at}
-use Rattle.bip_explain.proofs.FormLemmas.{words_from_said}
+use Rattle.bip_explain.specs.Models.{IsModelLine, spelling_behind, takes_line}
+use Rattle.bip_explain.specs.Placed.{line_at, said_words}
+use Rattle.bip_explain.proofs.FormLemmas.{if_none, plain_from_said, words_from_said}
 use Rattle.bip_explain.proofs.WantedLemmas.{line_taken, no_line}
 use Rattle.bip_explain.proofs.models.find_form.Goals as goal
 
@@ -14,7 +14,7 @@ returns-in_ok-find_word-in-Some-behind_keyword-clause-is c = λ why.
     let found = c.in_ok-find_word-in-Some-behind_keyword in
     let begins = sym c.behind_keyword.ensures ∙ c.in-Some-behind_keyword.is in
     let form : IsFormReason (spelling_behind keyword) start (keyword ∷ []) line found.field-0
-    = rw (c.spelling_behind-spelling.ensures, c.in-Some.ensures.line, c.line_at-line.ensures) at (found.ensures (keyword ∷ []) (rw c.in-Some.ensures.line (words_from_said c.line_at-line.result.now keyword _ c.in-Some.ensures.words))) in
+    = rw (c.spelling_behind-spelling.ensures, c.in-Some.ensures.line, c.line_at-line.ensures) at (found.ensures.some (keyword ∷ []) (rw c.in-Some.ensures.line (words_from_said c.line_at-line.result.now keyword _ c.in-Some.ensures.words))) in
     inr (
       c.standing_at-standing.result,
       c.standing_at-standing.ensures,
@@ -26,3 +26,13 @@ returns-in_ok-find_word-in-Some-behind_keyword-clause-is c = λ why.
         no_line = no_line IsModelLine (spelling_behind keyword) start (keyword ∷ []) (λ ws states. line_taken keyword ws start states c.standing_at-standing.result begins) line found.field-0 form;
       },
     )
+
+pub returns-in_err-find_word-in-Some-behind_keyword-clause-none : goal.returns-in_err-find_word-in-Some-behind_keyword-clause-none
+returns-in_err-find_word-in-Some-behind_keyword-clause-none c =
+    let line = c.line_at-line.result.now in
+    let keyword = c.in-Some.first.word.now in
+    let standing = c.standing_at-standing.result in
+    let begins = sym c.behind_keyword.ensures ∙ c.in-Some-behind_keyword.is in
+    let takes = rw c.spelling_behind-spelling.ensures at c.in_err-find_word-in-Some-behind_keyword.ensures.none in
+    let taken : takes_line standing (said_words line) ≡ true = rw (c.in-Some.ensures.words, begins) takes in
+    if_none c.from_residual-in_err-find_word-in-Some-behind_keyword.result (rw (← c.line_at-line.ensures) (plain_from_said line keyword _ c.in-Some.ensures.words, (standing, c.standing_at-standing.ensures, taken)))

@@ -1,4 +1,5 @@
-use Rattle.std.proofs.Common.{ℕ, List, ◌∙◌, subst, IfSome}
+use Rattle.std.proofs.Common.{ℕ, List, ◌∷◌, ap, ◌∙◌, subst, IfSome}
+use Rattle.bip_explain.specs.Placed.{line_at}
 use Rattle.bip_explain.specs.Twice.{IsTwiceReason}
 use Rattle.bip_explain.proofs.twice.find_twice.Goals as goal
 
@@ -7,3 +8,13 @@ returns-clause-is c =
     subst (λ (l : List ℕ). IfSome c.find_repeated.result (IsTwiceReason c.args.text.now c.args.number l))
     (c.next.ensures.steps.0 ∙ c.in-Some.ensures.line ∙ c.line_at-line.ensures)
     (c.find_repeated.ensures.is c.args.text.now c.args.number)
+
+pub returns-in-Some-line_of_name-clause-is : goal.returns-in-Some-line_of_name-clause-is
+returns-in-Some-line_of_name-clause-is c =
+    let line = line_at c.args.text.now c.args.number in
+    let named = c.in-Some-next.named in
+    let steps = c.in-Some-next.ensures.steps in
+    let same = c.in-Some.ensures.line ∙ c.line_at-line.ensures in
+    let found = c.in-Some-line_of_name.ensures in
+    let words = rw c.line_at-line.ensures at c.in-Some.ensures.words in
+    (rw same at steps.1.1, found.0, (c.in-Some.keyword.word.now, _, words ∙ ap (λ (ws : List (List ℕ)). c.in-Some.keyword.word.now ∷ ws) steps.1.0, found.1))

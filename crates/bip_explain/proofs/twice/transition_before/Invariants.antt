@@ -1,8 +1,14 @@
-use Rattle.std.proofs.Common.{ℕ, IfSome}
+use Rattle.std.proofs.Common.{ℕ, IfSome, List}
+use Rattle.std.specs.Prelude.{IsTrue}
+use Rattle.bip_explain.specs.Placed.{line_at, said_words}
+use Rattle.bip_explain.specs.Twice.{leave_same}
 use Rattle.bip_explain.proofs.LineLemmas.{IsAtLine}
 use Rattle.bip_explain.proofs.TwiceLemmas.{IsFound}
 use Rattle.bip_explain.proofs.twice.transition_before.Given as goal
 
+abbrev pub LeavesSame : List ℕ → List ℕ → ℕ → Type 0
+LeavesSame text line n = IsTrue (leave_same (said_words line) (said_words (line_at text n)))
+
 abbrev pub invariant-loop-other : goal.invariant-loop-other
 invariant-loop-other l =
-    (m : ℕ) × IsAtLine l.text m l.other-iterator × IfSome l.found (IsFound l.text l.number l.line m)
+    (m : ℕ) × IsAtLine l.text m l.other-iterator × IfSome l.found (IsFound (LeavesSame l.text l.line) l.text l.number m)

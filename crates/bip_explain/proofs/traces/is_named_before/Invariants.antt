@@ -1,5 +1,0 @@
-use Rattle.std.proofs.Common.{◌≡◌}
-use Rattle.bip_explain.proofs.traces.is_named_before.Given as goal
-
-abbrev pub invariant-loop-placed : goal.invariant-loop-placed
-invariant-loop-placed l = l.placed-iterator.line.now ≡ l.line
