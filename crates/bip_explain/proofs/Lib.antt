@@ -6,6 +6,7 @@ pub mod PlacedLemmas
 pub mod SaidLemmas
 pub mod SayLemmas
 pub mod ScopeLemmas
+pub mod TakenLemmas
 pub mod TraceLemmas
 pub mod TwiceLemmas
 pub mod WantedLemmas

@@ -55,6 +55,21 @@ IsNoLine IsLine line (Word placed spelling expected hint) =
     (at : IsPlacedOn line placed) × NoLineBegins IsLine (at.front ++ placed.word.now ∷ [])
 IsNoLine IsLine line (End column spelling expected) = ¬ IsLine (words line)
 
+-- each word that is taken at a place can stand behind words in front: with some more behind it they
+-- are a line of a language
+abbrev pub CanStand : (List (List ℕ) → Type 0) → Spelling → Expected → List (List ℕ) → Type 0
+CanStand IsLine spelling expected front =
+    (word : List ℕ) → ¬ (after_word spelling expected word ≡ None)
+    → (rest : List (List ℕ)) × IsLine (front ++ word ∷ rest)
+
+-- what a reason tells to be wanted can stand there
+abbrev pub IsWantedThere : (List (List ℕ) → Type 0) → List ℕ → FormReason → Type 0
+IsWantedThere IsLine line (Byte column byte) = ⊤
+IsWantedThere IsLine line (Word placed spelling expected hint) =
+    (at : IsPlacedOn line placed) × CanStand IsLine spelling expected at.front
+IsWantedThere IsLine line (End column spelling expected) =
+    CanStand IsLine spelling expected (words line)
+
 abbrev pub hint_of_byte : ℕ → List ℕ
 hint_of_byte byte =
     if byte == 13 then codes "; lines end with a line feed alone"

@@ -3,7 +3,6 @@ use Rattle.std.specs.Prelude.{◌≡◌, ◌⊎◌, ℕ, ◌||◌, List, [], ◌
 use Rattle.std.specs.Prelude.{Bool, true, false, IsTrue, if◌then◌else◌, is_some, option_and_then, ⊤}
 use Rattle.bip_model.specs.Naming.{same_text}
 use Rattle.bip_model.specs.Texts.{is_plain}
-use Rattle.std.specs.Option.{option_map_or}
 use Rattle.bip_model.specs.declared.clauses.Spelling.{Spelling}
 use Rattle.bip_model.specs.declared.clauses.Spelling.TheVariants.{Own, Shared}
 use Rattle.bip_reader.specs.Statements.{keyword_of, statement_of}
@@ -12,8 +11,8 @@ use Rattle.bip_reader.specs.declared.faults.Why.{Why}
 use Rattle.bip_reader.specs.declared.faults.Why.TheVariants as why
 use Rattle.bip_explain.specs.Ends.{IsComplete, IsEndReason, end_parts, why_of_end}
 use Rattle.bip_explain.specs.Explanations.{marked, placed_parts}
-use Rattle.bip_explain.specs.Expected.{takes_all}
-use Rattle.bip_explain.specs.Forms.{IsByteReason, IsFormReason, IsNoLine, form_parts}
+use Rattle.bip_explain.specs.Forms.{IsByteReason, IsFormReason, IsNoLine, IsWantedThere}
+use Rattle.bip_explain.specs.Forms.{form_parts}
 use Rattle.bip_explain.specs.Limits.{IsLimitReason, limit_parts}
 use Rattle.bip_explain.specs.Placed.{IsPlacedOn, line_at, said_words}
 use Rattle.bip_explain.specs.Scopes.{IsStandingAt}
@@ -71,13 +70,15 @@ abbrev pub IsModelLine : List (List ℕ) → Type 0
 IsModelLine ws = IsTrue (states_something ws)
 
 -- a reason is true of the form of a line that stands so, whose first word can begin it: it is one
--- of the words behind that one, and no line that states something has these words in front
+-- of the words behind that one, no line that states something has these words in front, and what is
+-- wanted can stand there
 pub record IsFormOf (standing : Standing) (line : List ℕ) (reason : FormReason) : Type 0 where
   pub keyword : List ℕ
   pub start : Expected
   pub begins : behind_keyword standing keyword ≡ Some start
   pub form : IsFormReason (spelling_behind keyword) start (keyword ∷ []) line reason
   pub no_line : IsNoLine IsModelLine line reason
+  pub wanted : IsWantedThere IsModelLine line reason
 
 -- a reason is true of a text at its fault: a byte can stand in no text; the form is wrong of a line
 -- that stands where it does
@@ -126,20 +127,19 @@ IsOfWhy kind NoMemoryToTell = IsTrue (takes_memory kind)
 abbrev pub IsReasonOf : List ℕ → ReadFault → ModelReason → Type 0
 IsReasonOf text fault reason = IsModelReason text fault reason × IsOfWhy fault.why reason
 
--- words are taken one by one from where a line stands, and it can end behind them
-abbrev pub takes_line : Standing → List (List ℕ) → Bool
-takes_line standing [] = true
-takes_line standing (keyword ∷ rest) =
-    option_map_or (λ start. takes_all (spelling_behind keyword) start rest)
-    (behind_keyword standing keyword) false
+-- words say nothing, or state something, and the first can begin a line which stands so
+abbrev pub IsStatedAt : Standing → List (List ℕ) → Type 0
+IsStatedAt standing [] = ⊤
+IsStatedAt standing (keyword ∷ rest) =
+    IsModelLine (keyword ∷ rest) × ¬ (behind_keyword standing keyword ≡ None)
 
--- the line of a text has a form: each byte can stand in a text, and the words are taken where the
--- line stands
+-- the line of a text has a form: each byte can stand in a text, and the words are a line that can
+-- stand there
 abbrev pub HasForm : List ℕ → ℕ → Type 0
 HasForm text number =
     (is_plain (line_at text number) ≡ true)
     × ((standing : Standing) × IsStandingAt text number standing
-    × (takes_line standing (said_words (line_at text number)) ≡ true))
+    × IsStatedAt standing (said_words (line_at text number)))
 
 -- where no reason may be found: something is told of a text that isn't complete, of a line with
 -- words that passes a limit, of one that has no form, and of want of memory

@@ -1,8 +1,9 @@
-use Rattle.std.proofs.Common.{◌≡◌, ◌∷◌, [], inr, sym, ◌∙◌, true}
+use Rattle.std.proofs.Common.{◌∷◌, [], inr, sym, ◌∙◌}
 use Rattle.bip_explain.specs.Forms.{IsFormReason}
-use Rattle.bip_explain.specs.Models.{IsModelLine, spelling_behind, takes_line}
+use Rattle.bip_explain.specs.Models.{IsModelLine, IsStatedAt, spelling_behind}
 use Rattle.bip_explain.specs.Placed.{line_at, said_words}
 use Rattle.bip_explain.proofs.FormLemmas.{if_none, plain_from_said, words_from_said}
+use Rattle.bip_explain.proofs.TakenLemmas.{can_stand, stated_at}
 use Rattle.bip_explain.proofs.WantedLemmas.{line_taken, no_line}
 use Rattle.bip_explain.proofs.models.find_form.Goals as goal
 
@@ -24,6 +25,7 @@ returns-in_ok-find_word-in-Some-behind_keyword-clause-is c = λ why.
         begins = begins;
         form = form;
         no_line = no_line IsModelLine (spelling_behind keyword) start (keyword ∷ []) (λ ws states. line_taken keyword ws start states c.standing_at-standing.result begins) line found.field-0 form;
+        wanted = can_stand c.standing_at-standing.result keyword line start found.field-0 begins form;
       },
     )
 
@@ -34,5 +36,5 @@ returns-in_err-find_word-in-Some-behind_keyword-clause-none c =
     let standing = c.standing_at-standing.result in
     let begins = sym c.behind_keyword.ensures ∙ c.in-Some-behind_keyword.is in
     let takes = rw c.spelling_behind-spelling.ensures at c.in_err-find_word-in-Some-behind_keyword.ensures.none in
-    let taken : takes_line standing (said_words line) ≡ true = rw (c.in-Some.ensures.words, begins) takes in
+    let taken : IsStatedAt standing (said_words line) = rw c.in-Some.ensures.words (stated_at standing keyword _ c.in-Some-behind_keyword.start begins takes) in
     if_none c.from_residual-in_err-find_word-in-Some-behind_keyword.result (rw (← c.line_at-line.ensures) (plain_from_said line keyword _ c.in-Some.ensures.words, (standing, c.standing_at-standing.ensures, taken)))
