@@ -1,8 +1,13 @@
 -- A line that is found, of those that were gone over, behind which no component is begun.
-use Rattle.std.proofs.Common.{◌≡◌, inl, inr, ℕ, ◌+◌, ◌≤◌, ◌<◌, List, [], false, Option, None, Some, IfSome, refl, arith}
-use Rattle.std.proofs.lemmas.Bool.{cases_lt}
+use Rattle.std.proofs.Common.{◌≡◌, inl, inr, ℕ, ◌+◌, ◌≤◌, ◌<◌, ◌&&◌, Bool, true, List, [], ◌∷◌, codes, false, Option, None, Some, IfNone, IfSome, refl, sym, ◌∙◌, subst, below_more, arith}
+use Rattle.std.specs.Prelude.{unwrap_or}
+use Rattle.std.proofs.lemmas.Bool.{cases_lt, false≢true}
+use Rattle.bip_model.specs.Naming.{same_text}
+use Rattle.bip_reader.proofs.SpellingLemmas.{same_word}
 use Rattle.bip_explain.specs.Declarations.{IsSameComponent, begins_component}
-use Rattle.bip_explain.specs.Placed.{line_at, said_words}
+use Rattle.bip_explain.specs.Placed.{first_three, line_at, said_words}
+use Rattle.bip_explain.proofs.LineLemmas.{line_zero}
+use Rattle.bip_explain.specs.Twice.{IsBegunBetween, NoSameTransition, leave_same}
 
 -- a line in front of one has this, and no component is begun behind it
 abbrev pub IsLast : (ℕ → Type 0) → List ℕ → ℕ → ℕ → Type 0
@@ -37,3 +42,86 @@ found_last P text number m (Some n) none so = (
   λ k above below. elim (cases_lt k m) as (λ _. begins_component (said_words (line_at text k)) ≡ false)
       [ inl h ↦ so.alone k above h | inr h ↦ rw (none k h) refl ],
 )
+
+-- words that leave a location begin no component
+leaves_none : (ws vs : List (List ℕ)) → leave_same ws vs ≡ true → begins_component vs ≡ false
+leaves_none (a ∷ b ∷ c ∷ ws) (d ∷ e ∷ f ∷ vs) same = by_words (same_text a (codes "trans")) refl (same_text a d) refl (same_text d (codes "component")) refl same
+  where
+    by_words : (p : Bool) → same_text a (codes "trans") ≡ p → (q : Bool) → same_text a d ≡ q → (r : Bool) → same_text d (codes "component") ≡ r → (p && q && same_text b e && same_text c f) ≡ true → same_text d (codes "component") ≡ false
+    by_words false x q y r z h = absurd (false≢true h)
+    by_words true x false y r z h = absurd (false≢true h)
+    by_words true x true y false z h = z
+    by_words true x true y true z h =
+        let first : a ≡ codes "trans" = same_word a (codes "trans") x in
+        let other : a ≡ codes "component" = same_word a d y ∙ same_word d (codes "component") z in
+        let wrong : same_text (codes "trans") (codes "component") ≡ true = subst (λ (w : List ℕ). same_text w (codes "component") ≡ true) first (rw other refl) in
+        absurd (false≢true wrong)
+leaves_none ws [] same = refl
+leaves_none ws (d ∷ []) same = refl
+leaves_none [] (d ∷ e ∷ vs) same = absurd (false≢true same)
+leaves_none (a ∷ []) (d ∷ e ∷ vs) same = absurd (false≢true same)
+leaves_none (a ∷ b ∷ []) (d ∷ e ∷ vs) same = absurd (false≢true same)
+leaves_none (a ∷ b ∷ c ∷ ws) (d ∷ e ∷ []) same = absurd (false≢true same)
+
+-- each of the lines in front of this one that has the transition of a line is of a component before
+pub record AreOver (text : List ℕ) (number : ℕ) (line : List ℕ) (m : ℕ) : Type 0 where
+  pub each : (n : ℕ) → n < m → leave_same (said_words line) (said_words (line_at text n)) ≡ true → IsBegunBetween text n number
+
+pub over_begun : (text line : List ℕ) (number m : ℕ) → m < number → begins_component (said_words (line_at text m)) ≡ true → AreOver text number line (m + 1)
+over_begun text line number m h begins = record {
+  each = λ n below same. elim (cases_lt n m) as (λ _. IsBegunBetween text n number) [
+    | inl less ↦ (m, less, h, begins)
+    | inr more ↦ let is : n ≡ m = omega arith in absurd (false≢true (sym (leaves_none (said_words line) (said_words (line_at text m)) (rw is at same)) ∙ begins))
+  ];
+}
+
+pub over_other : (text line : List ℕ) (number m : ℕ) → AreOver text number line m → leave_same (said_words line) (said_words (line_at text m)) ≡ false → AreOver text number line (m + 1)
+over_other text line number m so other = record { each = below_more _ _ so.each (λ same. absurd (false≢true (sym other ∙ same))) }
+
+pub over_there : (text line : List ℕ) (number m : ℕ) → number ≤ m → AreOver text number line m → NoSameTransition text number line
+over_there text line number m h so = λ n below. so.each n (omega arith)
+
+no_line_same : (ws : List (List ℕ)) → leave_same ws [] ≡ false
+no_line_same [] = refl
+no_line_same (a ∷ []) = refl
+no_line_same (a ∷ b ∷ []) = refl
+no_line_same (a ∷ b ∷ c ∷ ws) = refl
+
+pub over_last : (text line : List ℕ) (number m : ℕ) → ((n : ℕ) → m ≤ n → line_at text n ≡ []) → AreOver text number line m → NoSameTransition text number line
+over_last text line number m none so = λ n below same. elim (cases_lt n m) as (λ _. IsBegunBetween text n number) [
+  | inl less ↦ so.each n less same
+  | inr more ↦ let wrong : leave_same (said_words line) [] ≡ true = rw (none n more) at same in absurd (false≢true (sym (no_line_same (said_words line)) ∙ wrong))
+]
+
+-- words that are fewer than three leave nothing
+pub short_same : (text line : List ℕ) (number : ℕ) → first_three (said_words line) ≡ None → NoSameTransition text number line
+short_same text line number short = λ n below same. absurd (false≢true (sym (by_words (said_words line) (said_words (line_at text n)) short) ∙ same))
+  where
+    by_words : (ws vs : List (List ℕ)) → first_three ws ≡ None → leave_same ws vs ≡ false
+    by_words [] vs e = refl
+    by_words (a ∷ []) vs e = refl
+    by_words (a ∷ b ∷ []) vs e = refl
+    by_words (a ∷ b ∷ c ∷ ws) vs e = cc
+
+pub over_first : (text line : List ℕ) (number : ℕ) → AreOver text number line 1
+over_first text line number = record {
+  each = λ n below same. let wrong : leave_same (said_words line) [] ≡ true = rw (line_zero text n below) at same in absurd (false≢true (sym (no_line_same (said_words line)) ∙ wrong));
+}
+
+-- where none is found, or one is, and none is found behind it
+pub none_still : (text line : List ℕ) (number m : ℕ) (found : Option ℕ) → IfNone found (AreOver text number line m) → leave_same (said_words line) (said_words (line_at text m)) ≡ false → IfNone found (AreOver text number line (m + 1))
+none_still text line number m None so other = over_other text line number m so other
+none_still text line number m (Some n) so other = tt
+
+pub none_there : (text line : List ℕ) (number m : ℕ) (found : Option ℕ) → number ≤ m → IfNone found (AreOver text number line m) → IfNone found (NoSameTransition text number line)
+none_there text line number m None h so = over_there text line number m h so
+none_there text line number m (Some n) h so = tt
+
+pub none_last : (text line : List ℕ) (number m : ℕ) (found : Option ℕ) → ((n : ℕ) → m ≤ n → line_at text n ≡ []) → IfNone found (AreOver text number line m) → IfNone found (NoSameTransition text number line)
+none_last text line number m None none so = over_last text line number m none so
+none_last text line number m (Some n) none so = tt
+
+-- the first one that is found stays
+pub found_first : (P : ℕ → Type 0) (text : List ℕ) (number m : ℕ) (found : Option ℕ) → m < number → P m → IfSome found (IsFound P text number m) → begins_component (said_words (line_at text m)) ≡ false → IsFound P text number (m + 1) (unwrap_or found m)
+found_first P text number m None h has so next = record { before = h; has = has; alone = λ k above below. absurd (omega arith) }
+found_first P text number m (Some n) h has so next = found_more P text number m (Some n) so next

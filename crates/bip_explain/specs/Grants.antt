@@ -16,7 +16,7 @@ use Rattle.bip_explain.specs.Explanations.{marked, placed_parts}
 use Rattle.bip_explain.specs.Placed.{IsPlacedOn, first_two, said_words}
 use Rattle.bip_explain.specs.Words.{IsWant}
 use Rattle.bip_explain.specs.declared.grants.GrantReason.{GrantReason}
-use Rattle.bip_explain.specs.declared.grants.GrantReason.TheVariants.{Next, Party}
+use Rattle.bip_explain.specs.declared.grants.GrantReason.TheVariants.{Next, Party, Unexplained}
 use Rattle.bip_explain.specs.declared.grants.Named.{Named}
 use Rattle.bip_explain.specs.declared.grants.Named.TheVariants.{Moved, Seen, Absent}
 use Rattle.bip_explain.specs.declared.placed.Placed.{Placed}
@@ -52,12 +52,15 @@ IsGrantReason model line (Next placed comp expected) =
 IsGrantReason model line (Party placed inter comp named) =
     IfSome placed (IsWantOn model line comp.0)
     × IsGrantOn model line inter.0 × IsNamedSo model inter.0 comp.0 named
+IsGrantReason model line Unexplained = ⊤
 
--- a reason is one of this fault: the component, with the number of its next move, is the fault's
+-- a reason is one of this fault: the component, with the number of its next move, is the fault's;
+-- that none is found may be told of parties
 abbrev pub IsOfFault : BookFault → GrantReason → Type 0
 IsOfFault (Number comp number) (Next placed other expected) =
     (other ≡ comp) × (expected ≡ number)
 IsOfFault Parties (Party placed inter comp named) = ⊤
+IsOfFault Parties Unexplained = ⊤
 IsOfFault fault reason = ⊥
 
 -- where this is the trace's fault, the component has moved so often in the lines before, as is told
@@ -106,3 +109,4 @@ grant_parts model base (Next placed comp expected) =
 grant_parts model base (Party placed inter comp named) =
     front_parts placed ++ name_parts model.interaction_names inter.0
     ++ (named_text named ∷ component_parts model comp.0) ++ seen_text named ∷ []
+grant_parts model base Unexplained = codes "no reason is found" ∷ []

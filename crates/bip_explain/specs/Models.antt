@@ -16,7 +16,8 @@ use Rattle.bip_explain.specs.Forms.{form_parts}
 use Rattle.bip_explain.specs.Limits.{IsLimitReason, limit_parts}
 use Rattle.bip_explain.specs.Placed.{IsPlacedOn, line_at, said_words}
 use Rattle.bip_explain.specs.Scopes.{IsStandingAt}
-use Rattle.bip_explain.specs.Twice.{IsTwiceReason, twice_parts, why_of_twice}
+use Rattle.bip_explain.specs.Twice.{IsTwiceReason, NoSameTransition, twice_parts}
+use Rattle.bip_explain.specs.Twice.{why_of_twice}
 use Rattle.bip_explain.specs.Unknown.{IsUnknownReason, unknown_parts}
 use Rattle.bip_explain.specs.Words.{is_verb}
 use Rattle.bip_explain.specs.declared.expected.Expected.{Expected}
@@ -29,7 +30,7 @@ use Rattle.bip_explain.specs.declared.forms.FormReason.{FormReason}
 use Rattle.bip_explain.specs.declared.models.ModelReason.{ModelReason}
 use Rattle.bip_explain.specs.declared.models.ModelReason.TheVariants.{Form, Keyword, Unknown, Twice}
 use Rattle.bip_explain.specs.declared.models.ModelReason.TheVariants.{Limit, End, NoMemory}
-use Rattle.bip_explain.specs.declared.models.ModelReason.TheVariants.{NoMemoryToTell}
+use Rattle.bip_explain.specs.declared.models.ModelReason.TheVariants.{NoMemoryToTell, Unexplained}
 use Rattle.bip_explain.specs.declared.placed.Placed.{Placed}
 use Rattle.bip_explain.specs.declared.scopes.Standing.{Standing}
 use Rattle.bip_explain.specs.declared.scopes.Standing.TheVariants.{First, Outside, Inside}
@@ -88,6 +89,32 @@ IsModelForm text number reason =
     ⊎ ((standing : Standing) × IsStandingAt text number standing
     × IsFormOf standing (line_at text number) reason)
 
+-- words say nothing, or state something, and the first can begin a line which stands so
+abbrev pub IsStatedAt : Standing → List (List ℕ) → Type 0
+IsStatedAt standing [] = ⊤
+IsStatedAt standing (keyword ∷ rest) =
+    IsModelLine (keyword ∷ rest) × ¬ (behind_keyword standing keyword ≡ None)
+
+-- the line of a text has a form: each byte can stand in a text, and the words are a line that can
+-- stand there
+abbrev pub HasForm : List ℕ → ℕ → Type 0
+HasForm text number =
+    (is_plain (line_at text number) ≡ true)
+    × ((standing : Standing) × IsStandingAt text number standing
+    × IsStatedAt standing (said_words (line_at text number)))
+
+-- where it may be told that no reason is found, of a kind of fault of a line: where the line has a
+-- form, where nothing is missing down to it, where it has no words of which one could be too many,
+-- and where no line before has its transition; of want of memory nowhere
+abbrev pub MayLackReason : List ℕ → ℕ → Why → Type 0
+MayLackReason text number why.Syntax = HasForm text number
+MayLackReason text number why.Missing = IsComplete text number
+MayLackReason text number why.TooMany = said_words (line_at text number) ≡ []
+MayLackReason text number why.TwoTransitions =
+    NoSameTransition text number (line_at text number)
+MayLackReason text number why.Memory = ⊥
+MayLackReason text number kind = ⊤
+
 -- a reason is true of a text at its fault
 abbrev pub IsModelReason : List ℕ → ReadFault → ModelReason → Type 0
 IsModelReason text fault (Form reason) = IsModelForm text fault.line reason
@@ -102,6 +129,7 @@ IsModelReason text fault (Limit reason) = IsLimitReason (line_at text fault.line
 IsModelReason text fault (End reason) = IsEndReason text fault.line reason
 IsModelReason text fault NoMemory = ⊤
 IsModelReason text fault NoMemoryToTell = ⊤
+IsModelReason text fault Unexplained = MayLackReason text fault.line fault.why
 
 -- a search of this kind of fault keeps the names that are declared, and so takes memory
 abbrev pub takes_memory : Why → Bool
@@ -122,32 +150,11 @@ IsOfWhy kind (Limit reason) = kind ≡ why.TooMany
 IsOfWhy kind (End reason) = kind ≡ why_of_end reason
 IsOfWhy kind NoMemory = kind ≡ why.Memory
 IsOfWhy kind NoMemoryToTell = IsTrue (takes_memory kind)
+IsOfWhy kind Unexplained = ⊤
 
 -- what may be told of a text at its fault: a reason that is true there, and one of its kind
 abbrev pub IsReasonOf : List ℕ → ReadFault → ModelReason → Type 0
 IsReasonOf text fault reason = IsModelReason text fault reason × IsOfWhy fault.why reason
-
--- words say nothing, or state something, and the first can begin a line which stands so
-abbrev pub IsStatedAt : Standing → List (List ℕ) → Type 0
-IsStatedAt standing [] = ⊤
-IsStatedAt standing (keyword ∷ rest) =
-    IsModelLine (keyword ∷ rest) × ¬ (behind_keyword standing keyword ≡ None)
-
--- the line of a text has a form: each byte can stand in a text, and the words are a line that can
--- stand there
-abbrev pub HasForm : List ℕ → ℕ → Type 0
-HasForm text number =
-    (is_plain (line_at text number) ≡ true)
-    × ((standing : Standing) × IsStandingAt text number standing
-    × IsStatedAt standing (said_words (line_at text number)))
-
--- where no reason may be found: something is told of a text that isn't complete, of a line with
--- words that passes a limit, of one that has no form, and of want of memory
-abbrev pub MayKeepModel : List ℕ → ReadFault → Type 0
-MayKeepModel text fault =
-    (fault.why ≡ why.Missing → IsComplete text fault.line) × (fault.why ≡ why.Memory → ⊥)
-    × (fault.why ≡ why.Syntax → HasForm text fault.line)
-    × (fault.why ≡ why.TooMany → said_words (line_at text fault.line) ≡ [])
 
 -- what the first word of a text shows that is none of a model
 abbrev pub other_text : List ℕ → List ℕ
@@ -178,3 +185,4 @@ model_parts (Limit reason) = limit_parts reason
 model_parts (End reason) = end_parts reason
 model_parts NoMemory = codes "the model takes more memory than there is" ∷ []
 model_parts NoMemoryToTell = codes "no memory is left to say more" ∷ []
+model_parts Unexplained = codes "no reason is found" ∷ []

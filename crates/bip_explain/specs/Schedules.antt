@@ -21,6 +21,7 @@ use Rattle.bip_explain.specs.declared.schedules.ScheduleReason.{ScheduleReason}
 use Rattle.bip_explain.specs.declared.schedules.ScheduleReason.TheVariants.{Form, Keyword, NoClass}
 use Rattle.bip_explain.specs.declared.schedules.ScheduleReason.TheVariants.{NoInteraction}
 use Rattle.bip_explain.specs.declared.schedules.ScheduleReason.TheVariants.{NoStation, NoMemory}
+use Rattle.bip_explain.specs.declared.schedules.ScheduleReason.TheVariants.{Unexplained}
 
 -- a word is the name of an interaction that its class alone grants
 abbrev pub StandsAlone : Planned → List ℕ → Type 0
@@ -44,37 +45,6 @@ IsScheduleForm line reason =
     IsByteReason line reason
     ⊎ ((verb : List ℕ) × (start : Expected) × (behind_verb verb ≡ Some start)
     × IsFormReason Own start (verb ∷ []) line reason)
-
--- a reason is true of a line and a plan: the word that is told stands at its column, and is the
--- name of no class, of no interaction, or of one that has no station
-abbrev pub IsScheduleReason : Planned → List ℕ → ScheduleReason → Type 0
-IsScheduleReason plan line (Form reason) = IsScheduleForm line reason
-IsScheduleReason plan line (Keyword placed) =
-    IsPlacedOn line placed × (behind_verb placed.word.now ≡ None)
-IsScheduleReason plan line (NoClass placed is_interaction) =
-    IsPlacedOn line placed × HasNot plan.classes.names placed.word.now
-    × (is_interaction
-    ≡ is_some (position (same_text placed.word.now) plan.model.interaction_names))
-IsScheduleReason plan line (NoInteraction placed is_class) =
-    IsPlacedOn line placed × HasNot plan.model.interaction_names placed.word.now
-    × (is_class ≡ is_some (position (same_text placed.word.now) plan.classes.names))
-IsScheduleReason plan line (NoStation placed) =
-    IsPlacedOn line placed × StandsAlone plan placed.word.now
-IsScheduleReason plan line NoMemory = ⊤
-
--- the kind of fault that a reason is one of
-abbrev pub schedule_fault_of : ScheduleReason → TraceFault
-schedule_fault_of (Form reason) = Syntax
-schedule_fault_of (Keyword placed) = Syntax
-schedule_fault_of (NoClass placed is_interaction) = Unknown
-schedule_fault_of (NoInteraction placed is_class) = Unknown
-schedule_fault_of (NoStation placed) = Unknown
-schedule_fault_of NoMemory = Memory
-
--- what may be told of a line with a fault: a reason that is true of it, and of that kind
-abbrev pub IsScheduleReasonOf : Planned → List ℕ → TraceFault → ScheduleReason → Type 0
-IsScheduleReasonOf plan line fault reason =
-    IsScheduleReason plan line reason × (schedule_fault_of reason ≡ fault)
 
 -- words are taken one by one behind the verb that begins a line, and it can end behind them
 abbrev pub takes_event : List (List ℕ) → Bool
@@ -105,13 +75,46 @@ abbrev pub AreNamesKnown : Planned → List (List ℕ) → Type 0
 AreNamesKnown plan [] = ⊤
 AreNamesKnown plan (verb ∷ rest) = AreNamesBehind plan rest (same_text verb (codes "try"))
 
--- where no reason may be found: where each byte can stand in a text, and the words are taken behind
--- their verb; where the names are those that it wants; and not for want of memory
-abbrev pub MayKeepSchedule : Planned → List ℕ → TraceFault → Type 0
-MayKeepSchedule plan line Syntax =
+-- where it may be told that no reason is found: where each byte can stand in a text, and the words are
+-- taken behind their verb; where the names are those that it wants; of want of memory nowhere
+abbrev pub MayLackEvent : Planned → List ℕ → TraceFault → Type 0
+MayLackEvent plan line Syntax =
     (is_plain line ≡ true) × (takes_event (said_words line) ≡ true)
-MayKeepSchedule plan line Unknown = AreNamesKnown plan (said_words line)
-MayKeepSchedule plan line Memory = ⊥
+MayLackEvent plan line Unknown = AreNamesKnown plan (said_words line)
+MayLackEvent plan line Memory = ⊥
+
+-- a reason is true of a line and a plan: the word that is told stands at its column, and is the
+-- name of no class, of no interaction, or of one that has no station
+abbrev pub IsScheduleReason : Planned → List ℕ → TraceFault → ScheduleReason → Type 0
+IsScheduleReason plan line fault (Form reason) = IsScheduleForm line reason
+IsScheduleReason plan line fault (Keyword placed) =
+    IsPlacedOn line placed × (behind_verb placed.word.now ≡ None)
+IsScheduleReason plan line fault (NoClass placed is_interaction) =
+    IsPlacedOn line placed × HasNot plan.classes.names placed.word.now
+    × (is_interaction
+    ≡ is_some (position (same_text placed.word.now) plan.model.interaction_names))
+IsScheduleReason plan line fault (NoInteraction placed is_class) =
+    IsPlacedOn line placed × HasNot plan.model.interaction_names placed.word.now
+    × (is_class ≡ is_some (position (same_text placed.word.now) plan.classes.names))
+IsScheduleReason plan line fault (NoStation placed) =
+    IsPlacedOn line placed × StandsAlone plan placed.word.now
+IsScheduleReason plan line fault NoMemory = ⊤
+IsScheduleReason plan line fault Unexplained = MayLackEvent plan line fault
+
+-- a reason is one of this kind of fault
+abbrev pub IsOfEventFault : TraceFault → ScheduleReason → Type 0
+IsOfEventFault fault (Form reason) = fault ≡ Syntax
+IsOfEventFault fault (Keyword placed) = fault ≡ Syntax
+IsOfEventFault fault (NoClass placed is_interaction) = fault ≡ Unknown
+IsOfEventFault fault (NoInteraction placed is_class) = fault ≡ Unknown
+IsOfEventFault fault (NoStation placed) = fault ≡ Unknown
+IsOfEventFault fault NoMemory = fault ≡ Memory
+IsOfEventFault fault Unexplained = ⊤
+
+-- what may be told of a line with a fault: a reason that is true of it, and of that kind
+abbrev pub IsScheduleReasonOf : Planned → List ℕ → TraceFault → ScheduleReason → Type 0
+IsScheduleReasonOf plan line fault reason =
+    IsScheduleReason plan line fault reason × IsOfEventFault fault reason
 
 abbrev pub if_interaction : Bool → List ℕ
 if_interaction is_interaction =
@@ -133,3 +136,4 @@ schedule_parts (NoInteraction placed is_class) =
 schedule_parts (NoStation placed) =
     placed_parts placed ++ codes " is granted by its class alone, and has no station" ∷ []
 schedule_parts NoMemory = codes "the schedule takes more memory than there is" ∷ []
+schedule_parts Unexplained = codes "no reason is found" ∷ []

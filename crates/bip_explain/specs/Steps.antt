@@ -1,5 +1,5 @@
 -- Why a grant can't be next, and how it is told.
-use Rattle.std.specs.Prelude.{◌≡◌, ℕ, true, List, [], ◌∷◌, ◌++◌, codes, ⊤}
+use Rattle.std.specs.Prelude.{◌≡◌, ℕ, true, List, [], ◌∷◌, ◌++◌, codes}
 use Rattle.std.specs.Fmt.{decimal}
 use Rattle.bip_model.specs.declared.parts.System.{System}
 use Rattle.bip_replay.specs.declared.faults.BookFault.{BookFault}
@@ -19,7 +19,7 @@ TellsStep model base text number (Number comp next) old new =
     Tells ⊥ (λ r. IsGrantReason model (line_at text number) r × IsOfFault (Number comp next) r
     × IsCountOf model base text number comp next) (grant_parts model base) old new
 TellsStep model base text number Parties old new =
-    Tells ⊤ (λ r. IsGrantReason model (line_at text number) r × IsOfFault Parties r)
+    Tells ⊥ (λ r. IsGrantReason model (line_at text number) r × IsOfFault Parties r)
     (grant_parts model base) old new
 TellsStep model base text number Memory old new =
     is_open old ≡ true → new ≡ with_part (codes "the run takes more memory than there is") old

@@ -21,6 +21,8 @@ pub(crate) enum GrantReason<'t> {
     Next(Option<Placed<'t>>, CompId, Number),
     /// How a grant of the interaction names the component; the word that names it, if one does.
     Party(Option<Placed<'t>>, InterId, CompId, Named),
+    /// None is found.
+    Unexplained,
 }
 
 /// How a line names a component.
@@ -50,6 +52,7 @@ impl GrantReason<'_> {
                 say_component(explanation, model, comp);
                 explanation.say(named.place());
             }
+            GrantReason::Unexplained => explanation.say(b"no reason is found"),
         }
     }
 }

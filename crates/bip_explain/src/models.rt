@@ -3,7 +3,7 @@ ghost use Rattle.std.specs.Prelude.{◌≡◌, IfErr, IfNone, IfOk, IfSome, IsTr
 ghost use Rattle.bip_reader.specs.declared.faults.Why.{Why};
 ghost use Rattle.bip_reader.specs.declared.faults.Why.TheVariants.{Syntax};
 ghost use Rattle.bip_explain.specs.Explanations.{Tells, with_parts};
-ghost use Rattle.bip_explain.specs.Models.{IsModelReason, IsOfWhy, IsReasonOf, MayKeepModel};
+ghost use Rattle.bip_explain.specs.Models.{IsModelReason, IsOfWhy, IsReasonOf, MayLackReason};
 ghost use Rattle.bip_explain.specs.Models.{HasForm, behind_inside, takes_memory};
 ghost use Rattle.bip_explain.specs.Models.{behind_keyword, behind_outside, keyword_parts};
 ghost use Rattle.bip_explain.specs.Models.{model_parts, other_text, spelling_behind};
@@ -36,19 +36,20 @@ pub(crate) enum ModelReason<'t> {
     NoMemory,
     /// No memory is left to look for a reason.
     NoMemoryToTell,
+    /// None is found.
+    Unexplained,
 }
 
 /// Says why the text of a model has its first fault: the word of the line that is at fault, with
 /// its column, and what is wrong with it; or what the text lacks as a whole (docs/ANSWERS.md,
 /// "Explanations"). Nothing is said where none is wanted, or something is said already.
 pub fn explain_model(alloc: Global, explanation: &mut Explanation, text: &[u8], fault: &ReadFault)
-    ensures { Tells (MayKeepModel text.now fault.now) (IsReasonOf text.now fault.now) model_parts
-        explanation.old explanation.new }
+    ensures { Tells ⊥ (IsReasonOf text.now fault.now) model_parts explanation.old explanation.new }
 {
     if explanation.is_open() {
         match find_reason(alloc, text, fault) {
             Ok(Some(reason)) => reason.say(explanation),
-            Ok(None) => {}
+            Ok(None) => ModelReason::Unexplained.say(explanation),
             Err(_) => ModelReason::NoMemoryToTell.say(explanation),
         }
     }
@@ -69,6 +70,7 @@ impl ModelReason<'_> {
                 explanation.say(b"the model takes more memory than there is");
             }
             ModelReason::NoMemoryToTell => explanation.say(b"no memory is left to say more"),
+            ModelReason::Unexplained => explanation.say(b"no reason is found"),
         }
     }
 }
@@ -104,7 +106,8 @@ fn find_reason<'t>(
     ensures some { IfOk result (λ found. IfSome found (IsModelReason text.now fault.now)) }
     ensures kind { IfOk result (λ found. IfSome found (IsOfWhy fault.now.why)) }
     ensures memory { IfErr result (λ error. IsTrue (takes_memory fault.now.why)) }
-    ensures none { IfOk result (λ found. IfNone found (MayKeepModel text.now fault.now)) }
+    ensures none { IfOk result (λ found. IfNone found
+        (MayLackReason text.now fault.now.line fault.now.why)) }
 {
     let number = fault.line;
     let line = line_at(text, number);

@@ -7,7 +7,7 @@ ghost use Rattle.bip_partition.specs.Plans.{Planned};
 ghost use Rattle.bip_explain.specs.Explanations.{Tells, with_parts};
 ghost use Rattle.bip_explain.specs.Placed.{IsPlacedOn, line_at, said_words};
 ghost use Rattle.bip_explain.specs.Schedules.{AreNamesKnown, AreTried, HasStation};
-ghost use Rattle.bip_explain.specs.Schedules.{IsScheduleReasonOf, MayKeepSchedule};
+ghost use Rattle.bip_explain.specs.Schedules.{IsScheduleReasonOf, MayLackEvent};
 ghost use Rattle.bip_explain.specs.Schedules.{behind_verb, if_class, if_interaction};
 ghost use Rattle.bip_explain.specs.Schedules.{schedule_parts};
 
@@ -33,6 +33,8 @@ pub(crate) enum ScheduleReason<'t> {
     /// An interaction that its class alone grants.
     NoStation(Placed<'t>),
     NoMemory,
+    /// None is found.
+    Unexplained,
 }
 
 /// Says why a line of a schedule says no event of the plan: the word that can't stand where it
@@ -46,13 +48,13 @@ pub fn explain_schedule(
     fault: &TraceFault,
 )
     ensures { let line = line_at text.now number in
-        Tells (MayKeepSchedule plan.now line fault.now)
-        (IsScheduleReasonOf plan.now line fault.now) schedule_parts
+        Tells ⊥ (IsScheduleReasonOf plan.now line fault.now) schedule_parts
         explanation.old explanation.new }
 {
     if explanation.is_open() {
-        if let Some(reason) = find_reason(plan, line_at(text, number), fault) {
-            reason.say(explanation);
+        match find_reason(plan, line_at(text, number), fault) {
+            Some(reason) => reason.say(explanation),
+            None => ScheduleReason::Unexplained.say(explanation),
         }
     }
 }
@@ -85,6 +87,7 @@ impl ScheduleReason<'_> {
             ScheduleReason::NoMemory => {
                 explanation.say(b"the schedule takes more memory than there is");
             }
+            ScheduleReason::Unexplained => explanation.say(b"no reason is found"),
         }
     }
 }
@@ -111,7 +114,7 @@ fn if_class(is_class: bool) -> &'static [u8]
 
 fn find_reason<'t>(plan: &Plan, line: &'t [u8], fault: &TraceFault) -> Option<ScheduleReason<'t>>
     ensures some { IfSome result (IsScheduleReasonOf plan.now line.now fault.now) }
-    ensures none { IfNone result (MayKeepSchedule plan.now line.now fault.now) }
+    ensures none { IfNone result (MayLackEvent plan.now line.now fault.now) }
 {
     match fault {
         TraceFault::Syntax => find_form(line),
@@ -122,7 +125,7 @@ fn find_reason<'t>(plan: &Plan, line: &'t [u8], fault: &TraceFault) -> Option<Sc
 
 fn find_form(line: &[u8]) -> Option<ScheduleReason<'_>>
     ensures some { (plan : Planned) → IfSome result (IsScheduleReasonOf plan line.now Syntax) }
-    ensures none { (plan : Planned) → IfNone result (MayKeepSchedule plan line.now Syntax) }
+    ensures none { (plan : Planned) → IfNone result (MayLackEvent plan line.now Syntax) }
 {
     let Some((first, rest)) = words_of(line) else {
         return Some(ScheduleReason::Form(find_byte(line)?));

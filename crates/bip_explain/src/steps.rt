@@ -45,8 +45,9 @@ pub fn explain_step(
             GrantReason::Next(placed, *comp, *expected).say(explanation, model, base);
         }
         BookFault::Parties => {
-            if let Some(reason) = find_party(model, line_at(text, number)) {
-                reason.say(explanation, model, base);
+            match find_party(model, line_at(text, number)) {
+                Some(reason) => reason.say(explanation, model, base),
+                None => GrantReason::Unexplained.say(explanation, model, base),
             }
         }
         BookFault::Memory => explanation.say(b"the run takes more memory than there is"),

@@ -1,10 +1,11 @@
 //! Names of a model's text that are there already.
-ghost use Rattle.std.specs.Prelude.{◌≡◌, ◌<◌, ◌∷◌, ℕ, List, [], IfOk, IfSome, IsTrue, Some, codes};
+ghost use Rattle.std.specs.Prelude.{◌≡◌, ◌<◌, ◌∷◌, ℕ, List, [], IfNone, IfOk, IfSome, IsTrue, Some, codes};
 ghost use Rattle.std.specs.Fmt.{decimal};
 ghost use Rattle.bip_explain.specs.Explanations.{with_parts};
 ghost use Rattle.bip_explain.specs.Placed.{first_four, first_three, line_at, said_words};
 ghost use Rattle.bip_explain.specs.Twice.{IsDeclaration, IsPartyAgain, IsPartyBefore};
 ghost use Rattle.bip_explain.specs.Twice.{IsSameTransition, IsTwiceReason, IsWordAgain};
+ghost use Rattle.bip_explain.specs.Twice.{NoSameTransition};
 ghost use Rattle.bip_explain.specs.Twice.{declares_outer};
 ghost use Rattle.bip_explain.specs.Twice.{leave_same, say_same, twice_parts, why_of_twice};
 ghost use Rattle.bip_reader.specs.declared.faults.Why.TheVariants.{Twice, TwoTransitions};
@@ -288,13 +289,15 @@ pub(crate) fn find_transition<'t>(
 ) -> Option<TwiceReason<'t>>
     ensures is { IfSome result (IsTwiceReason text.now number line.now) }
     ensures kind { IfSome result (λ reason. why_of_twice reason ≡ TwoTransitions) }
+    ensures none { IfNone result (NoSameTransition text.now number line.now) }
 {
     Some(TwiceReason::Leaves(transition_before(text, number, line)?))
 }
 
 // The line before that has it, of those of the component that is begun last.
 fn transition_before(text: &[u8], number: u64, line: &[u8]) -> Option<u64>
-    ensures { IfSome result (IsSameTransition text.now number line.now) }
+    ensures some { IfSome result (IsSameTransition text.now number line.now) }
+    ensures none { IfNone result (NoSameTransition text.now number line.now) }
 {
     let left = three_words(line)?;
     let mut found = None;
@@ -304,8 +307,8 @@ fn transition_before(text: &[u8], number: u64, line: &[u8]) -> Option<u64>
         }
         if begins_component(bytes) {
             found = None;
-        } else if found.is_none() && leave_same(line, left, bytes) {
-            found = Some(other);
+        } else if leave_same(line, left, bytes) {
+            found = Some(found.unwrap_or(other));
         }
     }
     found

@@ -1,7 +1,7 @@
 use Rattle.std.proofs.Common.{refl, sym, ◌∙◌}
 use Rattle.bip_explain.specs.Grants.{IsCountOf, IsGrantReason, IsOfFault, grant_parts}
 use Rattle.bip_explain.specs.Placed.{line_at}
-use Rattle.bip_explain.specs.declared.grants.GrantReason.TheVariants.{Next}
+use Rattle.bip_explain.specs.declared.grants.GrantReason.TheVariants.{Next, Unexplained}
 use Rattle.bip_replay.specs.declared.faults.BookFault.TheVariants.{Number, Parties}
 use Rattle.bip_explain.proofs.HindranceLemmas.{counted}
 use Rattle.bip_explain.proofs.SayLemmas.{tells}
@@ -22,7 +22,7 @@ pub returns-in-Some-clause-told : goal.returns-in-Some-clause-told
 returns-in-Some-clause-told c =
     let model = c.args.model.now in
     let line = line_at c.args.text.now c.args.number in
-    rw c.in-Parties.is (tells (Unit {0}) (λ r. IsGrantReason model line r × IsOfFault Parties r) (grant_parts model c.args.base) c.args.explanation.now c.say-in-Some.new.explanation
+    rw c.in-Parties.is (tells ⊥ (λ r. IsGrantReason model line r × IsOfFault Parties r) (grant_parts model c.args.base) c.args.explanation.now c.say-in-Some.new.explanation
     c.in-Some.reason
     (sym c.is_open.ensures ∙ c.if-not-is_open.false)
     (rw c.line_at-in-Parties.ensures at c.in-Some.ensures)
@@ -36,3 +36,13 @@ returns-in-NotEnabled-clause-told c = rw c.in-NotEnabled.is (rw c.in-NotEnabled.
 
 pub returns-in-Below-clause-told : goal.returns-in-Below-clause-told
 returns-in-Below-clause-told c = rw c.in-Below.is (rw c.in-Below.is at (c.explain_hindered-in-Below.ensures c.args.base))
+
+pub returns-in-None-clause-told : goal.returns-in-None-clause-told
+returns-in-None-clause-told c =
+    let model = c.args.model.now in
+    let line = line_at c.args.text.now c.args.number in
+    rw c.in-Parties.is (tells ⊥ (λ r. IsGrantReason model line r × IsOfFault Parties r) (grant_parts model c.args.base) c.args.explanation.now c.say-in-None.new.explanation
+    Unexplained
+    (sym c.is_open.ensures ∙ c.if-not-is_open.false)
+    (tt, tt)
+    c.say-in-None.ensures)

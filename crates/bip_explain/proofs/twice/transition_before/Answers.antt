@@ -1,29 +1,39 @@
-use Rattle.std.proofs.Common.{◌+◌, arith, rules}
-use Rattle.bip_explain.proofs.LineLemmas.{at_end, at_next}
-use Rattle.bip_explain.proofs.TwiceLemmas.{found_last, found_more, found_there}
+use Rattle.std.proofs.Common.{◌∙◌, ◌+◌, arith, rules}
+use Rattle.bip_explain.proofs.LineLemmas.{at_end, at_first, at_next}
+use Rattle.bip_explain.proofs.TwiceLemmas.{found_first, found_last, found_more, found_there, none_last, none_still, none_there, over_begun, over_first}
 use Rattle.bip_explain.proofs.twice.transition_before.Goals as goal
 use Rattle.bip_explain.proofs.twice.transition_before.Invariants.{LeavesSame}
 
-pub returns-then-number-other : goal.returns-then-number-other
-returns-then-number-other c =
+pub loop-other-init : goal.loop-other-init
+loop-other-init c = (
+  1,
+  at_first _ _ (c.into_iter-other-iterator.ensures.into_iter_gives ∙ c.of-other-items.ensures),
+  tt,
+  over_first c.args.text.now c.args.line.now c.args.number,
+)
+
+pub returns-then-number-other-clause-some : goal.returns-then-number-other-clause-some
+returns-then-number-other-clause-some c =
     let next = at_next _ _ _ _ _ _ c.loop-other.invariant.1 c.in-Some.ensures.steps in
     found_there (LeavesSame c.args.text.now c.args.line.now) c.args.text.now c.args.number c.loop-other.invariant.0 c.loop-other.found (omega (arith, next.number)) c.loop-other.invariant.2
+
+pub returns-then-number-other-clause-none : goal.returns-then-number-other-clause-none
+returns-then-number-other-clause-none c =
+    let next = at_next _ _ _ _ _ _ c.loop-other.invariant.1 c.in-Some.ensures.steps in
+    none_there c.args.text.now c.args.line.now c.args.number c.loop-other.invariant.0 c.loop-other.found (omega (arith, next.number)) c.loop-other.invariant.3
 
 pub loop-other-preserved-then-begins_component : goal.loop-other-preserved-then-begins_component
 loop-other-preserved-then-begins_component c =
     let next = at_next _ _ _ _ _ _ c.loop-other.invariant.1 c.in-Some.ensures.steps in
-    (c.loop-other.invariant.0 + 1, next.later, tt)
+    (c.loop-other.invariant.0 + 1, next.later, tt, over_begun c.args.text.now c.args.line.now c.args.number c.loop-other.invariant.0 (omega (arith, next.number)) (rw (← next.number) (rw next.line_is (search rules))))
 
 pub loop-other-preserved-then-leave_same : goal.loop-other-preserved-then-leave_same
 loop-other-preserved-then-leave_same c =
     let next = at_next _ _ _ _ _ _ c.loop-other.invariant.1 c.in-Some.ensures.steps in (
       c.loop-other.invariant.0 + 1,
       next.later,
-      record {
-        before = omega arith;
-        has = rw next.line_is (search rules);
-        alone = λ k above below. absurd (omega (arith, next.number));
-      },
+      rw (c.unwrap_or.ensures, next.number) (found_first (LeavesSame c.args.text.now c.args.line.now) c.args.text.now c.args.number c.loop-other.invariant.0 c.loop-other.found (omega (arith, next.number)) (rw (← next.number) (rw next.line_is (search rules))) c.loop-other.invariant.2 (rw (← next.number) (rw next.line_is (search rules)))),
+      tt,
     )
 
 pub loop-other-preserved : goal.loop-other-preserved
@@ -33,8 +43,13 @@ loop-other-preserved c =
       next.later,
       found_more (LeavesSame c.args.text.now c.args.line.now) c.args.text.now c.args.number c.loop-other.invariant.0 c.loop-other.found c.loop-other.invariant.2
           (rw (← next.number) (rw next.line_is (search rules))),
+      none_still c.args.text.now c.args.line.now c.args.number c.loop-other.invariant.0 c.loop-other.found c.loop-other.invariant.3 (rw (← next.number) (rw next.line_is (search rules))),
     )
 
-pub returns : goal.returns
-returns c =
+pub returns-clause-some : goal.returns-clause-some
+returns-clause-some c =
     found_last (LeavesSame c.args.text.now c.args.line.now) c.args.text.now c.args.number c.loop-other.invariant.0 c.loop-other.found (at_end _ _ _ c.loop-other.invariant.1 c.in-None.ensures.steps.0) c.loop-other.invariant.2
+
+pub returns-clause-none : goal.returns-clause-none
+returns-clause-none c =
+    none_last c.args.text.now c.args.line.now c.args.number c.loop-other.invariant.0 c.loop-other.found (at_end _ _ _ c.loop-other.invariant.1 c.in-None.ensures.steps.0) c.loop-other.invariant.3

@@ -23,3 +23,6 @@ returns-in-NoMemory c = rw c.in-NoMemory.is (cc)
 
 pub returns-in-NoMemoryToTell : goal.returns-in-NoMemoryToTell
 returns-in-NoMemoryToTell c = rw c.in-NoMemoryToTell.is (cc)
+
+pub returns-in-Unexplained : goal.returns-in-Unexplained
+returns-in-Unexplained c = rw c.in-Unexplained.is (cc)

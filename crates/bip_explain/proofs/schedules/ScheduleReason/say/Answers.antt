@@ -17,3 +17,6 @@ returns-in-NoStation c = rw c.in-NoStation.is (cc)
 
 pub returns-in-NoMemory : goal.returns-in-NoMemory
 returns-in-NoMemory c = rw c.in-NoMemory.is (cc)
+
+pub returns-in-Unexplained : goal.returns-in-Unexplained
+returns-in-Unexplained c = rw c.in-Unexplained.is (cc)
