@@ -9,4 +9,5 @@ pub mod ScopeLemmas
 pub mod TakenLemmas
 pub mod TraceLemmas
 pub mod TwiceLemmas
+pub mod UnknownLemmas
 pub mod WantedLemmas

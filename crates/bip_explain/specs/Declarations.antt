@@ -1,6 +1,6 @@
 -- What the lines of a text begin with, and so declare.
 use Rattle.std.specs.Prelude.{◌≡◌, ℕ, ◌<◌, Bool, false, ◌&&◌, ◌||◌, IsTrue, codes, List, [], ◌∷◌}
-use Rattle.std.specs.Prelude.{true, nat_le, if◌then◌else◌}
+use Rattle.std.specs.Prelude.{true, nat_le, if◌then◌else◌, ◌⊎◌, ◌++◌}
 use Rattle.bip_model.specs.Texts.{numbered_lines}
 use Rattle.bip_model.specs.Naming.{same_text}
 use Rattle.bip_explain.specs.Placed.{line_at, said_words}
@@ -69,3 +69,10 @@ has_inside component keyword name line within ((n, bytes) ∷ rest) =
 abbrev pub declares_inside : List ℕ → ℕ → List ℕ → List ℕ → List ℕ → Bool
 declares_inside text line component keyword name =
     has_inside component keyword name line false (numbered_lines text)
+
+-- What contracts of private functions say.
+
+-- names are as they were, or have this word behind them, where the keyword is the one that is meant
+abbrev pub IsMore : List ℕ → List ℕ → List ℕ → List (List ℕ) → List (List ℕ) → Type 0
+IsMore meant keyword word old new =
+    (new ≡ old) ⊎ (IsTrue (same_text keyword meant) × (new ≡ old ++ word ∷ []))

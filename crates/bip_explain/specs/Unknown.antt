@@ -1,7 +1,7 @@
 -- Why a name of a model's text is unknown, and how it is told.
 use Rattle.std.specs.Prelude.{◌≡◌, ◌⊎◌, ℕ, ◌<◌, List, [], ◌∷◌, ◌++◌, codes, Option, None, Some}
-use Rattle.std.specs.Prelude.{Bool, false, ◌||◌, drop, if◌then◌else◌, IfSome, IsTrue}
-use Rattle.bip_model.specs.Naming.{same_text}
+use Rattle.std.specs.Prelude.{All, Bool, false, ◌||◌, drop, if◌then◌else◌, IfSome, IsTrue}
+use Rattle.bip_model.specs.Naming.{IsName, same_text}
 use Rattle.bip_model.specs.Texts.{pair_of}
 use Rattle.std.specs.Fmt.{decimal}
 use Rattle.bip_explain.specs.Declarations.{HasLineWith, IsLineWith, NoLineWith}
@@ -46,6 +46,18 @@ IsLack text number lack =
     × (declares_inside text number lack.component (kind_keyword lack.kind) lack.name ≡ false)
     × IfSome lack.other (λ kind. IsTrue
     (declares_inside text number lack.component (kind_keyword kind) lack.name))
+
+-- the words of a line that name interactions: those of a priority, and those behind a class's name
+abbrev pub named_interactions : List (List ℕ) → List (List ℕ)
+named_interactions [] = []
+named_interactions (keyword ∷ rest) =
+    if same_text keyword (codes "class") then drop 1 rest
+    else (if same_text keyword (codes "priority") then rest else [])
+
+-- each name among words is that of an interaction which a line before one declares
+abbrev pub AreDeclared : List ℕ → ℕ → List (List ℕ) → Type 0
+AreDeclared text number ws =
+    All (λ word. IsName word → HasLineWith text number (codes "interaction") word) ws
 
 -- a line that is told to declare a name stands behind one, and begins so
 abbrev pub IsLaterLine : List ℕ → ℕ → List ℕ → List ℕ → Option ℕ → Type 0

@@ -1,8 +1,10 @@
 //! What the lines before one have declared.
-ghost use Rattle.std.specs.Prelude.{◌≡◌, ◌<◌, IfNone, IfSome};
+ghost use Rattle.std.specs.Prelude.{◌≡◌, ◌⊎◌, ◌<◌, ◌∷◌, ◌++◌, [], All, IfNone, IfOk, IfSome, OnOk};
+ghost use Rattle.std.specs.Prelude.{codes};
 ghost use Rattle.bip_explain.specs.Declarations.{IsInnerLine, IsLineWith, NoLineWith, begins_with};
 ghost use Rattle.bip_explain.specs.Declarations.{begins_component, declares, declares_inner};
-ghost use Rattle.bip_explain.specs.Declarations.{IsSameComponent, declares_inside};
+ghost use Rattle.bip_explain.specs.Declarations.{HasLineWith, IsMore, IsSameComponent};
+ghost use Rattle.bip_explain.specs.Declarations.{declares_inside};
 ghost use Rattle.bip_explain.specs.Placed.{said_words};
 
 use crate::placed::two_words;
@@ -28,7 +30,10 @@ pub(crate) struct Declared {
 
 impl Declared {
     /// What the lines before one declare, which have no fault.
-    pub(crate) fn before(alloc: Global, text: &[u8], line: u64) -> Result<Declared, AllocError> {
+    pub(crate) fn before(alloc: Global, text: &[u8], line: u64) -> Result<Declared, AllocError>
+        ensures { IfOk result (λ declared.
+            All (HasLineWith text.now line (codes "interaction")) declared.interactions) }
+    {
         let mut declared = Declared {
             components: Names::new(alloc),
             inners: Vec::new(alloc),
@@ -46,7 +51,10 @@ impl Declared {
     }
 
     // Takes a line, by its first two words.
-    fn take(&mut self, alloc: Global, keyword: &[u8], word: &[u8]) -> Result<(), AllocError> {
+    fn take(&mut self, alloc: Global, keyword: &[u8], word: &[u8]) -> Result<(), AllocError>
+        ensures { OnOk result (IsMore (codes "interaction") keyword.now word.now
+            self.old.interactions self.new.interactions) }
+    {
         let Some(name) = Name::of(word) else {
             return Ok(());
         };
@@ -95,7 +103,9 @@ impl Inner {
     }
 }
 
-fn add(names: &mut Names, name: Name) -> Result<(), AllocError> {
+fn add(names: &mut Names, name: Name) -> Result<(), AllocError>
+    ensures { OnOk result ((names.new ≡ names.old) ⊎ (names.new ≡ names.old ++ name ∷ [])) }
+{
     if names.contains(&name) {
         return Ok(());
     }

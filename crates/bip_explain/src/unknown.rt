@@ -1,11 +1,13 @@
 //! Names of a model's text that nothing has.
-ghost use Rattle.std.specs.Prelude.{◌≡◌, ◌||◌, codes, drop, IfOk, IfSome, IsTrue};
+ghost use Rattle.std.specs.Prelude.{◌≡◌, ◌||◌, All, codes, drop, IfNone, IfOk, IfSome, IsTrue};
+ghost use Rattle.std.specs.Prelude.{false, true};
 ghost use Rattle.bip_explain.specs.Explanations.{with_parts};
-ghost use Rattle.bip_model.specs.Naming.{same_text};
+ghost use Rattle.bip_model.specs.Naming.{IsName, is_known, same_text};
 ghost use Rattle.bip_model.specs.Texts.{pair_of, words};
 ghost use Rattle.bip_explain.specs.Placed.{IsPlacedOn, line_at, said_words};
-ghost use Rattle.bip_explain.specs.Declarations.{declares_inside};
-ghost use Rattle.bip_explain.specs.Unknown.{IsLack, IsOf, IsUnknownReason, kind_keyword, kind_word};
+ghost use Rattle.bip_explain.specs.Declarations.{HasLineWith, declares_inside};
+ghost use Rattle.bip_explain.specs.Unknown.{AreDeclared, IsLack, IsOf, IsUnknownReason};
+ghost use Rattle.bip_explain.specs.Unknown.{kind_keyword, kind_word, named_interactions};
 ghost use Rattle.bip_explain.specs.Unknown.{has_participant, is_front, lack_parts, later_parts};
 ghost use Rattle.bip_explain.specs.Unknown.{other_parts, unknown_parts};
 ghost use Rattle.bip_explain.specs.Words.{point};
@@ -149,22 +151,34 @@ pub(crate) fn find_unknown(
     text: &[u8],
     number: u64,
 ) -> Result<Option<UnknownReason<'_>>, AllocError>
-    ensures { IfOk result (λ found.
+    ensures some { IfOk result (λ found.
         IfSome found (IsUnknownReason text.now number (line_at text.now number))) }
+    ensures none { IfOk result (λ found. IfNone found (AreDeclared text.now number
+        (named_interactions (said_words (line_at text.now number))))) }
 {
     let declared = Declared::before(alloc, text, number)?;
+    Ok(find_on(text, number, &declared))
+}
+
+// The same, by what the lines before declare.
+fn find_on<'t>(text: &'t [u8], number: u64, declared: &Declared) -> Option<UnknownReason<'t>>
+    requires { All (HasLineWith text.now number (codes "interaction")) declared.now.interactions }
+    ensures some { IfSome result (IsUnknownReason text.now number (line_at text.now number)) }
+    ensures none { IfNone result (AreDeclared text.now number
+        (named_interactions (said_words (line_at text.now number)))) }
+{
     let Some((keyword, words)) = words_of(line_at(text, number)) else {
-        return Ok(None);
+        return None;
     };
-    Ok(if is_text(keyword.word, b"trans") {
-        find_in_transition(text, number, &declared, words)
+    if is_text(keyword.word, b"trans") {
+        find_in_transition(text, number, declared, words)
     } else if is_text(keyword.word, b"interaction") {
-        find_in_interaction(text, number, &declared, behind_first(words))
+        find_in_interaction(text, number, declared, behind_first(words))
     } else if is_text(keyword.word, b"class") {
-        find_member(text, number, &declared, behind_first(words))
+        find_member(text, number, declared, behind_first(words))
     } else {
-        find_member(text, number, &declared, words)
-    })
+        find_member(text, number, declared, words)
+    }
 }
 
 /// The words behind the first one.
@@ -182,11 +196,13 @@ fn find_member<'t>(
     text: &[u8],
     number: u64,
     declared: &Declared,
-    words: PlacedWords<'t>,
+    left: PlacedWords<'t>,
 ) -> Option<UnknownReason<'t>>
-    ensures { IfSome result (IsUnknownReason text.now number words.entry.line.now) }
+    requires { All (HasLineWith text.now number (codes "interaction")) declared.now.interactions }
+    ensures some { IfSome result (IsUnknownReason text.now number left.entry.line.now) }
+    ensures none { IfNone result (AreDeclared text.now number (words left.entry.rest.now)) }
 {
-    for placed in words {
+    for placed in left {
         if is_missing(&declared.interactions, placed.word)
             && line_with(text, number, b"interaction", placed.word).is_none()
         {
@@ -198,7 +214,9 @@ fn find_member<'t>(
 }
 
 // Whether a word is a name that isn't in a list.
-fn is_missing(names: &Names, word: &[u8]) -> bool {
+fn is_missing(names: &Names, word: &[u8]) -> bool
+    ensures { result ≡ false → IsName word.now → is_known word.now names.now ≡ true }
+{
     match Name::of(word) {
         None => false,
         Some(name) => !names.contains(&name),
