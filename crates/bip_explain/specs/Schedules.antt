@@ -75,8 +75,8 @@ abbrev pub AreNamesKnown : Planned → List (List ℕ) → Type 0
 AreNamesKnown plan [] = ⊤
 AreNamesKnown plan (verb ∷ rest) = AreNamesBehind plan rest (same_text verb (codes "try"))
 
--- where it may be told that no reason is found: where each byte can stand in a text, and the words are
--- taken behind their verb; where the names are those that it wants; of want of memory nowhere
+-- where it may be told that no reason is found: where each byte can stand in a text, and the words
+-- are taken behind their verb; where the names are those that it wants; of want of memory nowhere
 abbrev pub MayLackEvent : Planned → List ℕ → TraceFault → Type 0
 MayLackEvent plan line Syntax =
     (is_plain line ≡ true) × (takes_event (said_words line) ≡ true)

@@ -1,8 +1,13 @@
 //! Limits of models that a line passes.
-ghost use Rattle.std.specs.Prelude.{◌≡◌, [], IfNone, IfSome};
+ghost use Rattle.std.specs.Prelude.{◌≡◌, ℕ, [], IfNone, IfSome, List, false};
+ghost use Rattle.std.specs.Prelude.{◌||◌, codes};
+ghost use Rattle.bip_model.specs.Naming.{same_text};
+ghost use Rattle.std.specs.List.{list_any};
 ghost use Rattle.bip_explain.specs.Explanations.{with_parts};
-ghost use Rattle.bip_explain.specs.Limits.{IsLimitReason, limit_of, limit_parts};
-ghost use Rattle.bip_explain.specs.Placed.{said_words};
+ghost use Rattle.bip_explain.specs.Limits.{IsLimitReason, IsOver, IsWithin, begins_list};
+ghost use Rattle.bip_explain.specs.Limits.{counted_on, has_point, limit_of, limit_parts};
+ghost use Rattle.bip_explain.specs.Limits.{parts_list};
+ghost use Rattle.bip_explain.specs.Placed.{IsBehind, said_words};
 
 use crate::Explanation;
 use crate::placed::{Placed, PlacedWords, words_of};
@@ -46,11 +51,20 @@ pub(crate) fn find_limit(line: &[u8]) -> Option<LimitReason<'_>>
 {
     let (keyword, words) = words_of(line)?;
     let limit = LimitReason::Line(limit_of(keyword.word));
-    if is_text(keyword.word, b"trans") || is_text(keyword.word, b"interaction") {
+    if has_lists(keyword.word) {
         Some(find_long(words).unwrap_or(limit))
     } else {
         Some(limit)
     }
+}
+
+// Whether lines that begin so have a guard and a list of assignments.
+fn has_lists(keyword: &[u8]) -> bool
+    ensures { result
+        ≡ (same_text keyword.now (codes "trans")
+        || same_text keyword.now (codes "interaction")) }
+{
+    is_text(keyword, b"trans") || is_text(keyword, b"interaction")
 }
 
 // The limit of how many such lines there are.
@@ -85,7 +99,9 @@ struct Counted {
 
 // The first word of a line that is more than one of its lists may have.
 fn find_long<'t>(words: PlacedWords<'t>) -> Option<LimitReason<'t>>
-    ensures { IfSome result (IsLimitReason words.entry.line.now) }
+    ensures { (front : List (List ℕ)) → IsBehind front words.entry.line.now words.entry.rest.now
+        → list_any begins_list front ≡ false
+        → IfSome result (IsLimitReason words.entry.line.now) }
 {
     let mut counted = Counted {
         is_head: true,
@@ -94,7 +110,7 @@ fn find_long<'t>(words: PlacedWords<'t>) -> Option<LimitReason<'t>>
         terms: 0,
     };
     for placed in words {
-        counted.count(placed.word);
+        counted = counted.with(placed.word);
         if let Some(limit) = counted.passed() {
             return Some(LimitReason::Word(placed, limit));
         }
@@ -103,25 +119,37 @@ fn find_long<'t>(words: PlacedWords<'t>) -> Option<LimitReason<'t>>
 }
 
 impl Counted {
-    fn count(&mut self, word: &[u8]) {
-        if is_text(word, b"when") || is_text(word, b"do") {
-            self.is_head = false;
-            self.parts = 1;
-            self.terms = 0;
-        } else if is_text(word, b"and") || is_text(word, b";") {
-            self.parts = self.parts.saturating_add(1);
-            self.terms = 0;
+    fn with(self, word: &[u8]) -> Counted
+        requires { IsWithin self }
+        ensures { result ≡ counted_on self word.now }
+    {
+        let mut more = self;
+        if begins_list(word) {
+            more.is_head = false;
+            more.parts = 1;
+            more.terms = 0;
+        } else if parts_list(word) {
+            if !self.is_head {
+                more.parts += 1;
+            }
+            more.terms = 0;
         } else if is_relation(word) || is_text(word, b":=") {
-            self.terms = 0;
+            more.terms = 0;
         } else if self.is_head {
-            self.participants = self.participants.saturating_add(u32::from(is_port(word)));
+            if has_point(word) {
+                more.participants += 1;
+            }
         } else if !is_sign(word) {
-            self.terms = self.terms.saturating_add(1);
+            more.terms += 1;
         }
+        more
     }
 
     // The limit that is passed, if one is.
-    fn passed(&self) -> Option<&'static [u8]> {
+    fn passed(&self) -> Option<&'static [u8]>
+        ensures some { IfSome result (λ limit. IsOver self.now limit.now) }
+        ensures none { IfNone result (IsWithin self.now) }
+    {
         if MOST_PARTICIPANTS < self.participants {
             Some(b"an interaction has at most 8 participants")
         } else if MOST_PARTS < self.parts {
@@ -134,7 +162,21 @@ impl Counted {
     }
 }
 
+fn begins_list(word: &[u8]) -> bool
+    ensures { result ≡ begins_list word.now }
+{
+    is_text(word, b"when") || is_text(word, b"do")
+}
+
+fn parts_list(word: &[u8]) -> bool
+    ensures { result ≡ parts_list word.now }
+{
+    is_text(word, b"and") || is_text(word, b";")
+}
+
 // Whether a word before the guard is a participant, as no other word there has a point.
-fn is_port(word: &[u8]) -> bool {
-    word.contains(&b'.')
+fn has_point(word: &[u8]) -> bool
+    ensures { result ≡ has_point word.now }
+{
+    word.iter().any(|byte| *byte == b'.')
 }

@@ -1,5 +1,6 @@
 //! Names of a model's text that are there already.
-ghost use Rattle.std.specs.Prelude.{◌≡◌, ◌<◌, ◌∷◌, ℕ, List, [], IfNone, IfOk, IfSome, IsTrue, Some, codes};
+ghost use Rattle.std.specs.Prelude.{◌≡◌, ◌<◌, ◌∷◌, ℕ, List, [], IfNone, IfOk, IfSome, IsTrue};
+ghost use Rattle.std.specs.Prelude.{Some, codes};
 ghost use Rattle.std.specs.Fmt.{decimal};
 ghost use Rattle.bip_explain.specs.Explanations.{with_parts};
 ghost use Rattle.bip_explain.specs.Placed.{first_four, first_three, line_at, said_words};
