@@ -10,7 +10,7 @@ use Rattle.std.proofs.lemmas.List.Folds.{list_any-append}
 use Rattle.std.proofs.lemmas.List.Sums.{sum_by-append}
 use Rattle.bip_model.specs.Naming.{same_text}
 use Rattle.bip_model.specs.Texts.{words}
-use Rattle.bip_explain.specs.Limits.{IsLongList, IsLongSum, IsNinth, IsOver, IsOverLimit, IsWithin, begins_list, counted_on, ends_sum, has_point, parts_list}
+use Rattle.bip_explain.specs.Limits.{IsLongList, IsLongSum, IsNinth, IsOver, IsOverLimit, AreFewYet, begins_list, counted_on, ends_sum, has_point, parts_list}
 use Rattle.bip_explain.specs.Placed.{IsPlacedOn}
 use Rattle.bip_explain.specs.Words.{is_relation, is_sign}
 use Rattle.bip_explain.specs.declared.limits.Counted.{Counted}
@@ -192,7 +192,7 @@ module _ (line : List ℕ) (c : Counted) (word : List ℕ) (left new : List (Lis
         (λ head. sum_more (counted_on c word) (no_end b p r) (so.terms_so head) (let one : ◌≡◌ {A = ℕ} (cond (not (is_sign word)) 1 0) 1 = rw s refl in omega (arith, ap (λ (d : Counted). d.terms) e, one)))
   ]
 
-  ninth : IsWithin c → 8 < (counted_on c word).participants → IsNinth so.front word
+  ninth : AreFewYet c → 8 < (counted_on c word).participants → IsNinth so.front word
   ninth within over = elim (step_of c word) [
     | begins b e ↦ absurd (omega (arith, within.participants, over, ap (λ (d : Counted). d.participants) e))
     | parts b p e ↦ absurd (omega (arith, within.participants, over, ap (λ (d : Counted). d.participants) e))
@@ -204,7 +204,7 @@ module _ (line : List ℕ) (c : Counted) (word : List ℕ) (left new : List (Lis
     | adds b p r h s e ↦ absurd (omega (arith, within.participants, over, ap (λ (d : Counted). d.participants) e))
   ]
 
-  long_list : IsWithin c → 16 < (counted_on c word).parts → IsLongList so.front word
+  long_list : AreFewYet c → 16 < (counted_on c word).parts → IsLongList so.front word
   long_list within over = elim (step_of c word) [
     | begins b e ↦ absurd (omega (arith, over, ap (λ (d : Counted). d.parts) e))
     | parts b p e ↦ tested c.is_head
@@ -219,7 +219,7 @@ module _ (line : List ℕ) (c : Counted) (word : List ℕ) (left new : List (Lis
     | adds b p r h s e ↦ absurd (omega (arith, within.parts, over, ap (λ (d : Counted). d.parts) e))
   ]
 
-  long_sum : IsWithin c → 16 < (counted_on c word).terms → IsLongSum so.front word
+  long_sum : AreFewYet c → 16 < (counted_on c word).terms → IsLongSum so.front word
   long_sum within over = elim (step_of c word) [
     | begins b e ↦ absurd (omega (arith, over, ap (λ (d : Counted). d.terms) e))
     | parts b p e ↦ absurd (omega (arith, over, ap (λ (d : Counted). d.terms) e))
@@ -232,7 +232,7 @@ module _ (line : List ℕ) (c : Counted) (word : List ℕ) (left new : List (Lis
   ]
 
 -- a word that passes a limit
-pub over_limit : (line : List ℕ) (placed : Placed) (c : Counted) (rest limit : List ℕ) (left : List (List ℕ)) → AreCounted line c left → IsWithin c → left ≡ placed.word.now ∷ words rest → (at : IsPlacedOn line placed) → words at.behind ≡ words rest → IsOver (counted_on c placed.word.now) limit
+pub over_limit : (line : List ℕ) (placed : Placed) (c : Counted) (rest limit : List ℕ) (left : List (List ℕ)) → AreCounted line c left → AreFewYet c → left ≡ placed.word.now ∷ words rest → (at : IsPlacedOn line placed) → words at.behind ≡ words rest → IsOver (counted_on c placed.word.now) limit
     → (at' : IsPlacedOn line placed) × IsOverLimit at'.front placed.word.now limit
 over_limit line placed c rest limit left so within is at same over =
     let there : at.front ++ placed.word.now ∷ words rest ≡ so.front ++ placed.word.now ∷ words rest

@@ -4,10 +4,9 @@ use Rattle.std.specs.Prelude.{unwrap_or}
 use Rattle.std.proofs.lemmas.Bool.{cases_lt, false≢true}
 use Rattle.bip_model.specs.Naming.{same_text}
 use Rattle.bip_reader.proofs.SpellingLemmas.{same_word}
-use Rattle.bip_explain.specs.Declarations.{IsSameComponent, begins_component}
+use Rattle.bip_explain.specs.Declarations.{IsBegunBetween, IsInnerLine, IsSameComponent, begins_component, declares}
 use Rattle.bip_explain.specs.Placed.{first_three, line_at, said_words}
-use Rattle.bip_explain.proofs.LineLemmas.{line_zero}
-use Rattle.bip_explain.specs.Twice.{IsBegunBetween, NoSameTransition, leave_same}
+use Rattle.bip_explain.specs.Twice.{NoSameTransition, leave_same, say_same}
 
 -- a line in front of one has this, and no component is begun behind it
 abbrev pub IsLast : (ℕ → Type 0) → List ℕ → ℕ → ℕ → Type 0
@@ -63,35 +62,44 @@ leaves_none (a ∷ []) (d ∷ e ∷ vs) same = absurd (false≢true same)
 leaves_none (a ∷ b ∷ []) (d ∷ e ∷ vs) same = absurd (false≢true same)
 leaves_none (a ∷ b ∷ c ∷ ws) (d ∷ e ∷ []) same = absurd (false≢true same)
 
--- each of the lines in front of this one that has the transition of a line is of a component before
-pub record AreOver (text : List ℕ) (number : ℕ) (line : List ℕ) (m : ℕ) : Type 0 where
-  pub each : (n : ℕ) → n < m → leave_same (said_words line) (said_words (line_at text n)) ≡ true → IsBegunBetween text n number
+-- each of the lines in front of this one that has this is of a component before
+pub record AreOver (P : ℕ → Type 0) (text : List ℕ) (number : ℕ) (m : ℕ) : Type 0 where
+  pub each : (n : ℕ) → n < m → P n → IsBegunBetween text n number
 
-pub over_begun : (text line : List ℕ) (number m : ℕ) → m < number → begins_component (said_words (line_at text m)) ≡ true → AreOver text number line (m + 1)
-over_begun text line number m h begins = record {
-  each = λ n below same. elim (cases_lt n m) as (λ _. IsBegunBetween text n number) [
-    | inl less ↦ (m, less, h, begins)
-    | inr more ↦ let is : n ≡ m = omega arith in absurd (false≢true (sym (leaves_none (said_words line) (said_words (line_at text m)) (rw is at same)) ∙ begins))
-  ];
-}
+-- none of the lines before one has this, but those of a component before
+abbrev pub NoneHas : (ℕ → Type 0) → List ℕ → ℕ → Type 0
+NoneHas P text number = (n : ℕ) → n < number → P n → IsBegunBetween text n number
 
-pub over_other : (text line : List ℕ) (number m : ℕ) → AreOver text number line m → leave_same (said_words line) (said_words (line_at text m)) ≡ false → AreOver text number line (m + 1)
-over_other text line number m so other = record { each = below_more _ _ so.each (λ same. absurd (false≢true (sym other ∙ same))) }
+module _ (P : ℕ → Type 0) (text : List ℕ) (number m : ℕ) where
+  pub over_begun : m < number → begins_component (said_words (line_at text m)) ≡ true → ¬ P m → AreOver P text number (m + 1)
+  over_begun h begins none = record {
+    each = λ n below has. elim (cases_lt n m) as (λ _. IsBegunBetween text n number) [
+      | inl less ↦ (m, less, h, begins)
+      | inr more ↦ let is : n ≡ m = omega arith in absurd (none (subst P is has))
+    ];
+  }
 
-pub over_there : (text line : List ℕ) (number m : ℕ) → number ≤ m → AreOver text number line m → NoSameTransition text number line
-over_there text line number m h so = λ n below. so.each n (omega arith)
+  -- where none is found, or one is, and none is found behind it
+  pub none_still : (found : Option ℕ) → IfNone found (AreOver P text number m) → ¬ P m → IfNone found (AreOver P text number (m + 1))
+  none_still None so none = record { each = below_more _ _ so.each (λ has. absurd (none has)) }
+  none_still (Some n) so none = tt
+
+  pub none_there : (found : Option ℕ) → number ≤ m → IfNone found (AreOver P text number m) → IfNone found (NoneHas P text number)
+  none_there None h so = λ n below. so.each n (omega arith)
+  none_there (Some n) h so = tt
+
+  pub none_last : (found : Option ℕ) → ((n : ℕ) → m ≤ n → ¬ P n) → IfNone found (AreOver P text number m) → IfNone found (NoneHas P text number)
+  none_last None none so = λ n below has. elim (cases_lt n m) as (λ _. IsBegunBetween text n number) [ inl less ↦ so.each n less has | inr more ↦ absurd (none n more has) ]
+  none_last (Some n) none so = tt
+
+pub over_first : (P : ℕ → Type 0) (text : List ℕ) (number : ℕ) → ¬ P 0 → AreOver P text number 1
+over_first P text number none = record { each = λ n below has. let is : n ≡ 0 = omega arith in absurd (none (subst P is has)) }
 
 no_line_same : (ws : List (List ℕ)) → leave_same ws [] ≡ false
 no_line_same [] = refl
 no_line_same (a ∷ []) = refl
 no_line_same (a ∷ b ∷ []) = refl
 no_line_same (a ∷ b ∷ c ∷ ws) = refl
-
-pub over_last : (text line : List ℕ) (number m : ℕ) → ((n : ℕ) → m ≤ n → line_at text n ≡ []) → AreOver text number line m → NoSameTransition text number line
-over_last text line number m none so = λ n below same. elim (cases_lt n m) as (λ _. IsBegunBetween text n number) [
-  | inl less ↦ so.each n less same
-  | inr more ↦ let wrong : leave_same (said_words line) [] ≡ true = rw (none n more) at same in absurd (false≢true (sym (no_line_same (said_words line)) ∙ wrong))
-]
 
 -- words that are fewer than three leave nothing
 pub short_same : (text line : List ℕ) (number : ℕ) → first_three (said_words line) ≡ None → NoSameTransition text number line
@@ -103,25 +111,40 @@ short_same text line number short = λ n below same. absurd (false≢true (sym (
     by_words (a ∷ b ∷ []) vs e = refl
     by_words (a ∷ b ∷ c ∷ ws) vs e = cc
 
-pub over_first : (text line : List ℕ) (number : ℕ) → AreOver text number line 1
-over_first text line number = record {
-  each = λ n below same. let wrong : leave_same (said_words line) [] ≡ true = rw (line_zero text n below) at same in absurd (false≢true (sym (no_line_same (said_words line)) ∙ wrong));
-}
+-- an empty line leaves nothing, and declares nothing
+pub leaves_not : (text line : List ℕ) (n : ℕ) → line_at text n ≡ [] → ¬ (leave_same (said_words line) (said_words (line_at text n)) ≡ true)
+leaves_not text line n none same = let wrong : leave_same (said_words line) [] ≡ true = rw none at same in false≢true (sym (no_line_same (said_words line)) ∙ wrong)
 
--- where none is found, or one is, and none is found behind it
-pub none_still : (text line : List ℕ) (number m : ℕ) (found : Option ℕ) → IfNone found (AreOver text number line m) → leave_same (said_words line) (said_words (line_at text m)) ≡ false → IfNone found (AreOver text number line (m + 1))
-none_still text line number m None so other = over_other text line number m so other
-none_still text line number m (Some n) so other = tt
+pub leaves_no_component : (text line : List ℕ) (n : ℕ) → begins_component (said_words (line_at text n)) ≡ true → ¬ (leave_same (said_words line) (said_words (line_at text n)) ≡ true)
+leaves_no_component text line n begins same = false≢true (sym (leaves_none (said_words line) (said_words (line_at text n)) same) ∙ begins)
 
-pub none_there : (text line : List ℕ) (number m : ℕ) (found : Option ℕ) → number ≤ m → IfNone found (AreOver text number line m) → IfNone found (NoSameTransition text number line)
-none_there text line number m None h so = over_there text line number m h so
-none_there text line number m (Some n) h so = tt
+pub declares_not : (text name : List ℕ) (n : ℕ) → line_at text n ≡ [] → ¬ IsInnerLine text n name
+declares_not text name n none is = let wrong : false ≡ true = rw none at is in false≢true wrong
 
-pub none_last : (text line : List ℕ) (number m : ℕ) (found : Option ℕ) → ((n : ℕ) → m ≤ n → line_at text n ≡ []) → IfNone found (AreOver text number line m) → IfNone found (NoSameTransition text number line)
-none_last text line number m None none so = over_last text line number m none so
-none_last text line number m (Some n) none so = tt
+inner_none : (name : List ℕ) (ws : List (List ℕ)) → declares name ws ≡ true → begins_component ws ≡ false
+inner_none name [] is = refl
+inner_none name (a ∷ []) is = refl
+inner_none name (a ∷ b ∷ ws) is = by_test (same_text a (codes "component")) refl
+  where
+    by_test : (t : Bool) → same_text a (codes "component") ≡ t → same_text a (codes "component") ≡ false
+    by_test false e = e
+    by_test true e =
+        let word : a ≡ codes "component" = same_word a (codes "component") e in
+        let wrong : declares name (codes "component" ∷ b ∷ ws) ≡ true = subst (λ (w : List ℕ). declares name (w ∷ b ∷ ws) ≡ true) word is in
+        absurd (false≢true wrong)
+
+pub declares_no_component : (text name : List ℕ) (n : ℕ) → begins_component (said_words (line_at text n)) ≡ true → ¬ IsInnerLine text n name
+declares_no_component text name n begins is = false≢true (sym (inner_none name (said_words (line_at text n)) is) ∙ begins)
 
 -- the first one that is found stays
 pub found_first : (P : ℕ → Type 0) (text : List ℕ) (number m : ℕ) (found : Option ℕ) → m < number → P m → IfSome found (IsFound P text number m) → begins_component (said_words (line_at text m)) ≡ false → IsFound P text number (m + 1) (unwrap_or found m)
 found_first P text number m None h has so next = record { before = h; has = has; alone = λ k above below. absurd (omega arith) }
 found_first P text number m (Some n) h has so next = found_more P text number m (Some n) so next
+
+-- an empty line says no priority
+pub nothing_same : (ws : List (List ℕ)) → say_same ws [] ≡ false
+nothing_same [] = refl
+nothing_same (a ∷ []) = refl
+nothing_same (a ∷ b ∷ []) = refl
+nothing_same (a ∷ b ∷ c ∷ []) = refl
+nothing_same (a ∷ b ∷ c ∷ d ∷ ws) = refl

@@ -52,6 +52,11 @@ abbrev pub IsSameComponent : List ℕ → ℕ → ℕ → Type 0
 IsSameComponent text n line =
     (k : ℕ) → n < k → k < line → begins_component (said_words (line_at text k)) ≡ false
 
+-- behind a line, and in front of another one, a component is begun
+abbrev pub IsBegunBetween : List ℕ → ℕ → ℕ → Type 0
+IsBegunBetween text n number =
+    (k : ℕ) × (n < k) × (k < number) × (begins_component (said_words (line_at text k)) ≡ true)
+
 -- whether a line before one declares a name with a keyword inside a component, of lines that have
 -- their numbers; and whether the first of these stands inside it
 abbrev pub has_inside :

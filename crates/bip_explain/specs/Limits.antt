@@ -98,7 +98,7 @@ counted_on c word =
     else (if is_sign word then c else record c { terms = c.terms + 1 }))))
 
 -- no limit is passed
-pub record IsWithin (c : Counted) : Type 0 where
+pub record AreFewYet (c : Counted) : Type 0 where
   pub participants : c.participants ≤ 8
   pub parts : c.parts ≤ 16
   pub terms : c.terms ≤ 16

@@ -16,7 +16,7 @@ use Rattle.bip_explain.specs.Forms.{form_parts}
 use Rattle.bip_explain.specs.Limits.{IsLimitReason, limit_parts}
 use Rattle.bip_explain.specs.Placed.{IsPlacedOn, line_at, said_words}
 use Rattle.bip_explain.specs.Scopes.{IsStandingAt}
-use Rattle.bip_explain.specs.Twice.{IsTwiceReason, NoSameTransition, twice_parts}
+use Rattle.bip_explain.specs.Twice.{AreNew, IsTwiceReason, NoSameTransition, twice_parts}
 use Rattle.bip_explain.specs.Twice.{why_of_twice}
 use Rattle.bip_explain.specs.Unknown.{AreDeclared, IsUnknownReason, named_interactions}
 use Rattle.bip_explain.specs.Unknown.{unknown_parts}
@@ -106,14 +106,16 @@ HasForm text number =
 
 -- where it may be told that no reason is found, of a kind of fault of a line: where the line has a
 -- form, where nothing is missing down to it, where it has no words of which one could be too many,
--- where no line before has its transition, and where the interactions that it names are declared by
--- lines before; of want of memory nowhere
+-- where no line before has its transition, or says or declares the same, and where the interactions
+-- that it names are declared by lines before; of want of memory nowhere
 abbrev pub MayLackReason : List ℕ → ℕ → Why → Type 0
 MayLackReason text number why.Syntax = HasForm text number
 MayLackReason text number why.Missing = IsComplete text number
 MayLackReason text number why.TooMany = said_words (line_at text number) ≡ []
 MayLackReason text number why.TwoTransitions =
     NoSameTransition text number (line_at text number)
+MayLackReason text number why.Twice =
+    AreNew text number (said_words (line_at text number))
 MayLackReason text number why.Unknown =
     AreDeclared text number (named_interactions (said_words (line_at text number)))
 MayLackReason text number why.Memory = ⊥

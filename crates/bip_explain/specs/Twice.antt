@@ -1,12 +1,13 @@
 -- What a line of a model's text names twice, and how it is told.
 use Rattle.std.specs.Prelude.{◌≡◌, ◌⊎◌, ℕ, ◌<◌, Bool, true, false, ◌&&◌, ◌||◌, IsTrue}
-use Rattle.std.specs.Prelude.{List, [], ◌∷◌, ◌++◌, codes}
+use Rattle.std.specs.Prelude.{List, [], ◌∷◌, ◌++◌, codes, ⊤}
 use Rattle.std.specs.Fmt.{decimal}
 use Rattle.bip_model.specs.Naming.{same_text}
 use Rattle.bip_reader.specs.declared.faults.Why.{Why}
 use Rattle.bip_reader.specs.declared.faults.Why.TheVariants as why
 use Rattle.bip_explain.specs.Declarations.{IsInnerLine, IsLineWith, IsSameComponent}
-use Rattle.bip_explain.specs.Declarations.{begins_component, declares_inner}
+use Rattle.bip_explain.specs.Declarations.{IsBegunBetween, NoLineWith}
+use Rattle.bip_explain.specs.Declarations.{declares_inner}
 use Rattle.bip_explain.specs.Explanations.{column_parts, marked, placed_parts}
 use Rattle.bip_explain.specs.Placed.{IsPlacedOn, IsWordAt, line_at, said_words}
 use Rattle.bip_explain.specs.Unknown.{IsOf}
@@ -47,16 +48,28 @@ IsSameTransition text number line n =
     (n < number) × IsTrue (leave_same (said_words line) (said_words (line_at text n)))
     × IsSameComponent text n number
 
--- behind a line, and in front of another one, a component is begun
-abbrev pub IsBegunBetween : List ℕ → ℕ → ℕ → Type 0
-IsBegunBetween text n number =
-    (k : ℕ) × (n < k) × (k < number) × (begins_component (said_words (line_at text k)) ≡ true)
-
 -- no line of those before one has the transition of a line, but in a component before
 abbrev pub NoSameTransition : List ℕ → ℕ → List ℕ → Type 0
 NoSameTransition text number line =
     (n : ℕ) → n < number → leave_same (said_words line) (said_words (line_at text n)) ≡ true
     → IsBegunBetween text n number
+
+-- words that begin with these two declare nothing twice: inside a component no line before declares
+-- the name there, and outside none does with the keyword
+abbrev pub IsFirstDeclared : List ℕ → ℕ → List ℕ → List ℕ → Type 0
+IsFirstDeclared text number keyword name =
+    (declares_inner keyword ≡ true → (n : ℕ) → n < number → IsInnerLine text n name
+    → IsBegunBetween text n number)
+    × (declares_outer keyword ≡ true → NoLineWith text number keyword name)
+
+-- words of a line are none that a line before says: as a priority, or as a declaration
+abbrev pub AreNew : List ℕ → ℕ → List (List ℕ) → Type 0
+AreNew text number [] = ⊤
+AreNew text number (keyword ∷ []) = ⊤
+AreNew text number (keyword ∷ name ∷ rest) =
+    ((n : ℕ) → n < number
+    → say_same (keyword ∷ name ∷ rest) (said_words (line_at text n)) ≡ false)
+    × IsFirstDeclared text number keyword name
 
 -- a word in front of a column names a component
 abbrev pub IsPartyBefore : List ℕ → ℕ → List ℕ → Type 0

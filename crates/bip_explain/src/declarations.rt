@@ -1,10 +1,10 @@
 //! What the lines before one have declared.
-ghost use Rattle.std.specs.Prelude.{◌≡◌, ◌⊎◌, ◌<◌, ◌∷◌, ◌++◌, [], All, IfNone, IfOk, IfSome, OnOk};
+ghost use Rattle.std.specs.Prelude.{◌≡◌, ◌⊎◌, ◌<◌, ◌∷◌, ◌++◌, ℕ, [], All, IfNone, IfOk, IfSome, OnOk};
 ghost use Rattle.std.specs.Prelude.{codes};
 ghost use Rattle.bip_explain.specs.Declarations.{IsInnerLine, IsLineWith, NoLineWith, begins_with};
 ghost use Rattle.bip_explain.specs.Declarations.{begins_component, declares, declares_inner};
 ghost use Rattle.bip_explain.specs.Declarations.{HasLineWith, IsMore, IsSameComponent};
-ghost use Rattle.bip_explain.specs.Declarations.{declares_inside};
+ghost use Rattle.bip_explain.specs.Declarations.{IsBegunBetween, declares_inside};
 ghost use Rattle.bip_explain.specs.Placed.{said_words};
 
 use crate::placed::two_words;
@@ -153,8 +153,10 @@ fn begins_with(line: &[u8], keyword: &[u8], name: &[u8]) -> bool
 /// The number of the line before one that declares a name inside the component that is begun last,
 /// if one does.
 pub(crate) fn inner_line_with(text: &[u8], line: u64, name: &[u8]) -> Option<u64>
-    ensures { IfSome result (λ n.
+    ensures some { IfSome result (λ n.
         (n < line) × IsInnerLine text.now n name.now × IsSameComponent text.now n line) }
+    ensures none { IfNone result ((n : ℕ) → n < line → IsInnerLine text.now n name.now
+        → IsBegunBetween text.now n line) }
 {
     let mut found = None;
     for (number, bytes) in NumberedLines::of(text) {

@@ -4,7 +4,7 @@ ghost use Rattle.std.specs.Prelude.{◌||◌, codes};
 ghost use Rattle.bip_model.specs.Naming.{same_text};
 ghost use Rattle.std.specs.List.{list_any};
 ghost use Rattle.bip_explain.specs.Explanations.{with_parts};
-ghost use Rattle.bip_explain.specs.Limits.{IsLimitReason, IsOver, IsWithin, begins_list};
+ghost use Rattle.bip_explain.specs.Limits.{IsLimitReason, IsOver, AreFewYet, begins_list};
 ghost use Rattle.bip_explain.specs.Limits.{counted_on, has_point, limit_of, limit_parts};
 ghost use Rattle.bip_explain.specs.Limits.{parts_list};
 ghost use Rattle.bip_explain.specs.Placed.{IsBehind, said_words};
@@ -120,7 +120,7 @@ fn find_long<'t>(words: PlacedWords<'t>) -> Option<LimitReason<'t>>
 
 impl Counted {
     fn with(self, word: &[u8]) -> Counted
-        requires { IsWithin self }
+        requires { AreFewYet self }
         ensures { result ≡ counted_on self word.now }
     {
         let mut more = self;
@@ -148,7 +148,7 @@ impl Counted {
     // The limit that is passed, if one is.
     fn passed(&self) -> Option<&'static [u8]>
         ensures some { IfSome result (λ limit. IsOver self.now limit.now) }
-        ensures none { IfNone result (IsWithin self.now) }
+        ensures none { IfNone result (AreFewYet self.now) }
     {
         if MOST_PARTICIPANTS < self.participants {
             Some(b"an interaction has at most 8 participants")

@@ -1,12 +1,12 @@
 //! Names of a model's text that are there already.
 ghost use Rattle.std.specs.Prelude.{◌≡◌, ◌<◌, ◌∷◌, ℕ, List, [], IfNone, IfOk, IfSome, IsTrue};
-ghost use Rattle.std.specs.Prelude.{Some, codes};
+ghost use Rattle.std.specs.Prelude.{Some, codes, false};
 ghost use Rattle.std.specs.Fmt.{decimal};
 ghost use Rattle.bip_explain.specs.Explanations.{with_parts};
 ghost use Rattle.bip_explain.specs.Placed.{first_four, first_three, line_at, said_words};
 ghost use Rattle.bip_explain.specs.Twice.{IsDeclaration, IsPartyAgain, IsPartyBefore};
 ghost use Rattle.bip_explain.specs.Twice.{IsSameTransition, IsTwiceReason, IsWordAgain};
-ghost use Rattle.bip_explain.specs.Twice.{NoSameTransition};
+ghost use Rattle.bip_explain.specs.Twice.{AreNew, IsFirstDeclared, NoSameTransition};
 ghost use Rattle.bip_explain.specs.Twice.{declares_outer};
 ghost use Rattle.bip_explain.specs.Twice.{leave_same, say_same, twice_parts, why_of_twice};
 ghost use Rattle.bip_reader.specs.declared.faults.Why.TheVariants.{Twice, TwoTransitions};
@@ -88,13 +88,15 @@ pub(crate) fn find_twice(
     ensures is { IfOk result (λ found.
         IfSome found (IsTwiceReason text.now number (line_at text.now number))) }
     ensures kind { IfOk result (λ found. IfSome found (λ reason. why_of_twice reason ≡ Twice)) }
+    ensures none { IfOk result (λ found. IfNone found
+        (AreNew text.now number (said_words (line_at text.now number)))) }
 {
     let line = line_at(text, number);
     let Some((keyword, words)) = words_of(line) else {
         return Ok(None);
     };
-    if is_text(keyword.word, b"priority") {
-        return Ok(find_said(text, number, line));
+    if let Some(reason) = find_said(text, number, line) {
+        return Ok(Some(reason));
     }
     let mut words = words;
     let Some(named) = words.next() else {
@@ -109,8 +111,9 @@ pub(crate) fn find_twice(
 
 // The line before that declares the name which a line with this keyword declares.
 fn line_of_name(text: &[u8], number: u64, keyword: &[u8], name: &[u8]) -> Option<u64>
-    ensures { IfSome result (λ n.
+    ensures some { IfSome result (λ n.
         (n < number) × IsDeclaration text.now number keyword.now n name.now) }
+    ensures none { IfNone result (IsFirstDeclared text.now number keyword.now name.now) }
 {
     if declares_inner(keyword) {
         inner_line_with(text, number, name)
@@ -131,9 +134,14 @@ fn declares_outer(keyword: &[u8]) -> bool
 fn find_said<'t>(text: &'t [u8], number: u64, line: &[u8]) -> Option<TwiceReason<'t>>
     ensures is { IfSome result (IsTwiceReason text.now number line.now) }
     ensures kind { IfSome result (λ reason. why_of_twice reason ≡ Twice) }
+    ensures none { IfNone result ((n : ℕ) → n < number
+        → say_same (said_words line.now) (said_words (line_at text.now n)) ≡ false) }
 {
     // The line may be long, so its words are cut once.
     let said = four_words(line)?;
+    if !is_text(said.0, b"priority") {
+        return None;
+    }
     for (other, bytes) in NumberedLines::of(text) {
         if number <= other {
             return None;

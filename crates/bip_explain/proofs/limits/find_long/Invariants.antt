@@ -1,7 +1,7 @@
 use Rattle.std.proofs.Common.{◌≡◌, List, ℕ, false}
 use Rattle.std.specs.List.{list_any}
 use Rattle.bip_model.specs.Texts.{words}
-use Rattle.bip_explain.specs.Limits.{IsWithin, begins_list}
+use Rattle.bip_explain.specs.Limits.{AreFewYet, begins_list}
 use Rattle.bip_explain.specs.Placed.{IsBehind}
 use Rattle.bip_explain.proofs.LimitLemmas.{AreCounted}
 use Rattle.bip_explain.proofs.limits.find_long.Given as goal
@@ -9,6 +9,6 @@ use Rattle.bip_explain.proofs.limits.find_long.Given as goal
 abbrev pub invariant-loop-placed : goal.invariant-loop-placed
 invariant-loop-placed l = record {
   line : l.placed-iterator.line.now ≡ l.fn.words.line.now;
-  within : IsWithin l.counted;
+  within : AreFewYet l.counted;
   counted : (front : List (List ℕ)) → IsBehind front l.fn.words.line.now l.fn.words.rest.now → list_any begins_list front ≡ false → AreCounted l.fn.words.line.now l.counted (words l.placed-iterator.rest.now);
 }

@@ -1,6 +1,7 @@
-use Rattle.std.proofs.Common.{ℕ, List, ◌∷◌, ap, ◌∙◌, subst, IfSome}
-use Rattle.bip_explain.specs.Placed.{line_at}
-use Rattle.bip_explain.specs.Twice.{IsTwiceReason}
+use Rattle.std.proofs.Common.{ℕ, List, ◌∷◌, ap, sym, ◌∙◌, subst, IfSome}
+use Rattle.bip_explain.specs.Placed.{line_at, said_words}
+use Rattle.bip_explain.specs.Twice.{AreNew, IsTwiceReason, say_same}
+use Rattle.bip_explain.proofs.FormLemmas.{if_none}
 use Rattle.bip_explain.proofs.twice.find_twice.Goals as goal
 
 pub returns-clause-is : goal.returns-clause-is
@@ -15,6 +16,17 @@ returns-in-Some-line_of_name-clause-is c =
     let named = c.in-Some-next.named in
     let steps = c.in-Some-next.ensures.steps in
     let same = c.in-Some.ensures.line ∙ c.line_at-line.ensures in
-    let found = c.in-Some-line_of_name.ensures in
+    let found = c.in-Some-line_of_name.ensures.some in
     let words = rw c.line_at-line.ensures at c.in-Some.ensures.words in
     (rw same at steps.1.1, found.0, (c.in-Some.keyword.word.now, _, words ∙ ap (λ (ws : List (List ℕ)). c.in-Some.keyword.word.now ∷ ws) steps.1.0, found.1))
+
+pub returns-clause-none : goal.returns-clause-none
+returns-clause-none c =
+    let text = c.args.text.now in
+    let number = c.args.number in
+    let keyword = c.in-Some.keyword.word.now in
+    let words = rw c.line_at-line.ensures at c.in-Some.ensures.words in
+    let whole = words ∙ ap (λ (ws : List (List ℕ)). keyword ∷ ws) c.in-Some-next.ensures.steps.1.0 in
+    let found = rw c.line_at-line.ensures at c.in_default-find_said.ensures.none in
+    if_none c.find_repeated.result (subst (λ (ws : List (List ℕ)). AreNew text number ws) (sym whole)
+    (λ n h. ap (λ (ws : List (List ℕ)). say_same ws (said_words (line_at text n))) (sym whole) ∙ found n h, c.in_default-line_of_name.ensures.none))
