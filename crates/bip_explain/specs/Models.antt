@@ -16,7 +16,7 @@ use Rattle.bip_explain.specs.Forms.{form_parts}
 use Rattle.bip_explain.specs.Limits.{IsLimitReason, limit_parts}
 use Rattle.bip_explain.specs.Placed.{IsPlacedOn, line_at, said_words}
 use Rattle.bip_explain.specs.Scopes.{IsStandingAt}
-use Rattle.bip_explain.specs.Twice.{AreNew, IsTwiceReason, NoSameTransition, twice_parts}
+use Rattle.bip_explain.specs.Twice.{AreUnsaid, IsTwiceReason, NoSameTransition, twice_parts}
 use Rattle.bip_explain.specs.Twice.{why_of_twice}
 use Rattle.bip_explain.specs.Unknown.{AreDeclared, IsUnknownReason, named_interactions}
 use Rattle.bip_explain.specs.Unknown.{unknown_parts}
@@ -115,7 +115,7 @@ MayLackReason text number why.TooMany = said_words (line_at text number) ≡ []
 MayLackReason text number why.TwoTransitions =
     NoSameTransition text number (line_at text number)
 MayLackReason text number why.Twice =
-    AreNew text number (said_words (line_at text number))
+    AreUnsaid text number (said_words (line_at text number))
 MayLackReason text number why.Unknown =
     AreDeclared text number (named_interactions (said_words (line_at text number)))
 MayLackReason text number why.Memory = ⊥

@@ -63,10 +63,10 @@ IsFirstDeclared text number keyword name =
     × (declares_outer keyword ≡ true → NoLineWith text number keyword name)
 
 -- words of a line are none that a line before says: as a priority, or as a declaration
-abbrev pub AreNew : List ℕ → ℕ → List (List ℕ) → Type 0
-AreNew text number [] = ⊤
-AreNew text number (keyword ∷ []) = ⊤
-AreNew text number (keyword ∷ name ∷ rest) =
+abbrev pub AreUnsaid : List ℕ → ℕ → List (List ℕ) → Type 0
+AreUnsaid text number [] = ⊤
+AreUnsaid text number (keyword ∷ []) = ⊤
+AreUnsaid text number (keyword ∷ name ∷ rest) =
     ((n : ℕ) → n < number
     → say_same (keyword ∷ name ∷ rest) (said_words (line_at text n)) ≡ false)
     × IsFirstDeclared text number keyword name

@@ -1,6 +1,6 @@
 //! What the lines before one have declared.
-ghost use Rattle.std.specs.Prelude.{◌≡◌, ◌⊎◌, ◌<◌, ◌∷◌, ◌++◌, ℕ, [], All, IfNone, IfOk, IfSome, OnOk};
-ghost use Rattle.std.specs.Prelude.{codes};
+ghost use Rattle.std.specs.Prelude.{◌≡◌, ◌⊎◌, ◌<◌, ◌∷◌, ◌++◌, ℕ, [], All, IfNone, IfOk, IfSome};
+ghost use Rattle.std.specs.Prelude.{OnOk, codes};
 ghost use Rattle.bip_explain.specs.Declarations.{IsInnerLine, IsLineWith, NoLineWith, begins_with};
 ghost use Rattle.bip_explain.specs.Declarations.{begins_component, declares, declares_inner};
 ghost use Rattle.bip_explain.specs.Declarations.{HasLineWith, IsMore, IsSameComponent};

@@ -6,7 +6,7 @@ ghost use Rattle.bip_explain.specs.Explanations.{with_parts};
 ghost use Rattle.bip_explain.specs.Placed.{first_four, first_three, line_at, said_words};
 ghost use Rattle.bip_explain.specs.Twice.{IsDeclaration, IsPartyAgain, IsPartyBefore};
 ghost use Rattle.bip_explain.specs.Twice.{IsSameTransition, IsTwiceReason, IsWordAgain};
-ghost use Rattle.bip_explain.specs.Twice.{AreNew, IsFirstDeclared, NoSameTransition};
+ghost use Rattle.bip_explain.specs.Twice.{AreUnsaid, IsFirstDeclared, NoSameTransition};
 ghost use Rattle.bip_explain.specs.Twice.{declares_outer};
 ghost use Rattle.bip_explain.specs.Twice.{leave_same, say_same, twice_parts, why_of_twice};
 ghost use Rattle.bip_reader.specs.declared.faults.Why.TheVariants.{Twice, TwoTransitions};
@@ -89,7 +89,7 @@ pub(crate) fn find_twice(
         IfSome found (IsTwiceReason text.now number (line_at text.now number))) }
     ensures kind { IfOk result (λ found. IfSome found (λ reason. why_of_twice reason ≡ Twice)) }
     ensures none { IfOk result (λ found. IfNone found
-        (AreNew text.now number (said_words (line_at text.now number)))) }
+        (AreUnsaid text.now number (said_words (line_at text.now number)))) }
 {
     let line = line_at(text, number);
     let Some((keyword, words)) = words_of(line) else {

@@ -1,6 +1,6 @@
 use Rattle.std.proofs.Common.{ℕ, List, ◌∷◌, ap, sym, ◌∙◌, subst, IfSome}
 use Rattle.bip_explain.specs.Placed.{line_at, said_words}
-use Rattle.bip_explain.specs.Twice.{AreNew, IsTwiceReason, say_same}
+use Rattle.bip_explain.specs.Twice.{AreUnsaid, IsTwiceReason, say_same}
 use Rattle.bip_explain.proofs.FormLemmas.{if_none}
 use Rattle.bip_explain.proofs.twice.find_twice.Goals as goal
 
@@ -28,5 +28,5 @@ returns-clause-none c =
     let words = rw c.line_at-line.ensures at c.in-Some.ensures.words in
     let whole = words ∙ ap (λ (ws : List (List ℕ)). keyword ∷ ws) c.in-Some-next.ensures.steps.1.0 in
     let found = rw c.line_at-line.ensures at c.in_default-find_said.ensures.none in
-    if_none c.find_repeated.result (subst (λ (ws : List (List ℕ)). AreNew text number ws) (sym whole)
+    if_none c.find_repeated.result (subst (λ (ws : List (List ℕ)). AreUnsaid text number ws) (sym whole)
     (λ n h. ap (λ (ws : List (List ℕ)). say_same ws (said_words (line_at text n))) (sym whole) ∙ found n h, c.in_default-line_of_name.ensures.none))
