@@ -99,7 +99,7 @@ named_text Absent = codes " neither moves nor looks at "
 
 abbrev pub seen_text : Named → List ℕ
 seen_text Moved = []
-seen_text Seen = codes ", which stands behind `see`"
+seen_text Seen = codes ", which is wanted behind `see`"
 seen_text Absent = []
 
 -- how a reason is told

@@ -95,7 +95,7 @@ other_parts (Some kind) = codes ", but a " ∷ kind_word kind ∷ codes " of tha
 abbrev pub lack_parts : Lack → List (List ℕ)
 lack_parts lack =
     codes "component " ∷ marked lack.component ∷ codes " has no " ∷ kind_word lack.kind
-    ∷ codes " " ∷ marked lack.name ∷ other_parts lack.other
+    ∷ codes " " ∷ marked lack.name ∷ codes " so far" ∷ other_parts lack.other
 
 abbrev pub later_parts : Option ℕ → List (List ℕ)
 later_parts None = []

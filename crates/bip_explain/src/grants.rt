@@ -112,7 +112,7 @@ impl Named {
         ensures { result.now ≡ seen_text self }
     {
         match self {
-            Named::Seen => b", which stands behind `see`",
+            Named::Seen => b", which is wanted behind `see`",
             Named::Moved | Named::Absent => b"",
         }
     }

@@ -101,6 +101,7 @@ impl Lack {
         explanation.say(self.kind.word());
         explanation.say(b" ");
         explanation.say_word(self.name.as_bytes());
+        explanation.say(b" so far");
         say_other(explanation, self.other);
     }
 }
