@@ -14,12 +14,12 @@ use Rattle.bip_model.specs.declared.parts.System.{System}
 use Rattle.bip_replay.proofs.ExpectedLemmas.{of_interaction}
 use Rattle.bip_model.specs.Texts.{words}
 use Rattle.bip_model.specs.declared.numbering.CompId.{CompId}
-use Rattle.bip_replay.specs.Expected.{HasNextWord, IsNextAmong, TakesWants, TakesWord, TakesWords, comps_of, next_word}
+use Rattle.bip_replay.specs.Expected.{HasNextWord, IsNextAmong, TakesWants, TakesNextWord, TakesWords, comps_of, next_word}
 use Rattle.bip_replay.specs.Runs.{Standing}
 use Rattle.bip_replay.specs.Writing.{behind_see}
 
 -- the word of a component is taken, and the component
-pub takes_word : (p : Standing) (left after : List CompId) (place : ℕ) (x : CompId) (text word rest : List ℕ) → IsNextAmong p left place word → x ≡ slice_index_or left place x → after ≡ swap_remove left place x → words text ≡ word ∷ words rest → TakesWord p left after text rest
+pub takes_word : (p : Standing) (left after : List CompId) (place : ℕ) (x : CompId) (text word rest : List ℕ) → IsNextAmong p left place word → x ≡ slice_index_or left place x → after ≡ swap_remove left place x → words text ≡ word ∷ words rest → TakesNextWord p left after text rest
 takes_word p left after place x text word rest is value removed says =
     let within : place < length left = slice_get_within left place is.comp is.at in
     let same : x ≡ is.comp = value ∙ get_or_from_slice_get left place is.comp x is.at in
@@ -47,7 +47,7 @@ takes_none p comps text = record {
   counted = omega arith;
 }
 
-pub takes_more : (p : Standing) (comps left after : List CompId) (count : ℕ) (text mid rest : List ℕ) → Takes p comps left count text mid → TakesWord p left after mid rest → Takes p comps after (count + 1) text rest
+pub takes_more : (p : Standing) (comps left after : List CompId) (count : ℕ) (text mid rest : List ℕ) → Takes p comps left count text mid → TakesNextWord p left after mid rest → Takes p comps after (count + 1) text rest
 takes_more p comps left after count text mid rest so one = record {
   taken = so.taken ++ one.comp ∷ [];
   all = rw (append_assoc so.taken (one.comp ∷ []) after) (IsPermutation-trans comps (so.taken ++ left) (so.taken ++ one.comp ∷ after) so.all (IsPermutation-append_right so.taken left (one.comp ∷ after) one.all));

@@ -5,7 +5,7 @@ ghost use Rattle.bip_model.specs.Parts.{Participant};
 ghost use Rattle.bip_model.specs.declared.numbering.CompId.{CompId};
 ghost use Rattle.bip_model.specs.declared.wants.TheConstants.{MOST_WANTS};
 ghost use Rattle.bip_replay.specs.Expected.{Expects, HasNextWord, IsNextAmong, TakesWants};
-ghost use Rattle.bip_replay.specs.Expected.{SaysExpected, TakesWord, TakesWords, comps_of};
+ghost use Rattle.bip_replay.specs.Expected.{SaysExpected, TakesNextWord, TakesWords, comps_of};
 ghost use Rattle.bip_replay.specs.Expected.{next_word};
 ghost use Rattle.bip_replay.specs.Runs.{standing_of};
 
@@ -124,7 +124,7 @@ fn take_words<'t>(position: &Position<'_>, left: &mut Left, text: &'t [u8]) -> O
 fn take_word<'t>(position: &Position<'_>, left: &mut Left, text: &'t [u8]) -> Option<&'t [u8]>
     requires { All (λ (c : CompId). c.0 < length position.now.model.component_names)
         left.old.items }
-    ensures { IfSome result (λ rest. TakesWord (standing_of position.now) left.old.items
+    ensures { IfSome result (λ rest. TakesNextWord (standing_of position.now) left.old.items
         left.new.items text.now rest.now) }
 {
     let (word, rest) = split_word(text)?;

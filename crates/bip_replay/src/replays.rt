@@ -91,8 +91,8 @@ fn take_line(
     Ok(true)
 }
 
-// The interaction of a line that is an expected grant, as it is found without reading the line; none
-// of any other line, which can be right all the same.
+// The interaction of a line that is an expected grant, found without reading the line; none of any
+// other line, which can be right all the same.
 fn read_expected(guesses: &mut Guesses, position: &Position<'_>, line: &[u8]) -> Option<InterId>
     ensures { IfSome result (λ a. Expects (standing_of position.now) line.now a.0) }
 {

@@ -71,7 +71,8 @@ pub record IsToldEvent (number : ℕ) (event : Event) (did : Option Did) (w v : 
   pub are : AreStations w.plan stations
   pub told : line ≡ told_line w.plan stations number event did w.mail v.mail
 
--- an event isn't told for want of memory: nothing was done yet, or it is done or skipped, and counted
+-- an event isn't told for want of memory: nothing was done yet, or it is done or skipped, and is
+-- counted
 pub data IsLeftUntold (event : Event) (w v : WorldContent) (before after : Report) : Type 0 where
   not_done : v ≡ w → after ≡ before → IsLeftUntold event w v before after
   done_untold : (did : Option Did) → AreSteps (event ∷ []) (did ∷ []) w v

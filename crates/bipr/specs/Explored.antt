@@ -29,7 +29,7 @@ pub data IsProgressAt (asked : ExploreArguments) (seed : ℕ) : List (List ℕ) 
   -- between such lines one with the time: how many seeds are done, and how many events they did
   by_time : (rate left : ℕ) → asked.is_told ≡ true → ends_hundredth asked.seeds seed ≡ false
       → IsProgressAt asked seed
-        (timed_text seed asked.seeds (seed * asked.events) rate left ∷ [])
+      (timed_text seed asked.seeds (seed * asked.events) rate left ∷ [])
 
 -- what may be told until so many seeds are done
 pub data IsProgressUntil (asked : ExploreArguments) : ℕ → List (List ℕ) → Type 0 where

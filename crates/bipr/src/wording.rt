@@ -206,8 +206,8 @@ pub fn progress_text(alloc: Global, done: u32, seeds: u32) -> Result<Vec<u8>, Al
     Ok(format!(in alloc; "seeds {done} of {seeds}\n")?.into_bytes())
 }
 
-/// `at seed D of K: E events, S seeds a second, T seconds left`, where so many of the seeds are done
-/// and did so many events.
+/// `at seed D of K: E events, S seeds a second, T seconds left`, where so many of the seeds are
+/// done and did so many events.
 pub fn timed_text(
     alloc: Global,
     done: u32,
