@@ -90,7 +90,8 @@ pub record TakesWords (p : Standing) (comps : List CompId) (text rest : List ℕ
   pub known : All (HasNextWord p) taken
 
 -- its first word is that of one of these components, without which the others are left
-pub record TakesNextWord (p : Standing) (comps left : List CompId) (text rest : List ℕ) : Type 0 where
+pub record TakesNextWord (p : Standing) (comps left : List CompId) (text rest : List ℕ) :
+    Type 0 where
   pub comp : CompId
   pub all : IsPermutation comps (comp ∷ left)
   pub says : words text ≡ next_word p comp ∷ words rest
