@@ -138,8 +138,8 @@ abbrev pub progress_text : ℕ → ℕ → List ℕ
 progress_text done seeds =
     codes "seeds " ++ (decimal done ++ (codes " of " ++ (decimal seeds ++ line_feed ∷ [])))
 
-abbrev pub place_text : ℕ → ℕ → ℕ → List ℕ
-place_text done seeds events =
+abbrev pub reached_text : ℕ → ℕ → ℕ → List ℕ
+reached_text done seeds events =
     codes "at seed " ++ (decimal done ++ (codes " of " ++ (decimal seeds
     ++ (codes ": " ++ (decimal events ++ codes " events, ")))))
 
@@ -151,4 +151,4 @@ pace_text rate left =
 -- `at seed D of K: E events, S seeds a second, T seconds left`, where so many of the seeds are done
 -- and did so many events
 abbrev pub timed_text : ℕ → ℕ → ℕ → ℕ → ℕ → List ℕ
-timed_text done seeds events rate left = place_text done seeds events ++ pace_text rate left
+timed_text done seeds events rate left = reached_text done seeds events ++ pace_text rate left

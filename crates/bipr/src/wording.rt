@@ -8,7 +8,7 @@ ghost use Rattle.bipr.specs.Wording.{counts_text, interaction_on, model_refusal,
 ghost use Rattle.bipr.specs.Wording.{decisions_text, losses_text, report_text, run_text};
 ghost use Rattle.bipr.specs.Wording.{progress_text, schedule_refusal, seed_verdict, seeds_text};
 ghost use Rattle.bipr.specs.Wording.{host_refusal, host_work_text, host_end_text, no_thread_text};
-ghost use Rattle.bipr.specs.Wording.{pace_text, place_text, seconds_text, stats_text, step_text};
+ghost use Rattle.bipr.specs.Wording.{pace_text, reached_text, seconds_text, stats_text, step_text};
 ghost use Rattle.bipr.specs.Wording.{timed_text, trace_refusal, verdict_text};
 
 use crate::hosted::Hosted;
@@ -218,13 +218,13 @@ pub fn timed_text(
     ensures { IfOk result (λ text. text.items
         ≡ timed_text done seeds events pace.now.rate pace.now.left) }
 {
-    let mut text = place_text(alloc, done, seeds, events)?.into_bytes();
+    let mut text = reached_text(alloc, done, seeds, events)?.into_bytes();
     text.extend_from_slice(pace_text(alloc, pace)?.as_bytes())?;
     Ok(text)
 }
 
-fn place_text(alloc: Global, done: u32, seeds: u32, events: u64) -> Result<String, AllocError>
-    ensures { IfOk result (λ text. text.bytes.items ≡ place_text done seeds events) }
+fn reached_text(alloc: Global, done: u32, seeds: u32, events: u64) -> Result<String, AllocError>
+    ensures { IfOk result (λ text. text.bytes.items ≡ reached_text done seeds events) }
 {
     format!(in alloc; "at seed {done} of {seeds}: {events} events, ")
 }
