@@ -15,7 +15,7 @@ use Rattle.std.proofs.Common.{ap, true, zero, suc, All}
 use Rattle.std.proofs.lemmas.List.Elements.{All-head, All-tail}
 use Rattle.bip_model.specs.Components.{is_taken, leaves, loc_line, no_component, number_in, port_line, trans_line, var_line, with_transition}
 use Rattle.bip_model.specs.Drafts.{IsDraft, begun_in, component_line, end_line, inside, interaction_line, interaction_of, interaction_over, participants_named, priority_line, with_interaction, with_priority}
-use Rattle.bip_model.specs.Priorities.{IsPairOf, is_same_pair, pair}
+use Rattle.bip_model.specs.Priorities.{IsPairOf, is_same_pair, pair, put_pair}
 use Rattle.bip_model.specs.declared.parts.Pair.{Pair}
 use Rattle.bip_model.proofs.PriorityLemmas.{put_all, put_in_order}
 use Rattle.bip_model.specs.Expressions.{IsVariableIn}
@@ -304,9 +304,14 @@ priority_keeps d e low high valid is = IfOk-at_ok IsDraft is
       high = rw (← valid.so_far.interactions_named) (number_in-below d.system.interaction_names high b is_b);
     }))))))
 
--- a builder's draft after `end`
-pub end_ends : (d new : Draft) (result : Result (Unit {0}) BuildFault) → IsDraft d → IsSome d.begun → Answers Memory (end_line d) (new_or_fault result new) → OnErr result (new ≡ d) → IsDraft new
-end_ends d new result valid begun said kept = answers_keeps IsDraft (end_line d) d result new said kept valid (λ e. end_keeps d e valid begun)
+-- a call that answered what is said
+pub answers_said : {X : Type 0} (said : Result X BuildFault) (new : X) → said ≡ Ok new → Answers Memory said (Ok new)
+answers_said said new is = rw is refl
+
+-- what the names of two interactions say in a priority
+pub priority_said : (d : Draft) (low high : List ℕ) (a b : ℕ) → number_in d.system.interaction_names low ≡ Ok a → number_in d.system.interaction_names high ≡ Ok b
+    → list_any (is_same_pair (pair a b)) d.system.priorities ≡ false → priority_line d low high ≡ Ok (record d { system = record d.system { priorities = put_pair (pair a b) d.system.priorities } })
+priority_said d low high a b is_a is_b new = rw (is_a, is_b, new) refl
 
 -- what was answered of a system, said of the draft
 system_ends : (said : Result System BuildFault) (d : Draft) (result : Result (Unit {0}) BuildFault) (new : System) → Answers Memory said (new_or_fault result new)
@@ -322,6 +327,14 @@ pub interaction_ends : (d : Draft) (name : List ℕ) (words : List (List ℕ × 
     → Answers Memory (interaction_line d name words guard transfer) (new_or_fault result (record d { system = new }))
 interaction_ends d name words qs guard transfer result new unknown named said =
     rw (unknown, named) (system_ends (interaction_over name qs guard transfer d.system) d result new said)
+
+-- such a draft is one that lines lead to
+pub interaction_kept : (d : Draft) (name : List ℕ) (words : List (List ℕ × List ℕ)) (qs : List Participant) (guard : List (Comparison VariableName)) (transfer : List (Assignment VariableName)) (result : Result (Unit {0}) BuildFault) (new : System)
+    → IsDraft d → 0 < length words → is_known name d.system.interaction_names ≡ false → participants_named d.system [] words ≡ Ok qs → Answers Memory (interaction_over name qs guard transfer d.system) (new_or_fault result new)
+    → OnErr result (new ≡ d.system) → IsDraft (record d { system = new })
+interaction_kept d name words qs guard transfer result new valid some unknown named said kept =
+    answers_keeps (λ s. IsDraft (record d { system = s })) (interaction_over name qs guard transfer d.system) d.system result new said kept valid
+    (λ m is. interaction_keeps d (record d { system = m }) name words guard transfer valid some (rw (unknown, named, is) refl))
 
 -- an interaction whose transfer is at fault
 pub transfer_at_fault : (name : List ℕ) (qs : List Participant) (guard : List (Comparison VariableName)) (transfer : List (Assignment VariableName)) (m : System) (fault : BuildFault)

@@ -1,8 +1,8 @@
 -- Participants: those that words name, and that they are few.
-use Rattle.std.proofs.Common.{arith, ◌≡◌, ℕ, ◌+◌, ◌<◌, ◌≤◌, Bool, not, true, false, cond, eqb, List, [], ◌∷◌, ◌++◌, length, map, get_or, drop, Option, None, Some, Ok, Err, refl, sym, ap, ◌∙◌, All, IfOk, Result, position, slice_get, ok_or}
+use Rattle.std.proofs.Common.{arith, ◌≡◌, ℕ, ◌+◌, ◌<◌, ◌≤◌, Bool, not, true, false, cond, eqb, List, [], ◌∷◌, ◌++◌, length, map, get_or, Option, None, Some, Ok, Err, refl, sym, ap, ◌∙◌, All, IfOk, Result, position, slice_get, ok_or}
 use Rattle.std.specs.List.{IsDistinct, list_any}
 use Rattle.std.specs.List.Sorted.{IsNonDecreasingBy, IsPermutation, IsStrictlyIncreasing}
-use Rattle.std.proofs.lemmas.List.{append_assoc, append-nil, at_drop_all, at_drop_more, get_or-map, length_push, length-map, map-id}
+use Rattle.std.proofs.lemmas.List.{append_assoc, append-nil, get_or-map, length_push, length-map, map-id}
 use Rattle.std.proofs.lemmas.List.Folds.{map_fixed}
 use Rattle.std.proofs.lemmas.Simd.{map-map}
 use Rattle.std.proofs.lemmas.Result.{IfOk-at_ok, IfOk-weaker}

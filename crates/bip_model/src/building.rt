@@ -12,9 +12,10 @@ ghost use Rattle.bip_model.specs.Faults.{Answers, new_or_fault};
 ghost use Rattle.bip_model.specs.Priorities.{IsCyclic};
 ghost use Rattle.bip_model.specs.declared.faults.BuildFault.TheVariants.{Memory};
 
-use crate::drafts::Draft;
+use crate::drafts::{Draft, has_pair, place_for};
 use crate::partitions::are_partition;
-use crate::{Assignments, BuildFault, Guard, InterId, Model, Name, OneOrMore};
+use crate::parts::MOST_COMPONENTS;
+use crate::{Assignments, BuildFault, Component, Guard, InterId, Model, Name, OneOrMore, Pair};
 use std::alloc::{AllocError, Global};
 use std::marker;
 
@@ -82,7 +83,16 @@ impl Builder {
             (new_or_fault result self.new) }
         ensures err { OnErr result (self.new ≡ self.old) }
     {
-        self.draft.component(self.alloc, name)
+        let names = &self.draft.system.component_names;
+        if names.contains(&name) {
+            return Err(BuildFault::Twice);
+        }
+        if MOST_COMPONENTS <= names.len() {
+            return Err(BuildFault::TooMany);
+        }
+        self.draft.system.component_names.push(name)?;
+        self.draft.begun = Some(Component::new(self.alloc));
+        Ok(())
     }
 
     /// `var NAME VALUE` adds a variable to the component that is begun, with its value at the
@@ -156,13 +166,23 @@ impl Builder {
     }
 
     /// `end` ends the component that is begun. Missing: it has no location.
-    #[tactic(auto, using(crate::proofs::DraftLemmas::end_ends))]
     pub fn end(&mut self) -> Result<(), BuildFault>
         requires { IsSome self.old.begun }
         ensures said { Answers Memory (end_line self.old) (new_or_fault result self.new) }
         ensures err { OnErr result (self.new ≡ self.old) }
     {
-        self.draft.end()
+        let Some(component) = self.draft.begun.take() else {
+            unreachable!()
+        };
+        if component.locations.len() == 0 {
+            self.draft.begun = Some(component);
+            return Err(BuildFault::Missing);
+        }
+        if let Err(refused) = self.draft.system.components.push(component) {
+            self.draft.begun = Some(refused.value);
+            return Err(BuildFault::Memory);
+        }
+        Ok(())
     }
 
     /// `interaction NAME C.p C.p .. [when GUARD] [do ASSIGNS]` adds an interaction of these ports,
@@ -184,8 +204,20 @@ impl Builder {
             (new_or_fault result self.new) }
         ensures err { OnErr result (self.new ≡ self.old) }
     {
-        self.draft
-            .interaction(self.alloc, name, participants.each(), guard, transfer)
+        if self.draft.system.interaction_names.contains(&name) {
+            return Err(BuildFault::Twice);
+        }
+        match self
+            .draft
+            .system
+            .participants(self.alloc, participants.each())
+        {
+            Err(fault) => Err(fault),
+            Ok(named) => self
+                .draft
+                .system
+                .add_named_interaction(self.alloc, name, named.as_slice(), guard, transfer),
+        }
     }
 
     /// `priority LOW < HIGH` puts the second interaction above the first. By the first word from
@@ -197,7 +229,19 @@ impl Builder {
             (new_or_fault result self.new) }
         ensures err { OnErr result (self.new ≡ self.old) }
     {
-        self.draft.priority(&low, &high)
+        let names = &self.draft.system.interaction_names;
+        let low = names.number_of(&low).ok_or(BuildFault::Unknown)?;
+        let high = names.number_of(&high).ok_or(BuildFault::Unknown)?;
+        let pair = Pair {
+            low: InterId(low as u16),
+            high: InterId(high as u16),
+        };
+        let pairs = self.draft.system.priorities.as_slice();
+        if has_pair(pairs, pair) {
+            return Err(BuildFault::Twice);
+        }
+        let place = place_for(pairs, pair);
+        Ok(self.draft.system.priorities.insert(place, pair)?)
     }
 
     /// The model that the lines have declared. Missing: a component is begun and not ended, or

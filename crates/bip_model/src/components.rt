@@ -34,6 +34,7 @@ impl Component {
         }
     }
 
+    /// Whether one of its variables, locations or ports has this name.
     fn is_taken(&self, name: &Name) -> bool
         ensures { result ≡ is_taken name.now self.now }
     {
@@ -53,9 +54,7 @@ impl Component {
         if MOST_VALUES <= self.variables.len() {
             return Err(BuildFault::TooMany);
         }
-        if self.variables.push(name).is_err() {
-            return Err(BuildFault::Memory);
-        }
+        self.variables.push(name)?;
         self.start.push(value);
         Ok(())
     }
@@ -71,7 +70,7 @@ impl Component {
         if MOST_LOCATIONS <= self.locations.len() {
             return Err(BuildFault::TooMany);
         }
-        self.locations.push(name).map_err(|_| BuildFault::Memory)
+        Ok(self.locations.push(name)?)
     }
 
     /// `port NAME`
@@ -85,7 +84,7 @@ impl Component {
         if MOST_PORTS <= self.ports.len() {
             return Err(BuildFault::TooMany);
         }
-        self.ports.push(name).map_err(|_| BuildFault::Memory)
+        Ok(self.ports.push(name)?)
     }
 
     fn add_transition(

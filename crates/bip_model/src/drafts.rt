@@ -1,11 +1,10 @@
 //! What the lines of a model's text have said so far, and what one more line says.
-ghost use Rattle.std.specs.Prelude.{◌≡◌, ◌≤◌, ◌==◌, [], false, length, position, IsSome, IsNone};
+ghost use Rattle.std.specs.Prelude.{◌≡◌, ◌≤◌, ◌==◌, [], false, length, position};
 ghost use Rattle.std.specs.Prelude.{IfOk, OnErr};
 ghost use Rattle.std.specs.List.{list_any, position_or_len};
-ghost use Rattle.bip_model.specs.Drafts.{component_line, empty_draft, end_line, interaction_line};
-ghost use Rattle.bip_model.specs.Drafts.{interaction_of, interaction_over, participant_named};
-ghost use Rattle.bip_model.specs.Drafts.{participants_named, priority_line, with_interaction};
-ghost use Rattle.bip_model.specs.Drafts.{with_priority};
+ghost use Rattle.bip_model.specs.Drafts.{empty_draft, interaction_of, interaction_over};
+ghost use Rattle.bip_model.specs.Drafts.{participant_named, participants_named};
+ghost use Rattle.bip_model.specs.Drafts.{with_interaction};
 ghost use Rattle.bip_model.specs.Faults.{Answers, new_or_fault};
 ghost use Rattle.bip_model.specs.Naming.{is_known};
 ghost use Rattle.bip_model.specs.Parts.{IsSystemSoFar, Participant};
@@ -17,8 +16,8 @@ use crate::looks::takes_part;
 use crate::parts::{MOST_COMPONENTS, MOST_INTERACTIONS, MOST_PARTICIPANTS, System};
 use crate::scopes::Scope;
 use crate::{
-    Assignments, BuildFault, CompId, Component, Each, Guard, InterId, Interaction, Name, Names,
-    Pair, PortId, Seq,
+    Assignments, BuildFault, CompId, Component, Each, Guard, Interaction, Name, Names, Pair,
+    PortId, Seq,
 };
 use smallvec::SmallVec;
 use std::alloc::{AllocError, Global};
@@ -49,7 +48,7 @@ impl Model for Participants {
 
 impl Participants {
     /// The participants, by component.
-    fn as_slice(&self) -> &[(CompId, PortId)]
+    pub(crate) fn as_slice(&self) -> &[(CompId, PortId)]
         ensures { result.now ≡ self.now }
     {
         self.participants.as_slice()
@@ -75,7 +74,7 @@ impl System {
     }
 
     /// The participants that a text names, by component. Takes no memory.
-    fn participants(
+    pub(crate) fn participants(
         &self,
         alloc: Global,
         words: Each<'_, (Name, Name)>,
@@ -98,6 +97,8 @@ impl System {
         })
     }
 
+    /// The interaction of participants, with the guard and the transfer of which a text names the
+    /// variables.
     fn interaction_of(
         &self,
         alloc: Global,
@@ -154,8 +155,9 @@ impl System {
         Ok(())
     }
 
-    /// The same, of which the names of variables are looked up among the participants'.
-    fn add_named_interaction(
+    /// Puts an interaction of participants last, of which the names of variables are looked up
+    /// among theirs.
+    pub(crate) fn add_named_interaction(
         &mut self,
         alloc: Global,
         name: Name,
@@ -180,23 +182,9 @@ impl System {
             Ok(()) => self.add_interaction(alloc, name, participants, guard, transfer),
         }
     }
-
-    /// Puts a priority among those that there are, by low, then high number.
-    fn add_priority(&mut self, pair: Pair) -> Result<(), BuildFault>
-        ensures said { Answers Memory (with_priority pair self.old) (new_or_fault result self.new) }
-        ensures err { OnErr result (self.new ≡ self.old) }
-    {
-        if has_pair(self.priorities.as_slice(), pair) {
-            return Err(BuildFault::Twice);
-        }
-        let place = place_for(self.priorities.as_slice(), pair);
-        self.priorities
-            .insert(place, pair)
-            .map_err(|_| BuildFault::Memory)
-    }
 }
 
-fn has_pair(pairs: &[Pair], pair: Pair) -> bool
+pub(crate) fn has_pair(pairs: &[Pair], pair: Pair) -> bool
     ensures { result ≡ list_any (is_same_pair pair) pairs.now }
 {
     pairs
@@ -205,7 +193,7 @@ fn has_pair(pairs: &[Pair], pair: Pair) -> bool
 }
 
 /// The place of the first pair that stands behind one; behind all where there is none.
-fn place_for(pairs: &[Pair], pair: Pair) -> usize
+pub(crate) fn place_for(pairs: &[Pair], pair: Pair) -> usize
     ensures { result ≡ position_or_len (is_before pair) pairs.now }
 {
     first_behind(pairs, pair).unwrap_or(pairs.len())
@@ -238,94 +226,5 @@ impl Draft {
             },
             begun: None,
         }
-    }
-
-    /// `component NAME`
-    pub(crate) fn component(&mut self, alloc: Global, name: Name) -> Result<(), BuildFault>
-        requires { IsNone self.old.begun }
-        ensures said { Answers Memory (component_line self.old name)
-            (new_or_fault result self.new) }
-        ensures err { OnErr result (self.new ≡ self.old) }
-    {
-        if self.system.component_names.contains(&name) {
-            return Err(BuildFault::Twice);
-        }
-        if MOST_COMPONENTS <= self.system.component_names.len() {
-            return Err(BuildFault::TooMany);
-        }
-        if self.system.component_names.push(name).is_err() {
-            return Err(BuildFault::Memory);
-        }
-        self.begun = Some(Component::new(alloc));
-        Ok(())
-    }
-
-    /// `end`
-    pub(crate) fn end(&mut self) -> Result<(), BuildFault>
-        requires { IsSome self.old.begun }
-        ensures said { Answers Memory (end_line self.old) (new_or_fault result self.new) }
-        ensures err { OnErr result (self.new ≡ self.old) }
-    {
-        match self.begun.take() {
-            None => unreachable!(),
-            Some(component) => {
-                if component.locations.len() == 0 {
-                    self.begun = Some(component);
-                    return Err(BuildFault::Missing);
-                }
-                match self.system.components.push(component) {
-                    Ok(()) => Ok(()),
-                    Err(refused) => {
-                        self.begun = Some(refused.value);
-                        Err(BuildFault::Memory)
-                    }
-                }
-            }
-        }
-    }
-
-    /// `interaction NAME C.p C.p .. [when GUARD] [do ASSIGNS]`
-    pub(crate) fn interaction(
-        &mut self,
-        alloc: Global,
-        name: Name,
-        words: Each<'_, (Name, Name)>,
-        guard: &Guard<'_>,
-        transfer: &Assignments<'_>,
-    ) -> Result<(), BuildFault>
-        requires { IsSystemSoFar self.old.system }
-        ensures said { Answers Memory
-            (interaction_line self.old name words.entry guard.now transfer.now)
-            (new_or_fault result self.new) }
-        ensures err { OnErr result (self.new ≡ self.old) }
-    {
-        if self.system.interaction_names.contains(&name) {
-            return Err(BuildFault::Twice);
-        }
-        match self.system.participants(alloc, words) {
-            Err(fault) => Err(fault),
-            Ok(participants) => self
-                .system
-                .add_named_interaction(alloc, name, participants.as_slice(), guard, transfer),
-        }
-    }
-
-    /// `priority LOW < HIGH`
-    pub(crate) fn priority(&mut self, low: &Name, high: &Name) -> Result<(), BuildFault>
-        requires { IsSystemSoFar self.old.system }
-        ensures said { Answers Memory (priority_line self.old low.now high.now)
-            (new_or_fault result self.new) }
-        ensures err { OnErr result (self.new ≡ self.old) }
-    {
-        let Some(low) = self.system.interaction_names.number_of(low) else {
-            return Err(BuildFault::Unknown);
-        };
-        let Some(high) = self.system.interaction_names.number_of(high) else {
-            return Err(BuildFault::Unknown);
-        };
-        self.system.add_priority(Pair {
-            low: InterId(low as u16),
-            high: InterId(high as u16),
-        })
     }
 }
