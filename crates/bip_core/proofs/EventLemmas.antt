@@ -1,7 +1,7 @@
 -- Each event of a world keeps it in agreement with its trace: what its clause says of the node that
 -- it addresses is one of the steps over views.
 use Rattle.std.proofs.Common.{◌≡◌, ℕ, ◌+◌, ◌≤◌, max, cond, List, [], ◌∷◌, ◌++◌, Option, Some}
-use Rattle.std.proofs.Common.{refl, sym, ap, ◌∙◌, subst, inl, inr, arith}
+use Rattle.std.proofs.Common.{refl, sym, ap, ◌∙◌, subst, arith}
 use Rattle.std.specs.Prelude.{◌==◌, IsSomeAnd}
 use Rattle.bip_model.specs.Messages.{Shows, ShowsState}
 use Rattle.bip_model.specs.Numbering.{put}
@@ -42,7 +42,8 @@ use Rattle.bip_bank.specs.Banks.{BankContent, IsActed, with_request}
 use Rattle.bip_bank.specs.declared.banks.Acted.{Acted}
 use Rattle.bip_bank.specs.declared.banks.Acted.TheVariants as acted
 use Rattle.bip_core.specs.Events.{AreSent, IsDelivered, IsDone, IsHandedOn, IsStep, are_notified}
-use Rattle.bip_core.specs.Events.{class_named, grant_in, trace_with}
+use Rattle.bip_frame.specs.Views.{reply_class}
+use Rattle.bip_core.specs.Events.{grant_in, trace_with}
 use Rattle.bip_core.specs.Worlds.{WorldContent, with_class_node, with_component_node}
 use Rattle.bip_core.specs.declared.events.Did.{Did}
 use Rattle.bip_core.specs.declared.events.Event.{Event}
@@ -119,10 +120,6 @@ module _ {p : Planned} (planned : IsPlanned p) {base : ℕ} {w : WorldContent} (
   module _ (front back : List Message) where
     abbrev left : WorldContent
     left = record w { mail = front ++ back }
-
-    -- and nobody is there to take it
-    gone : (m : Message) → w.mail ≡ front ++ m ∷ back → Keeps p base left []
-    gone m whole = quiet left refl (taken h front back m whole)
 
     -- an offer is handed on
     heard : (k : ClassId) (o : Offer) → w.mail ≡ front ++ OfferTo k o ∷ back → (receipt : Receipt)
@@ -235,9 +232,9 @@ module _ {p : Planned} (planned : IsPlanned p) {base : ℕ} {w : WorldContent} (
 
     -- any reply is handed on
     learned : (r : Reply) → w.mail ≡ front ++ ReplyToClass r ∷ back → (did : Answered)
-        (node later : ClassNode) → w.classes (class_named r) ≡ Some node → IsAnswered node r did
+        (node later : ClassNode) → w.classes (reply_class r).0 ≡ Some node → IsAnswered node r did
         → IsLeftByReply r did node later → (sent : List Message) → AreSent p (Learns did) sent
-        → Keeps p base (with_class_node (class_named r) later left) sent
+        → Keeps p base (with_class_node (reply_class r).0 later left) sent
     learned (reply.Granted k i a serial) whole (answered.Told ns) node later at did is sent sends =
         let (e, awaits, tells) = did in
         keeps_same (ap (λ (x : ClassNode). with_class_node k.0 x left) (is e awaits))
@@ -248,9 +245,9 @@ module _ {p : Planned} (planned : IsPlanned p) {base : ℕ} {w : WorldContent} (
         keeps_same refl none
         (heard_refused k node at a e awaits.pending i c used later whole leaves)
     learned r whole answered.Stale node later at stale is sent none =
-        keeps_same (ap (λ (x : ClassNode). with_class_node (class_named r) x left) is) none
-        (quiet (with_class_node (class_named r) node left)
-        (same_view base left (class_named r) node at)
+        keeps_same (ap (λ (x : ClassNode). with_class_node (reply_class r).0 x left) is) none
+        (quiet (with_class_node (reply_class r).0 node left)
+        (same_view base left (reply_class r).0 node at)
         (taken h front back (ReplyToClass r) whole))
     learned r whole did node later at none is sent sends = absurd none
 
@@ -260,19 +257,13 @@ module _ {p : Planned} (planned : IsPlanned p) {base : ℕ} {w : WorldContent} (
         → Keeps p base (traced what v) sent
     handed (OfferTo k o) whole (Hears receipt) v (node, at, hears, is) sent none =
         keeps_same is none (heard k o whole receipt node at)
-    handed (OfferTo k o) whole Nothing v (absent, is) sent none =
-        keeps_same is none (gone (OfferTo k o) whole)
     handed (RequestToBank q) whole Submits v is sent none = keeps_same is none (opened q whole)
     handed (ReplyToClass r) whole (Learns did) v on sent sends =
         let (node, later, at, answers, leaves, is) = on in
         keeps_same is refl (learned r whole did node later at answers leaves sent sends)
-    handed (ReplyToClass r) whole Nothing v (absent, is) sent none =
-        keeps_same is none (gone (ReplyToClass r) whole)
     handed (NotifyComponent n) whole (Moves did) v on sent sends =
         let (node, later, at, answers, leaves, is) = on in
         keeps_same is refl (moved n whole node at did later answers leaves sent sends)
-    handed (NotifyComponent n) whole Nothing v (absent, is) sent none =
-        keeps_same is none (gone (NotifyComponent n) whole)
     handed m whole what v none sent sends = absurd none
 
   -- a class tries an interaction
@@ -369,9 +360,7 @@ module _ {p : Planned} (planned : IsPlanned p) {base : ℕ} {w : WorldContent} (
   done : (event : Event) (what : What) (v : WorldContent) → IsDone w event what v
       → (sent : List Message) → AreSent p what sent
       → Keeps p base (traced what v) sent
-  done (Mail place) Nothing v (inl (past, same)) sent none = still same none
-  done (Mail place) Nothing v (inr delivered) sent none =
-      delivers place Nothing v delivered sent none
+  done (Mail place) Nothing v (past, same) sent none = still same none
   done (Mail place) what v delivered sent sends = delivers place what v delivered sent sends
   done (Try k a) (Tries did) v (node, at, is, same) sent sends =
       keeps_same (ap (traced (Tries did)) same) refl (tries k a node at did is sent sends)

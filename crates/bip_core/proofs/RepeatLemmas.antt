@@ -33,7 +33,8 @@ use Rattle.bip_bank.specs.Laws.{MovesInOneWay, acted_but_serial}
 use Rattle.bip_bank.specs.declared.banks.Acted.{Acted}
 use Rattle.bip_bank.specs.declared.banks.Acted.TheVariants as acted
 use Rattle.bip_bank.specs.declared.banks.BankStep.{BankStep}
-use Rattle.bip_core.specs.Events.{AreKeptOf, ArePut, AreSent, IsDelivered, IsDone, IsHandedOn, IsStep, IsTraced, TakesOut, all_done, are_notified, class_named, grant_in, one_kept, one_lost, trace_with}
+use Rattle.bip_frame.specs.Views.{reply_class}
+use Rattle.bip_core.specs.Events.{AreKeptOf, ArePut, AreSent, IsDelivered, IsDone, IsHandedOn, IsStep, IsTraced, TakesOut, all_done, are_notified, grant_in, one_kept, one_lost, trace_with}
 use Rattle.bip_core.specs.Repeats.{AreAlike, but_serials, message_but_serial}
 use Rattle.bip_core.specs.Worlds.{AreOffersOf, WorldContent, with_class_node, with_component_node}
 use Rattle.bip_core.specs.declared.events.Did.{Did}
@@ -117,23 +118,20 @@ same_some x y is = cc
 none_some : {X : Type 0} (x : X) → None ≡ Some x → ⊥
 none_some x is = cc
 
--- A message that is handed on, by what it is: there is no node for it, or the node answers.
+-- A message that is handed on, by what it is: its node answers.
 
 abbrev HandedTo : WorldContent → Message → What → WorldContent → Type 0
 HandedTo w (OfferTo k offer) what v =
-    ((w.classes k.0 ≡ None) × (what ≡ Nothing) × (v ≡ w))
-    ⊎ ((node : ClassNode) × (receipt : Receipt) × (w.classes k.0 ≡ Some node) × IsReceipt node.offers offer receipt × (what ≡ Hears receipt) × (v ≡ with_class_node k.0 (after_offer offer receipt node) w))
+    (node : ClassNode) × (receipt : Receipt) × (w.classes k.0 ≡ Some node) × IsReceipt node.offers offer receipt × (what ≡ Hears receipt) × (v ≡ with_class_node k.0 (after_offer offer receipt node) w)
 HandedTo w (RequestToBank q) what v = (what ≡ Submits) × (v ≡ record w { bank = with_request q w.bank })
 HandedTo w (ReplyToClass r) what v =
-    ((w.classes (class_named r) ≡ None) × (what ≡ Nothing) × (v ≡ w))
-    ⊎ ((node : ClassNode) × (later : ClassNode) × (did : Answered) × (w.classes (class_named r) ≡ Some node) × IsAnswered node r did × IsLeftByReply r did node later × (what ≡ Learns did) × (v ≡ with_class_node (class_named r) later w))
+    (node : ClassNode) × (later : ClassNode) × (did : Answered) × (w.classes (reply_class r).0 ≡ Some node) × IsAnswered node r did × IsLeftByReply r did node later × (what ≡ Learns did) × (v ≡ with_class_node (reply_class r).0 later w)
 HandedTo w (NotifyComponent n) what v =
-    ((w.components n.comp.0 ≡ None) × (what ≡ Nothing) × (v ≡ w))
-    ⊎ ((node : Node) × (later : Node) × (did : Notified) × (w.components n.comp.0 ≡ Some node) × IsNotified node n did × IsNodeAfter node n did later × (what ≡ Moves did) × (v ≡ with_component_node n.comp.0 later w))
+    (node : Node) × (later : Node) × (did : Notified) × (w.components n.comp.0 ≡ Some node) × IsNotified node n did × IsNodeAfter node n did later × (what ≡ Moves did) × (v ≡ with_component_node n.comp.0 later w)
 
 handed_to : (w v : WorldContent) (m : Message) (what : What) → IsHandedOn w m what v → HandedTo w m what v
-handed_to w v (OfferTo k offer) Nothing is = inl (is.0, refl, is.1)
-handed_to w v (OfferTo k offer) (Hears receipt) is = inr (is.0, receipt, is.1, is.2, refl, is.3)
+handed_to w v (OfferTo k offer) Nothing is = absurd is
+handed_to w v (OfferTo k offer) (Hears receipt) is = (is.0, receipt, is.1, is.2, refl, is.3)
 handed_to w v (OfferTo k offer) Submits is = absurd is
 handed_to w v (OfferTo k offer) (Learns did) is = absurd is
 handed_to w v (OfferTo k offer) (Moves did) is = absurd is
@@ -146,18 +144,18 @@ handed_to w v (RequestToBank q) (Learns did) is = absurd is
 handed_to w v (RequestToBank q) (Moves did) is = absurd is
 handed_to w v (RequestToBank q) (Tries did) is = absurd is
 handed_to w v (RequestToBank q) (Acts did) is = absurd is
-handed_to w v (ReplyToClass r) Nothing is = inl (is.0, refl, is.1)
+handed_to w v (ReplyToClass r) Nothing is = absurd is
 handed_to w v (ReplyToClass r) (Hears receipt) is = absurd is
 handed_to w v (ReplyToClass r) Submits is = absurd is
-handed_to w v (ReplyToClass r) (Learns did) is = inr (is.0, is.1, did, is.2, is.3, is.4, refl, is.5)
+handed_to w v (ReplyToClass r) (Learns did) is = (is.0, is.1, did, is.2, is.3, is.4, refl, is.5)
 handed_to w v (ReplyToClass r) (Moves did) is = absurd is
 handed_to w v (ReplyToClass r) (Tries did) is = absurd is
 handed_to w v (ReplyToClass r) (Acts did) is = absurd is
-handed_to w v (NotifyComponent n) Nothing is = inl (is.0, refl, is.1)
+handed_to w v (NotifyComponent n) Nothing is = absurd is
 handed_to w v (NotifyComponent n) (Hears receipt) is = absurd is
 handed_to w v (NotifyComponent n) Submits is = absurd is
 handed_to w v (NotifyComponent n) (Learns did) is = absurd is
-handed_to w v (NotifyComponent n) (Moves did) is = inr (is.0, is.1, did, is.2, is.3, is.4, refl, is.5)
+handed_to w v (NotifyComponent n) (Moves did) is = (is.0, is.1, did, is.2, is.3, is.4, refl, is.5)
 handed_to w v (NotifyComponent n) (Tries did) is = absurd is
 handed_to w v (NotifyComponent n) (Acts did) is = absurd is
 
@@ -176,57 +174,40 @@ left_but v later k n a s t answered.Dropped is = is
 left_but v later k n a s t answered.Stale is = is
 
 handed_but : (w v : WorldContent) (m : Message) (what : What) → HandedTo w m what v → HandedTo (but_serials w) (message_but_serial m) what (but_serials v)
-handed_but w v (OfferTo k offer) what (inl none) = inl (none.0, none.1, ap but_serials none.2)
-handed_but w v (OfferTo k offer) what (inr some) = inr (some.0, some.1, some.2, some.3, some.4, ap but_serials some.5)
+handed_but w v (OfferTo k offer) what is = (is.0, is.1, is.2, is.3, is.4, ap but_serials is.5)
 handed_but w v (RequestToBank q) what is = (is.0, ap but_serials is.1)
-handed_but w v (ReplyToClass (reply.Granted k n a s)) what (inl none) = inl (none.0, none.1, ap but_serials none.2)
-handed_but w v (ReplyToClass (reply.Granted k n a s)) what (inr some) =
-    inr (some.0, some.1, some.2, some.3, answered_but some.0 k n a s 0 some.2 some.4, left_but some.0 some.1 k n a s 0 some.2 some.5, some.6, ap but_serials some.7)
-handed_but w v (ReplyToClass (reply.Refused k n a c used)) what (inl none) = inl (none.0, none.1, ap but_serials none.2)
-handed_but w v (ReplyToClass (reply.Refused k n a c used)) what (inr some) =
-    inr (some.0, some.1, some.2, some.3, some.4, some.5, some.6, ap but_serials some.7)
-handed_but w v (NotifyComponent n) what (inl none) = inl (none.0, none.1, ap but_serials none.2)
-handed_but w v (NotifyComponent n) what (inr some) = inr (some.0, some.1, some.2, some.3, some.4, some.5, some.6, ap but_serials some.7)
+handed_but w v (ReplyToClass (reply.Granted k n a s)) what is =
+    (is.0, is.1, is.2, is.3, answered_but is.0 k n a s 0 is.2 is.4, left_but is.0 is.1 k n a s 0 is.2 is.5, is.6, ap but_serials is.7)
+handed_but w v (ReplyToClass (reply.Refused k n a c used)) what is = (is.0, is.1, is.2, is.3, is.4, is.5, is.6, ap but_serials is.7)
+handed_but w v (NotifyComponent n) what is = (is.0, is.1, is.2, is.3, is.4, is.5, is.6, ap but_serials is.7)
 
 -- what is handed on leaves what stations share
 handed_shares : (w v : WorldContent) (m : Message) (what : What) → HandedTo w m what v → v.bank.sharing ≡ w.bank.sharing
-handed_shares w v (OfferTo k offer) what (inl none) = ap (λ (u : WorldContent). u.bank.sharing) none.2
-handed_shares w v (OfferTo k offer) what (inr some) = ap (λ (u : WorldContent). u.bank.sharing) some.5
+handed_shares w v (OfferTo k offer) what is = ap (λ (u : WorldContent). u.bank.sharing) is.5
 handed_shares w v (RequestToBank q) what is = ap (λ (u : WorldContent). u.bank.sharing) is.1
-handed_shares w v (ReplyToClass r) what (inl none) = ap (λ (u : WorldContent). u.bank.sharing) none.2
-handed_shares w v (ReplyToClass r) what (inr some) = ap (λ (u : WorldContent). u.bank.sharing) some.7
-handed_shares w v (NotifyComponent n) what (inl none) = ap (λ (u : WorldContent). u.bank.sharing) none.2
-handed_shares w v (NotifyComponent n) what (inr some) = ap (λ (u : WorldContent). u.bank.sharing) some.7
+handed_shares w v (ReplyToClass r) what is = ap (λ (u : WorldContent). u.bank.sharing) is.7
+handed_shares w v (NotifyComponent n) what is = ap (λ (u : WorldContent). u.bank.sharing) is.7
 
 abbrev hears_after : WorldContent → ℕ → Offer → Receipt → ClassNode → WorldContent
 hears_after w k offer receipt node = with_class_node k (after_offer offer receipt node) w
 
 -- one message that is handed on in one world does one thing
 handed_once : (w v x : WorldContent) (m : Message) (what also : What) → HandedTo w m what v → HandedTo w m also x → (what ≡ also) × (v ≡ x)
-handed_once w v x (OfferTo k offer) what also (inl none) (inl other) = (none.1 ∙ sym other.1, none.2 ∙ sym other.2)
-handed_once w v x (OfferTo k offer) what also (inl none) (inr other) = absurd (none_some other.0 (sym none.0 ∙ other.2))
-handed_once w v x (OfferTo k offer) what also (inr some) (inl other) = absurd (none_some some.0 (sym other.0 ∙ some.2))
-handed_once w v x (OfferTo k offer) what also (inr some) (inr other) =
-    let node : some.0 ≡ other.0 = same_some some.0 other.0 (sym some.2 ∙ other.2) in
-    let receipt : some.1 ≡ other.1 = one_receipt other.0.offers offer some.1 other.1 (subst (λ (n : ClassNode). IsReceipt n.offers offer some.1) node some.3) other.3 in
-    (some.4 ∙ (ap Hears receipt ∙ sym other.4), some.5 ∙ (ap₂ (hears_after w k.0 offer) receipt node ∙ sym other.5))
+handed_once w v x (OfferTo k offer) what also is other =
+    let node : is.0 ≡ other.0 = same_some is.0 other.0 (sym is.2 ∙ other.2) in
+    let receipt : is.1 ≡ other.1 = one_receipt other.0.offers offer is.1 other.1 (subst (λ (n : ClassNode). IsReceipt n.offers offer is.1) node is.3) other.3 in
+    (is.4 ∙ (ap Hears receipt ∙ sym other.4), is.5 ∙ (ap₂ (hears_after w k.0 offer) receipt node ∙ sym other.5))
 handed_once w v x (RequestToBank q) what also is other = (is.0 ∙ sym other.0, is.1 ∙ sym other.1)
-handed_once w v x (ReplyToClass r) what also (inl none) (inl other) = (none.1 ∙ sym other.1, none.2 ∙ sym other.2)
-handed_once w v x (ReplyToClass r) what also (inl none) (inr other) = absurd (none_some other.0 (sym none.0 ∙ other.3))
-handed_once w v x (ReplyToClass r) what also (inr some) (inl other) = absurd (none_some some.0 (sym other.0 ∙ some.3))
-handed_once w v x (ReplyToClass r) what also (inr some) (inr other) =
-    let node : some.0 ≡ other.0 = same_some some.0 other.0 (sym some.3 ∙ other.3) in
-    let did : some.2 ≡ other.2 = one_reply other.0 r some.2 other.2 (subst (λ (n : ClassNode). IsAnswered n r some.2) node some.4) other.4 in
-    let left : IsLeftByReply r other.2 other.0 some.1 = subst (λ (d : Answered). IsLeftByReply r d other.0 some.1) did (subst (λ (n : ClassNode). IsLeftByReply r some.2 n some.1) node some.5) in
-    (some.6 ∙ (ap Learns did ∙ sym other.6), some.7 ∙ (ap (λ (n : ClassNode). with_class_node (class_named r) n w) (left_once other.0 r other.2 some.1 other.1 other.4 left other.5) ∙ sym other.7))
-handed_once w v x (NotifyComponent n) what also (inl none) (inl other) = (none.1 ∙ sym other.1, none.2 ∙ sym other.2)
-handed_once w v x (NotifyComponent n) what also (inl none) (inr other) = absurd (none_some other.0 (sym none.0 ∙ other.3))
-handed_once w v x (NotifyComponent n) what also (inr some) (inl other) = absurd (none_some some.0 (sym other.0 ∙ some.3))
-handed_once w v x (NotifyComponent n) what also (inr some) (inr other) =
-    let node : some.0 ≡ other.0 = same_some some.0 other.0 (sym some.3 ∙ other.3) in
-    let did : some.2 ≡ other.2 = notified_once other.0 n some.2 other.2 (subst (λ (x : Node). IsNotified x n some.2) node some.4) other.4 in
-    let left : IsNodeAfter other.0 n other.2 some.1 = subst (λ (d : Notified). IsNodeAfter other.0 n d some.1) did (subst (λ (x : Node). IsNodeAfter x n some.2 some.1) node some.5) in
-    (some.6 ∙ (ap Moves did ∙ sym other.6), some.7 ∙ (ap (λ (x : Node). with_component_node n.comp.0 x w) (moved_once other.0 n other.2 some.1 other.1 left other.5) ∙ sym other.7))
+handed_once w v x (ReplyToClass r) what also is other =
+    let node : is.0 ≡ other.0 = same_some is.0 other.0 (sym is.3 ∙ other.3) in
+    let did : is.2 ≡ other.2 = one_reply other.0 r is.2 other.2 (subst (λ (n : ClassNode). IsAnswered n r is.2) node is.4) other.4 in
+    let left : IsLeftByReply r other.2 other.0 is.1 = subst (λ (d : Answered). IsLeftByReply r d other.0 is.1) did (subst (λ (n : ClassNode). IsLeftByReply r is.2 n is.1) node is.5) in
+    (is.6 ∙ (ap Learns did ∙ sym other.6), is.7 ∙ (ap (λ (n : ClassNode). with_class_node (reply_class r).0 n w) (left_once other.0 r other.2 is.1 other.1 other.4 left other.5) ∙ sym other.7))
+handed_once w v x (NotifyComponent n) what also is other =
+    let node : is.0 ≡ other.0 = same_some is.0 other.0 (sym is.3 ∙ other.3) in
+    let did : is.2 ≡ other.2 = notified_once other.0 n is.2 other.2 (subst (λ (x : Node). IsNotified x n is.2) node is.4) other.4 in
+    let left : IsNodeAfter other.0 n other.2 is.1 = subst (λ (d : Notified). IsNodeAfter other.0 n d is.1) did (subst (λ (x : Node). IsNodeAfter x n is.2 is.1) node is.5) in
+    (is.6 ∙ (ap Moves did ∙ sym other.6), is.7 ∙ (ap (λ (x : Node). with_component_node n.comp.0 x w) (moved_once other.0 n other.2 is.1 other.1 left other.5) ∙ sym other.7))
 
 -- the message at a place, and those that are left, by lists that are mapped
 split_at : {X : Type 0} {Y : Type 0} (f : X → Y) (front other : List X) (m n : X) (back rest : List X) → length front ≡ length other → map f (front ++ m ∷ back) ≡ map f (other ++ n ∷ rest)
@@ -253,8 +234,7 @@ abbrev with_mail : WorldContent → List Message → WorldContent
 with_mail w mail = record w { mail = mail }
 
 mail_done : (w v : WorldContent) (place : ℕ) (what : What) → IsDone w (Mail place) what v → ((length w.mail ≤ place) × (what ≡ Nothing) × (v ≡ w)) ⊎ IsDelivered place w what v
-mail_done w v place Nothing (inl none) = inl (none.0, refl, none.1)
-mail_done w v place Nothing (inr is) = inr is
+mail_done w v place Nothing is = inl (is.0, refl, is.1)
 mail_done w v place (Hears receipt) is = inr is
 mail_done w v place Submits is = inr is
 mail_done w v place (Learns did) is = inr is

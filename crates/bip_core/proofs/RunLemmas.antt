@@ -117,7 +117,7 @@ same_as v u is = (ap (λ (w : WorldContent). w.trace) is, ap (λ (w : WorldConte
 
 -- a message that is handed on leaves them
 handed_same : (w : WorldContent) (m : Message) (what : What) (v : WorldContent) → IsHandedOn w m what v → (v.trace ≡ w.trace) × (v.plan ≡ w.plan) × (v.mail ≡ w.mail)
-handed_same w (OfferTo k o) Nothing v on = same_as v _ on.1
+handed_same w (OfferTo k o) Nothing v on = absurd on
 handed_same w (OfferTo k o) (Hears r) v on = same_as v _ on.3
 handed_same w (OfferTo k o) Submits v on = absurd on
 handed_same w (OfferTo k o) (Learns r) v on = absurd on
@@ -131,14 +131,14 @@ handed_same w (RequestToBank q) (Learns r) v on = absurd on
 handed_same w (RequestToBank q) (Moves r) v on = absurd on
 handed_same w (RequestToBank q) (Tries r) v on = absurd on
 handed_same w (RequestToBank q) (Acts r) v on = absurd on
-handed_same w (ReplyToClass x) Nothing v on = same_as v _ on.1
+handed_same w (ReplyToClass x) Nothing v on = absurd on
 handed_same w (ReplyToClass x) (Hears r) v on = absurd on
 handed_same w (ReplyToClass x) Submits v on = absurd on
 handed_same w (ReplyToClass x) (Learns r) v on = same_as v _ on.5
 handed_same w (ReplyToClass x) (Moves r) v on = absurd on
 handed_same w (ReplyToClass x) (Tries r) v on = absurd on
 handed_same w (ReplyToClass x) (Acts r) v on = absurd on
-handed_same w (NotifyComponent n) Nothing v on = same_as v _ on.1
+handed_same w (NotifyComponent n) Nothing v on = absurd on
 handed_same w (NotifyComponent n) (Hears r) v on = absurd on
 handed_same w (NotifyComponent n) Submits v on = absurd on
 handed_same w (NotifyComponent n) (Learns r) v on = absurd on
@@ -187,10 +187,7 @@ left_by place w what v d =
     }
 
 done_left : (w : WorldContent) (e : Event) (what : What) (v : WorldContent) → IsDone w e what v → IsLeft w v
-done_left w (Mail place) Nothing v done = elim done [
-  | inl none ↦ left_as w v (same_as v w none.1)
-  | inr d ↦ left_by place w Nothing v d
-]
+done_left w (Mail place) Nothing v done = left_as w v (same_as v w done.1)
 done_left w (Mail place) (Hears r) v done = left_by place w (Hears r) v done
 done_left w (Mail place) Submits v done = left_by place w Submits v done
 done_left w (Mail place) (Learns r) v done = left_by place w (Learns r) v done
@@ -277,13 +274,10 @@ messages_sent w v e d step = (
 
 -- where there is a message it is handed on
 at_place : (w : WorldContent) (place : ℕ) (what : What) (v : WorldContent) → IsDone w (Mail place) what v → place < length w.mail → IsDelivered place w what v
-at_place w place Nothing v done within = elim done [
-  | inl none ↦
-      let far = none.0 in
-      let never : ⊥ = omega (arith, far, within) in
-      absurd never
-  | inr d ↦ d
-]
+at_place w place Nothing v done within =
+    let far = done.0 in
+    let never : ⊥ = omega (arith, far, within) in
+    absurd never
 at_place w place (Hears r) v done within = done
 at_place w place Submits v done within = done
 at_place w place (Learns r) v done within = done

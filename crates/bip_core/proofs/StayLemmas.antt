@@ -8,7 +8,8 @@ use Rattle.bip_ip.specs.Nodes.{ClassNode, after_offer, after_try}
 use Rattle.bip_bank.specs.Banks.{BankContent, IsActed, with_request}
 use Rattle.bip_bank.specs.declared.banks.Acted.{Acted}
 use Rattle.bip_bank.specs.declared.banks.Acted.TheVariants as acted
-use Rattle.bip_core.specs.Events.{IsDelivered, IsDone, IsHandedOn, IsStep, class_named}
+use Rattle.bip_frame.specs.Views.{reply_class}
+use Rattle.bip_core.specs.Events.{IsDelivered, IsDone, IsHandedOn, IsStep}
 use Rattle.bip_core.specs.Laws.{KeepsThePlan}
 use Rattle.bip_core.specs.Worlds.{WorldContent, with_class_node, with_component_node}
 use Rattle.bip_core.specs.declared.events.Did.{Did}
@@ -101,17 +102,14 @@ module _ {w : WorldContent} where
   handed_stays (OfferTo k o) (Hears receipt) v (node, at, hears, is) =
       let later = after_offer o receipt node in
       stays_by is (class_stays k.0 later at (heard_same o receipt node later refl))
-  handed_stays (OfferTo k o) Nothing v (absent, is) = stays_by is stays
   handed_stays (RequestToBank q) Submits v is =
       stays_by is (bank_stays (with_request q w.bank) (refl, refl))
   handed_stays (ReplyToClass r) (Learns did) v (node, later, at, answers, leaves, is) =
       let same = replied_same r did node later answers leaves in
-      stays_by is (class_stays (class_named r) later at same)
-  handed_stays (ReplyToClass r) Nothing v (absent, is) = stays_by is stays
+      stays_by is (class_stays (reply_class r).0 later at same)
   handed_stays (NotifyComponent n) (Moves did) v (node, later, at, answers, leaves, is) =
       let same = notified_same node later n did leaves in
       stays_by is (component_stays n.comp.0 later at same)
-  handed_stays (NotifyComponent n) Nothing v (absent, is) = stays_by is stays
   handed_stays m what v none = absurd none
 
 bank_same : (b later : BankContent) (did : Acted) → IsActed did b later
@@ -142,8 +140,7 @@ module _ (w : WorldContent) where
   -- any event does what it does
   done_stays : (event : Event) (what : What) (v : WorldContent) → IsDone w event what v
       → KeepsThePlan w v
-  done_stays (Mail place) Nothing v (inl (past, is)) = stays_by is stays
-  done_stays (Mail place) Nothing v (inr delivered) = delivered_stays place Nothing v delivered
+  done_stays (Mail place) Nothing v (past, is) = stays_by is stays
   done_stays (Mail place) what v delivered = delivered_stays place what v delivered
   done_stays (Try k a) (Tries did) v (node, at, tries, is) =
       let later = after_try a.0 did node in

@@ -48,7 +48,8 @@ use Rattle.bip_core.specs.Traces.{trace_by}
 use Rattle.bip_partition.specs.Laws.{IsPlanned}
 use Rattle.bip_model.specs.declared.numbering.ClassId.{ClassId}
 use Rattle.bip_observe.specs.Offers.{IsReceipt, observed}
-use Rattle.bip_core.specs.Events.{AreSent, CanBeSkipped, IsCounted, IsDelivered, IsDone, IsHandedOn, IsSending, IsTakenIn, IsTraced, SendsWhatFits, StepCanBeSkipped, TakesOut, class_named, grant_acted, grant_in, grant_tried, is_serving, kind_of, trace_with}
+use Rattle.bip_frame.specs.Views.{reply_class}
+use Rattle.bip_core.specs.Events.{AreSent, CanBeSkipped, IsCounted, IsDelivered, IsDone, IsHandedOn, IsSending, IsTakenIn, IsTraced, SendsWhatFits, StepCanBeSkipped, TakesOut, grant_acted, grant_in, grant_tried, is_serving, kind_of, trace_with}
 use Rattle.bip_core.specs.declared.events.Event.{Event}
 use Rattle.bip_core.specs.declared.events.Event.TheVariants.{Bank, Mail, Try}
 use Rattle.bip_core.specs.declared.events.What.TheVariants.{Acts, Hears, Learns, Moves, Nothing, Submits, Tries}
@@ -217,7 +218,7 @@ moved_on w c n did old later named is within answer after = (
 )
 
 -- a reply
-pub learned_on : (w : KeptWorld) (k : ℕ) (r : Reply) (did : Answered) (old n : KeptNode) → k ≡ class_named r → slice_get w.classes k ≡ Some old → IsAnswered (node_of old) r did → IsLeftByReply r did (node_of old) (node_of n)
+pub learned_on : (w : KeptWorld) (k : ℕ) (r : Reply) (did : Answered) (old n : KeptNode) → k ≡ (reply_class r).0 → slice_get w.classes k ≡ Some old → IsAnswered (node_of old) r did → IsLeftByReply r did (node_of old) (node_of n)
     → IsHandedOn (world_of w) (ReplyToClass r) (Learns did) (world_of (record w { classes = set w.classes k n }))
 learned_on w k r did old n named is answered left =
     rw (← named) (node_of old, node_of n, ap (option_map node_of) is, answered, left, class_put w k n (node_of n) (slice_get_within w.classes k old is) refl)
@@ -391,9 +392,16 @@ mail_kept w mail fits kept = record {
   grants = kept.grants;
 }
 
+-- a message that is handed on is answered
+is_answered : (w : WorldContent) (message : Message) (v : WorldContent) → IsHandedOn w message Nothing v → ⊥
+is_answered w (OfferTo k o) v on = on
+is_answered w (RequestToBank q) v on = on
+is_answered w (ReplyToClass r) v on = on
+is_answered w (NotifyComponent n) v on = on
+
 -- a delivery is what an event does
 done_mail : (w : WorldContent) (place : ℕ) (what : What) (v : WorldContent) → IsDelivered place w what v → IsDone w (Mail place) what v
-done_mail w place Nothing v d = inr d
+done_mail w place Nothing v d = absurd (is_answered (record w { mail = d.rest }) d.message v d.on)
 done_mail w place (Hears r) v d = d
 done_mail w place Submits v d = d
 done_mail w place (Learns r) v d = d
@@ -430,7 +438,7 @@ delivered w k place message what v taken same on =
 
 -- there is no such message
 pub no_mail : (w : KeptWorld) (place : ℕ) → length w.mail ≤ place → IsTraced (world_of w) (Mail place) Nothing (world_of w)
-no_mail w place past = record { middle = world_of w; done = inl (past, refl); after = refl }
+no_mail w place past = record { middle = world_of w; done = (past, refl); after = refl }
 
 -- a request in flight can be lost for want of memory
 pub request_skipped : (w : KeptWorld) (place : ℕ) (q : Request) → slice_get w.mail place ≡ Some (RequestToBank q) → CanBeSkipped (world_of w) (Mail place)
@@ -492,27 +500,13 @@ if_err X (Err e) x = x
 pub sent_kept : (w : KeptWorld) (what : What) (outcome : Outcome) (later : List Message) → IsPlanned w.plan → SendsWhatFits w.plan what → IsSending w.plan what outcome w.mail later → IsKeptWorld w → IsKeptWorld (record w { mail = later })
 sent_kept w what outcome later planned fits sending kept = mail_kept w later (put_fit w.plan what outcome w.mail later planned fits sending kept.mail) kept
 
--- there is no such node
+-- there is no such class
 pub no_class : (w : KeptWorld) (k : ℕ) → length w.classes ≤ k → (world_of w).classes k ≡ None
 no_class w k past = ap (option_map node_of) (slice_get_past w.classes k past)
-
-pub no_component : (w : KeptWorld) (c : ℕ) → length w.components ≤ c → (world_of w).components c ≡ None
-no_component w c past = slice_get_past w.components c past
 
 -- so a try there does nothing
 pub no_try : (w : KeptWorld) (k : ClassId) (a : InterId) → length w.classes ≤ k.0 → IsTraced (world_of w) (Try k a) Nothing (world_of w)
 no_try w k a past = record { middle = world_of w; done = (no_class w k.0 past, refl); after = refl }
-
--- a message for no node
-pub idle_taken : (saw : What → Type 0) (w : WorldContent) (message : Message) (outcome : Outcome) → saw Nothing → IsHandedOn w message Nothing w → outcome ≡ record { kind = kind.Idle; lost = 0 } → IsTakenIn saw w message outcome w
-idle_taken saw w message outcome seen on is = record {
-  what = Nothing;
-  seen = seen;
-  middle = w;
-  on = on;
-  sending = sends_nothing w.plan Nothing outcome w.mail refl is;
-  others = refl;
-}
 
 -- a step by its parts
 pub counted_by : (saw : What → Type 0) (w : WorldContent) (event : Event) (what : What) (outcome : Outcome) (middle v : WorldContent) → saw what → IsTraced w event what middle → IsSending w.plan what outcome middle.mail v.mail → v ≡ record middle { mail = v.mail } → IsCounted saw w event outcome v

@@ -19,7 +19,7 @@ pub enum Event {
 /// What an event did: the answer of the node that it addressed.
 #[derive(Drop)]
 pub enum What {
-    /// There is no such message, or no such node.
+    /// There is no such message, or no such class.
     Nothing,
     /// A class got an offer.
     Hears(Receipt),

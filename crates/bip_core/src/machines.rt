@@ -12,7 +12,7 @@ ghost use Rattle.bip_core.specs.Events.{CanBeSkipped, IsCounted, IsTakenIn, Take
 ghost use Rattle.bip_core.specs.Letters.{CanBeHandedOn, IsLetterOf, IsNumberedRequest};
 ghost use Rattle.bip_core.specs.Letters.{address_of};
 ghost use Rattle.bip_core.specs.declared.accepting.Address.TheVariants.{Layer};
-ghost use Rattle.bip_frame.specs.Views.{notify_shown, offer_shown, reply_shown};
+ghost use Rattle.bip_frame.specs.Views.{notify_shown, offer_shown, reply_class, reply_shown};
 ghost use Rattle.bip_core.specs.Starting.{IsNewWorld, IsUnasked};
 ghost use Rattle.bip_core.specs.Worlds.{IsKeptWorld, IsKnownGrant, world_of};
 ghost use Rattle.bip_core.specs.declared.events.Event.TheVariants.{Bank, Mail, Try};
@@ -167,13 +167,10 @@ impl<'p, B: bip_bank::Bank> Machine<'p, B> {
         offer: &OfferFrame<'_>,
         witness: &mut W,
     ) -> Outcome
+        requires within { class.0 < length self.old.classes }
         ensures { IsTakenIn (λ what. W.saw what witness.new) (world_of self.old)
             (OfferTo class (offer_shown offer.now)) result (world_of self.new) }
     {
-        if class.0 as usize >= self.classes.len() {
-            witness.see(What::Nothing);
-            return Outcome::of(Kind::Idle);
-        }
         let receipt = self.classes[class.0 as usize].on_offer_frame(offer);
         witness.see(What::Hears(receipt));
         Outcome::of(Kind::Done)
@@ -181,15 +178,12 @@ impl<'p, B: bip_bank::Bank> Machine<'p, B> {
 
     /// Hands a reply on to the class that it names.
     fn learn<W: Witness>(&mut self, reply: &ReplyFrame<'_>, witness: &mut W) -> Outcome
+        requires within { (reply_class (reply_shown reply.now)).0 < length self.old.classes }
         ensures { IsTakenIn (λ what. W.saw what witness.new) (world_of self.old)
             (ReplyToClass (reply_shown reply.now)) result (world_of self.new) }
     {
         self.plan.recall();
         let class = reply.class();
-        if class.0 as usize >= self.classes.len() {
-            witness.see(What::Nothing);
-            return Outcome::of(Kind::Idle);
-        }
         let did = self.classes[class.0 as usize].on_reply_frame(reply);
         let outcome = send_told(self.plan, &mut self.mail, &did);
         witness.see(What::Learns(did));
@@ -198,15 +192,12 @@ impl<'p, B: bip_bank::Bank> Machine<'p, B> {
 
     /// Hands a notification on to its component.
     fn move_by<W: Witness>(&mut self, notify: &NotifyFrame<'_>, witness: &mut W) -> Outcome
+        requires within { (notify_shown notify.now).comp.0 < length self.old.components }
         ensures { IsTakenIn (λ what. W.saw what witness.new) (world_of self.old)
             (NotifyComponent (notify_shown notify.now)) result (world_of self.new) }
     {
         self.plan.recall();
         let comp = notify.comp();
-        if comp.0 as usize >= self.components.len() {
-            witness.see(What::Nothing);
-            return Outcome::of(Kind::Idle);
-        }
         let did = self.components[comp.0 as usize].on_notify_frame(notify);
         let outcome = send_moved(self.plan, &mut self.mail, &did);
         witness.see(What::Moves(did));

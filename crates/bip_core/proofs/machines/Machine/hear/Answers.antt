@@ -1,18 +1,12 @@
-use Rattle.std.proofs.Common.{◌<◌, ◌≤◌, length, refl, rules, set}
+use Rattle.std.proofs.Common.{◌<◌, length, refl, rules, set}
 use Rattle.bip_frame.specs.Views.{offer_shown}
 use Rattle.bip_ip.specs.Nodes.{node_of}
 use Rattle.bip_core.specs.Worlds.{world_of}
 use Rattle.bip_core.specs.declared.events.What.TheVariants.{Hears}
 use Rattle.bip_core.proofs.FitLemmas.{heard_keeps}
 use Rattle.bip_core.proofs.SendLemmas.{sends_nothing}
-use Rattle.bip_core.proofs.WorldLemmas.{class_kept, heard_on, heard_same, idle_taken, kept_by, no_class, read_here}
+use Rattle.bip_core.proofs.WorldLemmas.{class_kept, heard_on, heard_same, kept_by, read_here}
 use Rattle.bip_core.proofs.machines.Machine.hear.Goals as goal
-
-pub returns-then-class-len : goal.returns-then-class-len
-returns-then-class-len g c =
-    let w = kept_by c.self.inside.plan.now c.self.inside.components.items c.self.inside.classes.items c.self.inside.mail c.self.inside.own.items (g.B.Bank.kept c.self.inside.bank) in
-    let past : length w.classes ≤ c.args.class.0 = search rules in
-    rw (← c.self.view_is) (idle_taken _ (world_of w) _ _ c.see.ensures (no_class w c.args.class.0 past, refl) c.of.ensures)
 
 pub invariant_of-self : goal.invariant_of-self
 invariant_of-self g c =
@@ -34,9 +28,9 @@ returns g c =
     let is = read_here w.classes c.args.class.0 old within c.index_mut.ensures.value in
     rw (← c.self.view_is) (record {
       what = Hears c.on_offer_frame-receipt.result;
-      seen = c.see-2.ensures;
+      seen = c.see.ensures;
       middle = world_of (record w { classes = set w.classes c.args.class.0 c.on_offer_frame-receipt.new.self });
       on = heard_on w c.args.class (offer_shown c.args.offer.now) c.on_offer_frame-receipt.result old c.on_offer_frame-receipt.new.self is c.on_offer_frame-receipt.ensures.receipt c.on_offer_frame-receipt.ensures.left;
-      sending = sends_nothing w.plan (Hears c.on_offer_frame-receipt.result) _ w.mail refl c.of-2.ensures;
+      sending = sends_nothing w.plan (Hears c.on_offer_frame-receipt.result) _ w.mail refl c.of.ensures;
       others = refl;
     })

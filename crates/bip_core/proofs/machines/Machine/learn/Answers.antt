@@ -1,22 +1,12 @@
-use Rattle.std.proofs.Common.{◌≡◌, ◌<◌, ◌≤◌, ◌∙◌, ap, length, refl, rules, set}
+use Rattle.std.proofs.Common.{◌≡◌, ◌<◌, ap, length, refl, rules, set}
 use Rattle.bip_model.specs.declared.numbering.ClassId.{ClassId}
-use Rattle.bip_frame.specs.Views.{reply_shown}
+use Rattle.bip_frame.specs.Views.{reply_class, reply_shown}
 use Rattle.bip_ip.specs.Nodes.{node_of}
-use Rattle.bip_core.specs.Events.{class_named}
 use Rattle.bip_core.specs.Worlds.{world_of}
 use Rattle.bip_core.specs.declared.events.What.TheVariants.{Learns}
 use Rattle.bip_core.proofs.FitLemmas.{replied_fits, replied_keeps}
-use Rattle.bip_core.proofs.LetterLemmas.{class_is}
-use Rattle.bip_core.proofs.WorldLemmas.{class_kept, idle_taken, kept_by, learned_on, no_class, read_here, replied_same, sent_kept}
+use Rattle.bip_core.proofs.WorldLemmas.{class_kept, kept_by, learned_on, read_here, replied_same, sent_kept}
 use Rattle.bip_core.proofs.machines.Machine.learn.Goals as goal
-
-pub returns-then-class-len : goal.returns-then-class-len
-returns-then-class-len g c =
-    let w = kept_by c.self.inside.plan.now c.self.inside.components.items c.self.inside.classes.items c.self.inside.mail c.self.inside.own.items (g.B.Bank.kept c.self.inside.bank) in
-    let r = reply_shown c.args.reply.now in
-    let past : length w.classes ≤ c.class-class.result.0 = search rules in
-    let named : c.class-class.result.0 ≡ class_named r = ap (λ (k : ClassId). k.0) c.class-class.ensures ∙ class_is r in
-    rw (← c.self.view_is) (idle_taken _ (world_of w) _ _ c.see.ensures (rw (← named) (no_class w c.class-class.result.0 past), refl) c.of.ensures)
 
 pub send_told-outcome-requires : goal.send_told-outcome-requires
 send_told-outcome-requires g c =
@@ -49,10 +39,10 @@ returns g c =
     let r = reply_shown c.args.reply.now in
     let within : c.class-class.result.0 < length w.classes = search rules in
     let is = read_here w.classes c.class-class.result.0 old within c.index_mut.ensures.value in
-    let named : c.class-class.result.0 ≡ class_named r = ap (λ (k : ClassId). k.0) c.class-class.ensures ∙ class_is r in
+    let named : c.class-class.result.0 ≡ (reply_class r).0 = ap (λ (k : ClassId). k.0) c.class-class.ensures in
     rw (← c.self.view_is) (record {
       what = Learns c.on_reply_frame-did.result;
-      seen = c.see-2.ensures;
+      seen = c.see.ensures;
       middle = world_of (record w { classes = set w.classes c.class-class.result.0 c.on_reply_frame-did.new.self });
       on = learned_on w c.class-class.result.0 r c.on_reply_frame-did.result old c.on_reply_frame-did.new.self named is c.on_reply_frame-did.ensures.answered c.on_reply_frame-did.ensures.left;
       sending = c.send_told-outcome.ensures;

@@ -1,17 +1,11 @@
-use Rattle.std.proofs.Common.{◌≡◌, ◌<◌, ◌≤◌, ◌∙◌, ap, length, refl, rules, set}
+use Rattle.std.proofs.Common.{◌≡◌, ◌<◌, ◌∙◌, ap, length, refl, rules, set}
 use Rattle.bip_model.specs.declared.numbering.CompId.{CompId}
 use Rattle.bip_frame.specs.Views.{notify_shown}
 use Rattle.bip_core.specs.Worlds.{world_of}
 use Rattle.bip_core.specs.declared.events.What.TheVariants.{Moves}
 use Rattle.bip_core.proofs.FitLemmas.{moved_fits}
-use Rattle.bip_core.proofs.WorldLemmas.{component_kept, idle_taken, kept_by, moved_on, no_component, notified_same, read_here, sent_kept}
+use Rattle.bip_core.proofs.WorldLemmas.{component_kept, kept_by, moved_on, notified_same, read_here, sent_kept}
 use Rattle.bip_core.proofs.machines.Machine.move_by.Goals as goal
-
-pub returns-then-comp-len : goal.returns-then-comp-len
-returns-then-comp-len g c =
-    let w = kept_by c.self.inside.plan.now c.self.inside.components.items c.self.inside.classes.items c.self.inside.mail c.self.inside.own.items (g.B.Bank.kept c.self.inside.bank) in
-    let past : length w.components ≤ c.comp-comp.result.0 = search rules in
-    rw (← c.self.view_is) (idle_taken _ (world_of w) _ _ c.see.ensures (rw (← c.comp-comp.ensures) (no_component w c.comp-comp.result.0 past), refl) c.of.ensures)
 
 pub send_moved-outcome-requires : goal.send_moved-outcome-requires
 send_moved-outcome-requires g c =
@@ -49,7 +43,7 @@ returns g c =
     let named : c.comp-comp.result.0 ≡ n.comp.0 = ap (λ (k : CompId). k.0) c.comp-comp.ensures in
     rw (← c.self.view_is) (record {
       what = Moves c.on_notify_frame-did.result;
-      seen = c.see-2.ensures;
+      seen = c.see.ensures;
       middle = world_of (record w { components = set w.components c.comp-comp.result.0 later });
       on = moved_on w c.comp-comp.result.0 n c.on_notify_frame-did.result old later named is within c.on_notify_frame-did.ensures.answer c.on_notify_frame-did.ensures.after;
       sending = c.send_moved-outcome.ensures;
