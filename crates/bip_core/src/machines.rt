@@ -108,6 +108,14 @@ impl<'p, B: bip_bank::Bank> Machine<'p, B> {
         })
     }
 
+    /// Does nothing, and costs nothing: it reminds the prover of what is kept.
+    #[inline(always)]
+    pub fn recall(&self)
+        ensures { IsKeptWorld self.now }
+    {
+        let _opened = &self.plan;
+    }
+
     /// The plan.
     pub fn plan(&self) -> &'p Plan
         ensures { result.now ≡ self.now.plan }
@@ -136,6 +144,7 @@ impl<'p, B: bip_bank::Bank> Machine<'p, B> {
         ensures some { IfSome result (λ letter. (m : Message)
             × (slice_get self.now.mail place ≡ Some m) × IsLetterOf m letter.0 letter.1.now) }
         ensures none { IfNone result (length self.now.mail ≤ place) }
+        ensures accepted { All (CanBeHandedOn self.now.plan) self.now.mail }
     {
         if place >= self.mail.len() {
             return None;

@@ -7,9 +7,9 @@ ghost use Rattle.bip_replay.specs.Runs.{IsModelRun};
 ghost use Rattle.bip_bank.specs.Banks.{content_of};
 ghost use Rattle.bip_core.specs.Agreement.{Agrees};
 ghost use Rattle.bip_core.specs.Events.{CanBeSkipped, IsCounted, IsStep};
-ghost use Rattle.bip_core.specs.Letters.{IsLetterOf};
+ghost use Rattle.bip_core.specs.Letters.{CanBeHandedOn, IsLetterOf};
 ghost use Rattle.bip_core.specs.Starting.{IsNewWorld, IsUnasked};
-ghost use Rattle.bip_core.specs.Worlds.{IsKnownGrant, world_of};
+ghost use Rattle.bip_core.specs.Worlds.{IsKeptWorld, IsKnownGrant, world_of};
 
 use crate::machines::Machine;
 use crate::outcomes::{NoOne, Outcome};
@@ -39,9 +39,9 @@ impl<'p, B: bip_bank::Bank> marker::Model for World<'p, B> {
 
 impl<'p, B: bip_bank::Bank> World<'p, B> {
     /// The world of a plan at the start: each component offers its first move, with the number
-    /// above the base, to each class that touches it, and no other message is in flight. The bank
-    /// is one of that plan and base, without grants or open requests; its stations lack what they
-    /// lacked.
+    /// above the base, to each class that touches it, and no other message is in flight. The base
+    /// is below 2^64 - 1. The bank is one of that plan and base, without grants or open requests;
+    /// its stations lack what they lacked.
     pub fn new(
         alloc: Global,
         plan: &'p Plan,
@@ -103,13 +103,18 @@ impl<'p, B: bip_bank::Bank> World<'p, B> {
         self.machine.step(event, &mut NoOne)
     }
 
-    /// Does nothing, and costs nothing: it reminds the prover of what holds of each world.
+    /// Does nothing, and costs nothing: it reminds the prover of what holds of each world. There is
+    /// a node of each component and class of its plan; what is in flight is accepted by those for
+    /// whom it is; open requests fit the plan, and grants are of its model; and the world agrees
+    /// with its trace, which is a run.
     #[inline(always)]
-    pub(crate) fn recall(&self)
+    pub fn recall(&self)
+        ensures kept { IsKeptWorld self.now }
         ensures run { IsModelRun self.now.plan.model (world_of self.now).bank.base self.now.trace }
         ensures once { MovesOnceEach self.now.trace }
         ensures agrees { Agrees (world_of self.now) }
     {
+        self.machine.recall();
         let _trace = self.trace();
     }
 
@@ -139,11 +144,13 @@ impl<'p, B: bip_bank::Bank> World<'p, B> {
     }
 
     /// For whom the message at a place among those in flight is, in order of sending from 0, and
-    /// its frame, lent; none where there are no more than so many.
+    /// its frame, lent; none where there are no more than so many. Each message in flight is
+    /// accepted by its addressee.
     pub fn mail(&self, place: usize) -> Option<(Address, &[u8])>
         ensures some { IfSome result (λ letter. (m : Message)
             × (slice_get self.now.mail place ≡ Some m) × IsLetterOf m letter.0 letter.1.now) }
         ensures none { IfNone result (length self.now.mail ≤ place) }
+        ensures accepted { All (CanBeHandedOn self.now.plan) self.now.mail }
     {
         self.machine.mail(place)
     }
