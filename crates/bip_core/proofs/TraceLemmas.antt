@@ -84,3 +84,10 @@ room_made own granted capacity room = elim (cases_lt (length granted) (length ow
   | inl longer ↦ rw (own_trace own granted longer) (omega (arith, longer, room))
   | inr few ↦ rw (bank_trace own granted few) (omega (arith, few, room))
 ]
+
+-- and where that is missing, it is full
+pub room_missing : (own granted : List Grant) (capacity : ℕ) → capacity < length own + (length granted - length own) + 1 → capacity ≤ length (trace_by own granted)
+room_missing own granted capacity missing = elim (cases_lt (length granted) (length own)) [
+  | inl longer ↦ rw (own_trace own granted longer) (omega (arith, longer, missing))
+  | inr few ↦ rw (bank_trace own granted few) (omega (arith, few, missing))
+]

@@ -1,6 +1,6 @@
 //! The messages in flight, in pieces: taking one out moves few others, however many there are.
-ghost use Rattle.std.specs.Prelude.{◌≡◌, ◌<◌, ◌∷◌, ◌++◌, [], IfErr, OnErr, OnOk, Some, length};
-ghost use Rattle.std.specs.Prelude.{slice_get};
+ghost use Rattle.std.specs.Prelude.{◌≡◌, ◌<◌, ◌≤◌, ◌∷◌, ◌++◌, [], IfErr, OnErr, OnOk, Some};
+ghost use Rattle.std.specs.Prelude.{length, slice_get, vec_capacity, vec_len};
 ghost use Rattle.std.specs.List.{remove};
 ghost use Rattle.bip_core.specs.Mailbags.{IsPlaceIn, in_chunks, in_groups, of_chunk, of_group};
 
@@ -211,6 +211,7 @@ fn place_in_groups(groups: &[Group], before: usize) -> Spot
 fn ready_last_chunk(chunks: &mut Vec<Vec<Letter>>) -> Result<(), AllocError>
     ensures same { in_chunks chunks.new.items ≡ in_chunks chunks.old.items }
     ensures some { OnOk result (0 < length chunks.new.items) }
+    ensures full { IfErr result (λ e. vec_capacity chunks.old ≤ vec_len chunks.old) }
 {
     if let Some(chunk) = chunks.last()
         && chunk.len() < CHUNK
@@ -226,6 +227,7 @@ fn ready_last_chunk(chunks: &mut Vec<Vec<Letter>>) -> Result<(), AllocError>
 fn ready_last_group(groups: &mut Vec<Group>) -> Result<(), AllocError>
     ensures same { in_groups groups.new.items ≡ in_groups groups.old.items }
     ensures some { OnOk result (0 < length groups.new.items) }
+    ensures full { IfErr result (λ e. vec_capacity groups.old ≤ vec_len groups.old) }
 {
     if let Some(group) = groups.last()
         && group.len() < GROUP

@@ -1,7 +1,6 @@
 //! The trace of a world: the bank's list of grants, as long as none is local.
-ghost use Rattle.std.specs.Prelude.{◌≡◌, ◌<◌, ◌⊎◌, IfErr, None, OnOk, false, length, true};
+ghost use Rattle.std.specs.Prelude.{◌≡◌, ◌<◌, ◌≤◌, ◌⊎◌, IfErr, None, OnOk, false, length, true};
 ghost use Rattle.std.specs.Prelude.{vec_capacity, vec_len};
-ghost use Rattle.bip_model.specs.Parts.{IsSystem};
 ghost use Rattle.bip_partition.specs.Plans.{IsReserved};
 ghost use Rattle.bip_core.specs.Events.{grant_acted, grant_tried, is_serving, trace_with};
 ghost use Rattle.bip_core.specs.Traces.{own_with, trace_by};
@@ -36,7 +35,8 @@ pub(crate) fn make_room(
     ensures room { OnOk result (IsReserved plan.now inter.0
         ⊎ (length (trace_by own.new.items granted.now) < vec_capacity own.new)) }
     ensures local { IfErr result (λ e. ¬ IsReserved plan.now inter.0) }
-    ensures valid { IsSystem plan.now.model }
+    ensures full { IfErr result (λ e. vec_capacity own.old
+        ≤ length (trace_by own.old.items granted.now)) }
 {
     if plan.reserved(inter) {
         return Ok(());
@@ -57,6 +57,7 @@ pub(crate) fn make_room_to_serve(
         ⊎ (granted < length own.new.items → vec_len own.new < vec_capacity own.new)) }
     ensures serves { IfErr result (λ e. is_serving step ≡ true) }
     ensures longer { IfErr result (λ e. granted < length own.old.items) }
+    ensures full { IfErr result (λ e. vec_capacity own.old ≤ vec_len own.old) }
 {
     match step {
         BankStep::Serve(_) if granted < own.len() => own.reserve(1),
