@@ -1,10 +1,13 @@
 -- Events one after another, and their sums.
-use Rattle.std.proofs.Common.{◌≡◌, ◌∙◌, ℕ, suc, inl, inr, ◌+◌, ◌<◌, List, [], ◌∷◌, ◌++◌, Bool, false, true, Option, Some, None, length, refl, sym, ap, subst, arith, ◌≤◌, slice_get}
+use Rattle.std.proofs.Common.{◌≡◌, ◌∙◌, ℕ, suc, ◌+◌, ◌<◌, List, [], ◌∷◌, ◌++◌, Bool, false, true, Option, Some, None, length, refl, sym, ap, subst, arith, ◌≤◌, slice_get}
 use Rattle.std.specs.Prelude.{count_by, cond, is_some}
 use Rattle.std.proofs.lemmas.List.{append_assoc, append-nil, length-append}
+use Rattle.std.specs.Option.{option_to_list}
 use Rattle.std.proofs.lemmas.List.Sums.{sum_by-append, sum_by-cons, sum_by_push}
+use Rattle.std.proofs.lemmas.Option.{slice_get_past}
 use Rattle.bip_model.specs.declared.grants.Grant.{Grant}
 use Rattle.bip_core.specs.Events.{AreKeptOf, AreSent, CanBeSkipped, IsDelivered, IsCounted, IsDone, IsHandedOn, IsStep, TakesOut, all_done, grant_in, kind_of, one_kept, one_lost, trace_with}
+use Rattle.bip_core.specs.Laws.{handed_on}
 use Rattle.bip_core.specs.Runs.{AreSteps, IsEventCounted, IsRunOfEvents, did_so, is_grant, is_idle, is_kind_granted, is_kind_idle, is_kind_refused, is_refusal, lost_by, number_if, report_counted, report_of, report_with, was_skipped}
 use Rattle.bip_core.specs.Worlds.{WorldContent}
 use Rattle.bip_core.specs.declared.events.Did.{Did}
@@ -164,42 +167,57 @@ delivered_mail place w what v d f =
     let alone = count_cons f d.message [] in
     omega (arith, left, whole, one, alone)
 
--- and so does whatever an event does before its grant joins the trace
-record IsLeft (w v : WorldContent) : Type 0 where
+-- what stands at the place of one that is taken out
+read_middle : (front : List Message) (m : Message) (back : List Message) → slice_get (front ++ m ∷ back) (length front) ≡ Some m
+read_middle [] m back = refl
+read_middle (x ∷ front) m back = read_middle front m back
+
+read_taken : (place : ℕ) (m : Message) (mail left : List Message) → TakesOut place m mail left → slice_get mail place ≡ Some m
+read_taken place m mail left taken = subst (λ (k : ℕ). slice_get mail k ≡ Some m) taken.before (subst (λ (l : List Message). slice_get l (length taken.front) ≡ Some m) (sym taken.whole) (read_middle taken.front m taken.back))
+
+-- so an event leaves all messages but those that it hands on, until its grant joins the trace
+record IsLeft (w : WorldContent) (e : Event) (v : WorldContent) : Type 0 where
   pub trace : v.trace ≡ w.trace
   pub plan : v.plan ≡ w.plan
-  pub mail : (f : Message → Bool) → count_by f v.mail ≤ count_by f w.mail
+  pub mail : (f : Message → Bool) → count_by f v.mail + count_by f (handed_on e w.mail) ≡ count_by f w.mail
 
-left_as : (w v : WorldContent) → (v.trace ≡ w.trace) × (v.plan ≡ w.plan) × (v.mail ≡ w.mail) → IsLeft w v
-left_as w v same = record {
+left_as : (w : WorldContent) (e : Event) (v : WorldContent) → handed_on e w.mail ≡ [] → (v.trace ≡ w.trace) × (v.plan ≡ w.plan) × (v.mail ≡ w.mail) → IsLeft w e v
+left_as w e v none same = record {
   trace = same.0;
   plan = same.1;
-  mail = λ f. let counted = ap (λ (l : List Message). count_by f l) same.2 in omega (arith, counted);
+  mail = λ f.
+      let counted = ap (λ (l : List Message). count_by f l) same.2 in
+      let nothing = ap (λ (l : List Message). count_by f l) none in
+      omega (arith, counted, nothing);
 }
 
-left_by : (place : ℕ) (w : WorldContent) (what : What) (v : WorldContent) → IsDelivered place w what v → IsLeft w v
+left_by : (place : ℕ) (w : WorldContent) (what : What) (v : WorldContent) → IsDelivered place w what v → IsLeft w (Mail place) v
 left_by place w what v d =
     let same = handed_same (record w { mail = d.rest }) d.message what v d.on in
+    let here = ap option_to_list (read_taken place d.message w.mail d.rest d.taken) in
     record {
       trace = same.0;
       plan = same.1;
-      mail = λ f. let counted = delivered_mail place w what v d f in omega (arith, counted);
+      mail = λ f.
+          let counted = delivered_mail place w what v d f in
+          let one = ap (λ (l : List Message). count_by f l) here in
+          omega (arith, counted, one);
     }
 
-done_left : (w : WorldContent) (e : Event) (what : What) (v : WorldContent) → IsDone w e what v → IsLeft w v
-done_left w (Mail place) Nothing v done = left_as w v (same_as v w done.1)
+done_left : (w : WorldContent) (e : Event) (what : What) (v : WorldContent) → IsDone w e what v → IsLeft w e v
+done_left w (Mail place) Nothing v done = left_as w (Mail place) v (ap option_to_list (slice_get_past w.mail place done.0)) (same_as v w done.1)
 done_left w (Mail place) (Hears r) v done = left_by place w (Hears r) v done
 done_left w (Mail place) Submits v done = left_by place w Submits v done
 done_left w (Mail place) (Learns r) v done = left_by place w (Learns r) v done
 done_left w (Mail place) (Moves r) v done = left_by place w (Moves r) v done
 done_left w (Mail place) (Tries r) v done = left_by place w (Tries r) v done
 done_left w (Mail place) (Acts r) v done = left_by place w (Acts r) v done
-done_left w (Try k a) Nothing v done = left_as w v (same_as v _ done.1)
+done_left w (Try k a) Nothing v done = left_as w (Try k a) v refl (same_as v _ done.1)
 done_left w (Try k a) (Hears r) v done = absurd done
 done_left w (Try k a) Submits v done = absurd done
 done_left w (Try k a) (Learns r) v done = absurd done
 done_left w (Try k a) (Moves r) v done = absurd done
-done_left w (Try k a) (Tries r) v done = left_as w v (same_as v _ done.3)
+done_left w (Try k a) (Tries r) v done = left_as w (Try k a) v refl (same_as v _ done.3)
 done_left w (Try k a) (Acts r) v done = absurd done
 done_left w (Bank s) Nothing v done = absurd done
 done_left w (Bank s) (Hears r) v done = absurd done
@@ -207,7 +225,7 @@ done_left w (Bank s) Submits v done = absurd done
 done_left w (Bank s) (Learns r) v done = absurd done
 done_left w (Bank s) (Moves r) v done = absurd done
 done_left w (Bank s) (Tries r) v done = absurd done
-done_left w (Bank s) (Acts r) v done = left_as w v (same_as v _ done.3)
+done_left w (Bank s) (Acts r) v done = left_as w (Bank s) v refl (same_as v _ done.3)
 
 -- the trace after an event has the grant that it gave, and no other
 pub step_trace : (w : WorldContent) (e : Event) (d : Did) (v : WorldContent) → IsStep w e d v → v.trace ≡ trace_with w.trace (grant_in d.what)
@@ -254,13 +272,36 @@ kept_counted f ps (x ∷ xs) (one_lost kept) =
     let second = count_cons f x xs in
     omega (arith, less, second)
 
+-- and no more are lost of a kind than are lost
+few : (b : Bool) → cond b 1 0 ≤ 1
+few true = omega arith
+few false = omega arith
+
+lost_counted : (f : Message → Bool) (ps xs : List Message) → AreKeptOf ps xs → count_by f xs + length ps ≤ count_by f ps + length xs
+lost_counted f [] [] all_done = omega arith
+lost_counted f (p ∷ ps) (x ∷ xs) (one_kept kept) =
+    let less = lost_counted f ps xs kept in
+    let first = count_cons f p ps in
+    let second = count_cons f p xs in
+    omega (arith, less, first, second)
+lost_counted f (p ∷ ps) [] x3 = elim x3 [ ]
+lost_counted f ps (x ∷ xs) (one_lost kept) =
+    let less = lost_counted f ps xs kept in
+    let second = count_cons f x xs in
+    omega (arith, less, second, few (f x))
+
 -- what is in flight after a step
-step_counted : (w v : WorldContent) (e : Event) (d : Did) (step : IsStep w e d v) (f : Message → Bool) → count_by f v.mail ≤ count_by f step.acted.middle.mail + count_by f step.sent
-step_counted w v e d step f =
+step_mail : (w v : WorldContent) (e : Event) (d : Did) (step : IsStep w e d v) (f : Message → Bool) → count_by f v.mail ≡ count_by f step.acted.middle.mail + count_by f step.put.put
+step_mail w v e d step f =
     let last = ap (λ (l : List Message). count_by f l) step.put.last ∙ count_append f step.middle.mail step.put.put in
     let middle = ap (λ (u : WorldContent). count_by f u.mail) step.acted.after in
+    omega (arith, last, middle)
+
+step_counted : (w v : WorldContent) (e : Event) (d : Did) (step : IsStep w e d v) (f : Message → Bool) → count_by f v.mail ≤ count_by f step.acted.middle.mail + count_by f step.sent
+step_counted w v e d step f =
+    let last = step_mail w v e d step f in
     let kept = kept_counted f step.put.put step.sent step.put.kept in
-    omega (arith, last, middle, kept)
+    omega (arith, last, kept)
 
 pub messages_sent : (w v : WorldContent) (e : Event) (d : Did) → IsStep w e d v → (sent : List Message) × AreSent w.plan d.what sent × ((f : Message → Bool) → count_by f v.mail ≤ count_by f w.mail + count_by f sent)
 messages_sent w v e d step = (
@@ -285,13 +326,6 @@ at_place w place (Moves r) v done within = done
 at_place w place (Tries r) v done within = done
 at_place w place (Acts r) v done within = done
 
-read_middle : (front : List Message) (m : Message) (back : List Message) → slice_get (front ++ m ∷ back) (length front) ≡ Some m
-read_middle [] m back = refl
-read_middle (x ∷ front) m back = read_middle front m back
-
-read_taken : (place : ℕ) (m : Message) (mail left : List Message) → TakesOut place m mail left → slice_get mail place ≡ Some m
-read_taken place m mail left taken = subst (λ (k : ℕ). slice_get mail k ≡ Some m) taken.before (subst (λ (l : List Message). slice_get l (length taken.front) ≡ Some m) (sym taken.whole) (read_middle taken.front m taken.back))
-
 pub messages_once : (w v : WorldContent) (place : ℕ) (d : Did) → IsStep w (Mail place) d v → place < length w.mail
     → (m : Message) × (slice_get w.mail place ≡ Some m) × (sent : List Message) × AreSent w.plan d.what sent × ((f : Message → Bool) → count_by f v.mail + count_by f (m ∷ []) ≤ count_by f w.mail + count_by f sent)
 messages_once w v place d step within =
@@ -304,4 +338,32 @@ messages_once w v place d step within =
           let counted = step_counted w v (Mail place) d step f in
           let left = delivered_mail place w d.what step.acted.middle here f in
           omega (arith, counted, left),
+    )
+
+-- all are counted, whatever they are
+abbrev every : Message → Bool
+every m = true
+
+counts_all : (xs : List Message) → count_by every xs ≡ length xs
+counts_all [] = refl
+counts_all (x ∷ xs) =
+    let more = count_cons every x xs in
+    let rest = counts_all xs in
+    omega (arith, more, rest)
+
+pub messages_counted : (w v : WorldContent) (e : Event) (d : Did) → IsStep w e d v
+    → (sent : List Message) × AreSent w.plan d.what sent × ((f : Message → Bool) → count_by f w.mail + count_by f sent ≤ count_by f v.mail + count_by f (handed_on e w.mail) + d.lost) × (length w.mail + length sent ≡ length v.mail + length (handed_on e w.mail) + d.lost)
+messages_counted w v e d step =
+    let left = (done_left w e d.what step.acted.middle step.acted.done).mail in
+    let last = step_mail w v e d step in
+    let before = counts_all w.mail in
+    let after = counts_all v.mail in
+    let gone = counts_all (handed_on e w.mail) in
+    let put = counts_all step.put.put in (
+      step.sent,
+      step.sends,
+      λ f.
+          let lost = lost_counted f step.put.put step.sent step.put.kept in
+          omega (arith, left f, last f, lost, step.put.count),
+      omega (arith, left every, last every, before, after, gone, put, step.put.count),
     )

@@ -2,6 +2,7 @@
 -- They stand on what a step is, and on nothing else.
 use Rattle.std.specs.Prelude.{◌≡◌, ◌↔◌, ◌+◌, ◌≤◌, ◌<◌, ◌==◌, ◌&&◌, ℕ, Bool, false, List, [], ◌∷◌}
 use Rattle.std.specs.Prelude.{◌++◌, Contains, Option, Some, count_by, length, slice_get}
+use Rattle.std.specs.Option.{option_to_list}
 use Rattle.bip_model.specs.States.{State}
 use Rattle.bip_model.specs.declared.grants.Grant.{Grant}
 use Rattle.bip_model.specs.declared.messages.Notify.{Notify}
@@ -19,7 +20,7 @@ use Rattle.bip_core.specs.Runs.{AreSteps, did_so, is_grant}
 use Rattle.bip_core.specs.Worlds.{WorldContent}
 use Rattle.bip_core.specs.declared.events.Did.{Did}
 use Rattle.bip_core.specs.declared.events.Event.{Event}
-use Rattle.bip_core.specs.declared.events.Event.TheVariants.{Mail}
+use Rattle.bip_core.specs.declared.events.Event.TheVariants.{Bank, Mail, Try}
 use Rattle.bip_core.specs.declared.messages.Message.{Message}
 use Rattle.bip_core.specs.declared.messages.Message.TheVariants.{NotifyComponent, OfferTo}
 use Rattle.bip_core.specs.declared.messages.Message.TheVariants.{ReplyToClass, RequestToBank}
@@ -69,6 +70,23 @@ MessagesGoOnce =
     × (sent : List Message) × AreSent w.plan did.what sent
     × ((kind : Message → Bool) → count_by kind v.mail + count_by kind (message ∷ [])
     ≤ count_by kind w.mail + count_by kind sent)
+
+-- the messages that an event hands on: the one at its place, if there is one
+abbrev pub handed_on : Event → List Message → List Message
+handed_on (Mail place) mail = option_to_list (slice_get mail place)
+handed_on (Try k a) mail = []
+handed_on (Bank step) mail = []
+
+-- none vanishes: whatever kind of them is counted, those that were in flight or are sent still are,
+-- but for the one that is handed on and for as many as are counted as lost; and just so many are
+abbrev pub MessagesAreCounted : Type 0
+MessagesAreCounted =
+    (w v : WorldContent) (event : Event) (did : Did) → IsStep w event did v
+    → (sent : List Message) × AreSent w.plan did.what sent
+    × ((kind : Message → Bool) → count_by kind w.mail + count_by kind sent
+    ≤ count_by kind v.mail + count_by kind (handed_on event w.mail) + did.lost)
+    × (length w.mail + length sent
+    ≡ length v.mail + length (handed_on event w.mail) + did.lost)
 
 -- a node is that of a notification's component: its next move has that number, and it is where a
 -- state says

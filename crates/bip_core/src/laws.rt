@@ -2,14 +2,14 @@
 //! nothing, and has the laws for its contract.
 ghost use Rattle.bip_core.specs.Repeats.{OneNewWorld, OneRun};
 ghost use Rattle.bip_core.specs.Sentences.{AgreementInSix, OneOfferOut};
-ghost use Rattle.bip_core.specs.Laws.{FirstOffersAreSent, GrantsJoinTheTrace, MessagesAreSent};
-ghost use Rattle.bip_core.specs.Laws.{MessagesGoOnce, ToldCanBeTaken, TracesGoOn};
+ghost use Rattle.bip_core.specs.Laws.{FirstOffersAreSent, GrantsJoinTheTrace, MessagesAreCounted};
+ghost use Rattle.bip_core.specs.Laws.{MessagesAreSent, MessagesGoOnce, ToldCanBeTaken, TracesGoOn};
 ghost use Rattle.bip_core.specs.Laws.{WorldsKeepTheirPlan};
 
 /// An event's grant joins the trace, and nothing else does; so traces go on, by as many grants as
 /// were given. Messages are neither made up nor doubled, and one that is handed on is in flight no
-/// more; at first each component's first offer is, once to each class that touches it, and nothing
-/// else. The plan stays, the bank's base, and whose nodes stand where. What is told by offers that
+/// more; none vanishes but by that, or is counted as lost. At first each component's first offer is
+/// in flight, once to each class that touches it, and nothing else. The plan stays, the bank's base, and whose nodes stand where. What is told by offers that
 /// show a state, each component can do there (docs/PROTOCOL.md, "The world and its events").
 pub fn world_laws()
     ensures join { GrantsJoinTheTrace }
@@ -17,6 +17,7 @@ pub fn world_laws()
     ensures plan { WorldsKeepTheirPlan }
     ensures sent { MessagesAreSent }
     ensures once { MessagesGoOnce }
+    ensures counted { MessagesAreCounted }
     ensures first { FirstOffersAreSent }
     ensures taken { ToldCanBeTaken }
 {}

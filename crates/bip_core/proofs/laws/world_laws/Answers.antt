@@ -1,7 +1,7 @@
 use Rattle.bip_core.proofs.FirstLemmas.{first_offers_are_sent}
 use Rattle.bip_core.proofs.TakeLemmas.{told_can_be_taken}
 use Rattle.bip_core.proofs.KeepLemmas.{worlds_keep_their_plan}
-use Rattle.bip_core.proofs.RunLemmas.{messages_once, messages_sent, step_trace, steps_grow}
+use Rattle.bip_core.proofs.RunLemmas.{messages_counted, messages_once, messages_sent, step_trace, steps_grow}
 use Rattle.bip_core.proofs.laws.world_laws.Goals as goal
 
 pub returns-clause-join : goal.returns-clause-join
@@ -18,6 +18,9 @@ returns-clause-sent c = messages_sent
 
 pub returns-clause-once : goal.returns-clause-once
 returns-clause-once c = messages_once
+
+pub returns-clause-counted : goal.returns-clause-counted
+returns-clause-counted c = messages_counted
 
 pub returns-clause-first : goal.returns-clause-first
 returns-clause-first c = first_offers_are_sent
