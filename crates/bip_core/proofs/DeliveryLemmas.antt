@@ -141,7 +141,7 @@ module _ {p : Planned} {base : ℕ} {u : ℕ → ℕ} {s : State} {w : View} (h 
     awaited = h.numbers.mail (NotifyComponent n) (in_flight (NotifyComponent n) whole)
 
     leads : lead p.model n (w.state n.comp.0) ≡ s n.comp.0
-    leads = h.locals.mail (NotifyComponent n) (in_flight (NotifyComponent n) whole)
+    leads = (h.locals.mail (NotifyComponent n) (in_flight (NotifyComponent n) whole)).leads
 
     -- it was told once
     nobody : NobodyTells left n.comp.0

@@ -32,14 +32,15 @@ use Rattle.bip_core.specs.declared.messages.Message.TheVariants.{ReplyToClass, R
 use Rattle.bip_core.specs.Agreement.{AgreeAt}
 use Rattle.bip_core.specs.Books.{HasRecord, RecordFits}
 use Rattle.bip_core.specs.Lists.{In, count}
-use Rattle.bip_core.specs.Numbers.{IsAwaited, IsOwed, is_for}
+use Rattle.bip_core.specs.Numbers.{IsAwaited, IsOwed, RecordNumbers, is_for}
 use Rattle.bip_core.specs.Sentences.{AgreementInSix, ComponentAgrees, IsMoving, IsOfferOut}
-use Rattle.bip_core.specs.Sentences.{OneOfferOut}
+use Rattle.bip_core.specs.Sentences.{NoneToldIsStale, OneOfferOut}
 use Rattle.bip_core.specs.Sentences.{IsSettled, IsSpent, LeadsOn, OfferAgrees, RequestAgrees}
 use Rattle.bip_core.specs.Locals.{Made}
-use Rattle.bip_core.specs.Views.{View, lead}
+use Rattle.bip_core.specs.Views.{CanBeTaken, LeadsTo, View, local_at, number_at, spent_of}
 use Rattle.bip_core.proofs.ListLemmas.{Any-one, count-none, count-same}
 use Rattle.bip_core.proofs.LocalLemmas.{LeadsNext, fresh_leads, shown}
+use Rattle.bip_core.proofs.TakeLemmas.{can_move_by}
 use Rattle.bip_core.proofs.NumberLemmas.{quiet}
 use Rattle.bip_core.proofs.RepeatLemmas.{same_some}
 use Rattle.bip_core.proofs.ToldLemmas.{tells_move}
@@ -62,10 +63,10 @@ module _ {p : Planned} {base : ℕ} {u : ℕ → ℕ} {s : State} {w : View}
   }
 
   leads_on : (c : ℕ) (n : Notify) → n.comp.0 ≡ c → IsAwaited u w.number w.spent n
-      → lead p.model n (w.state n.comp.0) ≡ s n.comp.0 → LeadsOn p.model u s w c n
+      → LeadsTo p.model n (w.state n.comp.0) (s n.comp.0) → LeadsOn p.model u s w c n
   leads_on c n same awaited leads = record {
     number = awaited.own ∙ (awaited.used ∙ ap u same);
-    leads = subst (λ (d : ℕ). lead p.model n (w.state d) ≡ s d) same leads;
+    leads = subst (λ (d : ℕ). LeadsTo p.model n (w.state d) (s d)) same leads;
   }
 
   moving : (c : ℕ) → w.number c ≡ u c → w.spent c ≡ false → IsMoving p.model u s w c
@@ -181,9 +182,16 @@ module _ {p : Planned} {base : ℕ} {u : ℕ → ℕ} {s : State} {w : View}
         (tells_participants p.model made.offers q.inter.0 c on) in
         (n, subst (λ (ns : List Notify). In n ns) (sym made.tells_are) at, same)
 
+    numbers : RecordNumbers p.model w.number has.entry
+    numbers = h.numbers.records q.class.0 q.inter.0 has.entry has.is
+
+    only : (n : Notify) → In n has.entry.notifies → moves p.model q.inter.0 n.comp.0 ≡ true
+    only n at =
+        subst (λ (x : Request). moves p.model x.inter.0 n.comp.0 ≡ true) has.same
+        (numbers.tells n at)
+
     own : (v : Want) → In v q.wants → v.number ≤ w.number v.comp.0
     own v at =
-        let numbers = h.numbers.records q.class.0 q.inter.0 has.entry has.is in
         numbers.wants v (subst (λ (x : Request). In v x.wants) (sym has.same) at)
 
     leads_next : IsFresh u q.wants → (n : Notify) → In n has.entry.notifies
@@ -200,6 +208,7 @@ module _ {p : Planned} {base : ℕ} {u : ℕ → ℕ} {s : State} {w : View}
       };
       has = has;
       told = told;
+      only = only;
       own = own;
       may = λ fresh. ready_may_run p.model made.offers s q.inter.0 made.ready (shown made fresh);
       numbers = λ fresh n at. (leads_next fresh n at).own;
@@ -250,3 +259,14 @@ one_offer_out p base u s w six x y out also comp number unused =
         one_offer_each p.model x.comp.0 x.number local x y
         (record { comp = refl; number = refl; shows = mine })
         (record { comp = sym comp; number = sym number; shows = other })
+
+-- what is told is awaited, and can be taken where its component is
+pub none_told_is_stale : NoneToldIsStale
+none_told_is_stale w agrees n at node here =
+    let its = agrees.nodes.components n.comp.0 node here in
+    let awaited = agrees.all.numbers.mail (NotifyComponent n) at in
+    let leads = agrees.all.locals.mail (NotifyComponent n) at in
+    let number = ap (number_at w.bank.base) here in
+    can_move_by w.plan node n its.0 (sym its.1) (awaited.own ∙ number)
+    (sym (ap spent_of here) ∙ awaited.unspent)
+    (subst (CanBeTaken w.plan.model n) (ap local_at here) leads.taken)

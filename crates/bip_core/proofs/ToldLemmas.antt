@@ -19,8 +19,9 @@ use Rattle.bip_ip.specs.Asking.{told_by}
 use Rattle.bip_ip.proofs.TellLemmas.{leads_to_the_step, tells_offered_numbers, tells_once}
 use Rattle.bip_ip.proofs.TellLemmas.{tells_what_moves}
 use Rattle.bip_core.specs.Lists.{In, count}
-use Rattle.bip_core.specs.Views.{lead}
+use Rattle.bip_core.specs.Views.{LeadsTo}
 use Rattle.bip_core.proofs.ListLemmas.{in-Contains}
+use Rattle.bip_core.proofs.TakeLemmas.{told_taken}
 use Rattle.bip_core.proofs.WantLemmas.{HasWant, moved_as_offered, want_of}
 
 -- a notification is for a component
@@ -62,10 +63,15 @@ tells_move {m} {o} {a} {wants} by n told =
       moved = moved_as_offered by n.comp.0 on ∙ number;
     }
 
--- where the offers show a state, it leads each component from there to where the step does
+-- where the offers show a state, each component can take it there, and it leads to where the step
+-- does
 pub told_leads : {m : System} {o : ℕ → Offer} {a : ℕ} → IsSystem m → (s : State) → IsReady m o a
     → AllShow m o s a → (n : Notify) → In n (told_by m o a)
-    → lead m n (s n.comp.0) ≡ after m s a n.comp.0
+    → LeadsTo m n (s n.comp.0) (after m s a n.comp.0)
 told_leads {m} {o} {a} valid s ready show n told =
     let leads = leads_to_the_step m valid o s a (λ c on. ready.own c (inl on)) in
-    sym (leads (λ c on. show c (inl on)) n (in-Contains (told_by m o a) n told))
+    let at = in-Contains (told_by m o a) n told in
+    record {
+      taken = told_taken m o s a ready show n at;
+      leads = sym (leads (λ c on. show c (inl on)) n at);
+    }

@@ -19,15 +19,17 @@ use Rattle.bip_model.specs.declared.wants.Want.{Want}
 use Rattle.bip_partition.specs.Laws.{IsPlanned}
 use Rattle.bip_partition.specs.Plans.{IsFit, IsTabled, Planned, Touches}
 use Rattle.bip_replay.specs.Runs.{IsModelRun}
+use Rattle.bip_component.specs.Components.{CanMoveBy, Node}
 use Rattle.bip_ip.specs.declared.nodes.OpenRecord.{OpenRecord}
 use Rattle.bip_core.specs.declared.messages.Message.TheVariants.{NotifyComponent, OfferTo}
 use Rattle.bip_core.specs.declared.messages.Message.TheVariants.{ReplyToClass, RequestToBank}
-use Rattle.bip_core.specs.Agreement.{AgreeAt}
+use Rattle.bip_core.specs.Agreement.{AgreeAt, Agrees}
 use Rattle.bip_core.specs.Books.{AreReserved, HasRecord, IsKnownOrPending, RecordFits, ReplyFits}
 use Rattle.bip_core.specs.Books.{is_about}
 use Rattle.bip_core.specs.Lists.{In, count}
 use Rattle.bip_core.specs.Numbers.{IsOwed, is_for}
-use Rattle.bip_core.specs.Views.{View, lead}
+use Rattle.bip_core.specs.Views.{LeadsTo, View}
+use Rattle.bip_core.specs.Worlds.{WorldContent}
 
 -- 1. the trace is a run of the model, and moves no component twice with one number; its reserved
 -- grants are the bank's, in order
@@ -50,14 +52,15 @@ pub record IsSettled (u : ℕ → ℕ) (s : State) (w : View) (c : ℕ) : Type 0
   pub there : w.state c ≡ s c
   pub none : NobodyTells w c
 
--- a notification has a component's used number, and leads it to where the trace does
+-- a notification has a component's used number, can be taken where it is, and leads it to where the
+-- trace does
 pub record LeadsOn (m : System) (u : ℕ → ℕ) (s : State) (w : View) (c : ℕ) (n : Notify)
     : Type 0 where
   pub number : n.number ≡ u c
-  pub leads : lead m n (w.state c) ≡ s c
+  pub leads : LeadsTo m n (w.state c) (s c)
 
 -- a moving component has its last granted move before it: it may be told of it, in flight or by a
--- granted record, at most once; and what tells it leads it to where the trace does
+-- granted record, at most once; and what tells it can be taken, and leads it to where the trace does
 pub record IsMoving (m : System) (u : ℕ → ℕ) (s : State) (w : View) (c : ℕ) : Type 0 where
   pub number : w.number c ≡ u c
   pub unspent : w.spent c ≡ false
@@ -102,20 +105,22 @@ pub record UsedAgree (p : Planned) (u : ℕ → ℕ) (w : View) : Type 0 where
   pub own : (g : Grant) → In g w.trace → IsKnownOrPending p w.known w.pending g
 
 -- 5. a request, in flight or open, fits the plan and has a record, which tells each component that
--- its interaction moves; none of its numbers is above its component's own; and where it is fresh,
--- its interaction may run now, and what its record tells leads to where the joint step does
+-- its interaction moves, and no other; none of its numbers is above its component's own; and where
+-- it is fresh, its interaction may run now, and what its record tells can be taken, and leads to
+-- where the joint step does
 pub record RequestAgrees (p : Planned) (u : ℕ → ℕ) (s : State) (w : View) (q : Request)
     : Type 0 where
   pub fit : IsFit p q
   pub has : HasRecord w.trace w.pending q
   pub told : (c : ℕ) → moves p.model q.inter.0 c ≡ true
       → (n : Notify) × In n has.entry.notifies × (n.comp.0 ≡ c)
+  pub only : (n : Notify) → In n has.entry.notifies → moves p.model q.inter.0 n.comp.0 ≡ true
   pub own : (x : Want) → In x q.wants → x.number ≤ w.number x.comp.0
   pub may : IsFresh u q.wants → MayRun p.model s q.inter.0
   pub numbers : IsFresh u q.wants → (n : Notify) → In n has.entry.notifies
       → n.number ≡ w.number n.comp.0
   pub leads : IsFresh u q.wants → (n : Notify) → In n has.entry.notifies
-      → lead p.model n (w.state n.comp.0) ≡ after p.model s q.inter.0 n.comp.0
+      → LeadsTo p.model n (w.state n.comp.0) (after p.model s q.inter.0 n.comp.0)
 
 -- a request that is in flight to the bank, or open there
 abbrev pub IsRequestOut : View → Request → Type 0
@@ -158,3 +163,10 @@ abbrev pub AgreementInSix : Type 0
 AgreementInSix =
     (p : Planned) → IsPlanned p → (base : ℕ) (u : ℕ → ℕ) (s : State) (w : View)
     → AgreeAt p base u s w → AgreesInSix p base u s w
+
+-- no notification in flight is stale: where a world agrees with its trace, the component that it is
+-- for can move by it
+abbrev pub NoneToldIsStale : Type 0
+NoneToldIsStale =
+    (w : WorldContent) → Agrees w → (n : Notify) → In (NotifyComponent n) w.mail
+    → (node : Node) → w.components n.comp.0 ≡ Some node → CanMoveBy node n

@@ -1,6 +1,8 @@
 -- The world as one flat record of functions of numbers: what the simulation speaks of.
-use Rattle.std.specs.Prelude.{ℕ, ◌+◌, Bool, false, List, Option, None}
+use Rattle.std.specs.Prelude.{◌≡◌, ℕ, ◌+◌, Bool, false, IsSomeAnd, IsTrue, List, Option, None}
+use Rattle.std.specs.Prelude.{length, slice_get}
 use Rattle.std.specs.Option.{option_map, option_map_or}
+use Rattle.bip_model.specs.Components.{offers_at}
 use Rattle.bip_model.specs.States.{State, with_values}
 use Rattle.bip_model.specs.Steps.{led}
 use Rattle.bip_model.specs.declared.grants.Grant.{Grant}
@@ -78,3 +80,16 @@ view_of base w =
 abbrev pub lead : System → Notify → Option LocalState → Option LocalState
 lead m n place =
     option_map (λ (local : LocalState). led m n.comp.0 n.port (with_values n.values local)) place
+
+-- a notification can be taken in a local state of its component: its port is on offer there, and it
+-- has a value for each variable
+abbrev pub CanBeTaken : System → Notify → Option LocalState → Type 0
+CanBeTaken m n place =
+    IsSomeAnd (slice_get m.components n.comp.0) (λ component. IsSomeAnd place (λ local.
+    IsTrue (offers_at component local n.port)
+    × (length n.values ≡ length component.variables)))
+
+-- it can be taken in one local state, and leads to another
+pub record LeadsTo (m : System) (n : Notify) (here there : Option LocalState) : Type 0 where
+  pub taken : CanBeTaken m n here
+  pub leads : lead m n here ≡ there

@@ -1,7 +1,7 @@
 //! The laws above the definitions: what a reviewer reads to know what events do. The call does
 //! nothing, and has the laws for its contract.
 ghost use Rattle.bip_core.specs.Repeats.{OneNewWorld, OneRun};
-ghost use Rattle.bip_core.specs.Sentences.{AgreementInSix, OneOfferOut};
+ghost use Rattle.bip_core.specs.Sentences.{AgreementInSix, NoneToldIsStale, OneOfferOut};
 ghost use Rattle.bip_core.specs.Laws.{FirstOffersAreSent, GrantsJoinTheTrace, MessagesAreCounted};
 ghost use Rattle.bip_core.specs.Laws.{MessagesAreSent, MessagesGoOnce, ToldCanBeTaken, TracesGoOn};
 ghost use Rattle.bip_core.specs.Laws.{WorldsKeepTheirPlan};
@@ -25,10 +25,12 @@ pub fn world_laws()
 /// What it means that a world agrees with its trace, in six parts: of the trace, of each component,
 /// of each offer, of used and known numbers, of each request, and of records with what is about
 /// them. So an offer that is out is the only one of its component with that number, unless that is
-/// used (docs/PROTOCOL.md, "Agreement").
+/// used; and by each notification in flight its component can move (docs/PROTOCOL.md,
+/// "Agreement").
 pub fn agreement_laws()
     ensures six { AgreementInSix }
     ensures one { OneOfferOut }
+    ensures taken { NoneToldIsStale }
 {}
 
 /// What runs have in common. A plan has one new world above a base, by what its bank's stations
