@@ -23,7 +23,7 @@ pub struct Report {
     pub grants: u64,
     /// Requests that the bank refused.
     pub refusals: u64,
-    /// Events that did nothing: no such message or node, a try that gave neither a grant nor a
+    /// Events that did nothing: no such message or class, a try that gave neither a grant nor a
     /// request, a step of the bank that doesn't apply.
     pub idle: u64,
     /// Events that were skipped for want of memory.
@@ -76,7 +76,8 @@ impl Report {
 }
 
 /// Does one event, and counts it; one for which there is no memory is skipped, and then the world
-/// stays as it was. The report is one of fewer than 2^64 - 1 events.
+/// stays as it was. The report is one of fewer than 2^64 - 1 events, of which it counts each once,
+/// and no more messages lost than they can lose.
 pub fn run_event<'p, B: bip_bank::Bank>(world: &mut World<'p, B>, event: Event, report: &mut Report)
     requires room { report.old.events < last_number }
     requires adds_up { AddsUp report.old }
