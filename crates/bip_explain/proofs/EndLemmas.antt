@@ -5,7 +5,7 @@ use Rattle.std.proofs.lemmas.Bool.{false≢true}
 use Rattle.std.proofs.lemmas.List.Elements.{All-head, All-tail}
 use Rattle.bip_model.specs.Naming.{is_known, same_text}
 use Rattle.bip_reader.proofs.SpellingLemmas.{same_word}
-use Rattle.bip_explain.specs.Ends.{IsAboveIn, IsSaidIn, at_once, in_turn}
+use Rattle.bip_explain.specs.Ends.{IsAboveIn, IsMemberAt, IsSaidIn, at_once, in_turn}
 use Rattle.bip_explain.specs.declared.ends.SaidPriority.{SaidPriority}
 
 -- what holds of names holds of one among them
@@ -24,3 +24,7 @@ reaches text from low said reached is all same leads = by_test (same_text low fr
     by_test : (t : Bool) → same_text low from ≡ t → (t || is_known low reached) ≡ true → IsAboveIn text from said.high.now
     by_test true e h = at_once said is (sym same ∙ same_word low from e)
     by_test false e h = in_turn said is (subst (IsAboveIn text from) same (known_has (IsAboveIn text from) low reached all h))
+
+-- a member that is the same
+pub same_member : (line word : List ℕ) (column : ℕ) (other : List ℕ) → IsMemberAt line column other → same_text other word ≡ true → IsMemberAt line column word
+same_member line word column other at same = subst (IsMemberAt line column) (same_word other word same) at

@@ -1,5 +1,6 @@
 pub mod EndLemmas
 pub mod FormLemmas
+pub mod FrontLemmas
 pub mod HindranceLemmas
 pub mod LimitLemmas
 pub mod LineLemmas

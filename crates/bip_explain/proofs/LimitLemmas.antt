@@ -5,7 +5,6 @@ use Rattle.bip_reader.proofs.SpellingLemmas.{same_word}
 use Rattle.std.specs.List.{list_any}
 use Rattle.std.proofs.Math.Bool.{or-true}
 use Rattle.std.proofs.lemmas.Bool.{false≢true}
-use Rattle.std.proofs.lemmas.List.{append_cancel_right}
 use Rattle.std.proofs.lemmas.List.Folds.{list_any-append}
 use Rattle.std.proofs.lemmas.List.Sums.{sum_by-append}
 use Rattle.bip_model.specs.Naming.{same_text}
@@ -15,6 +14,7 @@ use Rattle.bip_explain.specs.Placed.{IsPlacedOn}
 use Rattle.bip_explain.specs.Words.{is_relation, is_sign}
 use Rattle.bip_explain.specs.declared.limits.Counted.{Counted}
 use Rattle.bip_explain.specs.declared.placed.Placed.{Placed}
+use Rattle.bip_explain.proofs.PlacedLemmas.{stands_behind}
 use Rattle.std.specs.Prelude.{codes}
 
 -- what ends a sum besides
@@ -45,7 +45,7 @@ count-append : (f : List ℕ → Bool) (xs ys : List (List ℕ)) → count_by f 
 count-append f xs ys = sum_by-append (λ w. cond (f w) 1 0) xs ys
 
 -- whether one is among words, with one more
-any_more : (f : List ℕ → Bool) (xs : List (List ℕ)) (word : List ℕ) → list_any f (xs ++ word ∷ []) ≡ (list_any f xs || f word)
+pub any_more : (f : List ℕ → Bool) (xs : List (List ℕ)) (word : List ℕ) → list_any f (xs ++ word ∷ []) ≡ (list_any f xs || f word)
 any_more f xs word = list_any-append f xs (word ∷ []) ∙ by_test (f word)
   where
     by_test : (t : Bool) → (list_any f xs || (t || false)) ≡ (list_any f xs || t)
@@ -235,9 +235,7 @@ module _ (line : List ℕ) (c : Counted) (word : List ℕ) (left new : List (Lis
 pub over_limit : (line : List ℕ) (placed : Placed) (c : Counted) (rest limit : List ℕ) (left : List (List ℕ)) → AreCounted line c left → AreFewYet c → left ≡ placed.word.now ∷ words rest → (at : IsPlacedOn line placed) → words at.behind ≡ words rest → IsOver (counted_on c placed.word.now) limit
     → (at' : IsPlacedOn line placed) × IsOverLimit at'.front placed.word.now limit
 over_limit line placed c rest limit left so within is at same over =
-    let there : at.front ++ placed.word.now ∷ words rest ≡ so.front ++ placed.word.now ∷ words rest
-    = ap (λ (ws : List (List ℕ)). at.front ++ placed.word.now ∷ ws) (sym same) ∙ (sym at.words_are ∙ (so.split ∙ ap (λ (ws : List (List ℕ)). so.front ++ ws) is)) in
-    let front : at.front ≡ so.front = append_cancel_right at.front so.front (placed.word.now ∷ words rest) there in
+    let front : at.front ≡ so.front = stands_behind line placed so.front left rest so.split is at same in
     let passed : IsOverLimit so.front placed.word.now limit = elim over [
       | inl o ↦ inl (o.1, ninth line c placed.word.now left (words rest) so is within o.0)
       | inr (inl o) ↦ inr (inl (o.1, long_list line c placed.word.now left (words rest) so is within o.0))

@@ -1,9 +1,9 @@
 -- Where the words of a line stand.
-use Rattle.std.proofs.Common.{◌≡◌, ℕ, ◌+◌, ◌-◌, ◌≤◌, ◌<◌, List, [], ◌∷◌, ◌++◌, length, take, refl, sym, ap, ◌∙◌, append_assoc, arith, length-append}
-use Rattle.std.proofs.lemmas.List.{take-append-drop}
+use Rattle.std.proofs.Common.{Some, ◌≡◌, ℕ, ◌+◌, ◌-◌, ◌≤◌, ◌<◌, List, [], ◌∷◌, ◌++◌, length, take, refl, sym, ap, ◌∙◌, append_assoc, arith, length-append}
+use Rattle.std.proofs.lemmas.List.{append_cancel_right, take-append-drop}
 use Rattle.std.proofs.Math.Seq.{drop-append_seam}
 use Rattle.bip_model.specs.Texts.{words, IsWordAndRest}
-use Rattle.bip_explain.specs.Placed.{IsBetween, IsEndOf, IsRestOf, IsWordAt}
+use Rattle.bip_explain.specs.Placed.{IsBetween, IsEndOf, IsFirstOn, IsPlacedOn, IsRestOf, IsWordAt, TakesWord, said_words}
 use Rattle.bip_explain.specs.declared.placed.Placed.{Placed}
 
 -- what stands in front of an end
@@ -48,6 +48,13 @@ pub taken_behind : (line old word new : List ℕ) (h : IsRestOf line old) (parts
 unfolding word_taken
 taken_behind line old word new h parts split = refl
 
+-- what stands in front of a word, where these words stand in front of what was left with it
+pub stands_behind : (line : List ℕ) (placed : Placed) (front left : List (List ℕ)) (rest : List ℕ) → words line ≡ front ++ left → left ≡ placed.word.now ∷ words rest → (at : IsPlacedOn line placed) → words at.behind ≡ words rest → at.front ≡ front
+stands_behind line placed front left rest split is at same =
+    let there : at.front ++ placed.word.now ∷ words rest ≡ front ++ placed.word.now ∷ words rest
+    = ap (λ (ws : List (List ℕ)). at.front ++ placed.word.now ∷ ws) (sym same) ∙ (sym at.words_are ∙ (split ∙ ap (λ (ws : List (List ℕ)). front ++ ws) is)) in
+    append_cancel_right at.front front (placed.word.now ∷ words rest) there
+
 -- a word and what is left behind it are no longer than the line
 pub word_fits : (line old word new : List ℕ) → IsRestOf line old → IsWordAndRest old word new → length new + length word ≤ length line
 unfolding IsWordAndRest
@@ -65,3 +72,7 @@ is_between line old new placed at h parts some =
       fits = omega (arith, ap length parts.2, length-append (parts.0 ++ placed.word.now) new, length-append parts.0 placed.word.now);
       column = omega (arith, at, fits);
     }
+
+-- the first word of a line that says something
+pub first_on : (line new : List ℕ) (placed : Placed) (rest : List (List ℕ)) → TakesWord line line (Some placed) new → said_words line ≡ placed.word.now ∷ rest → IsFirstOn line placed
+first_on line new placed rest step says = (step.1, stands_behind line placed [] (words line) new refl step.0 step.1 step.2, (rest, says))

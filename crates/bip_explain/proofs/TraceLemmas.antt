@@ -4,7 +4,6 @@ use Rattle.std.specs.Prelude.{All, count_by}
 use Rattle.std.proofs.lemmas.Bool.{lt-leb}
 use Rattle.std.proofs.lemmas.List.Elements.{All-nil, All-push}
 use Rattle.bip_model.specs.Naming.{is_known}
-use Rattle.std.proofs.lemmas.List.{append_cancel_right}
 use Rattle.std.proofs.lemmas.List.Sums.{sum_by-append}
 use Rattle.bip_model.specs.Texts.{words}
 use Rattle.bip_model.proofs.WrittenLemmas.{is_name-from}
@@ -12,6 +11,7 @@ use Rattle.bip_explain.specs.Placed.{IsBetween, IsPlacedOn, IsRestOf}
 use Rattle.bip_explain.specs.Traces.{IsNamedBefore, IsOneTooMany, are_apart}
 use Rattle.bip_explain.specs.Words.{IsWant, is_want, named_in}
 use Rattle.bip_explain.proofs.EndLemmas.{known_has}
+use Rattle.bip_explain.proofs.PlacedLemmas.{stands_behind}
 use Rattle.bip_explain.proofs.SaidLemmas.{want_is_named}
 use Rattle.bip_explain.specs.declared.placed.Placed.{Placed}
 
@@ -49,9 +49,7 @@ named-more line word component count left new so is want =
 -- a word in front of which as many stand as may
 pub too_many : (line : List ℕ) (placed : Placed) (component rest : List ℕ) (count : ℕ) (left : List (List ℕ)) → AreNamed line count left → left ≡ placed.word.now ∷ words rest → (at : IsPlacedOn line placed) → words at.behind ≡ words rest → IsWant component placed.word.now → 32 ≤ count → IsOneTooMany line placed
 too_many line placed component rest count left so is at same want most =
-    let there : at.front ++ placed.word.now ∷ words rest ≡ so.front ++ placed.word.now ∷ words rest
-    = ap (λ (ws : List (List ℕ)). at.front ++ placed.word.now ∷ ws) (sym same) ∙ (sym at.words_are ∙ (so.split ∙ ap (λ (ws : List (List ℕ)). so.front ++ ws) is)) in
-    let front : at.front ≡ so.front = append_cancel_right at.front so.front (placed.word.now ∷ words rest) there in
+    let front : at.front ≡ so.front = stands_behind line placed so.front left rest so.split is at same in
     (at, (component, want), omega (arith, so.counted, most, ap (λ (ws : List (List ℕ)). count_by is_want ws) front))
 
 -- these names stand in front of a column, behind which this is left

@@ -1,12 +1,14 @@
 -- A line that is found, of those that were gone over, behind which no component is begun.
-use Rattle.std.proofs.Common.{◌≡◌, inl, inr, ℕ, ◌+◌, ◌≤◌, ◌<◌, ◌&&◌, Bool, true, List, [], ◌∷◌, codes, false, Option, None, Some, IfNone, IfSome, refl, sym, ◌∙◌, subst, below_more, arith}
+use Rattle.std.proofs.Common.{◌≡◌, inl, inr, ℕ, ◌+◌, ◌≤◌, ◌<◌, ◌&&◌, Bool, true, List, [], ◌∷◌, codes, false, Option, None, Some, IfNone, IfSome, refl, sym, ap, ◌∙◌, subst, below_more, arith}
 use Rattle.std.specs.Prelude.{unwrap_or}
 use Rattle.std.proofs.lemmas.Bool.{cases_lt, false≢true}
 use Rattle.bip_model.specs.Naming.{same_text}
 use Rattle.bip_reader.proofs.SpellingLemmas.{same_word}
 use Rattle.bip_explain.specs.Declarations.{IsBegunBetween, IsInnerLine, IsSameComponent, begins_component, declares}
-use Rattle.bip_explain.specs.Placed.{first_three, line_at, said_words}
-use Rattle.bip_explain.specs.Twice.{NoSameTransition, leave_same, say_same}
+use Rattle.bip_model.specs.Texts.{words}
+use Rattle.bip_explain.specs.Placed.{IsPlacedOn, first_three, line_at, said_words}
+use Rattle.bip_explain.specs.Twice.{IsTargetAt, NoSameTransition, leave_same, say_same}
+use Rattle.bip_explain.specs.declared.placed.Placed.{Placed}
 
 -- a line in front of one has this, and no component is begun behind it
 abbrev pub IsLast : (ℕ → Type 0) → List ℕ → ℕ → ℕ → Type 0
@@ -141,6 +143,10 @@ pub found_first : (P : ℕ → Type 0) (text : List ℕ) (number m : ℕ) (found
 found_first P text number m None h has so next = record { before = h; has = has; alone = λ k above below. absurd (omega arith) }
 found_first P text number m (Some n) h has so next = found_more P text number m (Some n) so next
 
+-- this word was taken last of those in front of what is left
+abbrev pub IsJustBefore : List ℕ → List ℕ → Placed → Type 0
+IsJustBefore line rest placed = (at : IsPlacedOn line placed) × (words at.behind ≡ words rest)
+
 -- an empty line says no priority
 pub nothing_same : (ws : List (List ℕ)) → say_same ws [] ≡ false
 nothing_same [] = refl
@@ -148,3 +154,11 @@ nothing_same (a ∷ []) = refl
 nothing_same (a ∷ b ∷ []) = refl
 nothing_same (a ∷ b ∷ c ∷ []) = refl
 nothing_same (a ∷ b ∷ c ∷ d ∷ ws) = refl
+
+-- a word in front of `:=` is a target
+pub is_target : (line rest word new : List ℕ) (placed : Placed) → IsJustBefore line rest placed → words rest ≡ word ∷ words new → same_text word (codes ":=") ≡ true → IsTargetAt line placed.column placed.word.now
+is_target line rest word new placed (at, behind) is mark = (at, (words new, behind ∙ (is ∙ ap (λ (w : List ℕ). w ∷ words new) (same_word word (codes ":=") mark))))
+
+-- another one that is the same
+pub same_target : (line word : List ℕ) (column : ℕ) (other : List ℕ) → IsTargetAt line column other → same_text other word ≡ true → IsTargetAt line column word
+same_target line word column other is same = subst (IsTargetAt line column) (same_word other word same) is

@@ -1,18 +1,18 @@
 -- What a model's text lacks as a whole, and how it is told.
-use Rattle.std.specs.Prelude.{◌≡◌, ◌⊎◌, ℕ, ◌+◌, ◌<◌, IsTrue, List, [], ◌∷◌, ◌++◌, codes}
-use Rattle.std.specs.Prelude.{Bool, Some, true, false, drop, nat_le, if◌then◌else◌, ◌||◌}
+use Rattle.std.specs.Prelude.{◌≡◌, ◌⊎◌, ℕ, ◌+◌, ◌<◌, ◌≤◌, IsTrue, List, [], ◌∷◌, ◌++◌, codes}
+use Rattle.std.specs.Prelude.{Bool, Some, true, false, drop, length, nat_le, if◌then◌else◌, ◌||◌}
 use Rattle.bip_model.specs.Texts.{numbered_lines}
 use Rattle.bip_model.specs.Naming.{is_known, same_text}
 use Rattle.std.specs.Fmt.{decimal}
 use Rattle.bip_reader.specs.declared.faults.Why.{Why}
 use Rattle.bip_reader.specs.declared.faults.Why.TheVariants.{Missing, NotAPartition, PriorityCycle}
-use Rattle.bip_explain.specs.Declarations.{begins_component}
+use Rattle.bip_explain.specs.Declarations.{IsLineWith, begins_component}
 use Rattle.bip_explain.specs.Scopes.{IsInside, IsOutside, ends_component}
 use Rattle.bip_explain.specs.Explanations.{marked, placed_parts}
-use Rattle.bip_explain.specs.Placed.{IsPlacedOn, first_four, line_at, said_words}
-use Rattle.bip_explain.specs.Twice.{IsWordAgain}
+use Rattle.bip_explain.specs.Placed.{IsWordAt, first_four, line_at, said_words}
 use Rattle.bip_explain.specs.declared.ends.EndReason.{EndReason}
 use Rattle.bip_explain.specs.declared.ends.SaidPriority.{SaidPriority}
+use Rattle.bip_explain.specs.declared.placed.Placed.{Placed}
 use Rattle.bip_explain.specs.declared.ends.EndReason.TheVariants.{NoLocation, NoEnd, NoComponent}
 use Rattle.bip_explain.specs.declared.ends.EndReason.TheVariants.{NoFirst, Above, InNoClass}
 use Rattle.bip_explain.specs.declared.ends.EndReason.TheVariants.{InClasses}
@@ -34,6 +34,16 @@ HasClassWith text line name = (n : ℕ) × (n < line) × IsClassWith text n name
 abbrev pub NoClassWith : List ℕ → List ℕ → Type 0
 NoClassWith text name =
     (n : ℕ) → is_known name (members (said_words (line_at text n))) ≡ false
+
+-- a word at a column stands where a class has its members: behind two words, the keyword and the
+-- class's name
+abbrev pub IsMemberAt : List ℕ → ℕ → List ℕ → Type 0
+IsMemberAt line column word = (at : IsWordAt line column word) × (2 ≤ length at.front)
+
+-- the same word stands so in front of one
+abbrev pub IsMemberBefore : List ℕ → Placed → Type 0
+IsMemberBefore line placed =
+    (column : ℕ) × (column < placed.column) × IsMemberAt line column placed.word.now
 
 -- words say a priority: `priority LOW < HIGH`
 abbrev pub SaysPriority : List (List ℕ) → SaidPriority → Type 0
@@ -93,8 +103,9 @@ IsComplete text number =
 
 -- a reason is true of a text whose line with this number is at fault: the line ends a component
 -- that has no location; down to the line the component isn't ended, none is begun, or nothing is
--- said; lines put the interaction above itself, or no class has it; the word that is told stands on
--- the line that is told, at its column, in a class, and in one before
+-- said; lines put the interaction above itself; a line declares it, and no class has it; the word
+-- that is told stands on the line that is told, at its column, in a class, and so it does in a line
+-- before, or before it
 abbrev pub IsEndReason : List ℕ → ℕ → EndReason → Type 0
 IsEndReason text number (NoLocation component) =
     (ends_component (said_words (line_at text number)) ≡ true)
@@ -105,10 +116,11 @@ IsEndReason text number NoComponent =
 IsEndReason text number NoFirst =
     (n : ℕ) → n < number + 1 → said_words (line_at text n) ≡ []
 IsEndReason text number (Above name) = IsAboveIn text name name
-IsEndReason text number (InNoClass name) = NoClassWith text name
+IsEndReason text number (InNoClass name) =
+    ((n : ℕ) × IsLineWith text n (codes "interaction") name) × NoClassWith text name
 IsEndReason text number (InClasses n placed) =
-    IsPlacedOn (line_at text n) placed × IsClassWith text n placed.word.now
-    × (HasClassWith text n placed.word.now ⊎ IsWordAgain (line_at text n) placed)
+    IsMemberAt (line_at text n) placed.column placed.word.now × IsClassWith text n placed.word.now
+    × (HasClassWith text n placed.word.now ⊎ IsMemberBefore (line_at text n) placed)
 
 -- the kind of fault that a reason is one of
 abbrev pub why_of_end : EndReason → Why

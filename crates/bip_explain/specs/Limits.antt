@@ -1,6 +1,6 @@
 -- Which limit a line of a model's text passes, and how it is told.
 use Rattle.std.specs.Prelude.{◌≡◌, ◌⊎◌, ℕ, ◌+◌, ◌<◌, ◌≤◌, Bool, true, false, not, ◌||◌, ◌==◌, List}
-use Rattle.std.specs.Prelude.{[], ◌∷◌, ◌++◌, codes, count_by, if◌then◌else◌}
+use Rattle.std.specs.Prelude.{[], ◌∷◌, ◌++◌, codes, count_by, drop, if◌then◌else◌}
 use Rattle.std.specs.List.{list_any}
 use Rattle.bip_model.specs.Naming.{same_text}
 use Rattle.bip_explain.specs.Explanations.{placed_parts}
@@ -26,6 +26,11 @@ limit_of keyword =
 -- a word that begins a guard, or a list of assignments
 abbrev pub begins_list : List ℕ → Bool
 begins_list word = same_text word (codes "when") || same_text word (codes "do")
+
+-- behind these, the first words of an interaction's line, a word names a participant: neither a guard
+-- nor assignments are begun behind the interaction's name
+abbrev pub are_head : List (List ℕ) → Bool
+are_head front = not (list_any begins_list (drop 2 front))
 
 -- a word that parts comparisons, or assignments
 abbrev pub parts_list : List ℕ → Bool

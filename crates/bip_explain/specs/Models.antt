@@ -14,7 +14,7 @@ use Rattle.bip_explain.specs.Explanations.{marked, placed_parts}
 use Rattle.bip_explain.specs.Forms.{IsByteReason, IsFormReason, IsNoLine, IsWantedThere}
 use Rattle.bip_explain.specs.Forms.{form_parts}
 use Rattle.bip_explain.specs.Limits.{IsLimitReason, limit_parts}
-use Rattle.bip_explain.specs.Placed.{IsPlacedOn, line_at, said_words}
+use Rattle.bip_explain.specs.Placed.{IsFirstOn, line_at, said_words}
 use Rattle.bip_explain.specs.Scopes.{IsStandingAt}
 use Rattle.bip_explain.specs.Twice.{AreUnsaid, IsTwiceReason, NoSameTransition, twice_parts}
 use Rattle.bip_explain.specs.Twice.{why_of_twice}
@@ -125,7 +125,7 @@ MayLackReason text number kind = ⊤
 abbrev pub IsModelReason : List ℕ → ReadFault → ModelReason → Type 0
 IsModelReason text fault (Form reason) = IsModelForm text fault.line reason
 IsModelReason text fault (Keyword placed standing) =
-    IsPlacedOn (line_at text fault.line) placed × IsStandingAt text fault.line standing
+    IsFirstOn (line_at text fault.line) placed × IsStandingAt text fault.line standing
     × (behind_keyword standing placed.word.now ≡ None)
 IsModelReason text fault (Unknown reason) =
     IsUnknownReason text fault.line (line_at text fault.line) reason

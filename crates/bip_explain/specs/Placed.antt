@@ -43,6 +43,11 @@ TakesWord line old (Some placed) new =
 abbrev pub IsBehind : List (List ℕ) → List ℕ → List ℕ → Type 0
 IsBehind front line rest = words line ≡ front ++ words rest
 
+-- the first two words of a line stand in front of what is left
+abbrev pub IsBehindTwo : List ℕ → List ℕ → Type 0
+IsBehindTwo line rest =
+    (first : List ℕ) × (second : List ℕ) × IsBehind (first ∷ second ∷ []) line rest
+
 -- the line with a number, among lines that have theirs; empty where none has it
 abbrev pub line_in : List (ℕ × List ℕ) → ℕ → List ℕ
 line_in [] number = []
@@ -59,6 +64,12 @@ words_told (Some ws) = ws
 
 abbrev pub said_words : List ℕ → List (List ℕ)
 said_words line = words_told (words_said line)
+
+-- a word is the first of a line that says something
+abbrev pub IsFirstOn : List ℕ → Placed → Type 0
+IsFirstOn line placed =
+    (at : IsPlacedOn line placed) × (at.front ≡ [])
+    × ((rest : List (List ℕ)) × (said_words line ≡ placed.word.now ∷ rest))
 
 -- the first two words, as most lines are told apart
 abbrev pub first_two : List (List ℕ) → Option (List ℕ × List ℕ)

@@ -11,7 +11,7 @@ use Rattle.bip_replay.specs.declared.faults.TraceFault.TheVariants.{Syntax, Unkn
 use Rattle.bip_explain.specs.Explanations.{placed_parts}
 use Rattle.bip_explain.specs.Forms.{IsByteReason, IsFormReason, form_parts}
 use Rattle.bip_explain.specs.Expected.{takes_all}
-use Rattle.bip_explain.specs.Placed.{IsPlacedOn, said_words}
+use Rattle.bip_explain.specs.Placed.{IsFirstOn, IsPlacedOn, said_words}
 use Rattle.bip_explain.specs.Words.{HasNot}
 use Rattle.bip_explain.specs.declared.expected.Expected.{Expected}
 use Rattle.bip_explain.specs.declared.expected.Expected.TheVariants.{FlightPlace, Class}
@@ -88,7 +88,7 @@ MayLackEvent plan line Memory = ⊥
 abbrev pub IsScheduleReason : Planned → List ℕ → TraceFault → ScheduleReason → Type 0
 IsScheduleReason plan line fault (Form reason) = IsScheduleForm line reason
 IsScheduleReason plan line fault (Keyword placed) =
-    IsPlacedOn line placed × (behind_verb placed.word.now ≡ None)
+    IsFirstOn line placed × (behind_verb placed.word.now ≡ None)
 IsScheduleReason plan line fault (NoClass placed is_interaction) =
     IsPlacedOn line placed × HasNot plan.classes.names placed.word.now
     × (is_interaction

@@ -2,6 +2,7 @@
 use Rattle.std.specs.Prelude.{◌≡◌, ◌⊎◌, ℕ, ◌<◌, Bool, true, false, ◌&&◌, ◌||◌, IsTrue}
 use Rattle.std.specs.Prelude.{List, [], ◌∷◌, ◌++◌, codes, ⊤}
 use Rattle.std.specs.Fmt.{decimal}
+use Rattle.bip_model.specs.Texts.{words}
 use Rattle.bip_model.specs.Naming.{same_text}
 use Rattle.bip_reader.specs.declared.faults.Why.{Why}
 use Rattle.bip_reader.specs.declared.faults.Why.TheVariants as why
@@ -9,6 +10,7 @@ use Rattle.bip_explain.specs.Declarations.{IsInnerLine, IsLineWith, IsSameCompon
 use Rattle.bip_explain.specs.Declarations.{IsBegunBetween, NoLineWith}
 use Rattle.bip_explain.specs.Declarations.{declares_inner}
 use Rattle.bip_explain.specs.Explanations.{column_parts, marked, placed_parts}
+use Rattle.bip_explain.specs.Limits.{are_head}
 use Rattle.bip_explain.specs.Placed.{IsPlacedOn, IsWordAt, line_at, said_words}
 use Rattle.bip_explain.specs.Unknown.{IsOf}
 use Rattle.bip_explain.specs.declared.placed.Placed.{Placed}
@@ -82,14 +84,20 @@ IsPartyAgain line placed =
     (component : List ℕ) × IsOf component placed.word.now
     × IsPartyBefore line placed.column component
 
--- a word in front of one is the same
-abbrev pub IsWordAgain : List ℕ → Placed → Type 0
-IsWordAgain line placed =
-    (at : ℕ) × (word : List ℕ) × (at < placed.column) × IsWordAt line at word
-    × IsTrue (same_text word placed.word.now)
+-- a word at a column is a target: `:=` stands behind it
+abbrev pub IsTargetAt : List ℕ → ℕ → List ℕ → Type 0
+IsTargetAt line column word =
+    (at : IsWordAt line column word)
+    × ((more : List (List ℕ)) × (words at.behind ≡ codes ":=" ∷ more))
+
+-- the same word is a target in front of one
+abbrev pub IsTargetBefore : List ℕ → Placed → Type 0
+IsTargetBefore line placed =
+    (column : ℕ) × (column < placed.column) × IsTargetAt line column placed.word.now
 
 -- a reason is true of a line of a text: the word that is told stands at its column; the line that
--- is told stands before, and declares the name, or begins with the same words
+-- is told stands before, and declares the name, or begins with the same words; a participant is one
+-- of a component that a word before names, and a target is one before
 abbrev pub IsTwiceReason : List ℕ → ℕ → List ℕ → TwiceReason → Type 0
 IsTwiceReason text number line (Declared placed n) =
     IsPlacedOn line placed × (n < number)
@@ -100,9 +108,9 @@ IsTwiceReason text number line (Said n) =
     (n < number) × IsTrue (say_same (said_words line) (said_words (line_at text n)))
 IsTwiceReason text number line (Leaves n) = IsSameTransition text number line n
 IsTwiceReason text number line (Party placed) =
-    IsPlacedOn line placed × IsPartyAgain line placed
+    (at : IsPlacedOn line placed) × IsTrue (are_head at.front) × IsPartyAgain line placed
 IsTwiceReason text number line (Target placed) =
-    IsPlacedOn line placed × IsWordAgain line placed
+    IsTargetAt line placed.column placed.word.now × IsTargetBefore line placed
 
 -- the kind of fault that a reason is one of
 abbrev pub why_of_twice : TwiceReason → Why

@@ -4,22 +4,22 @@ ghost use Rattle.std.specs.Prelude.{List, false};
 ghost use Rattle.bip_explain.specs.Ends.{HasComponent, IsComplete, IsLocated, declares_location};
 ghost use Rattle.bip_explain.specs.Ends.{has_location, is_located};
 ghost use Rattle.bip_explain.specs.Scopes.{IsOutside};
-ghost use Rattle.bip_explain.specs.declared.ends.EndReason.TheVariants.{NoComponent, NoLocation};
+ghost use Rattle.bip_explain.specs.declared.ends.EndReason.TheVariants.{InNoClass, NoComponent};
+ghost use Rattle.bip_explain.specs.declared.ends.EndReason.TheVariants.{NoLocation};
 ghost use Rattle.bip_explain.specs.Ends.{HasClassWith, IsEndReason, NoClassWith, end_parts};
-ghost use Rattle.bip_explain.specs.Ends.{IsAboveIn, IsSaidIn, SaysPriority, members, why_of_end};
+ghost use Rattle.bip_explain.specs.Ends.{IsAboveIn, IsMemberAt, IsMemberBefore, IsSaidIn};
+ghost use Rattle.bip_explain.specs.Ends.{SaysPriority, members, why_of_end};
 ghost use Rattle.bip_reader.specs.declared.faults.Why.TheVariants.{Missing, NotAPartition};
 ghost use Rattle.bip_reader.specs.declared.faults.Why.TheVariants.{PriorityCycle};
-ghost use Rattle.bip_explain.specs.Twice.{IsWordAgain};
 ghost use Rattle.bip_explain.specs.Explanations.{with_parts};
-ghost use Rattle.bip_explain.specs.Placed.{IsPlacedOn, said_words};
+ghost use Rattle.bip_explain.specs.Placed.{IsBehindTwo, said_words};
 ghost use Rattle.bip_model.specs.Naming.{is_known, same_text};
 ghost use Rattle.bip_model.specs.Texts.{words};
 
 use crate::Explanation;
-use crate::declarations::{Declared, begins_component};
+use crate::declarations::{Declared, begins_component, line_with};
 use crate::placed::{Placed, PlacedWords, four_words, line_at, two_words, words_of};
 use crate::scopes::{Standing, ends_component, standing_at, standing_behind};
-use crate::twice::is_word_again;
 use crate::unknown::behind_first;
 use crate::words::is_text;
 use bip_model::{Name, Names, NumberedLines};
@@ -317,7 +317,7 @@ pub(crate) fn find_unparted<'t>(
     let names = &declared.interactions;
     let times = times_in_classes(text, names);
     for (times, name) in times.iter().zip(names.as_slice()) {
-        if *times == 0 && !is_parted(text, name) {
+        if *times == 0 && is_unparted(text, name) {
             return Ok(Some(EndReason::InNoClass(*name)));
         }
         if *times > 1 {
@@ -325,6 +325,16 @@ pub(crate) fn find_unparted<'t>(
         }
     }
     Ok(None)
+}
+
+// Whether a line of a text declares an interaction, and none puts it into a class.
+fn is_unparted(text: &[u8], name: &Name) -> bool
+    ensures { (number : ℕ) → IsTrue result → IsEndReason text.now number (InNoClass name.now) }
+{
+    match line_with(text, u64::MAX, b"interaction", name.as_bytes()) {
+        None => false,
+        Some(_) => !is_parted(text, name),
+    }
 }
 
 // Whether a line of a text puts an interaction into a class.
@@ -405,13 +415,31 @@ fn find_again<'t>(text: &'t [u8], number: u64, name: &Name) -> Option<EndReason<
 // Whether a member of a line's class stands in one before, or twice in this one.
 fn is_again(text: &[u8], number: u64, line: &[u8], member: Placed<'_>) -> bool
     ensures { IsTrue result → HasClassWith text.now number member.entry.word.now
-        ⊎ IsWordAgain line.now member.entry }
+        ⊎ IsMemberBefore line.now member.entry }
 {
     if is_parted_before(text, number, member.word) {
         true
     } else {
-        is_word_again(line, member)
+        is_member_before(line, member)
     }
+}
+
+// Whether a member of a line's class in front of one is the same.
+fn is_member_before(line: &[u8], member: Placed<'_>) -> bool
+    ensures { IsTrue result → IsMemberBefore line.now member.entry }
+{
+    let Some(members) = members_of(line) else {
+        return false;
+    };
+    for before in members {
+        if member.column <= before.column {
+            return false;
+        }
+        if is_text(before.word, member.word) {
+            return true;
+        }
+    }
+    false
 }
 
 // Whether a line before one puts an interaction into a class.
@@ -431,13 +459,10 @@ fn is_parted_before(text: &[u8], line: u64, name: &[u8]) -> bool
 
 // The member of a class line that is an interaction which was seen already.
 fn member_again<'t>(line: &'t [u8], name: &Name, is_seen: &mut bool) -> Option<Placed<'t>>
-    ensures { IfSome result (IsPlacedOn line.now) }
+    ensures { IfSome result (λ member. IsMemberAt line.now member.column member.word.now) }
 {
-    let (keyword, words) = words_of(line)?;
-    if !is_text(keyword.word, b"class") {
-        return None;
-    }
-    for member in behind_first(words) {
+    let members = members_of(line)?;
+    for member in members {
         if is_text(member.word, name.as_bytes()) {
             if *is_seen {
                 return Some(member);
@@ -446,4 +471,17 @@ fn member_again<'t>(line: &'t [u8], name: &Name, is_seen: &mut bool) -> Option<P
         }
     }
     None
+}
+
+// The members of a line's class: the words behind its name.
+fn members_of(line: &[u8]) -> Option<PlacedWords<'_>>
+    ensures line { IfSome result (λ members. members.line.now ≡ line.now) }
+    ensures left { IfSome result (λ members. IsBehindTwo line.now members.rest.now) }
+{
+    let (keyword, mut words) = words_of(line)?;
+    if !is_text(keyword.word, b"class") {
+        return None;
+    }
+    let _name = words.next()?;
+    Some(words)
 }

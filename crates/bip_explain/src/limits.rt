@@ -162,7 +162,8 @@ impl Counted {
     }
 }
 
-fn begins_list(word: &[u8]) -> bool
+/// Whether a word begins a guard, or a list of assignments.
+pub(crate) fn begins_list(word: &[u8]) -> bool
     ensures { result ≡ begins_list word.now }
 {
     is_text(word, b"when") || is_text(word, b"do")

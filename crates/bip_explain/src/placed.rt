@@ -2,7 +2,7 @@
 ghost use Rattle.std.specs.Prelude.{◌≡◌, ◌∷◌, ◌+◌, [], length, IfSome, IfNone};
 ghost use Rattle.std.specs.Option.{option_map};
 ghost use Rattle.bip_model.specs.Texts.{words};
-ghost use Rattle.bip_explain.specs.Placed.{IsPlacedOn, IsRestOf, first_four, first_three};
+ghost use Rattle.bip_explain.specs.Placed.{IsFirstOn, IsRestOf, first_four, first_three};
 ghost use Rattle.bip_explain.specs.Placed.{first_two, line_at, said_words};
 
 use bip_model::{Line, NumberedLines, read_words, split_word};
@@ -75,7 +75,7 @@ pub(crate) fn line_at(text: &[u8], number: u64) -> &[u8]
 /// The first word of a line that says something, and the words behind it.
 pub(crate) fn words_of(line: &[u8]) -> Option<(Placed<'_>, PlacedWords<'_>)>
     ensures none { IfNone result (said_words line.now ≡ []) }
-    ensures first { IfSome result (λ parts. IsPlacedOn line.now parts.0) }
+    ensures first { IfSome result (λ parts. IsFirstOn line.now parts.0) }
     ensures line { IfSome result (λ parts. parts.1.line.now ≡ line.now) }
     ensures words { IfSome result (λ parts.
         said_words line.now ≡ parts.0.word.now ∷ words parts.1.rest.now) }

@@ -3,9 +3,10 @@ ghost use Rattle.std.specs.Prelude.{◌≡◌, ◌<◌, ◌∷◌, ℕ, List, []
 ghost use Rattle.std.specs.Prelude.{Some, codes, false};
 ghost use Rattle.std.specs.Fmt.{decimal};
 ghost use Rattle.bip_explain.specs.Explanations.{with_parts};
-ghost use Rattle.bip_explain.specs.Placed.{first_four, first_three, line_at, said_words};
+ghost use Rattle.bip_explain.specs.Placed.{IsBehindTwo, first_four, first_three, line_at};
+ghost use Rattle.bip_explain.specs.Placed.{said_words};
 ghost use Rattle.bip_explain.specs.Twice.{IsDeclaration, IsPartyAgain, IsPartyBefore};
-ghost use Rattle.bip_explain.specs.Twice.{IsSameTransition, IsTwiceReason, IsWordAgain};
+ghost use Rattle.bip_explain.specs.Twice.{IsSameTransition, IsTargetBefore, IsTwiceReason};
 ghost use Rattle.bip_explain.specs.Twice.{AreUnsaid, IsFirstDeclared, NoSameTransition};
 ghost use Rattle.bip_explain.specs.Twice.{declares_outer};
 ghost use Rattle.bip_explain.specs.Twice.{leave_same, say_same, twice_parts, why_of_twice};
@@ -13,14 +14,19 @@ ghost use Rattle.bip_reader.specs.declared.faults.Why.TheVariants.{Twice, TwoTra
 
 use crate::Explanation;
 use crate::declarations::{Declared, begins_component, declares_inner, inner_line_with, line_with};
+use crate::limits::begins_list;
 use crate::placed::{Placed, PlacedWords, four_words, line_at, three_words, words_of};
 use crate::words::{is_text, pair_of};
 use bip_model::{Name, NumberedLines};
 use std::alloc::{AllocError, Global};
 
-/// How many variables a component has at most, and how many all components have.
+/// How many components a model has at most.
+const MOST_COMPONENTS: usize = 64;
+
+/// How many variables a component has at most.
 const MOST_VARIABLES: usize = 8;
 
+/// How many variables all components have at most.
 const MOST_TARGETS: usize = 512;
 
 /// What a line names twice.
@@ -189,29 +195,52 @@ fn leave_same(_line: &[u8], left: (&[u8], &[u8], &[u8]), other: &[u8]) -> bool
 
 // The first component that takes part twice, or else the first target that stands twice.
 fn find_repeated<'t>(declared: &Declared, words: PlacedWords<'t>) -> Option<TwiceReason<'t>>
+    requires { IsBehindTwo words.line.now words.rest.now }
     ensures is { (text : List ℕ) → (number : ℕ)
         → IfSome result (IsTwiceReason text number words.entry.line.now) }
     ensures kind { IfSome result (λ reason. why_of_twice reason ≡ Twice) }
 {
     let line = words.line;
-    let mut seen = [false; MOST_TARGETS];
-    let mut is_head = true;
-    let mut before: Option<Placed<'_>> = None;
+    match find_party_again(declared, words) {
+        Some(reason) => Some(reason),
+        None => find_target_again(declared, line),
+    }
+}
+
+// The first component that takes part twice.
+fn find_party_again<'t>(declared: &Declared, words: PlacedWords<'t>) -> Option<TwiceReason<'t>>
+    requires { IsBehindTwo words.line.now words.rest.now }
+    ensures is { (text : List ℕ) → (number : ℕ)
+        → IfSome result (IsTwiceReason text number words.entry.line.now) }
+    ensures kind { IfSome result (λ reason. why_of_twice reason ≡ Twice) }
+{
+    let line = words.line;
+    let mut seen = [false; MOST_COMPONENTS];
     for placed in words {
-        if is_text(placed.word, b"when") || is_text(placed.word, b"do") {
-            if is_head {
-                seen = [false; MOST_TARGETS];
-            }
-            is_head = false;
-        } else if is_head {
-            let is_again = is_seen(&mut seen, component_place(declared, placed.word));
-            if is_again && is_party_again(line, placed) {
-                return Some(TwiceReason::Party(placed));
-            }
-        } else if is_text(placed.word, b":=") {
+        if begins_list(placed.word) {
+            return None;
+        }
+        let is_again = is_seen(&mut seen, component_place(declared, placed.word));
+        if is_again && is_party_again(line, placed) {
+            return Some(TwiceReason::Party(placed));
+        }
+    }
+    None
+}
+
+// The first target that stands twice.
+fn find_target_again<'t>(declared: &Declared, line: &'t [u8]) -> Option<TwiceReason<'t>>
+    ensures is { (text : List ℕ) → (number : ℕ)
+        → IfSome result (IsTwiceReason text number line.now) }
+    ensures kind { IfSome result (λ reason. why_of_twice reason ≡ Twice) }
+{
+    let mut seen = [false; MOST_TARGETS];
+    let mut before: Option<Placed<'_>> = None;
+    for placed in PlacedWords::of(line) {
+        if is_text(placed.word, b":=") {
             if let Some(target) = before {
                 let is_again = is_seen(&mut seen, variable_place(declared, target.word));
-                if is_again && is_word_again(line, target) {
+                if is_again && is_target_before(line, target) {
                     return Some(TwiceReason::Target(target));
                 }
             }
@@ -248,25 +277,28 @@ fn is_party_before(line: &[u8], column: usize, component: &Name) -> bool
     false
 }
 
-/// Whether a word of a line in front of one is the same.
-pub(crate) fn is_word_again(line: &[u8], placed: Placed<'_>) -> bool
-    ensures { IsTrue result → IsWordAgain line.now placed.entry }
+// Whether a target of a line in front of one is the same.
+fn is_target_before(line: &[u8], target: Placed<'_>) -> bool
+    ensures { IsTrue result → IsTargetBefore line.now target.entry }
 {
-    for before in PlacedWords::of(line) {
-        if placed.column <= before.column {
-            return false;
+    let mut before: Option<Placed<'_>> = None;
+    for placed in PlacedWords::of(line) {
+        if is_text(placed.word, b":=") {
+            if let Some(other) = before {
+                if other.column < target.column && is_text(other.word, target.word) {
+                    return true;
+                }
+            }
         }
-        if is_text(before.word, placed.word) {
-            return true;
-        }
+        before = Some(placed);
     }
     false
 }
 
 // Whether a place is seen already; it is from now on.
-fn is_seen(seen: &mut [bool; MOST_TARGETS], place: Option<usize>) -> bool {
+fn is_seen(seen: &mut [bool], place: Option<usize>) -> bool {
     match place {
-        Some(place) if place < MOST_TARGETS => {
+        Some(place) if place < seen.len() => {
             let was = seen[place];
             seen[place] = true;
             was

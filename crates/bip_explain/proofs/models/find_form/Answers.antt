@@ -38,3 +38,6 @@ returns-in_err-find_word-in-Some-behind_keyword-clause-none c =
     let takes = rw c.spelling_behind-spelling.ensures at c.in_err-find_word-in-Some-behind_keyword.ensures.none in
     let taken : IsStatedAt standing (said_words line) = rw c.in-Some.ensures.words (stated_at standing keyword _ c.in-Some-behind_keyword.start begins takes) in
     if_none c.from_residual-in_err-find_word-in-Some-behind_keyword.result (rw (← c.line_at-line.ensures) (plain_from_said line keyword _ c.in-Some.ensures.words, (standing, c.standing_at-standing.ensures, taken)))
+
+pub returns-in-None-clause-is : goal.returns-in-None-clause-is
+returns-in-None-clause-is c = λ why. (rw c.line_at-line.ensures at c.in-Some.ensures.first, c.standing_at-standing.ensures, sym c.behind_keyword.ensures ∙ c.in-None.is)

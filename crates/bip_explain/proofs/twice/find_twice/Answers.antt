@@ -1,8 +1,15 @@
 use Rattle.std.proofs.Common.{ℕ, List, ◌∷◌, ap, sym, ◌∙◌, subst, IfSome}
 use Rattle.bip_explain.specs.Placed.{line_at, said_words}
 use Rattle.bip_explain.specs.Twice.{AreUnsaid, IsTwiceReason, say_same}
-use Rattle.bip_explain.proofs.FormLemmas.{if_none}
+use Rattle.bip_explain.proofs.FormLemmas.{if_none, words_from_said}
 use Rattle.bip_explain.proofs.twice.find_twice.Goals as goal
+
+pub find_repeated-requires : goal.find_repeated-requires
+find_repeated-requires c =
+    let line = c.line_at-line.result.now in
+    let keyword = c.in-Some.keyword.word.now in
+    let same = c.next.ensures.steps.0 ∙ c.in-Some.ensures.line in
+    (keyword, c.in-Some-next.named.word.now, rw same (words_from_said line keyword _ c.in-Some.ensures.words ∙ ap (λ (ws : List (List ℕ)). keyword ∷ ws) c.in-Some-next.ensures.steps.1.0))
 
 pub returns-clause-is : goal.returns-clause-is
 returns-clause-is c =
