@@ -26,7 +26,8 @@ use std::alloc::AllocError;
 /// the run, as the report counts it; the event as schedules spell it; the message that it hands on;
 /// what the node answered that it addresses; and each message that this put into flight, at its
 /// place from then on (docs/TELL.md). The only error is want of memory for the text, which may have
-/// a part of the line then: the event wasn't begun, or it is done, and counted.
+/// a part of the line then: the event wasn't begun, or it is done or skipped, and counted. It asks
+/// an event that has a spelling, and the report of fewer than 2^64 - 1 events.
 pub fn tell_event<'p, B: Bank>(
     text: &mut Vec<u8>,
     world: &mut World<'p, B>,

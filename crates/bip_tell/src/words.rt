@@ -104,14 +104,14 @@ pub(crate) fn write_wants(
     ensures { OnOk result (text.new.items ≡ text.old.items ++ each_want_text model.now wants.now) }
 {
     write_role(text, model, wants, Role::Moved)?;
-    if look(wants) {
+    if looks_at_any(wants) {
         write_word(text, b"see")?;
         write_role(text, model, wants, Role::Seen)?;
     }
     Ok(())
 }
 
-fn look(wants: &[Want]) -> bool
+fn looks_at_any(wants: &[Want]) -> bool
     ensures { result ≡ list_any (has_role Seen) wants.now }
 {
     wants.iter().any(|want| want.role == Role::Seen)
