@@ -1,9 +1,12 @@
 -- What stands in front of the words of a line that are left.
-use Rattle.std.proofs.Common.{◌≡◌, ℕ, ◌≤◌, ◌||◌, not, Bool, true, false, List, [], ◌∷◌, ◌++◌, length, refl, sym, ap, ◌∙◌, subst, append_assoc, length-append, arith}
+use Rattle.std.proofs.Common.{◌≡◌, ℕ, ◌≤◌, ◌||◌, not, Bool, true, false, List, [], ◌∷◌, ◌++◌, length, refl, sym, ap, ◌∙◌, subst, append_assoc, drop, length-append, arith}
 use Rattle.std.specs.List.{list_any}
+use Rattle.std.specs.Prelude.{IsTrue}
+use Rattle.std.proofs.lemmas.Bool.{false≢true}
 use Rattle.bip_model.specs.Texts.{words}
 use Rattle.bip_explain.specs.Limits.{are_head, begins_list}
 use Rattle.bip_explain.specs.Placed.{IsPlacedOn}
+use Rattle.bip_explain.specs.Schedules.{name_interaction, name_station}
 use Rattle.bip_explain.specs.declared.placed.Placed.{Placed}
 use Rattle.bip_explain.proofs.LimitLemmas.{any_more}
 use Rattle.bip_explain.proofs.PlacedLemmas.{stands_behind}
@@ -64,3 +67,23 @@ head_ends h word begins (a ∷ b ∷ more) is = record {
     by_test : (t : Bool) → (t || true) ≡ true
     by_test true = refl
     by_test false = refl
+
+-- the word in front of the second one
+pub one_before : (ws : List (List ℕ)) (word : List ℕ) (rest : List (List ℕ)) → drop 1 ws ≡ word ∷ rest → (first : List ℕ) × (ws ≡ (first ∷ []) ++ word ∷ rest)
+one_before [] word rest is = cc
+one_before (first ∷ ws) word rest is = (first, ap (λ (us : List (List ℕ)). first ∷ us) is)
+
+-- words in front of one that names a station, with one more
+abbrev pub NameStations : List (List ℕ) → Type 0
+NameStations front = IsTrue (name_station front)
+
+pub stations_more : (word : List ℕ) (front : List (List ℕ)) → NameStations front → NameStations (front ++ word ∷ [])
+stations_more word [] named = absurd (false≢true named)
+stations_more word (verb ∷ more) named = named
+
+-- where a station is named so is an interaction
+pub station_named : (front : List (List ℕ)) → name_station front ≡ true → name_interaction front ≡ true
+station_named [] named = named
+station_named (verb ∷ []) named = named
+station_named (verb ∷ class ∷ []) named = refl
+station_named (verb ∷ class ∷ inter ∷ more) named = named

@@ -1,6 +1,7 @@
 -- Words of lines, with their columns.
 use Rattle.std.specs.Prelude.{◌≡◌, ℕ, ◌+◌, ◌-◌, ◌<◌, ◌≤◌, List, [], ◌∷◌, ◌++◌, length, Option}
-use Rattle.std.specs.Prelude.{None, Some, drop, ◌==◌, if◌then◌else◌}
+use Rattle.std.specs.Prelude.{Bool, IsTrue, None, Some, drop, ◌==◌, if◌then◌else◌}
+use Rattle.bip_model.specs.Naming.{IsName}
 use Rattle.bip_model.specs.Texts.{numbered_lines, words, words_said}
 use Rattle.bip_explain.specs.declared.placed.Placed.{Placed}
 
@@ -64,6 +65,11 @@ words_told (Some ws) = ws
 
 abbrev pub said_words : List ℕ → List (List ℕ)
 said_words line = words_told (words_said line)
+
+-- a word is a name, and stands behind words of this kind
+abbrev pub IsNameBehind : (List (List ℕ) → Bool) → List ℕ → Placed → Type 0
+IsNameBehind are_such line placed =
+    IsName placed.word.now × ((at : IsPlacedOn line placed) × IsTrue (are_such at.front))
 
 -- a word is the first of a line that says something
 abbrev pub IsFirstOn : List ℕ → Placed → Type 0

@@ -1,6 +1,6 @@
 -- Why a line of a schedule says no event, and how it is told.
 use Rattle.std.specs.Prelude.{◌≡◌, ◌⊎◌, ℕ, ◌||◌, List, [], ◌∷◌, ◌++◌, codes, position, Option, Bool}
-use Rattle.std.specs.Prelude.{All, None, Some, if◌then◌else◌, is_some, true, false, ⊤}
+use Rattle.std.specs.Prelude.{All, None, Some, if◌then◌else◌, is_some, not, true, false, ⊤}
 use Rattle.std.specs.Option.{option_map_or}
 use Rattle.bip_model.specs.Naming.{IsName, same_text}
 use Rattle.bip_model.specs.Texts.{is_plain}
@@ -11,7 +11,7 @@ use Rattle.bip_replay.specs.declared.faults.TraceFault.TheVariants.{Syntax, Unkn
 use Rattle.bip_explain.specs.Explanations.{placed_parts}
 use Rattle.bip_explain.specs.Forms.{IsByteReason, IsFormReason, form_parts}
 use Rattle.bip_explain.specs.Expected.{takes_all}
-use Rattle.bip_explain.specs.Placed.{IsFirstOn, IsPlacedOn, said_words}
+use Rattle.bip_explain.specs.Placed.{IsFirstOn, IsNameBehind, said_words}
 use Rattle.bip_explain.specs.Words.{HasNot}
 use Rattle.bip_explain.specs.declared.expected.Expected.{Expected}
 use Rattle.bip_explain.specs.declared.expected.Expected.TheVariants.{FlightPlace, Class}
@@ -28,6 +28,20 @@ abbrev pub StandsAlone : Planned → List ℕ → Type 0
 StandsAlone plan word =
     (a : ℕ) × (position (same_text word) plan.model.interaction_names ≡ Some a)
     × ¬ IsReserved plan a
+
+-- a word behind these, the first words of a line, names what its verb wants: behind `try` a class and
+-- then an interaction, and behind another one stations
+abbrev pub name_class : List (List ℕ) → Bool
+name_class (verb ∷ []) = same_text verb (codes "try")
+name_class front = false
+
+abbrev pub name_station : List (List ℕ) → Bool
+name_station [] = false
+name_station (verb ∷ front) = not (same_text verb (codes "try"))
+
+abbrev pub name_interaction : List (List ℕ) → Bool
+name_interaction (verb ∷ class ∷ []) = true
+name_interaction front = name_station front
 
 -- what a line goes on with behind its first word; none where no line can begin so
 abbrev pub behind_verb : List ℕ → Option Expected
@@ -83,21 +97,22 @@ MayLackEvent plan line Syntax =
 MayLackEvent plan line Unknown = AreNamesKnown plan (said_words line)
 MayLackEvent plan line Memory = ⊥
 
--- a reason is true of a line and a plan: the word that is told stands at its column, and is the
--- name of no class, of no interaction, or of one that has no station
+-- a reason is true of a line and a plan: the word that is told stands at its column, where a class,
+-- an interaction or a station is wanted, and is the name of none
 abbrev pub IsScheduleReason : Planned → List ℕ → TraceFault → ScheduleReason → Type 0
 IsScheduleReason plan line fault (Form reason) = IsScheduleForm line reason
 IsScheduleReason plan line fault (Keyword placed) =
     IsFirstOn line placed × (behind_verb placed.word.now ≡ None)
 IsScheduleReason plan line fault (NoClass placed is_interaction) =
-    IsPlacedOn line placed × HasNot plan.classes.names placed.word.now
+    IsNameBehind name_class line placed × HasNot plan.classes.names placed.word.now
     × (is_interaction
     ≡ is_some (position (same_text placed.word.now) plan.model.interaction_names))
 IsScheduleReason plan line fault (NoInteraction placed is_class) =
-    IsPlacedOn line placed × HasNot plan.model.interaction_names placed.word.now
+    IsNameBehind name_interaction line placed
+    × HasNot plan.model.interaction_names placed.word.now
     × (is_class ≡ is_some (position (same_text placed.word.now) plan.classes.names))
 IsScheduleReason plan line fault (NoStation placed) =
-    IsPlacedOn line placed × StandsAlone plan placed.word.now
+    IsNameBehind name_station line placed × StandsAlone plan placed.word.now
 IsScheduleReason plan line fault NoMemory = ⊤
 IsScheduleReason plan line fault Unexplained = MayLackEvent plan line fault
 

@@ -1,7 +1,7 @@
 -- Why a line of a trace says no grant, and how it is told.
 use Rattle.std.specs.Prelude.{◌≡◌, ◌⊎◌, ℕ, ◌<◌, ◌≤◌, List, [], ◌∷◌, ◌++◌, Ok, Some, codes, ⊤}
-use Rattle.std.specs.Prelude.{Bool, Err, count_by, is_some, length, nat_le, not, position, true}
-use Rattle.std.specs.Prelude.{◌&&◌, ◌||◌}
+use Rattle.std.specs.Prelude.{Bool, Err, count_by, false, is_some, length, nat_le, not, position}
+use Rattle.std.specs.Prelude.{true, ◌&&◌, ◌||◌}
 use Rattle.std.specs.List.{list_all}
 use Rattle.std.specs.Option.{option_map_or}
 use Rattle.bip_model.specs.Naming.{IsName, is_known, same_text}
@@ -14,7 +14,7 @@ use Rattle.bip_replay.specs.declared.faults.TraceFault.{TraceFault}
 use Rattle.bip_replay.specs.declared.faults.TraceFault.TheVariants.{Syntax, Unknown, Memory}
 use Rattle.bip_explain.specs.Explanations.{column_parts, marked, placed_parts}
 use Rattle.bip_explain.specs.Forms.{IsByteReason, IsFormReason, IsNoLine, form_parts}
-use Rattle.bip_explain.specs.Placed.{IsPlacedOn, IsWordAt, first_two}
+use Rattle.bip_explain.specs.Placed.{IsNameBehind, IsPlacedOn, IsWordAt, first_two}
 use Rattle.bip_explain.specs.Words.{HasNot, IsWant, is_want, named_in}
 use Rattle.bip_explain.specs.declared.expected.Expected.TheVariants.{Grant}
 use Rattle.bip_explain.specs.declared.forms.FormReason.{FormReason}
@@ -23,6 +23,11 @@ use Rattle.bip_explain.specs.declared.traces.TraceReason.{TraceReason}
 use Rattle.bip_explain.specs.declared.traces.TraceReason.TheVariants.{Form, Twice, TooMany}
 use Rattle.bip_explain.specs.declared.traces.TraceReason.TheVariants.{NoInteraction, NoComponent}
 use Rattle.bip_explain.specs.declared.traces.TraceReason.TheVariants.{NoMemory}
+
+-- a word behind these, the first words of a line, names what it grants
+abbrev pub name_granted : List (List ℕ) → Bool
+name_granted (keyword ∷ []) = true
+name_granted front = false
 
 -- a word of a line in front of a column names a component
 abbrev pub IsNamedBefore : List ℕ → ℕ → List ℕ → Type 0
@@ -62,8 +67,8 @@ are_known names ws =
     (named_in word) true) ws
 
 -- a reason is true of a line and a model: the word that is told stands at its column; a component
--- that stands twice is named by a word before, and 32 are where one is too many; a name that is
--- missing is no name of the model
+-- that stands twice is named by a word before, and 32 are where one is too many; an interaction that
+-- is missing is what the line grants, and like a component that is, no name of the model
 abbrev pub IsTraceReason : System → List ℕ → TraceReason → Type 0
 IsTraceReason model line (Form reason) = IsTraceForm line reason
 IsTraceReason model line (Twice placed) =
@@ -72,7 +77,7 @@ IsTraceReason model line (Twice placed) =
     × IsNamedBefore line placed.column component)
 IsTraceReason model line (TooMany placed) = IsOneTooMany line placed
 IsTraceReason model line (NoInteraction placed) =
-    IsPlacedOn line placed × HasNot model.interaction_names placed.word.now
+    IsNameBehind name_granted line placed × HasNot model.interaction_names placed.word.now
 IsTraceReason model line (NoComponent placed component) =
     IsPlacedOn line placed × IsWant component placed.word.now
     × HasNot model.component_names component

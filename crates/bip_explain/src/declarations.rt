@@ -3,7 +3,8 @@ ghost use Rattle.std.specs.Prelude.{◌≡◌, ◌⊎◌, ◌<◌, ◌∷◌, �
 ghost use Rattle.std.specs.Prelude.{OnOk, codes};
 ghost use Rattle.bip_explain.specs.Declarations.{IsInnerLine, IsLineWith, NoLineWith, begins_with};
 ghost use Rattle.bip_explain.specs.Declarations.{begins_component, declares, declares_inner};
-ghost use Rattle.bip_explain.specs.Declarations.{HasLineWith, IsMore, IsSameComponent};
+ghost use Rattle.bip_explain.specs.Declarations.{HasLineWith, IsLaterLine, IsMore};
+ghost use Rattle.bip_explain.specs.Declarations.{IsSameComponent};
 ghost use Rattle.bip_explain.specs.Declarations.{IsBegunBetween, declares_inside};
 ghost use Rattle.bip_explain.specs.Placed.{said_words};
 
@@ -74,11 +75,6 @@ impl Declared {
         let number = self.components.number_of(component)?;
         Some((number, self.inners.get(number)?))
     }
-
-    /// The component that was begun last, with its name.
-    pub(crate) fn last(&self) -> Option<(&Name, &Inner)> {
-        Some((self.components.as_slice().last()?, self.inners.last()?))
-    }
 }
 
 impl Inner {
@@ -130,7 +126,7 @@ pub(crate) fn line_with(text: &[u8], line: u64, keyword: &[u8], name: &[u8]) -> 
 
 /// The number of the first line behind one that begins with these two words.
 pub(crate) fn later_line_with(text: &[u8], line: u64, keyword: &[u8], name: &[u8]) -> Option<u64>
-    ensures { IfSome result (λ n. (line < n) × IsLineWith text.now n keyword.now name.now) }
+    ensures { IsLaterLine text.now line keyword.now name.now result }
 {
     for (number, bytes) in NumberedLines::of(text) {
         if line < number && begins_with(bytes, keyword, name) {

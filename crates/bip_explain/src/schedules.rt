@@ -1,14 +1,16 @@
 //! Faults of a schedule's text.
-ghost use Rattle.std.specs.Prelude.{◌≡◌, ℕ, All, List, IfNone, IfSome, is_some, position};
+ghost use Rattle.std.specs.Prelude.{◌≡◌, ◌∷◌, [], ℕ, All, List, IfNone, IfSome, IsTrue, codes};
+ghost use Rattle.std.specs.Prelude.{is_some, position};
 ghost use Rattle.bip_model.specs.Naming.{IsName, same_text};
 ghost use Rattle.bip_model.specs.Texts.{words};
 ghost use Rattle.bip_replay.specs.declared.faults.TraceFault.TheVariants.{Syntax, Unknown};
 ghost use Rattle.bip_partition.specs.Plans.{Planned};
 ghost use Rattle.bip_explain.specs.Explanations.{Tells, with_parts};
-ghost use Rattle.bip_explain.specs.Placed.{IsPlacedOn, line_at, said_words};
+ghost use Rattle.bip_explain.specs.Placed.{IsBehind, IsPlacedOn, line_at, said_words};
 ghost use Rattle.bip_explain.specs.Schedules.{AreNamesKnown, AreTried, HasStation};
 ghost use Rattle.bip_explain.specs.Schedules.{IsScheduleReasonOf, MayLackEvent};
 ghost use Rattle.bip_explain.specs.Schedules.{behind_verb, if_class, if_interaction};
+ghost use Rattle.bip_explain.specs.Schedules.{name_station};
 ghost use Rattle.bip_explain.specs.Schedules.{schedule_parts};
 
 use crate::Explanation;
@@ -166,6 +168,7 @@ fn find_name<'t>(plan: &Plan, line: &'t [u8]) -> Option<ScheduleReason<'t>>
 }
 
 fn find_tried<'t>(plan: &Plan, left: PlacedWords<'t>) -> Option<ScheduleReason<'t>>
+    requires { IsBehind (codes "try" ∷ []) left.line.now left.rest.now }
     ensures some { IfSome result (IsScheduleReasonOf plan.now left.entry.line.now Unknown) }
     ensures none { IfNone result (AreTried plan.now (words left.entry.rest.now)) }
 {
@@ -196,6 +199,8 @@ fn is_interaction(plan: &Plan, name: &Name) -> bool
 }
 
 fn find_station<'t>(plan: &Plan, left: PlacedWords<'t>) -> Option<ScheduleReason<'t>>
+    requires { (front : List (List ℕ)) × IsTrue (name_station front)
+        × IsBehind front left.line.now left.rest.now }
     ensures some { IfSome result (IsScheduleReasonOf plan.now left.entry.line.now Unknown) }
     ensures none { IfNone result
         (All (λ word. IsName word → HasStation plan.now word) (words left.entry.rest.now)) }
@@ -210,7 +215,8 @@ fn find_station<'t>(plan: &Plan, left: PlacedWords<'t>) -> Option<ScheduleReason
 
 // Why a word names no station.
 fn reason_of_station<'t>(plan: &Plan, placed: Placed<'t>) -> Option<ScheduleReason<'t>>
-    ensures some { (line : List ℕ) → IsPlacedOn line placed.entry
+    ensures some { (line : List ℕ)
+        → ((at : IsPlacedOn line placed.entry) × IsTrue (name_station at.front))
         → IfSome result (IsScheduleReasonOf plan.now line Unknown) }
     ensures none { IfNone result
         (IsName placed.entry.word.now → HasStation plan.now placed.entry.word.now) }

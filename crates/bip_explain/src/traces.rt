@@ -169,6 +169,7 @@ fn find_component<'t>(model: &Model, left: PlacedWords<'t>) -> Option<TraceReaso
 
 // Whether a word is a name that no interaction of the model has.
 fn is_missing(model: &Model, word: &[u8]) -> bool
+    ensures named { IsTrue result → IsName word.now }
     ensures missing { IsTrue result → HasNot model.now.interaction_names word.now }
     ensures found { result ≡ false → IsName word.now
         → ¬ HasNot model.now.interaction_names word.now }

@@ -1,20 +1,23 @@
 //! Names of a model's text that nothing has.
-ghost use Rattle.std.specs.Prelude.{◌≡◌, ◌||◌, All, codes, drop, IfNone, IfOk, IfSome, IsTrue};
-ghost use Rattle.std.specs.Prelude.{false, true};
+ghost use Rattle.std.specs.Prelude.{◌≡◌, ◌∷◌, [], All, codes, drop, IfNone, IfOk, IfSome, IsTrue};
+ghost use Rattle.std.specs.Prelude.{List, false, true, ℕ};
 ghost use Rattle.bip_explain.specs.Explanations.{with_parts};
-ghost use Rattle.bip_model.specs.Naming.{IsName, is_known, same_text};
+ghost use Rattle.bip_model.specs.Naming.{IsName, is_known};
 ghost use Rattle.bip_model.specs.Texts.{pair_of, words};
-ghost use Rattle.bip_explain.specs.Placed.{IsPlacedOn, line_at, said_words};
+ghost use Rattle.bip_explain.specs.Placed.{IsBehind, IsPlacedOn, line_at, said_words};
 ghost use Rattle.bip_explain.specs.Declarations.{HasLineWith, declares_inside};
-ghost use Rattle.bip_explain.specs.Unknown.{AreDeclared, IsLack, IsOf, IsUnknownReason};
-ghost use Rattle.bip_explain.specs.Unknown.{kind_keyword, kind_word, named_interactions};
-ghost use Rattle.bip_explain.specs.Unknown.{has_participant, is_front, lack_parts, later_parts};
+ghost use Rattle.bip_explain.specs.Unknown.{AreDeclared, IsKindAt, IsLack, IsOf, IsOther};
+ghost use Rattle.bip_explain.specs.Unknown.{IsUnknownReason, kind_at, kind_keyword, next_place};
+ghost use Rattle.bip_explain.specs.Unknown.{has_participant, is_front, kind_word, lack_parts};
+ghost use Rattle.bip_explain.specs.Unknown.{later_parts, name_interactions, named_interactions};
 ghost use Rattle.bip_explain.specs.Unknown.{other_parts, unknown_parts};
 ghost use Rattle.bip_explain.specs.Words.{point};
 
 use crate::Explanation;
 use crate::declarations::{Declared, Inner, declares_inside, later_line_with, line_with};
+use crate::limits::begins_list;
 use crate::placed::{Placed, PlacedWords, line_at, words_of};
+use crate::scopes::{Standing, standing_at};
 use crate::words::{is_text, pair_of};
 use bip_model::{Name, Names, split_pair};
 use std::alloc::{AllocError, Global};
@@ -168,17 +171,21 @@ fn find_on<'t>(text: &'t [u8], number: u64, declared: &Declared) -> Option<Unkno
     ensures none { IfNone result (AreDeclared text.now number
         (named_interactions (said_words (line_at text.now number)))) }
 {
-    let Some((keyword, words)) = words_of(line_at(text, number)) else {
-        return None;
-    };
+    let (keyword, words) = words_of(line_at(text, number))?;
     if is_text(keyword.word, b"trans") {
-        find_in_transition(text, number, declared, words)
-    } else if is_text(keyword.word, b"interaction") {
-        find_in_interaction(text, number, declared, behind_first(words))
+        return find_in_transition(text, number, declared, words);
+    }
+    if is_text(keyword.word, b"priority") {
+        return find_member(text, number, declared, words);
+    }
+    let mut words = words;
+    let _name = words.next()?;
+    if is_text(keyword.word, b"interaction") {
+        find_in_interaction(text, number, declared, words)
     } else if is_text(keyword.word, b"class") {
-        find_member(text, number, declared, behind_first(words))
-    } else {
         find_member(text, number, declared, words)
+    } else {
+        None
     }
 }
 
@@ -192,14 +199,17 @@ pub(crate) fn behind_first<'t>(all: PlacedWords<'t>) -> PlacedWords<'t>
     left
 }
 
-// The first name that no interaction has.
+// The first name that no interaction has, of the words that are left.
 fn find_member<'t>(
     text: &[u8],
     number: u64,
     declared: &Declared,
     left: PlacedWords<'t>,
 ) -> Option<UnknownReason<'t>>
-    requires { All (HasLineWith text.now number (codes "interaction")) declared.now.interactions }
+    requires known { All (HasLineWith text.now number (codes "interaction"))
+        declared.now.interactions }
+    requires named { (front : List (List ℕ)) × IsTrue (name_interactions front)
+        × IsBehind front left.line.now left.rest.now }
     ensures some { IfSome result (IsUnknownReason text.now number left.entry.line.now) }
     ensures none { IfNone result (AreDeclared text.now number (words left.entry.rest.now)) }
 {
@@ -216,7 +226,8 @@ fn find_member<'t>(
 
 // Whether a word is a name that isn't in a list.
 fn is_missing(names: &Names, word: &[u8]) -> bool
-    ensures { result ≡ false → IsName word.now → is_known word.now names.now ≡ true }
+    ensures named { IsTrue result → IsName word.now }
+    ensures known { result ≡ false → IsName word.now → is_known word.now names.now ≡ true }
 {
     match Name::of(word) {
         None => false,
@@ -231,28 +242,50 @@ fn find_in_transition<'t>(
     declared: &Declared,
     words: PlacedWords<'t>,
 ) -> Option<UnknownReason<'t>>
+    requires { IsBehind (codes "trans" ∷ []) words.line.now words.rest.now }
     ensures { IfSome result (IsUnknownReason text.now number words.entry.line.now) }
 {
-    let (component, inner) = declared.last()?;
-    let mut place = 0u8;
+    let Standing::Inside(begun) = standing_at(text, number) else {
+        return None;
+    };
+    let component = Name::of(begun)?;
+    let (_number, inner) = declared.inner(&component)?;
+    let mut place = 0;
     for placed in words {
-        let kind = kind_at(place);
-        place = place.saturating_add(1);
         if let Some(name) = Name::of(placed.word) {
-            if let Some(lack) = lack_of(text, number, inner, *component, kind, name) {
+            let kind = kind_at(place);
+            if let Some(lack) = lack_of(text, number, inner, component, kind, name) {
                 return Some(UnknownReason::Inner(placed, lack));
             }
         }
+        place = next_place(place);
     }
     None
 }
 
 // What a word of a transition names, by its place.
-fn kind_at(place: u8) -> Kind {
-    match place {
-        0 => Kind::Port,
-        1 | 2 => Kind::Location,
-        _ => Kind::Variable,
+fn kind_at(place: u8) -> Kind
+    ensures { result ≡ kind_at place }
+{
+    if place == 0 {
+        Kind::Port
+    } else if place == 1 || place == 2 {
+        Kind::Location
+    } else {
+        Kind::Variable
+    }
+}
+
+// The place behind one; those behind the target are alike.
+fn next_place(place: u8) -> u8
+    ensures { result ≡ next_place place }
+{
+    if place == 0 {
+        1
+    } else if place == 1 {
+        2
+    } else {
+        3
     }
 }
 
@@ -267,6 +300,7 @@ fn lack_of(
 ) -> Option<Lack>
     ensures component { IfSome result (λ lack. lack.component ≡ component) }
     ensures name { IfSome result (λ lack. lack.name ≡ name) }
+    ensures kind { IfSome result (λ lack. lack.kind ≡ kind) }
     ensures lacks { IfSome result (IsLack text.now number) }
 {
     if kind.names(inner).contains(&name) || is_inside(text, number, &component, kind, &name) {
@@ -298,8 +332,7 @@ fn is_inside(text: &[u8], number: u64, component: &Name, kind: Kind, name: &Name
 
 // What a component has by a name.
 fn kind_of(text: &[u8], number: u64, component: &Name, name: &Name) -> Option<Kind>
-    ensures { IfSome result (λ kind. IsTrue
-        (declares_inside text.now number component.now (kind_keyword kind) name.now)) }
+    ensures { IsOther text.now number component.now name.now result }
 {
     if is_inside(text, number, component, Kind::Variable, name) {
         Some(Kind::Variable)
@@ -312,13 +345,6 @@ fn kind_of(text: &[u8], number: u64, component: &Name, name: &Name) -> Option<Ki
     }
 }
 
-/// Which components take part in an interaction, and whether its words name ports still.
-#[derive(Drop)]
-struct Parties {
-    are_in: [bool; 64],
-    is_head: bool,
-}
-
 // The first participant, or else the first variable, that the line can't name.
 fn find_in_interaction<'t>(
     text: &[u8],
@@ -326,62 +352,41 @@ fn find_in_interaction<'t>(
     declared: &Declared,
     words: PlacedWords<'t>,
 ) -> Option<UnknownReason<'t>>
+    requires { (name : List ℕ)
+        × IsBehind (codes "interaction" ∷ name ∷ []) words.line.now words.rest.now }
     ensures { IfSome result (IsUnknownReason text.now number words.entry.line.now) }
 {
-    let mut parties = Parties {
-        are_in: [false; 64],
-        is_head: true,
-    };
     let line = words.line;
+    let mut kind = Kind::Port;
     for placed in words {
-        if begins_clauses(placed.word) {
-            parties.is_head = false;
-        } else if let Some(reason) = find_in_pair(
-            text,
-            number,
-            line,
-            declared,
-            &mut parties,
-            placed,
-        ) {
+        if begins_list(placed.word) {
+            kind = Kind::Variable;
+        } else if let Some(reason) = find_in_pair(text, number, declared, line, kind, placed) {
             return Some(reason);
         }
     }
     None
 }
 
-fn begins_clauses(word: &[u8]) -> bool
-    ensures { result ≡ (same_text word.now (codes "when") || same_text word.now (codes "do")) }
-{
-    is_text(word, b"when") || is_text(word, b"do")
-}
-
 // What is unknown of a participant, or of a variable.
 fn find_in_pair<'t>(
     text: &[u8],
     number: u64,
-    line: &[u8],
     declared: &Declared,
-    parties: &mut Parties,
+    line: &[u8],
+    kind: Kind,
     placed: Placed<'t>,
 ) -> Option<UnknownReason<'t>>
-    requires { IsPlacedOn line.now placed }
+    requires { IsKindAt line.now placed kind }
     ensures { IfSome result (IsUnknownReason text.now number line.now) }
 {
     let (component, name) = pair_of(placed.word)?;
-    let Some((index, inner)) = declared.inner(&component) else {
+    let Some((_number, inner)) = declared.inner(&component) else {
         return find_component(text, number, line, placed, component);
     };
-    if parties.is_head {
-        parties.join(index);
-    } else if !parties.has(index) && !has_participant(component.as_bytes(), line) {
+    if !has_participant(component.as_bytes(), line) {
         return Some(UnknownReason::Stranger(placed, component));
     }
-    let kind = if parties.is_head {
-        Kind::Port
-    } else {
-        Kind::Variable
-    };
     let lack = lack_of(text, number, inner, component, kind, name)?;
     Some(UnknownReason::Inner(placed, lack))
 }
@@ -410,12 +415,9 @@ fn find_component<'t>(
 
 // Whether a participant of a line's interaction is of a component.
 fn has_participant(component: &[u8], line: &[u8]) -> bool
-    ensures { result ≡ has_participant component.now (drop 2 (said_words line.now)) }
+    ensures { result ≡ has_participant component.now (drop 2 (words line.now)) }
 {
-    match words_of(line) {
-        None => false,
-        Some((_keyword, words)) => is_in_head(component, behind_first(words)),
-    }
+    is_in_head(component, behind_first(behind_first(PlacedWords::of(line))))
 }
 
 // Whether one of the words that are left, in front of clauses, names a component.
@@ -423,7 +425,7 @@ fn is_in_head(component: &[u8], left: PlacedWords<'_>) -> bool
     ensures { result ≡ has_participant component.now (words left.entry.rest.now) }
 {
     for placed in left {
-        if begins_clauses(placed.word) {
+        if begins_list(placed.word) {
             return false;
         }
         if is_front(component, placed.word) {
@@ -440,17 +442,5 @@ fn is_front(component: &[u8], word: &[u8]) -> bool
     match split_pair(word, b'.') {
         None => false,
         Some((front, _inner)) => is_text(front, component),
-    }
-}
-
-impl Parties {
-    fn join(&mut self, index: usize) {
-        if index < 64 {
-            self.are_in[index] = true;
-        }
-    }
-
-    fn has(&self, index: usize) -> bool {
-        index < 64 && self.are_in[index]
     }
 }

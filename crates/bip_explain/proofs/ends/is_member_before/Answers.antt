@@ -1,4 +1,4 @@
-use Rattle.std.proofs.Common.{◌∷◌, [], refl, sym, ◌∙◌, arith}
+use Rattle.std.proofs.Common.{◌∷◌, [], sym, ◌∙◌, arith}
 use Rattle.bip_model.specs.Texts.{words}
 use Rattle.bip_explain.proofs.EndLemmas.{same_member}
 use Rattle.bip_explain.proofs.FrontLemmas.{AreTwo, left_more, left_there, two_more}

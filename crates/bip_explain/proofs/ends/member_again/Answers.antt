@@ -1,4 +1,4 @@
-use Rattle.std.proofs.Common.{◌∷◌, [], refl, ◌∙◌, arith}
+use Rattle.std.proofs.Common.{◌∷◌, [], ◌∙◌, arith}
 use Rattle.bip_model.specs.Texts.{words}
 use Rattle.bip_explain.proofs.FrontLemmas.{AreTwo, left_more, left_there, two_more}
 use Rattle.bip_explain.proofs.ends.member_again.Goals as goal

@@ -1,11 +1,30 @@
-use Rattle.std.proofs.Common.{sym, ◌∙◌}
-use Rattle.bip_explain.proofs.SaidLemmas.{where_none}
-use Rattle.bip_explain.proofs.UnknownLemmas.{others_named}
+use Rattle.std.proofs.Common.{◌≡◌, List, ℕ, ◌∷◌, [], codes, true, false, refl, sym, ap, ◌∙◌}
+use Rattle.bip_model.specs.Naming.{same_text}
+use Rattle.bip_explain.proofs.FormLemmas.{words_from_said}
+use Rattle.bip_explain.proofs.UnknownLemmas.{begins_so}
 use Rattle.bip_explain.proofs.unknown.find_on.Goals as goal
 
-pub returns-else-is_text-3-clause-none : goal.returns-else-is_text-3-clause-none
-returns-else-is_text-3-clause-none c =
-    let found = c.find_member-else-is_text-3 in
-    let words = rw c.line_at.ensures at c.in-Some.ensures.words in
-    let other = sym c.is_text-else-is_text-2.ensures ∙ c.if-is_text-3.false in
-    where_none found.result (λ all. rw words (others_named c.args.text.now c.args.number c.in-Some.keyword.word.now _ other all)) found.ensures.none
+pub find_member-requires-clause-named : goal.find_member-requires-clause-named
+find_member-requires-clause-named c =
+    let k = c.in_ok-keyword in
+    let keyword = k.keyword.word.now in
+    (keyword ∷ [], sym c.is_text-2.ensures ∙ c.if-is_text-2.true, rw k.ensures.line (words_from_said c.line_at.result.now keyword _ k.ensures.words))
+
+pub find_in_interaction-requires : goal.find_in_interaction-requires
+find_in_interaction-requires c =
+    let k = c.in_ok-keyword in
+    let name = c.in_ok-_name in
+    let same = name.ensures.steps.0 ∙ k.ensures.line in
+    let whole = begins_so c.line_at.result.now k.keyword.word.now (codes "interaction") _ k.ensures.words (sym c.is_text-3.ensures ∙ c.if-is_text-3.true) in
+    (name._name.word.now, rw same (whole ∙ ap (λ (ws : List (List ℕ)). codes "interaction" ∷ ws) name.ensures.steps.1.0))
+
+pub find_member-requires-then-is_text-4-clause-named : goal.find_member-requires-then-is_text-4-clause-named
+find_member-requires-then-is_text-4-clause-named c =
+    let k = c.in_ok-keyword in
+    let keyword = k.keyword.word.now in
+    let name = c.in_ok-_name in
+    let same = name.ensures.steps.0 ∙ k.ensures.line in
+    let other : same_text keyword (codes "priority") ≡ false = sym c.is_text-2.ensures ∙ c.if-is_text-2.false in
+    let is : same_text keyword (codes "class") ≡ true = sym c.is_text-else-is_text-3.ensures ∙ c.if-is_text-4.true in
+    let whole = words_from_said c.line_at.result.now keyword _ k.ensures.words in
+    (keyword ∷ name._name.word.now ∷ [], rw (other, is) refl, rw same (whole ∙ ap (λ (ws : List (List ℕ)). keyword ∷ ws) name.ensures.steps.1.0))
