@@ -1,5 +1,5 @@
 -- What is counted of the words of a line, and the word that is one too many.
-use Rattle.std.proofs.Common.{◌≡◌, inl, inr, ℕ, ◌+◌, ◌≤◌, ◌<◌, ◌||◌, Bool, true, false, not, cond, List, [], ◌∷◌, ◌++◌, Option, None, Some, IfSome, refl, sym, ap, ◌∙◌, subst, arith, append_assoc, append-nil}
+use Rattle.std.proofs.Common.{◌≡◌, inl, inr, ℕ, ◌+◌, ◌≤◌, ◌<◌, ◌||◌, ◌&&◌, Bool, true, false, not, cond, List, [], ◌∷◌, ◌++◌, Option, None, Some, IfSome, refl, sym, ap, ◌∙◌, subst, arith, append_assoc, append-nil}
 use Rattle.std.specs.Prelude.{count_by, unwrap_or}
 use Rattle.bip_reader.proofs.SpellingLemmas.{same_word}
 use Rattle.std.specs.List.{list_any}
@@ -9,7 +9,8 @@ use Rattle.std.proofs.lemmas.List.Folds.{list_any-append}
 use Rattle.std.proofs.lemmas.List.Sums.{sum_by-append}
 use Rattle.bip_model.specs.Naming.{same_text}
 use Rattle.bip_model.specs.Texts.{words}
-use Rattle.bip_explain.specs.Limits.{IsLongList, IsLongSum, IsNinth, IsOver, IsOverLimit, AreFewYet, begins_list, counted_on, ends_sum, has_point, parts_list}
+use Rattle.bip_explain.specs.Declarations.{begins_component}
+use Rattle.bip_explain.specs.Limits.{AreShort, begins_so, counted_behind, is_of_component, IsLongList, IsLongSum, IsNinth, IsOver, IsOverLimit, AreFewYet, begins_list, counted_on, ends_sum, has_point, parts_list}
 use Rattle.bip_explain.specs.Placed.{IsPlacedOn}
 use Rattle.bip_explain.specs.Words.{is_relation, is_sign}
 use Rattle.bip_explain.specs.declared.limits.Counted.{Counted}
@@ -252,3 +253,19 @@ no_list word either = tested (same_text word (codes "trans"))
 pub unwrapped : {A : Type 0} (P : A → Type 0) (o : Option A) (d : A) → IfSome o P → P d → P (unwrap_or o d)
 unwrapped P None d some none = none
 unwrapped P (Some x) d some none = some
+
+-- one line more is counted at most
+pub counted_few : (keyword : List ℕ) (ws : List (List ℕ)) (count : ℕ) → counted_behind keyword ws count ≤ count + 1
+counted_few keyword ws count = by_anew (is_of_component keyword && begins_component ws)
+  where
+    by_line : (t : Bool) → cond t (count + 1) count ≤ count + 1
+    by_line true = omega arith
+    by_line false = omega arith
+
+    by_anew : (t : Bool) → cond t 0 (cond (begins_so keyword ws) (count + 1) count) ≤ count + 1
+    by_anew true = omega arith
+    by_anew false = by_line (begins_so keyword ws)
+
+-- a word that passes no limit, in front of those that pass none
+pub short_more : (c d : Counted) (word : List ℕ) (rest : List (List ℕ)) → d ≡ counted_on c word → AreFewYet d → AreShort d rest → AreShort c (word ∷ rest)
+short_more c d word rest is few short = (subst AreFewYet is few, subst (λ (e : Counted). AreShort e rest) is short)

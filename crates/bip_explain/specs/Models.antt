@@ -13,7 +13,7 @@ use Rattle.bip_explain.specs.Ends.{IsComplete, IsEndReason, end_parts, why_of_en
 use Rattle.bip_explain.specs.Explanations.{marked, placed_parts}
 use Rattle.bip_explain.specs.Forms.{IsByteReason, IsFormReason, IsNoLine, IsWantedThere}
 use Rattle.bip_explain.specs.Forms.{form_parts}
-use Rattle.bip_explain.specs.Limits.{IsLimitReason, limit_parts}
+use Rattle.bip_explain.specs.Limits.{AreWithin, IsLimitReason, limit_parts}
 use Rattle.bip_explain.specs.Placed.{IsFirstOn, line_at, said_words}
 use Rattle.bip_explain.specs.Scopes.{IsStandingAt}
 use Rattle.bip_explain.specs.Twice.{AreUnsaid, IsTwiceReason, NoSameTransition, twice_parts}
@@ -105,13 +105,14 @@ HasForm text number =
     × IsStatedAt standing (said_words (line_at text number)))
 
 -- where it may be told that no reason is found, of a kind of fault of a line: where the line has a
--- form, where nothing is missing down to it, where it has no words of which one could be too many,
--- where no line before has its transition, or says or declares the same, and where the interactions
--- that it names are declared by lines before; of want of memory nowhere
+-- form, where nothing is missing down to it, where it passes no limit, where no line before has its
+-- transition, or says or declares the same, and where the interactions that it names are declared
+-- by lines before; of want of memory nowhere
 abbrev pub MayLackReason : List ℕ → ℕ → Why → Type 0
 MayLackReason text number why.Syntax = HasForm text number
 MayLackReason text number why.Missing = IsComplete text number
-MayLackReason text number why.TooMany = said_words (line_at text number) ≡ []
+MayLackReason text number why.TooMany =
+    AreWithin text number (said_words (line_at text number))
 MayLackReason text number why.TwoTransitions =
     NoSameTransition text number (line_at text number)
 MayLackReason text number why.Twice =
@@ -131,7 +132,8 @@ IsModelReason text fault (Unknown reason) =
     IsUnknownReason text fault.line (line_at text fault.line) reason
 IsModelReason text fault (Twice reason) =
     IsTwiceReason text fault.line (line_at text fault.line) reason
-IsModelReason text fault (Limit reason) = IsLimitReason (line_at text fault.line) reason
+IsModelReason text fault (Limit reason) =
+    IsLimitReason text fault.line (line_at text fault.line) reason
 IsModelReason text fault (End reason) = IsEndReason text fault.line reason
 IsModelReason text fault NoMemory = ⊤
 IsModelReason text fault NoMemoryToTell = ⊤

@@ -38,7 +38,7 @@ pub struct Explanation {
 }
 
 impl marker::Model for Explanation {
-    ghost use Rattle.std.specs.Prelude.{◌≡◌, ◌≤◌, length, true, false};
+    ghost use Rattle.std.specs.Prelude.{◌≡◌, ◌<◌, ◌≤◌, length, true, false};
     ghost use Rattle.std.specs.List.{list_all};
     ghost use Rattle.bip_explain.specs.Explanations.{Telling, is_shown};
 
@@ -49,7 +49,8 @@ impl marker::Model for Explanation {
 
     ghost invariant = { λ e. (list_all is_shown e.said.items ≡ true)
         × (length e.said.items ≤ 480)
-        × (e.is_cut ≡ false → length e.said.items ≤ 478) };
+        × (e.is_cut ≡ false → length e.said.items ≤ 478)
+        × (e.is_cut ≡ true → 0 < length e.said.items) };
 }
 
 impl Explanation {

@@ -1,17 +1,21 @@
 //! Limits of models that a line passes.
-ghost use Rattle.std.specs.Prelude.{◌≡◌, ℕ, [], IfNone, IfSome, List, false};
-ghost use Rattle.std.specs.Prelude.{◌||◌, codes};
-ghost use Rattle.bip_model.specs.Naming.{same_text};
+ghost use Rattle.std.specs.Prelude.{◌≡◌, ◌<◌, ◌∷◌, ℕ, [], IfNone, IfSome, List, false, true};
 ghost use Rattle.std.specs.List.{list_any};
+ghost use Rattle.std.specs.Option.{option_map};
+ghost use Rattle.bip_model.specs.Texts.{words};
 ghost use Rattle.bip_explain.specs.Explanations.{with_parts};
-ghost use Rattle.bip_explain.specs.Limits.{IsLimitReason, IsOver, AreFewYet, begins_list};
-ghost use Rattle.bip_explain.specs.Limits.{counted_on, has_point, limit_of, limit_parts};
-ghost use Rattle.bip_explain.specs.Limits.{parts_list};
-ghost use Rattle.bip_explain.specs.Placed.{IsBehind, said_words};
+ghost use Rattle.bip_explain.specs.Limits.{AreFewLines, AreFewYet, AreShort, AreWithin};
+ghost use Rattle.bip_explain.specs.Limits.{IsLimitReason, IsOver, begins_list, begins_so};
+ghost use Rattle.bip_explain.specs.Limits.{counted_behind, counted_on, has_lists, has_point};
+ghost use Rattle.bip_explain.specs.Limits.{is_of_component, limit_of, limit_parts, lines_so};
+ghost use Rattle.bip_explain.specs.Limits.{none_counted, parts_list};
+ghost use Rattle.bip_explain.specs.Placed.{IsBehind, line_at, said_words};
 
 use crate::Explanation;
-use crate::placed::{Placed, PlacedWords, words_of};
+use crate::declarations::{begins_component, declares_inner};
+use crate::placed::{Placed, PlacedWords, line_at, words_of};
 use crate::words::{is_relation, is_sign, is_text};
+use bip_model::NumberedLines;
 
 const MOST_PARTICIPANTS: u32 = 8;
 
@@ -45,46 +49,118 @@ impl LimitReason<'_> {
 }
 
 /// Which limit a line passes, with the word that passes it where that is one of the line.
-pub(crate) fn find_limit(line: &[u8]) -> Option<LimitReason<'_>>
-    ensures some { IfSome result (IsLimitReason line.now) }
-    ensures none { IfNone result (said_words line.now ≡ []) }
+pub(crate) fn find_limit(text: &[u8], number: u64) -> Option<LimitReason<'_>>
+    ensures some { IfSome result (IsLimitReason text.now number (line_at text.now number)) }
+    ensures none { IfNone result
+        (AreWithin text.now number (said_words (line_at text.now number))) }
 {
-    let (keyword, words) = words_of(line)?;
-    let limit = LimitReason::Line(limit_of(keyword.word));
-    if has_lists(keyword.word) {
-        Some(find_long(words).unwrap_or(limit))
+    let (keyword, words) = words_of(line_at(text, number))?;
+    match find_list(keyword.word, words) {
+        Some(reason) => Some(reason),
+        None => find_lines(text, number, keyword.word),
+    }
+}
+
+// The first word that is more than a list of a line may have, behind the line's first word.
+fn find_list<'t>(keyword: &[u8], left: PlacedWords<'t>) -> Option<LimitReason<'t>>
+    requires { IsBehind (keyword.now ∷ []) left.line.now left.rest.now }
+    ensures some { (text : List ℕ) → (number : ℕ)
+        → IfSome result (IsLimitReason text number left.entry.line.now) }
+    ensures none { IfNone result (has_lists keyword.now ≡ true
+        → AreShort none_counted (words left.entry.rest.now)) }
+{
+    if has_lists(keyword) {
+        find_long(left)
     } else {
-        Some(limit)
+        None
+    }
+}
+
+// The limit of how many lines begin with a word, if as many stand in front of one.
+fn find_lines<'t>(text: &[u8], number: u64, keyword: &[u8]) -> Option<LimitReason<'t>>
+    ensures some { (line : List ℕ) → (rest : List (List ℕ))
+        → said_words line ≡ keyword.now ∷ rest
+        → IfSome result (IsLimitReason text.now number line) }
+    ensures none { IfNone result (AreFewLines text.now number keyword.now) }
+{
+    let (most, limit) = limit_of(keyword)?;
+    if most <= lines_so(text, number, keyword) {
+        Some(LimitReason::Line(limit))
+    } else {
+        None
+    }
+}
+
+// How many lines in front of one begin with a word, of those of one component where it begins what
+// stands inside of one.
+fn lines_so(text: &[u8], line: u64, keyword: &[u8]) -> u64
+    ensures { result ≡ lines_so text.now line keyword.now }
+{
+    let mut count = 0;
+    for (number, bytes) in NumberedLines::of(text) {
+        if line <= number {
+            return count;
+        }
+        count = counted_behind(keyword, bytes, count);
+    }
+    count
+}
+
+fn counted_behind(keyword: &[u8], line: &[u8], count: u64) -> u64
+    requires { count < u64.MAX }
+    ensures { result ≡ counted_behind keyword.now (said_words line.now) count }
+{
+    if is_of_component(keyword) && begins_component(line) {
+        0
+    } else if begins_so(keyword, line) {
+        count + 1
+    } else {
+        count
+    }
+}
+
+fn is_of_component(keyword: &[u8]) -> bool
+    ensures { result ≡ is_of_component keyword.now }
+{
+    declares_inner(keyword) || is_text(keyword, b"trans")
+}
+
+fn begins_so(keyword: &[u8], line: &[u8]) -> bool
+    ensures { result ≡ begins_so keyword.now (said_words line.now) }
+{
+    match words_of(line) {
+        None => false,
+        Some((first, _rest)) => is_text(first.word, keyword),
     }
 }
 
 // Whether lines that begin so have a guard and a list of assignments.
 fn has_lists(keyword: &[u8]) -> bool
-    ensures { result
-        ≡ (same_text keyword.now (codes "trans")
-        || same_text keyword.now (codes "interaction")) }
+    ensures { result ≡ has_lists keyword.now }
 {
     is_text(keyword, b"trans") || is_text(keyword, b"interaction")
 }
 
-// The limit of how many such lines there are.
-fn limit_of(keyword: &[u8]) -> &'static [u8]
-    ensures { result.now ≡ limit_of keyword.now }
+// How many lines may begin with a word, and how it is told.
+fn limit_of(keyword: &[u8]) -> Option<(u64, &'static [u8])>
+    ensures { option_map (λ limit. (limit.0, limit.1.now)) result ≡ limit_of keyword.now }
 {
     if is_text(keyword, b"component") {
-        b"a model has at most 64 components"
+        Some((64, b"a model has at most 64 components"))
     } else if is_text(keyword, b"var") {
-        b"a component has at most 8 variables"
+        Some((8, b"a component has at most 8 variables"))
     } else if is_text(keyword, b"loc") {
-        b"a component has at most 64 locations"
+        Some((64, b"a component has at most 64 locations"))
     } else if is_text(keyword, b"port") {
-        b"a component has at most 16 ports"
+        Some((16, b"a component has at most 16 ports"))
     } else if is_text(keyword, b"trans") {
-        b"a component has at most 256 transitions"
+        Some((256, b"a component has at most 256 transitions"))
     } else if is_text(keyword, b"interaction") {
-        b"a model has at most 128 interactions"
+        Some((128, b"a model has at most 128 interactions"))
+    } else if is_text(keyword, b"class") {
+        Some((32, b"a model has at most 32 classes"))
     } else {
-        b"a model has at most 32 classes"
+        None
     }
 }
 
@@ -98,10 +174,12 @@ struct Counted {
 }
 
 // The first word of a line that is more than one of its lists may have.
-fn find_long<'t>(words: PlacedWords<'t>) -> Option<LimitReason<'t>>
-    ensures { (front : List (List ℕ)) → IsBehind front words.entry.line.now words.entry.rest.now
+fn find_long<'t>(left: PlacedWords<'t>) -> Option<LimitReason<'t>>
+    ensures some { (text : List ℕ) → (number : ℕ) → (front : List (List ℕ))
+        → IsBehind front left.entry.line.now left.entry.rest.now
         → list_any begins_list front ≡ false
-        → IfSome result (IsLimitReason words.entry.line.now) }
+        → IfSome result (IsLimitReason text number left.entry.line.now) }
+    ensures none { IfNone result (AreShort none_counted (words left.entry.rest.now)) }
 {
     let mut counted = Counted {
         is_head: true,
@@ -109,7 +187,7 @@ fn find_long<'t>(words: PlacedWords<'t>) -> Option<LimitReason<'t>>
         parts: 0,
         terms: 0,
     };
-    for placed in words {
+    for placed in left {
         counted = counted.with(placed.word);
         if let Some(limit) = counted.passed() {
             return Some(LimitReason::Word(placed, limit));

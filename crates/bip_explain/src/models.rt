@@ -119,7 +119,7 @@ fn find_reason<'t>(
             Err(error) => Err(error),
         },
         Why::Twice => Ok(find_twice(alloc, text, number)?.map(ModelReason::Twice)),
-        Why::TooMany => Ok(find_limit(line).map(ModelReason::Limit)),
+        Why::TooMany => Ok(find_limit(text, number).map(ModelReason::Limit)),
         Why::Missing => match find_missing(text, number) {
             Some(reason) => Ok(Some(ModelReason::End(reason))),
             None => Ok(None),

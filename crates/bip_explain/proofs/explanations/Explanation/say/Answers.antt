@@ -1,4 +1,5 @@
-use Rattle.std.proofs.Common.{◌≤◌, length, ap, ◌∙◌, arith}
+use Rattle.std.proofs.Common.{◌≤◌, length, sym, ap, ◌∙◌, arith}
+use Rattle.std.proofs.lemmas.Bool.{false≢true}
 use Rattle.bip_explain.specs.Explanations.{with_part}
 use Rattle.bip_explain.proofs.SayLemmas.{all_shown, said_cut, said_whole, unsaid, unwanted}
 use Rattle.bip_explain.proofs.explanations.Explanation.say.Goals as goal
@@ -7,7 +8,7 @@ use Rattle.bip_explain.proofs.explanations.Explanation.say.Goals.{else-self-via-
 pub invariant_of-self : goal.invariant_of-self
 invariant_of-self c =
     let few : length c.self.inside.said.items ≤ 478 = c.self.invariant.2 c.if-not-self.true in
-    (rw c.push_all.ensures.put (all_shown c.self.inside.said.items c.args.text.now c.self.invariant.0), omega arith, λ _. omega arith)
+    (rw c.push_all.ensures.put (all_shown c.self.inside.said.items c.args.text.now c.self.invariant.0), omega arith, λ _. omega arith, λ cut. absurd (false≢true (sym c.if-not-self.true ∙ cut)))
 
 pub returns-then-text-len : goal.returns-then-text-len
 returns-then-text-len c =
