@@ -1,6 +1,7 @@
 pub mod EndLemmas
 pub mod FormLemmas
 pub mod FrontLemmas
+pub mod GrantLemmas
 pub mod HindranceLemmas
 pub mod LimitLemmas
 pub mod LineLemmas

@@ -1,20 +1,25 @@
 -- What is wrong with what a line's grant names, and how it is told.
-use Rattle.std.specs.Prelude.{◌≡◌, ℕ, ◌-◌, ◌==◌, false, true, List, [], ◌∷◌, ◌++◌, codes}
-use Rattle.std.specs.Prelude.{Option, None, Some, IfSome, if◌then◌else◌, position, ⊤}
+use Rattle.std.specs.Prelude.{◌≡◌, ℕ, ◌-◌, ◌<◌, ◌==◌, Bool, false, true, List, [], ◌∷◌, ◌++◌, codes}
+use Rattle.std.specs.Prelude.{Ok, length}
+use Rattle.std.specs.Prelude.{All, Option, None, Some, if◌then◌else◌, position, ⊤}
 use Rattle.std.specs.Fmt.{decimal}
 use Rattle.std.specs.List.{slice_get}
+use Rattle.std.specs.Option.{option_map_or}
 use Rattle.bip_model.specs.Naming.{same_text}
 use Rattle.bip_model.specs.Steps.{IsLookedAt, moves}
+use Rattle.bip_model.specs.Texts.{words}
+use Rattle.bip_model.specs.declared.grants.Grant.{Grant}
 use Rattle.bip_model.specs.declared.parts.System.{System}
 use Rattle.bip_model.specs.declared.numbering.CompId.{CompId}
 use Rattle.bip_replay.specs.Laws.{times_moved}
+use Rattle.bip_replay.specs.Lines.{grant_on}
 use Rattle.bip_replay.specs.Replays.{IsFirstFault}
 use Rattle.bip_replay.specs.declared.faults.BookFault.{BookFault}
 use Rattle.bip_replay.specs.declared.faults.ReplayFault.TheVariants.{NotARun}
 use Rattle.bip_replay.specs.declared.faults.BookFault.TheVariants.{Number, Parties}
 use Rattle.bip_explain.specs.Explanations.{marked, placed_parts}
 use Rattle.bip_explain.specs.Placed.{IsPlacedOn, first_two, said_words}
-use Rattle.bip_explain.specs.Words.{IsWant}
+use Rattle.bip_explain.specs.Words.{IsWant, named_in}
 use Rattle.bip_explain.specs.declared.grants.GrantReason.{GrantReason}
 use Rattle.bip_explain.specs.declared.grants.GrantReason.TheVariants.{Next, Party, Unexplained}
 use Rattle.bip_explain.specs.declared.grants.Named.{Named}
@@ -31,6 +36,17 @@ IsWantOf model comp word =
 abbrev pub IsWantOn : System → List ℕ → ℕ → Placed → Type 0
 IsWantOn model line comp placed = IsPlacedOn line placed × IsWantOf model comp placed.word.now
 
+-- whether a word names this component with a number
+abbrev pub names_comp : System → ℕ → List ℕ → Bool
+names_comp model comp word =
+    option_map_or (λ name. option_map_or (λ c. c == comp)
+    (position (same_text name) model.component_names) false) (named_in word) false
+
+-- a word of the line is told that names this component; where none is told no word does
+abbrev pub IsWantTold : System → List ℕ → ℕ → Option Placed → Type 0
+IsWantTold model line comp None = All (λ word. ¬ IsWantOf model comp word) (words line)
+IsWantTold model line comp (Some placed) = IsWantOn model line comp placed
+
 -- the line's grant is one of this interaction
 abbrev pub IsGrantOn : System → List ℕ → ℕ → Type 0
 IsGrantOn model line inter =
@@ -44,15 +60,39 @@ IsNamedSo model inter comp Seen = IsLookedAt model inter comp
 IsNamedSo model inter comp Absent =
     (moves model inter comp ≡ false) × ¬ IsLookedAt model inter comp
 
+-- how components are named behind a word
+abbrev pub role_behind : List ℕ → Named → Named
+role_behind word named = if same_text word (codes "see") then Seen else named
+
+-- how words name a component, by the first of them that does, if those in front of it are named so
+abbrev pub named_by : System → ℕ → Named → List (List ℕ) → Named
+named_by model comp named [] = Absent
+named_by model comp named (word ∷ rest) =
+    if names_comp model comp word then role_behind word named
+    else named_by model comp (role_behind word named) rest
+
+-- how a line names it: moved in front of `see`, and seen behind it
+abbrev pub named_on : System → List ℕ → ℕ → Named
+named_on model line comp = named_by model comp Moved (words line)
+
+-- a line of a grant names each component of the model as a grant of its interaction should
+abbrev pub AreNamedSo : System → List ℕ → Type 0
+AreNamedSo model line =
+    (g : Grant) → grant_on model line ≡ Ok (Some g) → (comp : ℕ) → comp < length model.components
+    → IsNamedSo model g.inter.0 comp (named_on model line comp)
+
 -- a reason is true of a line and a model: the word that is told names the component, and stands at
--- its column; the line grants the interaction, which moves, looks at or leaves the component
+-- its column, or else no word names it; the line grants the interaction, which moves, looks at or
+-- leaves the component, as the line doesn't say; and none is found where each component is named as
+-- it should be
 abbrev pub IsGrantReason : System → List ℕ → GrantReason → Type 0
 IsGrantReason model line (Next placed comp expected) =
-    IfSome placed (IsWantOn model line comp.0)
+    IsWantTold model line comp.0 placed
 IsGrantReason model line (Party placed inter comp named) =
-    IfSome placed (IsWantOn model line comp.0)
+    IsWantTold model line comp.0 placed
     × IsGrantOn model line inter.0 × IsNamedSo model inter.0 comp.0 named
-IsGrantReason model line Unexplained = ⊤
+    × ¬ (named_on model line comp.0 ≡ named)
+IsGrantReason model line Unexplained = AreNamedSo model line
 
 -- a reason is one of this fault: the component, with the number of its next move, is the fault's;
 -- that none is found may be told of parties

@@ -1,10 +1,11 @@
 //! Numbers and parties of a line's grant that are wrong.
-ghost use Rattle.std.specs.Prelude.{◌≡◌, ◌<◌, IfSome, None, Ok, Some, length};
+ghost use Rattle.std.specs.Prelude.{◌≡◌, ◌<◌, IfNone, IfSome, None, Ok, Some, length};
 ghost use Rattle.std.specs.Option.{option_map};
 ghost use Rattle.bip_explain.specs.Explanations.{with_parts};
 ghost use Rattle.bip_explain.specs.Grants.{IsGrantOn, IsGrantReason, IsNamedSo, IsOfFault};
-ghost use Rattle.bip_explain.specs.Grants.{IsWantOn, component_parts, front_parts, grant_parts};
-ghost use Rattle.bip_explain.specs.Grants.{name_parts, named_text, next_parts, seen_text};
+ghost use Rattle.bip_explain.specs.Grants.{IsWantTold, component_parts, front_parts, grant_parts};
+ghost use Rattle.bip_explain.specs.Grants.{AreNamedSo, name_parts, named_on, named_text};
+ghost use Rattle.bip_explain.specs.Grants.{names_comp, next_parts, role_behind, seen_text};
 ghost use Rattle.bip_model.specs.declared.grants.Grant.{Grant};
 ghost use Rattle.bip_replay.specs.Lines.{grant_on};
 ghost use Rattle.bip_replay.specs.declared.faults.BookFault.TheVariants.{Parties};
@@ -98,6 +99,17 @@ pub(crate) fn say_name(explanation: &mut Explanation, names: &[Name], number: us
 }
 
 impl Named {
+    // How components are named behind a word.
+    fn behind(self, word: &[u8]) -> Named
+        ensures { result ≡ role_behind word.now self }
+    {
+        if is_text(word, b"see") {
+            Named::Seen
+        } else {
+            self
+        }
+    }
+
     fn words(self) -> &'static [u8]
         ensures { result.now ≡ named_text self }
     {
@@ -133,24 +145,34 @@ pub(crate) fn interaction_on(model: &Model, line: &[u8]) -> Option<InterId>
 
 /// The word of a line that names a component.
 pub(crate) fn want_on<'t>(model: &Model, line: &'t [u8], comp: CompId) -> Option<Placed<'t>>
-    ensures { IfSome result (IsWantOn model.now line.now comp.0) }
+    ensures { IsWantTold model.now line.now comp.0 result }
 {
     for placed in PlacedWords::of(line) {
-        if let Some((component, _number)) = want_of(placed.word) {
-            if let Some(other) = model.component(&component) {
-                if other.0 == comp.0 {
-                    return Some(placed);
-                }
-            }
+        if names_comp(model, comp, placed.word) {
+            return Some(placed);
         }
     }
     None
 }
 
+// Whether a word names a component with a number.
+fn names_comp(model: &Model, comp: CompId, word: &[u8]) -> bool
+    ensures { result ≡ names_comp model.now comp.0 word.now }
+{
+    match want_of(word) {
+        None => false,
+        Some((component, _number)) => match model.component(&component) {
+            None => false,
+            Some(other) => other.0 == comp.0,
+        },
+    }
+}
+
 /// The first component of the model that a line's grant doesn't name as it should.
 pub(crate) fn find_party<'t>(model: &Model, line: &'t [u8]) -> Option<GrantReason<'t>>
-    ensures { IfSome result (λ reason.
+    ensures some { IfSome result (λ reason.
         IsGrantReason model.now line.now reason × IsOfFault Parties reason) }
+    ensures none { IfNone result (AreNamedSo model.now line.now) }
 {
     let inter = interaction_on(model, line)?;
     for number in 0..model.components().len() as u16 {
@@ -175,16 +197,15 @@ fn wanted_of(model: &Model, inter: InterId, comp: CompId) -> Named
     }
 }
 
-fn named_on(model: &Model, line: &[u8], comp: CompId) -> Named {
+// How a line names a component.
+fn named_on(model: &Model, line: &[u8], comp: CompId) -> Named
+    ensures { result ≡ named_on model.now line.now comp.0 }
+{
     let mut named = Named::Moved;
     for placed in PlacedWords::of(line) {
-        if is_text(placed.word, b"see") {
-            named = Named::Seen;
-        }
-        if let Some((component, _number)) = want_of(placed.word) {
-            if model.component(&component) == Some(comp) {
-                return named;
-            }
+        named = named.behind(placed.word);
+        if names_comp(model, comp, placed.word) {
+            return named;
         }
     }
     Named::Absent

@@ -25,7 +25,7 @@ returns-in-Some-clause-told c =
     rw c.in-Parties.is (tells ⊥ (λ r. IsGrantReason model line r × IsOfFault Parties r) (grant_parts model c.args.base) c.args.explanation.now c.say-in-Some.new.explanation
     c.in-Some.reason
     (sym c.is_open.ensures ∙ c.if-not-is_open.false)
-    (rw c.line_at-in-Parties.ensures at c.in-Some.ensures)
+    (rw c.line_at-in-Parties.ensures at c.in-Some.ensures.some)
     c.say-in-Some.ensures)
 
 pub returns-in-Memory-clause-told : goal.returns-in-Memory-clause-told
@@ -44,5 +44,5 @@ returns-in-None-clause-told c =
     rw c.in-Parties.is (tells ⊥ (λ r. IsGrantReason model line r × IsOfFault Parties r) (grant_parts model c.args.base) c.args.explanation.now c.say-in-None.new.explanation
     Unexplained
     (sym c.is_open.ensures ∙ c.if-not-is_open.false)
-    (tt, tt)
+    (rw c.line_at-in-Parties.ensures at c.in-None.ensures.none, tt)
     c.say-in-None.ensures)
