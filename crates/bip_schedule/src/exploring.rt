@@ -1,25 +1,21 @@
 //! The explorer: many runs by chance, each checked to be a run of the model.
-ghost use Rattle.std.specs.Prelude.{◌≡◌, ◌↔◌, ◌<◌, ◌≤◌, IfErr, IfOk, IsTrue, Ok, OnOk};
-ghost use Rattle.std.specs.Prelude.{Some};
+ghost use Rattle.std.specs.Prelude.{◌≡◌, ◌↔◌, ◌<◌, ◌≤◌, IfErr, IfOk, IsTrue, Ok};
 ghost use Rattle.bip_model.specs.Numbering.{last_number};
-ghost use Rattle.bip_replay.specs.Runs.{IsModelRun};
 ghost use Rattle.bip_bank.specs.Banks.{content_of};
 ghost use Rattle.bip_core.specs.Runs.{IsLossless};
 ghost use Rattle.bip_core.specs.Starting.{IsNewWorld, IsUnasked};
 ghost use Rattle.bip_core.specs.Worlds.{world_of};
-ghost use Rattle.bip_schedule.specs.Exploring.{AreExplored, IsCheckFault, IsSeedRun};
-ghost use Rattle.bip_schedule.specs.Exploring.{IsSharedBy, number_of_explore, text_of_explore};
+ghost use Rattle.bip_schedule.specs.Exploring.{AreExplored, IsSeedRun, IsSharedBy};
 ghost use Rattle.bip_schedule.specs.declared.exploring.ExploreFault.TheVariants.{Memory};
 
+use crate::checking::Checked;
 use crate::seeding::run_seed;
 use bip_bank::Bank;
 use bip_core::{Report, World};
-use bip_model::{Grant, Model, Number};
+use bip_model::Number;
 use bip_partition::Plan;
-use bip_replay::{GrantRef, Position, StepFault};
+use bip_replay::StepFault;
 use std::alloc::{AllocError, Global};
-use std::fmt;
-use thiserror::Error;
 
 /// What was explored: how many seeds, and how many grants their traces have in all.
 #[derive(Clone, Copy, Debug, PartialEq, Eq)]
@@ -29,36 +25,13 @@ pub struct Explored {
 }
 
 /// Why seeds aren't explored.
-#[derive(Debug, Drop, Error)]
+#[derive(Debug, Drop)]
 pub enum ExploreFault {
     /// The trace of this seed is no run of the model: its first grant that can't be next has this
     /// fault. No call answers so: it is what the check would say if the proof were wrong.
     NotARun(u32, StepFault),
     /// Want of memory.
     Memory,
-}
-
-impl fmt::Display for ExploreFault {
-    ghost output = { λ fault. Some (text_of_explore fault) };
-
-    fn fmt<W: fmt::Write>(&self, f: &mut fmt::Formatter<W>) -> fmt::Result {
-        match self {
-            ExploreFault::NotARun(seed, fault) => write!(f, "seed {seed}: {fault}"),
-            ExploreFault::Memory => write!(f, "no memory"),
-        }
-    }
-}
-
-impl ExploreFault {
-    /// The fault's number.
-    pub fn number(&self) -> u8
-        ensures { result ≡ number_of_explore self.now }
-    {
-        match self {
-            ExploreFault::NotARun(_, _) => 1,
-            ExploreFault::Memory => 2,
-        }
-    }
 }
 
 impl From<AllocError> for ExploreFault {
@@ -94,7 +67,8 @@ pub fn explore<'p, B: Bank + Drop, F: Fn() -> Result<B, AllocError>>(
 {
     let mut grants = 0;
     for done in 0..seeds {
-        grants += explore_seed(alloc, plan, &make, base, done + 1, count)?;
+        let checked = explore_seed(alloc, plan, &make, base, done + 1, count)?;
+        grants += checked.grants();
     }
     Ok(Explored {
         runs: seeds,
@@ -102,8 +76,7 @@ pub fn explore<'p, B: Bank + Drop, F: Fn() -> Result<B, AllocError>>(
     })
 }
 
-/// Explores one seed, as `explore` does, and says how many grants its trace has (docs/ANSWERS.md,
-/// "Exploring").
+/// Explores one seed, as `explore` does: its trace was checked (docs/ANSWERS.md, "Exploring").
 pub fn explore_seed<'p, B: Bank + Drop, F: Fn() -> Result<B, AllocError>>(
     alloc: Global,
     plan: &'p Plan,
@@ -111,7 +84,7 @@ pub fn explore_seed<'p, B: Bank + Drop, F: Fn() -> Result<B, AllocError>>(
     base: Number,
     seed: u32,
     count: u32,
-) -> Result<u64, ExploreFault>
+) -> Result<Checked, ExploreFault>
     requires base { base < last_number }
     requires callable { F.IsAlwaysCallable make.now }
     requires unasked { (bank : B) → F.post make.now (Ok bank)
@@ -123,12 +96,11 @@ pub fn explore_seed<'p, B: Bank + Drop, F: Fn() -> Result<B, AllocError>>(
 {
     let mut world = new_world(alloc, plan, make, base)?;
     let report = run_seed(&mut world, u64::from(seed), count);
-    let trace = world.trace();
-    check_run(alloc, plan.model(), base, seed, trace)?;
+    let checked = Checked::of(alloc, plan.model(), base, seed, world.trace())?;
     if !is_whole(&report) {
         return Err(ExploreFault::Memory);
     }
-    Ok(trace.len() as u64)
+    Ok(checked)
 }
 
 /// Whether no event was skipped, and no message lost, for want of memory.
@@ -155,25 +127,4 @@ fn new_world<'p, B: Bank + Drop, F: Fn() -> Result<B, AllocError>>(
 {
     let bank = make()?;
     World::new(alloc, plan, bank, base)
-}
-
-/// Checks that the grants of a seed's trace are a run of a model above a base.
-fn check_run(
-    alloc: Global,
-    model: &Model,
-    base: Number,
-    seed: u32,
-    trace: &[Grant],
-) -> Result<(), ExploreFault>
-    requires { base < last_number }
-    ensures run { OnOk result (IsModelRun model.now base trace.now) }
-    ensures fault { IfErr result (IsCheckFault model.now base seed trace.now) }
-{
-    let mut position = Position::start(alloc, model, base)?;
-    for grant in trace {
-        if let Err(fault) = position.step(&GrantRef::of(grant)) {
-            return Err(ExploreFault::NotARun(seed, fault));
-        }
-    }
-    Ok(())
 }

@@ -1,6 +1,7 @@
 //! Schedules: events as texts, and events drawn by chance.
 #![tactic(auto)]
 
+mod checking;
 mod drawing;
 mod exploring;
 mod following;
@@ -10,6 +11,7 @@ mod schedules;
 mod seeding;
 mod writing;
 
+pub use checking::Checked;
 pub use drawing::event_of;
 pub use exploring::{ExploreFault, Explored, explore, explore_seed};
 pub use following::Schedule;

@@ -2,12 +2,14 @@
 ghost use Rattle.std.specs.Prelude.{◌≡◌, ◌==◌, ◌<◌, IfOk, IfSome, None, Some, if◌then◌else◌};
 ghost use Rattle.std.specs.Prelude.{length, position};
 ghost use Rattle.std.specs.Option.{option_map};
+ghost use Rattle.bip_bank.specs.declared.banks.StationId.{StationId};
+ghost use Rattle.bip_core.specs.declared.events.Event.{Event};
 ghost use Rattle.bip_model.specs.Naming.{is_name, same_text};
 ghost use Rattle.bip_model.specs.Texts.{words};
 ghost use Rattle.bip_model.specs.declared.numbering.InterId.{InterId};
 ghost use Rattle.bip_partition.specs.Plans.{AreStations};
 ghost use Rattle.bip_schedule.specs.Lines.{event_known, event_on, event_said, named_event_on};
-ghost use Rattle.bip_schedule.specs.Lines.{one_said, station_known, two_said};
+ghost use Rattle.bip_schedule.specs.Lines.{one_said, station_known, stations_known, two_said};
 ghost use Rattle.bip_schedule.specs.Writing.{HasSpelling};
 
 use bip_bank::{BankStep, StationId};
@@ -125,13 +127,11 @@ fn look_up(plan: &Plan, stations: &[InterId], named: &NamedEvent) -> Option<Even
         }
         NamedEvent::Deliver(place) => Some(Event::Bank(BankStep::Deliver(place as usize))),
         NamedEvent::Pass(from, to) => {
-            let from = station_known(plan, stations, &from)?;
-            let to = station_known(plan, stations, &to)?;
+            let (from, to) = stations_known(plan, stations, &from, &to)?;
             Some(Event::Bank(BankStep::Pass(from, to)))
         }
         NamedEvent::Ask(from, to) => {
-            let from = station_known(plan, stations, &from)?;
-            let to = station_known(plan, stations, &to)?;
+            let (from, to) = stations_known(plan, stations, &from, &to)?;
             Some(Event::Bank(BankStep::Ask(from, to)))
         }
     }
@@ -151,6 +151,25 @@ fn inter_known(plan: &Plan, name: &Name) -> Option<InterId>
     ensures there { IfSome result (λ a. a.0 < length plan.now.model.interaction_names) }
 {
     plan.model().interaction(name)
+}
+
+// Two stations by their names, where both are known.
+fn stations_known(
+    plan: &Plan,
+    stations: &[InterId],
+    from: &Name,
+    to: &Name,
+) -> Option<(StationId, StationId)>
+    requires { AreStations plan.now stations.now }
+    ensures known { (event : StationId → StationId → Event)
+        → option_map (λ both. event both.0 both.1) result
+        ≡ stations_known plan.now stations.now event from.now to.now }
+    ensures there { IfSome result (λ both.
+        (both.0.0 < length stations.now) × (both.1.0 < length stations.now)) }
+{
+    let from = station_known(plan, stations, from)?;
+    let to = station_known(plan, stations, to)?;
+    Some((from, to))
 }
 
 // The station of a reserved interaction; none of any other.

@@ -62,10 +62,7 @@ fn has_spelling(plan: &Plan, stations: &[InterId], event: &Event) -> bool
         }
         Event::Bank(BankStep::Deliver(place)) => is_value(place),
         Event::Bank(BankStep::Serve(station)) => is_station(stations, station),
-        Event::Bank(BankStep::Pass(from, to)) => {
-            is_station(stations, from) && is_station(stations, to)
-        }
-        Event::Bank(BankStep::Ask(from, to)) => {
+        Event::Bank(BankStep::Pass(from, to) | BankStep::Ask(from, to)) => {
             is_station(stations, from) && is_station(stations, to)
         }
     }
@@ -177,17 +174,31 @@ fn write_step(
             text.extend_from_slice(b"serve")?;
             write_station(text, plan, stations, station)
         }
-        BankStep::Pass(from, to) => {
-            text.extend_from_slice(b"pass")?;
-            write_station(text, plan, stations, from)?;
-            write_station(text, plan, stations, to)
-        }
-        BankStep::Ask(from, to) => {
-            text.extend_from_slice(b"ask")?;
-            write_station(text, plan, stations, from)?;
-            write_station(text, plan, stations, to)
-        }
+        BankStep::Pass(from, to) => write_two(text, plan, stations, b"pass", from, to),
+        BankStep::Ask(from, to) => write_two(text, plan, stations, b"ask", from, to),
     }
+}
+
+fn write_two(
+    text: &mut Vec<u8>,
+    plan: &Plan,
+    stations: &[InterId],
+    verb: &[u8],
+    from: StationId,
+    to: StationId,
+) -> Result<(), AllocError>
+    requires stations { AreStations plan.now stations.now }
+    requires from { from.0 < length stations.now }
+    requires to { to.0 < length stations.now }
+    ensures text { OnOk result
+        (text.new.items ≡ text.old.items ++ (verb.now ++ flat_map spaced
+        (station_name plan.now stations.now from ∷ station_name plan.now stations.now to ∷ []))) }
+    ensures from_named { OnOk result (IsName (station_name plan.now stations.now from)) }
+    ensures to_named { OnOk result (IsName (station_name plan.now stations.now to)) }
+{
+    text.extend_from_slice(verb)?;
+    write_station(text, plan, stations, from)?;
+    write_station(text, plan, stations, to)
 }
 
 fn write_station(

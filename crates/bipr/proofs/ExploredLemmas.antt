@@ -5,10 +5,11 @@ use Rattle.std.specs.declared.alloc.AllocError.{AllocError}
 use Rattle.bip_partition.specs.Plans.{Planned}
 use Rattle.bip_bank.specs.Sharing.{Sharing}
 use Rattle.bip_schedule.specs.Exploring.{AreExplored, IsSeedRun}
+use Rattle.bip_schedule.specs.declared.exploring.ExploreFault.TheVariants.{Memory}
 use Rattle.bip_schedule.specs.declared.exploring.ExploreFault.{ExploreFault}
 use Rattle.bipr.specs.Answers.{HasPlan, saying}
 use Rattle.bipr.specs.Commands.Explore.{IsExplore, IsTextExplored, of_no_text, of_plan}
-use Rattle.bipr.specs.Explored.{IsExploreAnswer, IsProgressAt, IsProgressUntil, by_count, ends_hundredth, explored, more_progress, told_at}
+use Rattle.bipr.specs.Explored.{IsExploreAnswer, IsProgressAt, IsProgressUntil, IsSaidOfFault, by_count, ends_hundredth, explored, more_progress, told_at}
 use Rattle.bipr.specs.Resolvers.{IsSharedAtFirst}
 use Rattle.bipr.specs.Stops.{answer_of_stop, out_of_memory, unread}
 use Rattle.bipr.specs.Streams.{Put, texts}
@@ -48,6 +49,12 @@ told_more asked done told more so here =
 pub told_lacking : (result : Result Answer AllocError) (P : Answer → Type 0) (Q : Type 0) → IsErr result → Q → MatchResult result P (λ (e : AllocError). Q)
 told_lacking (Ok answer) P Q is held = cc
 told_lacking (Err e) P Q is held = held
+
+-- where a seed isn't explored memory is out, so nothing else is said
+pub fault_lacking : (result : Result Answer AllocError) (fault : ExploreFault) (P : Answer → Type 0) (Q : Type 0) → IfOk result (IsSaidOfFault fault) → fault ≡ Memory → Q
+    → MatchResult result P (λ (e : AllocError). Q)
+fault_lacking (Ok answer) fault P Q said is held = absurd (subst (λ (f : ExploreFault). IsSaidOfFault f answer) is said)
+fault_lacking (Err e) fault P Q said is held = held
 
 -- that all are runs is said
 pub explored_said : (p : Planned) (asked : ExploreArguments) (grants : ℕ) (told : List Put) (answer : Answer) (text : List ℕ)

@@ -3,13 +3,15 @@ use Rattle.std.specs.Prelude.{List, [], ℕ, zero, suc, nat_lt, if◌then◌else
 use Rattle.std.specs.Prelude.{Bool, ◌-◌, ◌/◌, ◌∷◌, ◌≡◌, ◌≤◌, false, true}
 use Rattle.bip_partition.specs.Plans.{Planned}
 use Rattle.bip_schedule.specs.Exploring.{AreExplored}
+use Rattle.bip_schedule.specs.declared.exploring.ExploreFault.TheVariants as explore_fault
+use Rattle.bip_schedule.specs.declared.exploring.ExploreFault.{ExploreFault}
 use Rattle.bipr.specs.Answers.{saying}
 use Rattle.bipr.specs.Resolvers.{IsSharedAtFirst}
 use Rattle.bipr.specs.Stops.{out_of_memory}
 use Rattle.bipr.specs.Streams.{Put, texts}
-use Rattle.bipr.specs.Wording.{progress_text, seeds_text, timed_text}
+use Rattle.bipr.specs.Wording.{progress_text, seed_verdict, seeds_text, timed_text}
 use Rattle.bipr.specs.declared.answers.Answer.{Answer}
-use Rattle.bipr.specs.declared.answers.Status.TheVariants.{Done}
+use Rattle.bipr.specs.declared.answers.Status.TheVariants.{Done, NotARun}
 use Rattle.bipr.specs.declared.command_line.ExploreArguments.{ExploreArguments}
 
 -- with this seed another hundredth of the seeds is done
@@ -50,3 +52,11 @@ pub data IsExploreAnswer (p : Planned) (asked : ExploreArguments) :
       → AreExplored (IsSharedAtFirst asked.resolver p) p 0 asked.events done grants
       → IsProgressUntil asked done (texts told)
       → IsExploreAnswer p asked told out_of_memory
+
+-- What contracts of private functions say.
+
+-- what is said where a seed isn't explored: that its trace is no run; want of memory is no answer
+abbrev pub IsSaidOfFault : ExploreFault → Answer → Type 0
+IsSaidOfFault (explore_fault.NotARun seed why) answer =
+    answer ≡ saying NotARun (seed_verdict seed)
+IsSaidOfFault explore_fault.Memory answer = ⊥

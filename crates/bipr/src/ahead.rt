@@ -12,7 +12,7 @@ use bip_bank::Central;
 use bip_forks::Forks;
 use bip_partition::Plan;
 use bip_ring::Ring;
-use bip_schedule::{ExploreFault, explore_seed};
+use bip_schedule::{Checked, ExploreFault, explore_seed};
 use std::alloc::Global;
 use std::thread;
 use std::thread::Threads;
@@ -44,6 +44,7 @@ impl Ahead {
     pub fn nothing(alloc: Global, last: u32) -> Ahead
         ensures none { length result.explored.items ≡ 0 }
         ensures sized { 0 < result.size }
+        ensures last { result.last ≡ last }
     {
         Ahead {
             from: 0,
@@ -99,16 +100,17 @@ pub fn keep_ahead<R: Threads + Sync>(
 )
     requires left { done < asked.now.seeds }
     requires ahead { AreAhead plan.now asked.now ahead.old }
-    ensures { AreAhead plan.now asked.now ahead.new }
+    ensures ahead { AreAhead plan.now asked.now ahead.new }
+    ensures kept { done < ahead.old.last → ahead.new ≡ ahead.old }
 {
     if jobs > 1 && ahead.last <= done {
         *ahead = explore_ahead(rt, alloc, plan, asked, jobs, done);
     }
 }
 
-// Explores a round of seeds behind so many, a block in each thread. Where no thread can be made
-// the blocks are explored one after another; where memory is out for what they say, nothing is
-// explored ahead.
+// Explores a round of seeds behind so many, a block in each thread: one seed at least, whatever
+// comes of it. Where no thread can be made the blocks are explored one after another; where memory
+// is out for what they say, nothing is explored ahead.
 fn explore_ahead<R: Threads + Sync>(
     rt: &R,
     alloc: Global,
@@ -119,7 +121,8 @@ fn explore_ahead<R: Threads + Sync>(
 ) -> Ahead
     requires jobs { 0 < jobs }
     requires left { done < asked.now.seeds }
-    ensures { AreAhead plan.now asked.now result }
+    ensures ahead { AreAhead plan.now asked.now result }
+    ensures further { done < result.last }
 {
     let left = asked.seeds - done;
     let blocks = jobs.min(left);
@@ -203,13 +206,13 @@ fn explore_block(
     size
 }
 
-// Explores one seed from base 0, with a resolver's new bank, and says how many grants it has.
+// Explores one seed from base 0, with a resolver's new bank.
 fn explore_one(
     alloc: Global,
     plan: &Plan,
     asked: &ExploreArguments<'_>,
     seed: u32,
-) -> Result<u64, ExploreFault>
+) -> Result<Checked, ExploreFault>
     ensures run { IfOk result (IsSeedRun (IsSharedAtFirst asked.now.resolver plan.now) plan.now 0
         asked.now.events seed) }
     ensures fault { IfErr result (λ fault. fault ≡ Memory) }

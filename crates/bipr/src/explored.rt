@@ -1,6 +1,7 @@
 //! Answers to exploring: what the seeds come to, and what is told on the way.
+ghost use Rattle.std.specs.Prelude.{IfOk};
 ghost use Rattle.bipr.specs.Endings.{IsAnsweredTelling};
-ghost use Rattle.bipr.specs.Explored.{IsExploreAnswer};
+ghost use Rattle.bipr.specs.Explored.{IsExploreAnswer, IsSaidOfFault};
 
 use crate::ahead::{Ahead, jobs_of, keep_ahead, outcome};
 use crate::answers::{Answer, Status, said};
@@ -21,8 +22,8 @@ use std::time::Clock;
 /// standard error each time that another hundredth of the seeds is done, and one with the time
 /// where nothing was told for more than a second; whether they are out decides nothing
 /// (docs/ANSWERS.md, "Answers"). Threads explore seeds ahead, and change nothing of what is
-/// said: a seed that isn't explored there is explored in its turn. The only error is want of
-/// memory.
+/// said but the lines with the time: a seed that isn't explored there is explored in its turn. The
+/// only error is want of memory.
 pub fn answer_explore<R: Threads + Clock + Sync, E: Stream>(
     rt: &R,
     alloc: Global,
@@ -39,16 +40,30 @@ pub fn answer_explore<R: Threads + Clock + Sync, E: Stream>(
     let mut progress = Progress::begin(rt);
     for done in 0..asked.seeds {
         keep_ahead(rt, alloc, plan, asked, jobs, &mut ahead, done);
-        match outcome(alloc, plan, asked, &ahead, done) {
-            Ok(()) => {}
-            Err(ExploreFault::NotARun(seed, fault)) => {
-                explain_seed(explanation, plan.model(), &fault);
-                return Ok(said(alloc, Status::NotARun, seed_verdict(alloc, seed)?));
-            }
-            Err(ExploreFault::Memory) => return Err(AllocError),
+        if let Err(fault) = outcome(alloc, plan, asked, &ahead, done) {
+            return answer_fault(alloc, explanation, plan, &fault);
         }
         let is_next_open = !ahead.reaches(done + 1);
         progress.tell(rt, alloc, asked, done + 1, is_next_open, errors)?;
     }
     Ok(said(alloc, Status::Done, seeds_text(alloc, asked.seeds)?))
+}
+
+// What is said where a seed isn't explored, whatever its fault is, though it is proved to be want
+// of memory.
+fn answer_fault(
+    alloc: Global,
+    explanation: &mut Explanation,
+    plan: &Plan,
+    fault: &ExploreFault,
+) -> Result<Answer, AllocError>
+    ensures { IfOk result (IsSaidOfFault fault.now) }
+{
+    match fault {
+        ExploreFault::NotARun(seed, why) => {
+            explain_seed(explanation, plan.model(), why);
+            Ok(said(alloc, Status::NotARun, seed_verdict(alloc, *seed)?))
+        }
+        ExploreFault::Memory => Err(AllocError),
+    }
 }

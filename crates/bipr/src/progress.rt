@@ -21,7 +21,7 @@ pub struct Pace {
 }
 
 /// When the exploring began, if the clock can be read, and so many milliseconds after that the last
-/// line was told.
+/// line was told, or had no memory.
 #[derive(Drop)]
 pub struct Progress {
     begun: Option<Instant>,

@@ -4,7 +4,7 @@ use Rattle.bipr.specs.Explored.{IsProgressUntil, ends_without_memory, no_progres
 use Rattle.bipr.specs.Resolvers.{IsSharedAtFirst}
 use Rattle.bipr.specs.Streams.{none_put, texts}
 use Rattle.bipr.proofs.AheadLemmas.{none_ahead}
-use Rattle.bipr.proofs.ExploredLemmas.{explored_said, told_lacking, told_more}
+use Rattle.bipr.proofs.ExploredLemmas.{explored_said, fault_lacking, told_lacking, told_more}
 use Rattle.bipr.proofs.StreamLemmas.{puts_each_append, texts_append}
 use Rattle.bipr.proofs.explored.answer_explore.Goals as goal
 
@@ -18,30 +18,21 @@ loop-done-preserved g c =
     let so = c.loop-done.invariant in
     let before = so.2 in
     let more = c.in_ok-tell.ensures.ok in (
-      so.0 + c.in-Ok.ensures.run.0,
-      one_explored c.loop-done.done so.0 c.in-Ok.ensures.run.0 so.1 c.in-Ok.ensures.run.1,
+      so.0 + c.in_default.ensures.run.0,
+      one_explored c.loop-done.done so.0 c.in_default.ensures.run.0 so.1 c.in_default.ensures.run.1,
       (
         before.0 ++ more.0,
         puts_each_append writes c.args.errors.now c.loop-done.errors c.tell.new.errors _ _ before.1 more.1,
         subst (IsProgressUntil c.args.asked.now (c.loop-done.done + 1)) (sym (texts_append before.0 more.0)) (told_more c.args.asked.now c.loop-done.done _ _ before.2 more.2),
       ),
-      c.keep_ahead.ensures,
+      c.keep_ahead.ensures.ahead,
     )
 
-pub returns-in_err-seed_verdict-in-Err-NotARun : goal.returns-in_err-seed_verdict-in-Err-NotARun
-returns-in_err-seed_verdict-in-Err-NotARun g c =
+pub returns-in-Err : goal.returns-in-Err
+returns-in-Err g c =
     let so = c.loop-done.invariant in
     let few : c.loop-done.done ≤ c.args.asked.now.seeds = omega arith in
-    (so.2.0, so.2.1, told_lacking c.from_residual.result _ _ (search rules) (ends_without_memory c.loop-done.done so.0 so.2.0 few so.1 so.2.2))
-
-pub returns-in-Err-NotARun : goal.returns-in-Err-NotARun
-returns-in-Err-NotARun g c = absurd (let never = rw c.in-Err-NotARun.field-0-is at c.in-Err-NotARun.ensures.fault in cc)
-
-pub returns-in-Err-Memory : goal.returns-in-Err-Memory
-returns-in-Err-Memory g c =
-    let so = c.loop-done.invariant in
-    let few : c.loop-done.done ≤ c.args.asked.now.seeds = omega arith in
-    (so.2.0, so.2.1, ends_without_memory c.loop-done.done so.0 so.2.0 few so.1 so.2.2)
+    (so.2.0, so.2.1, fault_lacking c.answer_fault.result c.in-Err.fault _ _ c.answer_fault.ensures c.in-Err.ensures.fault (ends_without_memory c.loop-done.done so.0 so.2.0 few so.1 so.2.2))
 
 pub returns-in_err-tell : goal.returns-in_err-tell
 returns-in_err-tell g c =
@@ -49,7 +40,7 @@ returns-in_err-tell g c =
     let few : c.loop-done.done ≤ c.args.asked.now.seeds = omega arith in (
       so.2.0,
       rw c.in_err-tell.ensures.err so.2.1,
-      told_lacking c.from_residual-in_err-tell.result _ _ (search rules) (ends_without_memory c.loop-done.done so.0 so.2.0 few so.1 so.2.2),
+      told_lacking c.from_residual.result _ _ (search rules) (ends_without_memory c.loop-done.done so.0 so.2.0 few so.1 so.2.2),
     )
 
 pub returns-in_err-seeds_text : goal.returns-in_err-seeds_text
@@ -64,6 +55,6 @@ returns g c =
     let all : c.loop-done.done ≡ c.args.asked.now.seeds = omega (arith, c.loop-done-test.false) in (
       so.2.0,
       so.2.1,
-      explored_said c.args.plan.now c.args.asked.now so.0 so.2.0 c.said-2.result _ (subst (λ (n : ℕ). AreExplored (IsSharedAtFirst c.args.asked.now.resolver c.args.plan.now) c.args.plan.now 0 c.args.asked.now.events n so.0) all so.1)
-          (subst (λ (n : ℕ). IsProgressUntil c.args.asked.now n (texts so.2.0)) all so.2.2) c.said-2.ensures c.in_ok-seeds_text.ensures,
+      explored_said c.args.plan.now c.args.asked.now so.0 so.2.0 c.said.result _ (subst (λ (n : ℕ). AreExplored (IsSharedAtFirst c.args.asked.now.resolver c.args.plan.now) c.args.plan.now 0 c.args.asked.now.events n so.0) all so.1)
+          (subst (λ (n : ℕ). IsProgressUntil c.args.asked.now n (texts so.2.0)) all so.2.2) c.said.ensures c.in_ok-seeds_text.ensures,
     )

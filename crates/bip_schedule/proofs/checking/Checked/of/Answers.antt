@@ -5,7 +5,7 @@ use Rattle.bip_model.specs.declared.grants.Grant.{Grant}
 use Rattle.bip_replay.specs.Faults.{IsFaultAt}
 use Rattle.bip_replay.specs.Runs.{Standing, StandsAfter, standing_of}
 use Rattle.bip_replay.proofs.RunLemmas.{leads_on}
-use Rattle.bip_schedule.proofs.exploring.check_run.Goals as goal
+use Rattle.bip_schedule.proofs.checking.Checked.of.Goals as goal
 
 pub loop-grant-preserved : goal.loop-grant-preserved
 loop-grant-preserved c =
