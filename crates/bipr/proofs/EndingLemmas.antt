@@ -1,5 +1,5 @@
 -- What is said of a command that has an answer, or was stopped.
-use Rattle.std.proofs.Common.{◌≡◌, ◌⊎◌, arith, inl, inr, ℕ, Bool, false, true, List, [], Result, Ok, Err, refl, sym, subst}
+use Rattle.std.proofs.Common.{◌≡◌, arith, inl, inr, ℕ, Bool, false, true, List, [], Result, Ok, Err, refl, sym, subst}
 use Rattle.std.specs.Result.{IsErrAnd}
 use Rattle.bipr.specs.Endings.{AllOutcomes, AllOutcomesTelling, Ends, EndsExplaining, EndsTelling, IsOutcome, explaining}
 use Rattle.bipr.specs.Streams.{Put, Puts, none_put, nothing}
@@ -8,7 +8,7 @@ use Rattle.bipr.specs.declared.answers.Status.TheVariants.{Done, Refused, BadCom
 use Rattle.bipr.specs.Stops.{answer_of_stop, out_of_memory}
 use Rattle.bipr.specs.declared.answers.Answer.{Answer}
 use Rattle.bipr.specs.declared.stops.Stop.{Stop}
-use Rattle.bipr.specs.declared.stops.Stop.TheVariants.{OutOfMemory}
+use Rattle.bipr.specs.declared.stops.Stop.TheVariants.{CannotRead, CannotWrite, OutOfMemory}
 
 -- an answer is said as it is
 pub outcome_answered : (P : Answer → Type 0) (given : Answer) → P given → (answer : Answer) → answer ≡ given → P answer
@@ -18,16 +18,27 @@ outcome_answered P given holds answer same = subst P (sym same) holds
 pub outcome_stopped : (result : Result Answer Stop) (P : Answer → Type 0) (given : Stop) → IsErrAnd result (λ why. why ≡ given)
     → P (answer_of_stop given) → P out_of_memory → AllOutcomes result P
 outcome_stopped (Ok answer) P given is told lacking = absurd is
-outcome_stopped (Err why) P given is told lacking = λ answer either. by_either answer either
+outcome_stopped (Err why) P given is told lacking = λ answer said. by_why why answer (subst (λ (w : Stop). P (answer_of_stop w)) (sym is) told) said
   where
-    by_either : (answer : Answer) → (answer ≡ answer_of_stop why) ⊎ (answer ≡ out_of_memory) → P answer
-    by_either answer (inl same) = subst P (sym same) (subst (λ (w : Stop). P (answer_of_stop w)) (sym is) told)
-    by_either answer (inr same) = subst P (sym same) lacking
+    by_why : (w : Stop) (answer : Answer) → P (answer_of_stop w) → IsOutcome (Err w) answer → P answer
+    by_why (CannotRead path) answer held (inl same) = subst P (sym same) held
+    by_why (CannotRead path) answer held (inr same) = subst P (sym same) lacking
+    by_why CannotWrite answer held same = subst P (sym same) held
+    by_why OutOfMemory answer held same = subst P (sym same) held
+
+-- that a line can't be written is said, with no memory
+pub outcome_unwritten : (P : Answer → Type 0) → P (answer_of_stop CannotWrite) → AllOutcomes (Err CannotWrite) P
+outcome_unwritten P told = λ answer same. subst P (sym same) told
 
 -- want of memory is said
 pub outcome_lacking : (result : Result Answer Stop) (P : Answer → Type 0) → IsErrAnd result (λ why. why ≡ OutOfMemory)
     → P out_of_memory → AllOutcomes result P
 outcome_lacking result P is lacking = outcome_stopped result P OutOfMemory is lacking lacking
+
+-- and so it is where nothing was told before
+pub lacks_quietly : {S : Type 0} (writes : S → List ℕ → Bool → S → Type 0) (stream : S) (result : Result Answer Stop) (P : List Put → Answer → Type 0)
+    → IsErrAnd result (λ why. why ≡ OutOfMemory) → P [] out_of_memory → AllOutcomesTelling writes stream stream result P
+lacks_quietly writes stream result P is lacking = record { told = []; on_the_way = none_put; outcomes = outcome_lacking result (P []) is lacking }
 
 -- a command that tells nothing on its way
 pub ends_quietly : {S : Type 0} (may : Answer → Type 0) (may_telling : List Put → Answer → Type 0) (says : List ℕ → Bool → Type 0) (writes : S → List ℕ → Bool → S → Type 0) (before after : S) (status : Status)
@@ -42,6 +53,13 @@ pub ends_telling : {S : Type 0} (may_telling : List Put → Answer → Type 0) (
     → EndsTelling may_telling says writes before after status
 ends_telling may_telling says writes before middle after given status all ends =
     record { told = all.told; middle = middle; on_the_way = all.on_the_way; ends = (ends.0, all.outcomes ends.0 ends.1, ends.2) }
+
+-- what holds of all that is said, with what is told before it, holds so of less
+pub outcomes_weaker : {S : Type 0} (writes : S → List ℕ → Bool → S → Type 0) (before after : S) (given : Result Answer Stop) (P Q : List Put → Answer → Type 0)
+    → AllOutcomesTelling writes before after given P → ((told : List Put) (answer : Answer) → P told answer → Q told answer)
+    → AllOutcomesTelling writes before after given Q
+outcomes_weaker writes before after given P Q all turn =
+    record { told = all.told; on_the_way = all.on_the_way; outcomes = λ answer said. turn all.told answer (all.outcomes answer said) }
 
 -- and one whose told lines are given
 pub ends_told : {S : Type 0} (may may_telling : List Put → Answer → Type 0) (says : List ℕ → Bool → Type 0) (writes : S → List ℕ → Bool → S → Type 0) (before after : S) (status : Status)

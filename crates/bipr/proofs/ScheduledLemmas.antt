@@ -1,6 +1,6 @@
 -- Answers to schedules that were written out are those that the texts have.
-use Rattle.std.proofs.Common.{◌≡◌, ◌≢◌, ◌++◌, ℕ, Bool, false, List, [], Result, Ok, Err, length, sym, ap, ◌∙◌, subst}
-use Rattle.std.specs.Prelude.{IfOk, MatchResult}
+use Rattle.std.proofs.Common.{◌≡◌, ◌≢◌, ◌++◌, ℕ, List, Result, Ok, Err, length, sym, ap, ◌∙◌, subst}
+use Rattle.std.specs.Prelude.{IfOk}
 use Rattle.std.specs.declared.alloc.AllocError.{AllocError}
 use Rattle.bip_bank.specs.Banks.{BankContent}
 use Rattle.bip_core.specs.Laws.{WorldsKeepTheirPlan}
@@ -23,7 +23,6 @@ use Rattle.bipr.specs.Answers.{HasPlan, IsAnswer, complaining, run, saying}
 use Rattle.bipr.specs.Laws.{StepsReplay}
 use Rattle.bipr.specs.Resolvers.{IsSharedAtFirst}
 use Rattle.bipr.specs.Scheduled.{IsScheduleAnswer, IsScheduleAnswered, IsScheduleRefused, IsStepped, IsToldAnswer, aloud, lacking, no_schedule, quietly, reporting, stepped, told_lacking, told_stepped, unheard, untold}
-use Rattle.bipr.specs.Stops.{out_of_memory}
 use Rattle.bipr.specs.Streams.{Put}
 use Rattle.bipr.specs.Wording.{report_text, run_text, schedule_refusal}
 use Rattle.bipr.specs.declared.answers.Answer.{Answer}
@@ -56,19 +55,6 @@ pub both_said : {R : Type 0} (result : Result Answer AllocError) (text : Answer)
     → IfOk result (λ a. a ≡ text) → IfOk result (λ a. R) → ((a : Answer) → a ≡ text → R → Q a) → IfOk result Q
 both_said (Ok a) text Q is also turn = turn a is also
 both_said (Err e) text Q is also turn = tt
-
--- the same, where want of memory is told as such
-pub both_told : {R : Type 0} (result : Result Answer AllocError) (text : Answer) (Q : Answer → Type 0)
-    → IfOk result (λ a. a ≡ text) → IfOk result (λ a. R) → ((a : Answer) → a ≡ text → R → Q a) → Q out_of_memory
-    → MatchResult result Q (λ (e : AllocError). Q out_of_memory)
-both_told (Ok a) text Q is also turn none = turn a is also
-both_told (Err e) text Q is also turn none = none
-
-pub quiet : (p : Planned) (base : ℕ) (resolver : Resolver) (is_told : Bool) (schedule : List ℕ) (result : Result Answer AllocError)
-    → is_told ≡ false → IfOk result (IsScheduleAnswer p base resolver schedule)
-    → MatchResult result (IsScheduleAnswered p base resolver is_told schedule []) (λ (e : AllocError). IsScheduleAnswered p base resolver is_told schedule [] out_of_memory)
-quiet p base resolver is_told schedule (Ok answer) off is = quietly answer off is
-quiet p base resolver is_told schedule (Err e) off is = lacking
 
 -- the trace of a world to which events lead from the new one is that of a run above its base
 pub is_run : (p : Planned) (base : ℕ) (events : List Event) (w v : WorldContent) (report : Report) (text : List ℕ) → WorldsKeepTheirPlan → IsNewWorld p base w → IsRunOfEvents events w v report

@@ -1,13 +1,9 @@
 -- What steps say where a text isn't read.
 use Rattle.std.proofs.Common.{◌≡◌, false, ℕ, List, [], Result, Ok, Err, sym, subst}
-use Rattle.std.specs.Prelude.{MatchResult}
-use Rattle.std.specs.declared.alloc.AllocError.{AllocError}
 use Rattle.bip_partition.specs.Plans.{Planned}
 use Rattle.bipr.specs.Answers.{HasPlan}
-use Rattle.bipr.specs.Commands.Steps.{AreStepsOf, IsScheduleOf, IsSteps, are_joined, model_unread, of_plan, schedule_unread}
-use Rattle.bipr.specs.Stops.{answer_of_stop, out_of_memory, unread}
-use Rattle.bipr.specs.Streams.{Put}
-use Rattle.bipr.specs.declared.answers.Answer.{Answer}
+use Rattle.bipr.specs.Commands.Steps.{IsSteps, are_joined, model_unread, schedule_unread}
+use Rattle.bipr.specs.Stops.{answer_of_stop, unread}
 use Rattle.bipr.specs.declared.command_line.StepsArguments.{StepsArguments}
 use Rattle.bipr.specs.declared.inputs.InputFault.{InputFault}
 use Rattle.bipr.specs.declared.stops.Stop.{Stop}
@@ -23,10 +19,3 @@ pub stopped_at_schedule : (gives : List ℕ → Result (List ℕ) InputFault →
     → IsSteps gives asked [] (answer_of_stop why)
 stopped_at_schedule gives asked why model p apart read has (fault, given, same) =
     subst (IsSteps gives asked []) (sym same) (schedule_unread model p fault apart read has given)
-
--- what a schedule for a plan says, of the texts that have it
-pub texts_stepped : (model : List ℕ) (asked : StepsArguments) (schedule : List ℕ) (p : Planned) (told : List Put) (result : Result Answer AllocError) → HasPlan model p
-    → MatchResult result (IsScheduleOf p asked schedule told) (λ (e : AllocError). IsScheduleOf p asked schedule told out_of_memory)
-    → MatchResult result (AreStepsOf model asked schedule told) (λ (e : AllocError). AreStepsOf model asked schedule told out_of_memory)
-texts_stepped model asked schedule p told (Ok answer) has is = of_plan p told answer has is
-texts_stepped model asked schedule p told (Err e) has is = of_plan p told out_of_memory has is

@@ -1,6 +1,6 @@
 -- Events that are told one after another.
-use Rattle.std.proofs.Common.{◌≡◌, ◌∙◌, ◌+◌, ◌++◌, ◌∷◌, ◌<◌, zero, suc, ℕ, Bool, true, List, [], Option, Some, None, Result, Ok, Err, ap, arith, inl, inr, length, refl, subst, sym, get_or}
-use Rattle.std.specs.Prelude.{All, IfOk, IsErr, MatchResult}
+use Rattle.std.proofs.Common.{◌≡◌, ◌∙◌, ◌+◌, ◌++◌, ◌∷◌, ◌<◌, zero, suc, ℕ, Bool, true, List, [], Option, Some, None, Result, Ok, Err, ap, arith, length, refl, subst, sym, get_or}
+use Rattle.std.specs.Prelude.{All, IsErr}
 use Rattle.std.specs.declared.alloc.AllocError.{AllocError}
 use Rattle.std.proofs.lemmas.List.{append-nil, length-append}
 use Rattle.std.proofs.lemmas.List.Elements.{All-append}
@@ -18,12 +18,11 @@ use Rattle.bip_replay.specs.Traces.{grants_of}
 use Rattle.bip_replay.specs.Writing.{text_of}
 use Rattle.bip_schedule.specs.Schedules.{IsEventText}
 use Rattle.bip_schedule.specs.Writing.{HasSpelling, HaveSpelling}
-use Rattle.bip_tell.specs.Lines.{AreTold, IsToldEvent, none_told, one_told}
+use Rattle.bip_tell.specs.Lines.{AreTold, IsLeftUntold, IsToldEvent, done_untold, none_told, not_done, one_told}
 use Rattle.bipr.specs.Answers.{complaining}
-use Rattle.bipr.specs.Endings.{unwritten_text}
 use Rattle.bipr.specs.Resolvers.{IsSharedAtFirst}
-use Rattle.bipr.specs.Scheduled.{IsScheduleAnswered, IsTelling, IsToldUntil, aloud, all_told, lacking, nothing_told, one_unheard, reporting, some_told, told_lacking, told_stepped, unheard}
-use Rattle.bipr.specs.Stops.{out_of_memory}
+use Rattle.bipr.specs.Scheduled.{IsAtMostOneDone, IsScheduleAnswered, IsTelling, IsToldUntil, aloud, all_told, lacking, none_more, nothing_told, one_more, one_unheard, reporting, some_told, told_lacking, told_stepped, unheard}
+use Rattle.bipr.specs.Stops.{out_of_memory, unwritten_text}
 use Rattle.bipr.specs.Streams.{AreOut, Put, texts}
 use Rattle.bipr.specs.Wording.{report_text}
 use Rattle.bipr.specs.declared.answers.Answer.{Answer}
@@ -72,6 +71,11 @@ pub err_telling : {p : Planned} {schedule : List ℕ} {w v : WorldContent} {told
 err_telling (Ok x) is each = cc
 err_telling (Err e) is each = each e
 
+-- where the line of the next event lacks memory, that event is done, or none is
+pub next_untold : (rest more : List Event) (e : Event) (w v : WorldContent) (before after : Report) → rest ≡ e ∷ more → IsLeftUntold e w v before after → IsAtMostOneDone rest w v
+next_untold rest more e w v before after is (not_done same _) = none_more same
+next_untold rest more e w v before after is (done_untold did steps _) = one_more e more did is steps
+
 -- what is answered where all is told
 pub told_all : (p : Planned) (base : ℕ) (resolver : Resolver) (is_told : Bool) (schedule : List ℕ) (w v : WorldContent) (told : List Put) (report : Report)
     → is_told ≡ true → WorldsKeepTheirPlan → IsNewWorld p base w → IsSharedAtFirst resolver p w.bank.sharing
@@ -104,28 +108,24 @@ pub told_all_lacking : (p : Planned) (base : ℕ) (resolver : Resolver) (is_told
     → is_told ≡ true → IsNewWorld p base w → IsSharedAtFirst resolver p w.bank.sharing
     → IsTelling p schedule w v told (Ok (Some report)) → IsScheduleAnswered p base resolver is_told schedule told out_of_memory
 told_all_lacking p base resolver is_told schedule w v told report on new shared (all_told events dids _ says lines heard sums) =
-    aloud told out_of_memory on (told_lacking told (inl heard)
+    aloud told out_of_memory on (told_lacking told heard
     (until p base resolver schedule w v told events [] dids new shared (subst (IsEventText p schedule) (sym (append-nil events)) says) lines))
 
 -- and on the way
 pub told_err : (p : Planned) (base : ℕ) (resolver : Resolver) (is_told : Bool) (schedule : List ℕ) (w v : WorldContent) (told : List Put) (e : AllocError)
     → is_told ≡ true → IsNewWorld p base w → IsSharedAtFirst resolver p w.bank.sharing
     → IsTelling p schedule w v told (Err e) → IsScheduleAnswered p base resolver is_told schedule told out_of_memory
-told_err p base resolver is_told schedule w v told e on new shared (nothing_told _ none) =
+told_err p base resolver is_told schedule w v told e on new shared (nothing_told _ none _) =
     subst (λ (ts : List Put). IsScheduleAnswered p base resolver is_told schedule ts out_of_memory) (sym none) lacking
-told_err p base resolver is_told schedule w v told e on new shared (some_told done rest dids last _ says lines heard) =
-    aloud told out_of_memory on (told_lacking told (inl heard) (until p base resolver schedule w last told done rest dids new shared says lines))
+told_err p base resolver is_told schedule w v told e on new shared (some_told done rest dids last _ says lines heard _) =
+    aloud told out_of_memory on (told_lacking told heard (until p base resolver schedule w last told done rest dids new shared says lines))
 
 -- what is answered where a line isn't out
 pub told_unheard : (p : Planned) (base : ℕ) (resolver : Resolver) (is_told : Bool) (schedule : List ℕ) (w v : WorldContent) (told : List Put)
     → is_told ≡ true → IsNewWorld p base w → IsSharedAtFirst resolver p w.bank.sharing → IsTelling p schedule w v told (Ok None)
-    → (result : Result Answer AllocError) → IfOk result (λ answer. answer ≡ complaining Refused unwritten_text)
-    → MatchResult result (IsScheduleAnswered p base resolver is_told schedule told) (λ (e : AllocError). IsScheduleAnswered p base resolver is_told schedule told out_of_memory)
-told_unheard p base resolver is_told schedule w v told on new shared (one_unheard done rest dids says lines last) (Ok answer) is =
-    subst (IsScheduleAnswered p base resolver is_told schedule told) (sym is)
-    (aloud told (complaining Refused unwritten_text) on (unheard told last (until p base resolver schedule w v told done rest dids new shared says lines)))
-told_unheard p base resolver is_told schedule w v told on new shared (one_unheard done rest dids says lines last) (Err e) is =
-    aloud told out_of_memory on (told_lacking told (inr last) (until p base resolver schedule w v told done rest dids new shared says lines))
+    → IsScheduleAnswered p base resolver is_told schedule told (complaining Refused unwritten_text)
+told_unheard p base resolver is_told schedule w v told on new shared (one_unheard done rest dids says lines last) =
+    aloud told (complaining Refused unwritten_text) on (unheard told last (until p base resolver schedule w v told done rest dids new shared says lines))
 
 -- one more is put, and is out
 pub out_more : (told : List Put) (put : Put) → AreOut told → put.is_out ≡ true → AreOut (told ++ put ∷ [])

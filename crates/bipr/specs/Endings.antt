@@ -1,20 +1,18 @@
 -- How a command ends: what is written of its answer, and its status.
 use Rattle.std.specs.Prelude.{◌≡◌, ◌⊎◌, ℕ, Bool, false, true, List, [], ◌∷◌, Result, Ok, Err}
-use Rattle.std.specs.Prelude.{◌≤◌, MatchResult, codes, length}
+use Rattle.std.specs.Prelude.{◌≤◌, MatchResult, length}
 use Rattle.std.specs.List.{list_all}
 use Rattle.std.specs.declared.alloc.AllocError.{AllocError}
 use Rattle.bip_explain.specs.Explanations.{is_shown}
-use Rattle.bipr.specs.Stops.{answer_of_stop, out_of_memory}
+use Rattle.bipr.specs.Answers.{complaining}
+use Rattle.bipr.specs.Stops.{answer_of_stop, out_of_memory, unread_text, unwritten_text}
 use Rattle.bipr.specs.Streams.{Put, Puts, PutsEach}
 use Rattle.bipr.specs.Wording.{complaint_text}
 use Rattle.bipr.specs.declared.answers.Answer.{Answer}
 use Rattle.bipr.specs.declared.answers.Status.{Status}
 use Rattle.bipr.specs.declared.answers.Status.TheVariants.{Done, Refused}
+use Rattle.bipr.specs.declared.stops.Stop.TheVariants as stop
 use Rattle.bipr.specs.declared.stops.Stop.{Stop}
-
--- an answer can't be written
-abbrev pub unwritten_text : List ℕ
-unwritten_text = complaint_text (codes "cannot write")
 
 -- the status of an answer whose complaint was put: what is done is so only where that is out too
 abbrev pub told_status : Bool → Status → Status
@@ -76,10 +74,17 @@ pub record EndsExplaining {S : Type 0} (may_answer : Bool → List Put → Answe
   pub explained : Explains writes last after status why
   pub unasked : is_asked ≡ false → why ≡ []
 
--- what a command says that has an answer, or was stopped; what is complained of takes memory
+-- what is said of a text that can't be read: its path is complained of, which takes memory
+abbrev pub IsUnread : List ℕ → Answer → Type 0
+IsUnread path answer =
+    (answer ≡ complaining Refused (unread_text path)) ⊎ (answer ≡ out_of_memory)
+
+-- what a command says that has an answer, or was stopped
 abbrev pub IsOutcome : Result Answer Stop → Answer → Type 0
 IsOutcome (Ok given) answer = answer ≡ given
-IsOutcome (Err why) answer = (answer ≡ answer_of_stop why) ⊎ (answer ≡ out_of_memory)
+IsOutcome (Err (stop.CannotRead path)) answer = IsUnread path.now answer
+IsOutcome (Err stop.CannotWrite) answer = answer ≡ answer_of_stop stop.CannotWrite
+IsOutcome (Err stop.OutOfMemory) answer = answer ≡ answer_of_stop stop.OutOfMemory
 
 -- a fact of whatever a command says that has an answer, or was stopped
 abbrev pub AllOutcomes : Result Answer Stop → (Answer → Type 0) → Type 0

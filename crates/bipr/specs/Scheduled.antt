@@ -1,8 +1,8 @@
 -- The answer to a schedule: the trace of the world to which its events lead, and their report.
 use Rattle.std.specs.Prelude.{Bool, Err, List, None, Ok, Option, Result, Some, [], false, true}
-use Rattle.std.specs.Prelude.{ℕ, ◌++◌, ◌≡◌, ◌≢◌, ◌⊎◌}
+use Rattle.std.specs.Prelude.{ℕ, ◌++◌, ◌∷◌, ◌≡◌, ◌≢◌}
 use Rattle.std.specs.declared.alloc.AllocError.{AllocError}
-use Rattle.bip_core.specs.Runs.{IsRunOfEvents, report_of}
+use Rattle.bip_core.specs.Runs.{AreSteps, IsRunOfEvents, report_of}
 use Rattle.bip_core.specs.Starting.{IsNewWorld}
 use Rattle.bip_core.specs.Worlds.{WorldContent}
 use Rattle.bip_core.specs.declared.events.Did.{Did}
@@ -16,9 +16,8 @@ use Rattle.bip_replay.specs.declared.faults.TraceFault.{TraceFault}
 use Rattle.bip_schedule.specs.Schedules.{IsEventText, IsScheduleFault}
 use Rattle.bip_tell.specs.Lines.{AreTold}
 use Rattle.bipr.specs.Answers.{complaining}
-use Rattle.bipr.specs.Endings.{unwritten_text}
 use Rattle.bipr.specs.Resolvers.{IsSharedAtFirst}
-use Rattle.bipr.specs.Stops.{out_of_memory}
+use Rattle.bipr.specs.Stops.{out_of_memory, unwritten_text}
 use Rattle.bipr.specs.Streams.{AreOut, IsLastUnheard, Put, texts}
 use Rattle.bipr.specs.Wording.{report_text, schedule_refusal}
 use Rattle.bipr.specs.declared.answers.Answer.{Answer}
@@ -95,8 +94,7 @@ pub data IsToldAnswer (p : Planned) (base : ℕ) (resolver : Resolver) (schedule
   unheard : (told : List Put) → IsLastUnheard told → IsToldUntil p base resolver schedule told
       → IsToldAnswer p base resolver schedule told (complaining Refused unwritten_text)
   -- memory is out on the way
-  told_lacking : (told : List Put) → AreOut told ⊎ IsLastUnheard told
-      → IsToldUntil p base resolver schedule told
+  told_lacking : (told : List Put) → AreOut told → IsToldUntil p base resolver schedule told
       → IsToldAnswer p base resolver schedule told out_of_memory
 
 -- the answer where events are told, if that is asked for
@@ -116,6 +114,12 @@ pub data IsScheduleAnswered (p : Planned) (base : ℕ) (resolver : Resolver) (is
 
 -- What contracts of private functions say.
 
+-- of the events that are left none is done, or the first one is, or was skipped
+pub data IsAtMostOneDone (rest : List Event) (w v : WorldContent) : Type 0 where
+  none_more : v ≡ w → IsAtMostOneDone rest w v
+  one_more : (next : Event) (more : List Event) (did : Option Did) → rest ≡ next ∷ more
+      → AreSteps (next ∷ []) (did ∷ []) w v → IsAtMostOneDone rest w v
+
 -- what telling the events of a schedule comes to
 pub data IsTelling (p : Planned) (schedule : List ℕ) (w v : WorldContent) (told : List Put)
     : Result (Option Report) AllocError → Type 0 where
@@ -125,8 +129,8 @@ pub data IsTelling (p : Planned) (schedule : List ℕ) (w v : WorldContent) (tol
   one_unheard : (done rest : List Event) (dids : List (Option Did))
       → IsEventText p schedule (done ++ rest) → AreTold w done dids (texts told) v
       → IsLastUnheard told → IsTelling p schedule w v told (Ok None)
-  nothing_told : (e : AllocError) → told ≡ [] → IsTelling p schedule w v told (Err e)
+  nothing_told : (e : AllocError) → told ≡ [] → v ≡ w → IsTelling p schedule w v told (Err e)
   some_told : (done rest : List Event) (dids : List (Option Did)) (last : WorldContent)
       (e : AllocError) → IsEventText p schedule (done ++ rest)
-      → AreTold w done dids (texts told) last → AreOut told
+      → AreTold w done dids (texts told) last → AreOut told → IsAtMostOneDone rest last v
       → IsTelling p schedule w v told (Err e)

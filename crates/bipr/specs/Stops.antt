@@ -33,6 +33,10 @@ shown_path path = encode_utf8_all (map shown (chars path))
 abbrev pub unread_text : List ℕ → List ℕ
 unread_text path = complaint_text (codes "cannot read " ++ shown_path path)
 
+-- what a command says can't be written
+abbrev pub unwritten_text : List ℕ
+unwritten_text = complaint_text (codes "cannot write")
+
 -- memory is out
 abbrev pub no_memory_text : List ℕ
 no_memory_text = complaint_text (codes "no memory")
@@ -50,4 +54,5 @@ unread path input_fault.NoMemory = out_of_memory
 -- what is said of what stopped a command
 abbrev pub answer_of_stop : Stop → Answer
 answer_of_stop (stop.CannotRead path) = complaining Refused (unread_text path.now)
+answer_of_stop stop.CannotWrite = complaining Refused unwritten_text
 answer_of_stop stop.OutOfMemory = out_of_memory

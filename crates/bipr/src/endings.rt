@@ -2,14 +2,14 @@
 ghost use Rattle.std.specs.Prelude.{◌≡◌, ◌≤◌, length, Err, true};
 ghost use Rattle.std.specs.List.{list_all};
 ghost use Rattle.bip_explain.specs.Explanations.{is_shown};
-ghost use Rattle.bipr.specs.Endings.{Ends, Explains, IsEnd, IsOutcome, told_status};
+ghost use Rattle.bipr.specs.Endings.{Ends, Explains, IsEnd, IsOutcome, IsUnread, told_status};
 ghost use Rattle.bipr.specs.Endings.{explaining, why_line};
 ghost use Rattle.bip_explain.specs.declared.explanations.TheConstants.{MOST_BYTES};
 ghost use Rattle.bipr.specs.Answers.{complaining};
 ghost use Rattle.bipr.specs.Streams.{Puts};
 
 use crate::answers::{Answer, Status};
-use crate::stops::{NO_MEMORY, Stop};
+use crate::stops::{CANNOT_WRITE, NO_MEMORY, Stop, unread_text};
 use crate::streams::{Stream, put};
 use arrayvec::ArrayVec;
 use bip_explain::{Explanation, MOST_BYTES};
@@ -17,9 +17,6 @@ use std::alloc::Global;
 
 /// How many bytes the line has at most that explains a fault.
 const MOST_OF_LINE: usize = 512;
-
-/// The complaint where an answer can't be written.
-const CANNOT_WRITE: &[u8] = b"bipr: cannot write\n";
 
 /// Ends a command with its answer, or with what stopped it: the output stands on standard output,
 /// and then the complaint on standard error, each in one write (docs/ANSWERS.md, "Endings").
@@ -67,11 +64,28 @@ fn end_stopped<O: Stream, E: Stream>(
     ensures { Ends (IsOutcome (Err why.now)) (Puts O.writes output.old output.new)
         (Puts E.writes errors.old errors.new) result }
 {
-    if *why == Stop::OutOfMemory {
-        explanation.say_instead(b"the answer takes more memory than there is");
+    match *why {
+        Stop::CannotRead(path) => end_unread(alloc, explanation, output, errors, path),
+        Stop::CannotWrite => complain(output, errors, Status::Refused, CANNOT_WRITE),
+        Stop::OutOfMemory => {
+            explanation.say_instead(b"the answer takes more memory than there is");
+            complain(output, errors, Status::NoMemory, NO_MEMORY)
+        }
     }
-    match why.complaint(alloc) {
-        Ok(complaint) => { complain(output, errors, why.status(), complaint.as_slice()) }
+}
+
+fn end_unread<O: Stream, E: Stream>(
+    alloc: Global,
+    explanation: &mut Explanation,
+    output: &mut O,
+    errors: &mut E,
+    path: &str,
+) -> Status
+    ensures { Ends (IsUnread path.now) (Puts O.writes output.old output.new)
+        (Puts E.writes errors.old errors.new) result }
+{
+    match unread_text(alloc, path) {
+        Ok(complaint) => complain(output, errors, Status::Refused, complaint.as_slice()),
         Err(_) => {
             explanation.say_instead(b"there is no memory to tell what is wrong");
             complain(output, errors, Status::NoMemory, NO_MEMORY)

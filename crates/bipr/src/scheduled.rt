@@ -6,21 +6,20 @@ ghost use Rattle.bip_core.specs.Worlds.{world_of};
 ghost use Rattle.bip_replay.specs.Runs.{IsModelRun};
 ghost use Rattle.bip_replay.specs.Traces.{grants_of};
 ghost use Rattle.bip_replay.specs.Writing.{text_of};
-ghost use Rattle.bipr.specs.Answers.{complaining};
 ghost use Rattle.bipr.specs.CommandLine.{greatest_base};
 ghost use Rattle.bipr.specs.Commands.Steps.{IsScheduleOf};
-ghost use Rattle.bipr.specs.Endings.{IsAnsweredTelling, unwritten_text};
+ghost use Rattle.bipr.specs.Endings.{AllOutcomesTelling};
 ghost use Rattle.bipr.specs.Resolvers.{IsSharedAtFirst};
-ghost use Rattle.bipr.specs.Scheduled.{IsScheduleAnswer, IsTelling, IsToldAnswer, reporting};
+ghost use Rattle.bipr.specs.Scheduled.{IsScheduleAnswer, IsTelling, reporting};
 ghost use Rattle.bipr.specs.Streams.{Put, PutsEach};
 ghost use Rattle.bipr.specs.Wording.{report_text};
-ghost use Rattle.bipr.specs.declared.answers.Status.TheVariants.{Refused};
 
 use crate::answers::{Answer, Status, complained};
 use crate::command_line::StepsArguments;
 use crate::resolvers::Resolver;
+use crate::stops::Stop;
 use crate::streams::{Stream, put};
-use crate::wording::{report_text, schedule_refusal, unwritten_text};
+use crate::wording::{report_text, schedule_refusal};
 use bip_bank::{Bank, Central};
 use bip_core::{Report, World, world_laws};
 use bip_explain::{Explanation, explain_schedule};
@@ -36,18 +35,18 @@ use std::alloc::{AllocError, Global};
 /// The answer to a schedule's text for a plan, with a resolver's bank, from a base: the trace of
 /// the world to which its events lead from the new one, with their report; else the first fault of
 /// the text. Where that is asked for, each event is told on standard error when it is done; where
-/// its line isn't out, no more are done (docs/ANSWERS.md, "Answers"). The only error is want of
-/// memory.
-pub fn answer_schedule<E: Stream>(
+/// its line isn't out, no more are done (docs/ANSWERS.md, "Answers"). What stops it is that, or
+/// want of memory.
+pub fn answer_schedule<'a, E: Stream>(
     alloc: Global,
     explanation: &mut Explanation,
     plan: &Plan,
-    asked: &StepsArguments<'_>,
+    asked: &StepsArguments<'a>,
     schedule: &[u8],
     errors: &mut E,
-) -> Result<Answer, AllocError>
+) -> Result<Answer, Stop<'a>>
     requires { asked.now.base ≤ greatest_base }
-    ensures { IsAnsweredTelling E.writes errors.old errors.new result
+    ensures { AllOutcomesTelling E.writes errors.old errors.new result
         (IsScheduleOf plan.now asked.now schedule.now) }
 {
     match Schedule::of(plan, schedule) {
@@ -61,16 +60,16 @@ pub fn answer_schedule<E: Stream>(
 }
 
 // The answer to a schedule of the plan, with a resolver's bank.
-fn answer_resolved<E: Stream>(
+fn answer_resolved<'a, E: Stream>(
     alloc: Global,
     plan: &Plan,
-    asked: &StepsArguments<'_>,
+    asked: &StepsArguments<'a>,
     schedule: &Schedule<'_>,
     errors: &mut E,
-) -> Result<Answer, AllocError>
+) -> Result<Answer, Stop<'a>>
     requires base { asked.now.base ≤ greatest_base }
     requires plan { schedule.now.plan ≡ plan.now }
-    ensures { IsAnsweredTelling E.writes errors.old errors.new result
+    ensures { AllOutcomesTelling E.writes errors.old errors.new result
         (IsScheduleOf plan.now asked.now schedule.now.text) }
 {
     let base = asked.base;
@@ -91,63 +90,55 @@ fn answer_resolved<E: Stream>(
 }
 
 // The answer to a schedule of the plan, with a new bank of the resolver.
-fn answer_with_bank<B: Bank + Drop, E: Stream>(
+fn answer_with_bank<'a, B: Bank + Drop, E: Stream>(
     alloc: Global,
     plan: &Plan,
     bank: B,
-    asked: &StepsArguments<'_>,
+    asked: &StepsArguments<'a>,
     schedule: &Schedule<'_>,
     errors: &mut E,
-) -> Result<Answer, AllocError>
+) -> Result<Answer, Stop<'a>>
     requires base { asked.now.base ≤ greatest_base }
     requires plan { schedule.now.plan ≡ plan.now }
     requires unasked { IsUnasked plan.now asked.now.base (content_of (B.kept bank)) }
     requires shared { IsSharedAtFirst asked.now.resolver plan.now (B.kept bank).sharing }
-    ensures { IsAnsweredTelling E.writes errors.old errors.new result
+    ensures { AllOutcomesTelling E.writes errors.old errors.new result
         (IsScheduleOf plan.now asked.now schedule.now.text) }
 {
     if asked.is_told {
         answer_telling(alloc, plan, bank, asked, schedule, errors)
     } else {
-        answer_events(alloc, plan, bank, schedule, asked.base)
+        Ok(answer_events(alloc, plan, bank, schedule, asked.base)?)
     }
 }
 
 // The same where each event is told.
-fn answer_telling<B: Bank + Drop, E: Stream>(
+fn answer_telling<'a, B: Bank + Drop, E: Stream>(
     alloc: Global,
     plan: &Plan,
     bank: B,
-    asked: &StepsArguments<'_>,
+    asked: &StepsArguments<'a>,
     schedule: &Schedule<'_>,
     errors: &mut E,
-) -> Result<Answer, AllocError>
+) -> Result<Answer, Stop<'a>>
     requires base { asked.now.base ≤ greatest_base }
     requires plan { schedule.now.plan ≡ plan.now }
     requires unasked { IsUnasked plan.now asked.now.base (content_of (B.kept bank)) }
     requires shared { IsSharedAtFirst asked.now.resolver plan.now (B.kept bank).sharing }
     requires told { asked.now.is_told ≡ true }
-    ensures { IsAnsweredTelling E.writes errors.old errors.new result
+    ensures { AllOutcomesTelling E.writes errors.old errors.new result
         (IsScheduleOf plan.now asked.now schedule.now.text) }
 {
     world_laws();
     let mut world = World::new(alloc, plan, bank, asked.base)?;
     match tell_events(alloc, schedule, &mut world, errors)? {
-        Some(report) => answer_run(alloc, plan, &world, &report),
-        None => answer_unwritten(alloc),
+        Some(report) => Ok(answer_run(alloc, plan, &world, &report)?),
+        None => Err(Stop::CannotWrite),
     }
 }
 
-// The answer where what is told on the way isn't out.
-fn answer_unwritten(alloc: Global) -> Result<Answer, AllocError>
-    ensures { IfOk result (λ answer. answer ≡ complaining Refused unwritten_text) }
-{
-    let text = unwritten_text(alloc)?;
-    Ok(complained(alloc, Status::Refused, text))
-}
-
-// Does the events of a schedule one after another, and tells each by its line; none where a line
-// isn't out. The only error is want of memory.
+// Does the events of a schedule one after another, and tells each by its line; no report where a
+// line isn't out. The only error is want of memory.
 fn tell_events<'p, B: Bank, E: Stream>(
     alloc: Global,
     schedule: &Schedule<'_>,

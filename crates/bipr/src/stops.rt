@@ -5,7 +5,6 @@ ghost use Rattle.bipr.specs.Stops.{answer_of_stop, is_obeyed, shown, shown_path,
 ghost use Rattle.bipr.specs.Stops.{unread_text};
 ghost use Rattle.bipr.specs.declared.stops.Stop.TheVariants.{OutOfMemory};
 
-use crate::answers::Status;
 use crate::inputs::InputFault;
 use std::alloc::{AllocError, Global};
 
@@ -14,12 +13,17 @@ use std::alloc::{AllocError, Global};
 pub enum Stop<'a> {
     /// The text that this path names can't be read, or is longer than the limit.
     CannotRead(&'a str),
+    /// What is told on the way can't be written.
+    CannotWrite,
     /// Want of memory.
     OutOfMemory,
 }
 
 /// The complaint where memory is out, which has to be told without memory.
 pub const NO_MEMORY: &[u8] = b"bipr: no memory\n";
+
+/// The complaint where what the command says can't be written, which takes no memory either.
+pub const CANNOT_WRITE: &[u8] = b"bipr: cannot write\n";
 
 impl<'a> Stop<'a> {
     /// Why the text of this path isn't read.
@@ -32,31 +36,11 @@ impl<'a> Stop<'a> {
             InputFault::NoMemory => Stop::OutOfMemory,
         }
     }
-
-    /// The status with which the command ends.
-    pub fn status(&self) -> Status
-        ensures { result ≡ (answer_of_stop self.now).status }
-    {
-        match self {
-            Stop::CannotRead(_) => Status::Refused,
-            Stop::OutOfMemory => Status::NoMemory,
-        }
-    }
-
-    /// What is complained of; the only error is want of memory.
-    pub fn complaint(&self, alloc: Global) -> Result<Vec<u8>, AllocError>
-        ensures { IfOk result (λ text. text.items ≡ (answer_of_stop self.now).complaint) }
-    {
-        match self {
-            Stop::CannotRead(path) => unread_text(alloc, path),
-            Stop::OutOfMemory => Vec::from_slice(alloc, NO_MEMORY),
-        }
-    }
 }
 
 /// `bipr: cannot read PATH`, where `?` stands for each character of the path that a terminal would
-/// obey.
-fn unread_text(alloc: Global, path: &str) -> Result<Vec<u8>, AllocError>
+/// obey. The only error is want of memory.
+pub fn unread_text(alloc: Global, path: &str) -> Result<Vec<u8>, AllocError>
     ensures { IfOk result (λ text. text.items ≡ unread_text path.now) }
 {
     let shown = shown_path(alloc, path)?;

@@ -2,7 +2,6 @@
 ghost use Rattle.std.specs.Prelude.{◌≡◌, ◌≤◌, ◌++◌, ◌-◌, [], IfOk, OnOk, slice_index_or};
 ghost use Rattle.bip_model.specs.Texts.{lines, words};
 ghost use Rattle.bip_model.specs.Naming.{name_in};
-ghost use Rattle.bipr.specs.Endings.{unwritten_text};
 ghost use Rattle.bipr.specs.Wording.{chart_refusal};
 ghost use Rattle.bipr.specs.Wording.{counts_text, interaction_on, model_refusal, plan_refusal};
 ghost use Rattle.bipr.specs.Wording.{decisions_text, losses_text, report_text, run_text};
@@ -87,13 +86,6 @@ pub fn chart_refusal(alloc: Global) -> Result<Vec<u8>, AllocError>
         alloc,
         b"bipr: a chart has at most 2000 rows, see --from and --to\n",
     )
-}
-
-/// The complaint where what is told on the way can't be written.
-pub fn unwritten_text(alloc: Global) -> Result<Vec<u8>, AllocError>
-    ensures { IfOk result (λ text. text.items ≡ unwritten_text) }
-{
-    Vec::from_slice(alloc, b"bipr: cannot write\n")
 }
 
 /// The complaint of a schedule's text.

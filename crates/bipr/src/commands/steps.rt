@@ -3,7 +3,7 @@ ghost use Rattle.std.specs.Prelude.{◌≡◌, ◌≤◌, ℕ, false, true, List
 ghost use Rattle.bipr.specs.Answers.{HasPlan};
 ghost use Rattle.bipr.specs.CommandLine.{greatest_base};
 ghost use Rattle.bipr.specs.Commands.Steps.{AreStepsOf, IsSteps, are_joined};
-ghost use Rattle.bipr.specs.Endings.{AllOutcomesTelling, EndsTelling, IsAnsweredTelling};
+ghost use Rattle.bipr.specs.Endings.{AllOutcomesTelling, EndsTelling};
 ghost use Rattle.bipr.specs.Streams.{Puts};
 
 use crate::answers::{Answer, PlanOrRefusal, Status, plan_text};
@@ -18,7 +18,7 @@ use crate::stops::Stop;
 use crate::streams::Stream;
 use bip_explain::Explanation;
 use bip_partition::Plan;
-use std::alloc::{AllocError, Global};
+use std::alloc::Global;
 
 /// Runs the events of the schedule that the second path names from the new world of the model that
 /// the first path names, with the resolver's bank: writes the trace, and their report on standard
@@ -76,20 +76,20 @@ fn answer_one<'a, I: Inputs, E: Stream>(
 {
     let both = read_input(alloc, explanation, inputs, asked.model)?;
     let (model, schedule) = divide(both.as_slice());
-    Ok(answer_texts(alloc, explanation, model, asked, schedule, errors)?)
+    answer_texts(alloc, explanation, model, asked, schedule, errors)
 }
 
-// The answer to two texts. The only error is want of memory.
-fn answer_texts<E: Stream>(
+// The answer to two texts.
+fn answer_texts<'a, E: Stream>(
     alloc: Global,
     explanation: &mut Explanation,
     model: &[u8],
-    asked: &StepsArguments<'_>,
+    asked: &StepsArguments<'a>,
     schedule: &[u8],
     errors: &mut E,
-) -> Result<Answer, AllocError>
+) -> Result<Answer, Stop<'a>>
     requires { asked.now.base ≤ greatest_base }
-    ensures { IsAnsweredTelling E.writes errors.old errors.new result
+    ensures { AllOutcomesTelling E.writes errors.old errors.new result
         (AreStepsOf model.now asked.now schedule.now) }
 {
     let given = plan_text(alloc, explanation, model)?;
@@ -141,5 +141,5 @@ fn answer_second<'a, I: Inputs, E: Stream>(
 {
     let schedule = read_input(alloc, explanation, inputs, asked.schedule)?;
     let text = schedule.as_slice();
-    Ok(answer_schedule(alloc, explanation, plan, asked, text, errors)?)
+    answer_schedule(alloc, explanation, plan, asked, text, errors)
 }

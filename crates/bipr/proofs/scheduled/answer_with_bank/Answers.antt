@@ -1,14 +1,19 @@
 use Rattle.std.proofs.Common.{[]}
-use Rattle.std.proofs.lemmas.Result.{IfOk-weaker}
+use Rattle.bipr.specs.Commands.Steps.{IsScheduleOf}
+use Rattle.bipr.specs.Scheduled.{lacking, quietly}
 use Rattle.bipr.specs.Streams.{none_put}
-use Rattle.bipr.proofs.ScheduledLemmas.{quiet}
+use Rattle.bipr.proofs.EndingLemmas.{lacks_quietly, outcome_answered}
 use Rattle.bipr.proofs.scheduled.answer_with_bank.Goals as goal
 
-pub returns-else-asked : goal.returns-else-asked
-returns-else-asked g c =
-    let asked = c.args.asked.now in (
-      [],
-      none_put,
-      quiet c.args.plan.now asked.base asked.resolver asked.is_told c.args.schedule.now.text c.answer_events.result c.if-asked.false
-          (IfOk-weaker c.answer_events.result _ _ (λ answer is. is asked.resolver c.requires.shared) c.answer_events.ensures),
-    )
+pub returns-in_err-answer_events : goal.returns-in_err-answer_events
+returns-in_err-answer_events g c = lacks_quietly _ _ c.from_residual.result _ c.from_residual.ensures.1 lacking
+
+pub returns-in_ok-answer_events : goal.returns-in_ok-answer_events
+returns-in_ok-answer_events g c =
+    let asked = c.args.asked.now in
+    record {
+      told = [];
+      on_the_way = none_put;
+      outcomes = outcome_answered (IsScheduleOf c.args.plan.now asked c.args.schedule.now.text []) c.in_ok-answer_events.field-0
+          (quietly c.in_ok-answer_events.field-0 c.if-asked.false (c.in_ok-answer_events.ensures asked.resolver c.requires.shared));
+    }

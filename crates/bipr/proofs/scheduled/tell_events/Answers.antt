@@ -1,4 +1,5 @@
-use Rattle.std.proofs.Common.{◌≡◌, ◌∙◌, ◌+◌, ◌++◌, ◌∷◌, ◌<◌, ◌^◌, [], List, ℕ, ap, arith, drop, false, get_or, length, refl, rules, subst, sym, take, true}
+use Rattle.std.proofs.Common.{◌≡◌, ◌∙◌, ◌+◌, ◌++◌, ◌∷◌, ◌<◌, ◌^◌, [], List, ℕ, ap, arith, drop, false, get_or, length, refl, rules, subst, suc, sym, take, true}
+use Rattle.std.proofs.Math.Seq.{drop-cons}
 use Rattle.std.proofs.lemmas.List.{length-take-le, take-append-drop, take_all, take_more}
 use Rattle.bip_core.specs.Worlds.{world_of}
 use Rattle.bip_core.specs.declared.events.Event.{Event}
@@ -9,11 +10,11 @@ use Rattle.bip_schedule.specs.Writing.{HaveSpelling}
 use Rattle.bip_tell.specs.Lines.{AreTold, none_told}
 use Rattle.bipr.specs.Scheduled.{all_told, nothing_told, one_unheard, some_told}
 use Rattle.bipr.specs.Streams.{Puts, none_put, one_put, texts}
-use Rattle.bipr.proofs.TellingLemmas.{err_telling, out_more, spelled_one, told_count, told_on}
+use Rattle.bipr.proofs.TellingLemmas.{err_telling, next_untold, out_more, spelled_one, told_count, told_on}
 use Rattle.bipr.proofs.scheduled.tell_events.Goals as goal
 
 pub returns-in_err-events-clause-told : goal.returns-in_err-events-clause-told
-returns-in_err-events-clause-told g c = ([], none_put, err_telling c.from_residual.result (search rules) (λ e. nothing_told e refl))
+returns-in_err-events-clause-told g c = ([], none_put, err_telling c.from_residual.result (search rules) (λ e. nothing_told e refl refl))
 
 pub loop-event-init : goal.loop-event-init
 loop-event-init g c = ([], [], none_put, none_told, search rules, c.empty-report.ensures.sums, c.empty-report.ensures.adds_up, refl)
@@ -51,11 +52,13 @@ returns-in_err-tell_event-clause-told g c =
     let plan = c.args.schedule.now.plan in
     let text = c.args.schedule.now.text in
     let says : IsEventText plan text (take i items ++ drop i items) =
-    rw (take-append-drop i items, c.deref-event-items.ensures.value) c.in_ok-events.ensures.events in (
+    rw (take-append-drop i items, c.deref-event-items.ensures.value) c.in_ok-events.ensures.events in
+    let next : drop i items ≡ get_or items i (Mail 0) ∷ drop (suc i) items = drop-cons items i (Mail 0) c.loop-event-test.true in
+    let left = next_untold (drop i items) (drop (suc i) items) (get_or items i (Mail 0)) (world_of c.loop-event.world) (world_of c.tell_event.new.world) _ _ next c.in_err-tell_event.ensures.untold in (
       so.1,
       so.2,
       err_telling c.from_residual-in_err-tell_event.result (search rules)
-          (λ e. some_told (take i items) (drop i items) so.0 (world_of c.loop-event.world) e says so.3 so.4),
+          (λ e. some_told (take i items) (drop i items) so.0 (world_of c.loop-event.world) e says so.3 so.4 left),
     )
 
 pub returns-then-not-put-clause-plan : goal.returns-then-not-put-clause-plan
