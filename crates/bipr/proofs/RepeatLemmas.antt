@@ -15,7 +15,7 @@ use Rattle.bip_partition.specs.Plans.{Planned}
 use Rattle.bip_replay.specs.Writing.{text_of}
 use Rattle.bip_schedule.proofs.LawLemmas.{one_schedule, one_seed_trace}
 use Rattle.bip_schedule.specs.Exploring.{IsSeedRun}
-use Rattle.bipr.specs.Laws.{OneStepsAnswer, OneTraceOfASeed}
+use Rattle.bipr.specs.Laws.{OneStepsAnswer, OneTraceOfASeed, ToldOrNot}
 use Rattle.bipr.specs.Resolvers.{IsSharedAtFirst}
 use Rattle.bipr.specs.Scheduled.{reporting}
 use Rattle.bipr.specs.Wording.{report_text}
@@ -42,6 +42,9 @@ one_steps_answer p base resolver schedule report other a b one two whole so =
     subst (λ (w : WorldContent). IsRunOfEvents two.events w one.last report) worlds (subst (λ (es : List Event). IsRunOfEvents es one.first one.last report) events one.ran) in
     let same = one_run two.events two.first one.last two.last report other (moved_one_way resolver p two.first.bank.sharing two.shared) there two.ran whole so in
     one.is ∙ (ap₂ (λ (gs : List Grant) (r : Report). reporting (text_of p.model gs) (report_text r)) same.traces same.reports ∙ sym two.is)
+
+pub told_or_not : ToldOrNot
+told_or_not p base resolver schedule report other told a b one two whole so = one_steps_answer p base resolver schedule report other a b one.stepped two whole so
 
 -- a run of a seed by what its stations share
 shared_as : (resolver : Resolver) (p : Planned) (count seed n : ℕ) (x : Sharing) → IsSharedAtFirst resolver p x → IsSeedRun (IsSharedAtFirst resolver p) p 0 count seed n → IsSeedRun (λ y. y ≡ x) p 0 count seed n

@@ -1,8 +1,9 @@
 -- The laws of answers, and of the replay of texts that are known.
-use Rattle.std.specs.Prelude.{◌≡◌, ◌↔◌, ◌≤◌, ℕ, Bool, false, true, List, Result, length}
+use Rattle.std.specs.Prelude.{◌≡◌, ◌↔◌, ◌≤◌, ◌⊎◌, ℕ, Bool, false, true, List, [], Result, length}
 use Rattle.bip_host.specs.declared.faults.HostFault.{HostFault}
 use Rattle.bip_partition.specs.Plans.{Planned}
 use Rattle.bip_core.specs.Runs.{IsLossless}
+use Rattle.bip_core.specs.declared.events.Event.{Event}
 use Rattle.bip_core.specs.declared.runs.Report.{Report}
 use Rattle.bip_model.specs.declared.parts.System.{System}
 use Rattle.bip_model.specs.declared.partitions.Partition.{Partition}
@@ -10,7 +11,10 @@ use Rattle.bip_reader.specs.Texts.{Means}
 use Rattle.bip_replay.specs.Replays.{IsFirstFault, IsRunOf}
 use Rattle.bip_replay.specs.declared.faults.BookFault.{BookFault}
 use Rattle.bip_replay.specs.declared.faults.ReplayFault.TheVariants as replay_fault
+use Rattle.bip_replay.specs.declared.faults.TraceFault.{TraceFault}
 use Rattle.bip_schedule.specs.Exploring.{IsSeedRun}
+use Rattle.bip_schedule.specs.Laws.{IsFault}
+use Rattle.bip_schedule.specs.Schedules.{IsEventText}
 use Rattle.bipr.specs.Answers.{HasPlan, IsAnswer, IsCheckAnswer, IsRefusedModel, complaining}
 use Rattle.bipr.specs.Answers.{saying}
 use Rattle.bipr.specs.Commands.Replay.{IsModelText, IsReplay, is_joined}
@@ -19,9 +23,9 @@ use Rattle.bipr.specs.Drawn.{IsDrawingAnswer}
 use Rattle.bipr.specs.Hosted.{IsHostAnswer}
 use Rattle.bipr.specs.Inputs.{IsReading, Named, bytes, most_bytes}
 use Rattle.bipr.specs.Resolvers.{IsSharedAtFirst}
-use Rattle.bipr.specs.Scheduled.{IsScheduleAnswered, IsStepped}
+use Rattle.bipr.specs.Scheduled.{IsScheduleAnswered, IsStepped, IsToldStepped}
 use Rattle.bipr.specs.Stops.{out_of_memory, unread_text}
-use Rattle.bipr.specs.Streams.{Put}
+use Rattle.bipr.specs.Streams.{AreOut, Put}
 use Rattle.bipr.specs.Wording.{run_text}
 use Rattle.bipr.specs.declared.answers.Answer.{Answer}
 use Rattle.bipr.specs.declared.answers.Status.{Status}
@@ -79,6 +83,13 @@ OneStepsAnswer =
     (a b : Answer) → IsStepped p base resolver schedule report a
     → IsStepped p base resolver schedule other b → IsLossless report → IsLossless other → a ≡ b
 
+-- and where each event is told, the answer is that of the same schedule where none is
+abbrev pub ToldOrNot : Type 0
+ToldOrNot =
+    (p : Planned) (base : ℕ) (resolver : Resolver) (schedule : List ℕ) (report other : Report)
+    (told : List Put) (a b : Answer) → IsToldStepped p base resolver schedule report told a
+    → IsStepped p base resolver schedule other b → IsLossless report → IsLossless other → a ≡ b
+
 -- with each resolver, a seed that is explored again has the same trace
 abbrev pub OneTraceOfASeed : Type 0
 OneTraceOfASeed =
@@ -118,6 +129,18 @@ CheckStatusesTell =
     (model : List ℕ) (answer : Answer) → IsCheckAnswer model answer
     → ((answer.status ≡ Done) ↔ ((p : Planned) × HasPlan model p))
     × ((answer.status ≡ Refused) ↔ IsRefusedModel model answer)
+
+-- where the steps of a schedule end as done its text is events, and each line that was told is out;
+-- where the text has a fault nothing is told, and it is refused, or memory is out
+abbrev pub StepsStatusesTell : Type 0
+StepsStatusesTell =
+    (p : Planned) (base : ℕ) (resolver : Resolver) (is_told : Bool) (schedule : List ℕ)
+    (told : List Put) (answer : Answer)
+    → IsScheduleAnswered p base resolver is_told schedule told answer
+    → (answer.status ≡ Done
+    → ((events : List Event) × IsEventText p schedule events) × AreOut told)
+    × ((number : ℕ) (fault : TraceFault) → IsFault p schedule number fault
+    → (told ≡ []) × ((answer.status ≡ Refused) ⊎ (answer ≡ out_of_memory)))
 
 -- what may be answered where the two paths name these texts
 pub data IsOfTwo (asked : ReplayArguments) (model trace : List ℕ) : Answer → Type 0 where

@@ -2,10 +2,12 @@
 ghost use Rattle.bipr.specs.Laws.{CheckStatusesTell, HostsReplay, OneAnswer, OneCheckAnswer};
 ghost use Rattle.bipr.specs.Laws.{OneDrawingAnswer, OneStepsAnswer};
 ghost use Rattle.bipr.specs.Laws.{OneTextDecides, OneTraceOfASeed, PartedByLines, SomeAnswer};
-ghost use Rattle.bipr.specs.Laws.{StatusesTell, StepsReplay, TwoTextsDecide};
+ghost use Rattle.bipr.specs.Laws.{StatusesTell, StepsReplay, StepsStatusesTell, ToldOrNot};
+ghost use Rattle.bipr.specs.Laws.{TwoTextsDecide};
 
 use bip_reader::meaning_laws;
 use bip_replay::fault_laws;
+use bip_schedule::schedule_laws;
 
 /// Two texts and a base have an answer, and no more than one; no text has two answers to its check
 /// or to its drawing; two texts in one are parted by lines; and of what `steps` and `run` write,
@@ -24,19 +26,24 @@ pub fn answer_laws()
 }
 
 /// The status of an answer to two texts tells whether the trace is that of a run, and that of a
-/// check whether there is a plan (docs/ANSWERS.md, "Answers").
+/// check whether there is a plan; where steps end as done the text is a schedule, and each line
+/// that was told is out; a text that is none is refused (docs/ANSWERS.md, "Answers").
 pub fn status_laws()
     ensures replay { StatusesTell }
     ensures check { CheckStatusesTell }
+    ensures steps { StepsStatusesTell }
 {
     meaning_laws();
     fault_laws();
+    schedule_laws();
 }
 
-/// The same again comes to the same: with each resolver a schedule has one answer, and a seed one
-/// trace, where no event was skipped and no message lost (docs/ANSWERS.md, "Answers").
+/// The same again comes to the same: with each resolver a schedule has one answer, whether its
+/// events are told or not, and a seed one trace, where no event was skipped and no message lost
+/// (docs/ANSWERS.md, "Answers").
 pub fn repeat_laws()
     ensures steps { OneStepsAnswer }
+    ensures told { ToldOrNot }
     ensures seeds { OneTraceOfASeed }
 {}
 
