@@ -34,7 +34,7 @@ use Rattle.bip_core.specs.Numbers.{IsAwaited, MailAwaited, NumbersAgree, RecordN
 use Rattle.bip_core.specs.Numbers.{is_for}
 use Rattle.bip_core.specs.Locals.{Made, MailShows, LocalsAgree}
 use Rattle.bip_core.specs.Sentences.{NobodyTells}
-use Rattle.bip_core.specs.Views.{LeadsTo, View, lead}
+use Rattle.bip_core.specs.Views.{TakesTo, View, lead}
 use Rattle.bip_core.proofs.ListLemmas.{All-each, count-some, each-All, in-one, in-split}
 use Rattle.bip_core.proofs.NumberLemmas.{IsFreshGrant, Rests, grant_cases, owed_in}
 use Rattle.bip_core.proofs.PutLemmas.{all_put, put_other}
@@ -69,7 +69,7 @@ made_tells made n at = tells_move made.wants_are n (made_told made n at)
 pub record LeadsNext (m : System) (u : ℕ → ℕ) (s : State) (w : View) (n : Notify) : Type 0 where
   pub own : n.number ≡ w.number n.comp.0
   pub next : w.number n.comp.0 ≡ u n.comp.0 + 1
-  pub leads : LeadsTo m n (w.state n.comp.0) (s n.comp.0)
+  pub leads : TakesTo m n (w.state n.comp.0) (s n.comp.0)
 
 module _ {m : System} {base : ℕ} {u : ℕ → ℕ} {s : State} {w : View}
     (h : LocalsAgree m base u s w) where
@@ -185,11 +185,11 @@ module _ {m : System} {base : ℕ} {u : ℕ → ℕ} {s : State} {w : View}
     moved_state = put w.state n.comp.0 (lead m n (w.state n.comp.0))
 
     leads_still : (x : Notify) → x.comp.0 ≢ n.comp.0
-        → LeadsTo m x (w.state x.comp.0) (s x.comp.0)
-        → LeadsTo m x (moved_state x.comp.0) (s x.comp.0)
+        → TakesTo m x (w.state x.comp.0) (s x.comp.0)
+        → TakesTo m x (moved_state x.comp.0) (s x.comp.0)
     leads_still x other before =
         let same = put_other w.state n.comp.0 (lead m n (w.state n.comp.0)) x.comp.0 other in
-        subst (λ (place : Option LocalState). LeadsTo m x place (s x.comp.0)) (sym same) before
+        subst (λ (place : Option LocalState). TakesTo m x place (s x.comp.0)) (sym same) before
 
     mail_still : (x : Message) → In x w.mail → MailShows m u s w.state x
         → MailShows m u s moved_state x
@@ -248,7 +248,7 @@ module _ {m : System} {base : ℕ} {u : ℕ → ℕ} {s : State} {w : View}
           own = omega arith;
           next = next;
           leads =
-              subst (λ (place : Option LocalState). LeadsTo m n place (after m s a n.comp.0))
+              subst (λ (place : Option LocalState). TakesTo m n place (after m s a n.comp.0))
               (sym (h.settled n.comp.0 next))
               (told_leads valid s made.ready (shown made fresh) n (made_told made n at));
         }
@@ -290,12 +290,12 @@ module _ {m : System} {base : ℕ} {u : ℕ → ℕ} {s : State} {w : View}
 
       -- and so is what was told before
       told_after : (n : Notify) → IsAwaited u w.number w.spent n
-          → LeadsTo m n (w.state n.comp.0) (s n.comp.0)
-          → LeadsTo m n (w.state n.comp.0) (next_state n.comp.0)
+          → TakesTo m n (w.state n.comp.0) (s n.comp.0)
+          → TakesTo m n (w.state n.comp.0) (next_state n.comp.0)
       told_after n awaited before = elim (grant_cases numbers its n.comp.0) [
         | inl moves ↦ absurd (omega (arith, moves.next, awaited.used))
         | inr rests ↦
-            subst (LeadsTo m n (w.state n.comp.0)) (sym (still n.comp.0 rests)) before
+            subst (TakesTo m n (w.state n.comp.0)) (sym (still n.comp.0 rests)) before
       ]
 
       mail_after : (x : Message) → MailAwaited u w.number w.spent x → MailShows m u s w.state x
@@ -331,12 +331,12 @@ module _ {m : System} {base : ℕ} {u : ℕ → ℕ} {s : State} {w : View}
       -- what its record tells leads to where it does
       owed_now : (k a : ℕ) (e : OpenRecord) (n : Notify) → w.pending k a ≡ Some e
           → grant_of e.request ≡ g → In n e.notifies
-          → LeadsTo m n (w.state n.comp.0) (next_state n.comp.0)
+          → TakesTo m n (w.state n.comp.0) (next_state n.comp.0)
       owed_now k a e n is same at =
           let fresh = subst (λ (x : Grant). IsFresh u x.wants) (sym same) its.fresh in
           let kept = numbers.records k a e is in
           let next = fresh_leads (h.made k a e is) fresh kept.wants n at in
-          subst (LeadsTo m n (w.state n.comp.0))
+          subst (TakesTo m n (w.state n.comp.0))
           (ap (λ (x : Grant). after m s x.inter.0 n.comp.0) same) next.leads
 
       -- so the local states are kept, at the state after the joint step

@@ -21,7 +21,7 @@ use Rattle.bip_core.specs.Books.{MailFits, is_about}
 use Rattle.bip_core.specs.Lists.{In, count}
 use Rattle.bip_core.specs.Numbers.{IsAwaited, IsOwed, MailAwaited, is_for}
 use Rattle.bip_core.specs.Locals.{MailShows}
-use Rattle.bip_core.specs.Views.{LeadsTo, View}
+use Rattle.bip_core.specs.Views.{TakesTo, View}
 use Rattle.bip_core.proofs.BookLemmas as books
 use Rattle.bip_core.proofs.BookLemmas.{NothingAbout}
 use Rattle.bip_core.proofs.ListLemmas.{count-append, count-cases, count-none, count-one}
@@ -82,7 +82,7 @@ MaySend p u s w m =
 pub record MayTell (p : Planned) (u : ℕ → ℕ) (s : State) (w : View) (n : Notify) : Type 0 where
   pub granted : (g : Grant) × In g w.trace × (moved_in g.wants n.comp.0 ≡ n.number)
   pub awaited : IsAwaited u w.number w.spent n
-  pub leads : LeadsTo p.model n (w.state n.comp.0) (s n.comp.0)
+  pub leads : TakesTo p.model n (w.state n.comp.0) (s n.comp.0)
   pub none : count (is_for n.comp.0) w.mail ≡ 0
 
 -- a message that is taken out is one less that passes, if it does

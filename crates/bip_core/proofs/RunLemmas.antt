@@ -7,7 +7,7 @@ use Rattle.std.proofs.lemmas.List.Sums.{sum_by-append, sum_by-cons, sum_by_push}
 use Rattle.std.proofs.lemmas.Option.{slice_get_past}
 use Rattle.bip_model.specs.declared.grants.Grant.{Grant}
 use Rattle.bip_core.specs.Events.{AreKeptOf, AreSent, CanBeSkipped, IsDelivered, IsCounted, IsDone, IsHandedOn, IsStep, TakesOut, all_done, grant_in, kind_of, one_kept, one_lost, trace_with}
-use Rattle.bip_core.specs.Laws.{handed_on}
+use Rattle.bip_core.specs.Laws.{handed_out}
 use Rattle.bip_core.specs.Runs.{AreSteps, IsEventCounted, IsRunOfEvents, did_so, is_grant, is_idle, is_kind_granted, is_kind_idle, is_kind_refused, is_refusal, lost_by, number_if, report_counted, report_of, report_with, was_skipped}
 use Rattle.bip_core.specs.Worlds.{WorldContent}
 use Rattle.bip_core.specs.declared.events.Did.{Did}
@@ -179,9 +179,9 @@ read_taken place m mail left taken = subst (λ (k : ℕ). slice_get mail k ≡ S
 record IsLeft (w : WorldContent) (e : Event) (v : WorldContent) : Type 0 where
   pub trace : v.trace ≡ w.trace
   pub plan : v.plan ≡ w.plan
-  pub mail : (f : Message → Bool) → count_by f v.mail + count_by f (handed_on e w.mail) ≡ count_by f w.mail
+  pub mail : (f : Message → Bool) → count_by f v.mail + count_by f (handed_out e w.mail) ≡ count_by f w.mail
 
-left_as : (w : WorldContent) (e : Event) (v : WorldContent) → handed_on e w.mail ≡ [] → (v.trace ≡ w.trace) × (v.plan ≡ w.plan) × (v.mail ≡ w.mail) → IsLeft w e v
+left_as : (w : WorldContent) (e : Event) (v : WorldContent) → handed_out e w.mail ≡ [] → (v.trace ≡ w.trace) × (v.plan ≡ w.plan) × (v.mail ≡ w.mail) → IsLeft w e v
 left_as w e v none same = record {
   trace = same.0;
   plan = same.1;
@@ -352,13 +352,13 @@ counts_all (x ∷ xs) =
     omega (arith, more, rest)
 
 pub messages_counted : (w v : WorldContent) (e : Event) (d : Did) → IsStep w e d v
-    → (sent : List Message) × AreSent w.plan d.what sent × ((f : Message → Bool) → count_by f w.mail + count_by f sent ≤ count_by f v.mail + count_by f (handed_on e w.mail) + d.lost) × (length w.mail + length sent ≡ length v.mail + length (handed_on e w.mail) + d.lost)
+    → (sent : List Message) × AreSent w.plan d.what sent × ((f : Message → Bool) → count_by f w.mail + count_by f sent ≤ count_by f v.mail + count_by f (handed_out e w.mail) + d.lost) × (length w.mail + length sent ≡ length v.mail + length (handed_out e w.mail) + d.lost)
 messages_counted w v e d step =
     let left = (done_left w e d.what step.acted.middle step.acted.done).mail in
     let last = step_mail w v e d step in
     let before = counts_all w.mail in
     let after = counts_all v.mail in
-    let gone = counts_all (handed_on e w.mail) in
+    let gone = counts_all (handed_out e w.mail) in
     let put = counts_all step.put.put in (
       step.sent,
       step.sends,

@@ -37,7 +37,7 @@ use Rattle.bip_core.specs.Sentences.{AgreementInSix, ComponentAgrees, IsMoving, 
 use Rattle.bip_core.specs.Sentences.{NoneToldIsStale, OneOfferOut}
 use Rattle.bip_core.specs.Sentences.{IsSettled, IsSpent, LeadsOn, OfferAgrees, RequestAgrees}
 use Rattle.bip_core.specs.Locals.{Made}
-use Rattle.bip_core.specs.Views.{CanBeTaken, LeadsTo, View, local_at, number_at, spent_of}
+use Rattle.bip_core.specs.Views.{CanBeTaken, TakesTo, View, local_at, number_at, spent_of}
 use Rattle.bip_core.proofs.ListLemmas.{Any-one, count-none, count-same}
 use Rattle.bip_core.proofs.LocalLemmas.{LeadsNext, fresh_leads, shown}
 use Rattle.bip_core.proofs.TakeLemmas.{can_move_by}
@@ -63,10 +63,10 @@ module _ {p : Planned} {base : ℕ} {u : ℕ → ℕ} {s : State} {w : View}
   }
 
   leads_on : (c : ℕ) (n : Notify) → n.comp.0 ≡ c → IsAwaited u w.number w.spent n
-      → LeadsTo p.model n (w.state n.comp.0) (s n.comp.0) → LeadsOn p.model u s w c n
+      → TakesTo p.model n (w.state n.comp.0) (s n.comp.0) → LeadsOn p.model u s w c n
   leads_on c n same awaited leads = record {
     number = awaited.own ∙ (awaited.used ∙ ap u same);
-    leads = subst (λ (d : ℕ). LeadsTo p.model n (w.state d) (s d)) same leads;
+    leads = subst (λ (d : ℕ). TakesTo p.model n (w.state d) (s d)) same leads;
   }
 
   moving : (c : ℕ) → w.number c ≡ u c → w.spent c ≡ false → IsMoving p.model u s w c

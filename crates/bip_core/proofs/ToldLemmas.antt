@@ -19,7 +19,7 @@ use Rattle.bip_ip.specs.Asking.{told_by}
 use Rattle.bip_ip.proofs.TellLemmas.{leads_to_the_step, tells_offered_numbers, tells_once}
 use Rattle.bip_ip.proofs.TellLemmas.{tells_what_moves}
 use Rattle.bip_core.specs.Lists.{In, count}
-use Rattle.bip_core.specs.Views.{LeadsTo}
+use Rattle.bip_core.specs.Views.{TakesTo}
 use Rattle.bip_core.proofs.ListLemmas.{in-Contains}
 use Rattle.bip_core.proofs.TakeLemmas.{told_taken}
 use Rattle.bip_core.proofs.WantLemmas.{HasWant, moved_as_offered, want_of}
@@ -67,7 +67,7 @@ tells_move {m} {o} {a} {wants} by n told =
 -- does
 pub told_leads : {m : System} {o : ℕ → Offer} {a : ℕ} → IsSystem m → (s : State) → IsReady m o a
     → AllShow m o s a → (n : Notify) → In n (told_by m o a)
-    → LeadsTo m n (s n.comp.0) (after m s a n.comp.0)
+    → TakesTo m n (s n.comp.0) (after m s a n.comp.0)
 told_leads {m} {o} {a} valid s ready show n told =
     let leads = leads_to_the_step m valid o s a (λ c on. ready.own c (inl on)) in
     let at = in-Contains (told_by m o a) n told in

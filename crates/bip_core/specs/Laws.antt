@@ -72,10 +72,10 @@ MessagesGoOnce =
     ≤ count_by kind w.mail + count_by kind sent)
 
 -- the messages that an event hands on: the one at its place, if there is one
-abbrev pub handed_on : Event → List Message → List Message
-handed_on (Mail place) mail = option_to_list (slice_get mail place)
-handed_on (Try k a) mail = []
-handed_on (Bank step) mail = []
+abbrev pub handed_out : Event → List Message → List Message
+handed_out (Mail place) mail = option_to_list (slice_get mail place)
+handed_out (Try k a) mail = []
+handed_out (Bank step) mail = []
 
 -- none vanishes: whatever kind of them is counted, those that were in flight or are sent still are,
 -- but for the one that is handed on and for as many as are counted as lost; and just so many are
@@ -84,9 +84,9 @@ MessagesAreCounted =
     (w v : WorldContent) (event : Event) (did : Did) → IsStep w event did v
     → (sent : List Message) × AreSent w.plan did.what sent
     × ((kind : Message → Bool) → count_by kind w.mail + count_by kind sent
-    ≤ count_by kind v.mail + count_by kind (handed_on event w.mail) + did.lost)
+    ≤ count_by kind v.mail + count_by kind (handed_out event w.mail) + did.lost)
     × (length w.mail + length sent
-    ≡ length v.mail + length (handed_on event w.mail) + did.lost)
+    ≡ length v.mail + length (handed_out event w.mail) + did.lost)
 
 -- a node is that of a notification's component: its next move has that number, and it is where a
 -- state says

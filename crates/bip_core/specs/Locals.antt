@@ -17,7 +17,7 @@ use Rattle.bip_core.specs.declared.messages.Message.TheVariants.{NotifyComponent
 use Rattle.bip_core.specs.declared.messages.Message.TheVariants.{ReplyToClass, RequestToBank}
 use Rattle.bip_core.specs.Lists.{In}
 use Rattle.bip_core.specs.Numbers.{IsOwed}
-use Rattle.bip_core.specs.Views.{LeadsTo, View}
+use Rattle.bip_core.specs.Views.{TakesTo, View}
 
 -- wants and notifications were made of offers by which the interaction is ready, each as it was
 -- sent; those whose numbers aren't used yet show the state to which the trace leads
@@ -32,7 +32,7 @@ pub record Made (m : System) (u : ℕ → ℕ) (s : State) (a : ℕ) (wants : Li
 -- each notification in flight can be taken, and leads its component to where the trace does; and
 -- each offer whose number isn't used yet shows that
 abbrev pub MailShows : System → (ℕ → ℕ) → State → State → Message → Type 0
-MailShows m u s state (NotifyComponent n) = LeadsTo m n (state n.comp.0) (s n.comp.0)
+MailShows m u s state (NotifyComponent n) = TakesTo m n (state n.comp.0) (s n.comp.0)
 MailShows m u s state (OfferTo k o) = u o.comp.0 < o.number → ShowsState m s o
 MailShows m u s state (RequestToBank q) = ⊤
 MailShows m u s state (ReplyToClass r) = ⊤
@@ -49,6 +49,6 @@ pub record LocalsAgree (m : System) (base : ℕ) (u : ℕ → ℕ) (s : State) (
   pub held : (k c : ℕ) (o : Offer) → w.held k c ≡ Some o → u o.comp.0 < o.number
       → ShowsState m s o
   pub owed : (k a : ℕ) (e : OpenRecord) (n : Notify) → IsOwed w k a e n
-      → LeadsTo m n (w.state n.comp.0) (s n.comp.0)
+      → TakesTo m n (w.state n.comp.0) (s n.comp.0)
   pub made : (k a : ℕ) (e : OpenRecord) → w.pending k a ≡ Some e
       → Made m u s e.request.inter.0 e.request.wants e.notifies

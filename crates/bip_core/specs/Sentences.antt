@@ -28,7 +28,7 @@ use Rattle.bip_core.specs.Books.{AreReserved, HasRecord, IsKnownOrPending, Recor
 use Rattle.bip_core.specs.Books.{is_about}
 use Rattle.bip_core.specs.Lists.{In, count}
 use Rattle.bip_core.specs.Numbers.{IsOwed, is_for}
-use Rattle.bip_core.specs.Views.{LeadsTo, View}
+use Rattle.bip_core.specs.Views.{TakesTo, View}
 use Rattle.bip_core.specs.Worlds.{WorldContent}
 
 -- 1. the trace is a run of the model, and moves no component twice with one number; its reserved
@@ -57,10 +57,11 @@ pub record IsSettled (u : ℕ → ℕ) (s : State) (w : View) (c : ℕ) : Type 0
 pub record LeadsOn (m : System) (u : ℕ → ℕ) (s : State) (w : View) (c : ℕ) (n : Notify)
     : Type 0 where
   pub number : n.number ≡ u c
-  pub leads : LeadsTo m n (w.state c) (s c)
+  pub leads : TakesTo m n (w.state c) (s c)
 
 -- a moving component has its last granted move before it: it may be told of it, in flight or by a
--- granted record, at most once; and what tells it can be taken, and leads it to where the trace does
+-- granted record, at most once; and what tells it can be taken, and leads it to where the trace
+-- does
 pub record IsMoving (m : System) (u : ℕ → ℕ) (s : State) (w : View) (c : ℕ) : Type 0 where
   pub number : w.number c ≡ u c
   pub unspent : w.spent c ≡ false
@@ -120,7 +121,7 @@ pub record RequestAgrees (p : Planned) (u : ℕ → ℕ) (s : State) (w : View) 
   pub numbers : IsFresh u q.wants → (n : Notify) → In n has.entry.notifies
       → n.number ≡ w.number n.comp.0
   pub leads : IsFresh u q.wants → (n : Notify) → In n has.entry.notifies
-      → LeadsTo p.model n (w.state n.comp.0) (after p.model s q.inter.0 n.comp.0)
+      → TakesTo p.model n (w.state n.comp.0) (after p.model s q.inter.0 n.comp.0)
 
 -- a request that is in flight to the bank, or open there
 abbrev pub IsRequestOut : View → Request → Type 0

@@ -90,6 +90,6 @@ CanBeTaken m n place =
     × (length n.values ≡ length component.variables)))
 
 -- it can be taken in one local state, and leads to another
-pub record LeadsTo (m : System) (n : Notify) (here there : Option LocalState) : Type 0 where
+pub record TakesTo (m : System) (n : Notify) (here there : Option LocalState) : Type 0 where
   pub taken : CanBeTaken m n here
   pub leads : lead m n here ≡ there

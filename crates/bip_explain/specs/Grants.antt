@@ -72,14 +72,14 @@ named_by model comp named (word ∷ rest) =
     else named_by model comp (role_behind word named) rest
 
 -- how a line names it: moved in front of `see`, and seen behind it
-abbrev pub named_on : System → List ℕ → ℕ → Named
-named_on model line comp = named_by model comp Moved (words line)
+abbrev pub named_by_line : System → List ℕ → ℕ → Named
+named_by_line model line comp = named_by model comp Moved (words line)
 
 -- a line of a grant names each component of the model as a grant of its interaction should
 abbrev pub AreNamedSo : System → List ℕ → Type 0
 AreNamedSo model line =
     (g : Grant) → grant_on model line ≡ Ok (Some g) → (comp : ℕ) → comp < length model.components
-    → IsNamedSo model g.inter.0 comp (named_on model line comp)
+    → IsNamedSo model g.inter.0 comp (named_by_line model line comp)
 
 -- a reason is true of a line and a model: the word that is told names the component, and stands at
 -- its column, or else no word names it; the line grants the interaction, which moves, looks at or
@@ -91,7 +91,7 @@ IsGrantReason model line (Next placed comp expected) =
 IsGrantReason model line (Party placed inter comp named) =
     IsWantTold model line comp.0 placed
     × IsGrantOn model line inter.0 × IsNamedSo model inter.0 comp.0 named
-    × ¬ (named_on model line comp.0 ≡ named)
+    × ¬ (named_by_line model line comp.0 ≡ named)
 IsGrantReason model line Unexplained = AreNamedSo model line
 
 -- a reason is one of this fault: the component, with the number of its next move, is the fault's;

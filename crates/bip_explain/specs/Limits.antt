@@ -63,8 +63,8 @@ lines_so text number keyword = counted_to keyword number 0 (numbered_lines text)
 abbrev pub begins_list : List ℕ → Bool
 begins_list word = same_text word (codes "when") || same_text word (codes "do")
 
--- behind these, the first words of an interaction's line, a word names a participant: neither a guard
--- nor assignments are begun behind the interaction's name
+-- behind these, the first words of an interaction's line, a word names a participant: neither a
+-- guard nor assignments are begun behind the interaction's name
 abbrev pub are_head : List (List ℕ) → Bool
 are_head front = not (list_any begins_list (drop 2 front))
 

@@ -29,8 +29,8 @@ StandsAlone plan word =
     (a : ℕ) × (position (same_text word) plan.model.interaction_names ≡ Some a)
     × ¬ IsReserved plan a
 
--- a word behind these, the first words of a line, names what its verb wants: behind `try` a class and
--- then an interaction, and behind another one stations
+-- a word behind these, the first words of a line, names what its verb wants: behind `try` a class
+-- and then an interaction, and behind another one stations
 abbrev pub name_class : List (List ℕ) → Bool
 name_class (verb ∷ []) = same_text verb (codes "try")
 name_class front = false

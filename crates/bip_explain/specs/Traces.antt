@@ -67,8 +67,8 @@ are_known names ws =
     (named_in word) true) ws
 
 -- a reason is true of a line and a model: the word that is told stands at its column; a component
--- that stands twice is named by a word before, and 32 are where one is too many; an interaction that
--- is missing is what the line grants, and like a component that is, no name of the model
+-- that stands twice is named by a word before, and 32 are where one is too many; an interaction
+-- that is missing is what the line grants, and like a component that is, no name of the model
 abbrev pub IsTraceReason : System → List ℕ → TraceReason → Type 0
 IsTraceReason model line (Form reason) = IsTraceForm line reason
 IsTraceReason model line (Twice placed) =

@@ -92,8 +92,8 @@ abbrev pub AreDeclared : List ℕ → ℕ → List (List ℕ) → Type 0
 AreDeclared text number ws =
     All (λ word. IsName word → HasLineWith text number (codes "interaction") word) ws
 
--- a word behind these, the first words of a line, names an interaction: of a priority, or behind the
--- name of a class
+-- a word behind these, the first words of a line, names an interaction: of a priority, or behind
+-- the name of a class
 abbrev pub name_interactions : List (List ℕ) → Bool
 name_interactions [] = false
 name_interactions (keyword ∷ []) = same_text keyword (codes "priority")
@@ -158,8 +158,8 @@ unknown_parts (Inner placed lack) = column_parts placed.column ++ lack_parts lac
 abbrev pub IsKindAt : List ℕ → Placed → Kind → Type 0
 IsKindAt line placed kind = (at : IsPlacedOn line placed) × (kind ≡ kind_behind at.front)
 
--- the place of a word of a transition behind these: 0 is the port's, 1 and 2 are those of locations,
--- and 3 is each one behind
+-- the place of a word of a transition behind these: 0 is the port's, 1 and 2 are those of
+-- locations, and 3 is each one behind
 abbrev pub place_behind : List (List ℕ) → ℕ
 place_behind [] = 0
 place_behind (port ∷ []) = 1
@@ -168,7 +168,8 @@ place_behind (port ∷ source ∷ target ∷ more) = 3
 
 -- what is named there, and the place behind it
 abbrev pub kind_at : ℕ → Kind
-kind_at place = if place == 0 then Port else (if place == 1 || place == 2 then Location else Variable)
+kind_at place =
+    if place == 0 then Port else (if place == 1 || place == 2 then Location else Variable)
 
 abbrev pub next_place : ℕ → ℕ
 next_place place = if place == 0 then 1 else (if place == 1 then 2 else 3)

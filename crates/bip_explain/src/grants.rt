@@ -4,7 +4,7 @@ ghost use Rattle.std.specs.Option.{option_map};
 ghost use Rattle.bip_explain.specs.Explanations.{with_parts};
 ghost use Rattle.bip_explain.specs.Grants.{IsGrantOn, IsGrantReason, IsNamedSo, IsOfFault};
 ghost use Rattle.bip_explain.specs.Grants.{IsWantTold, component_parts, front_parts, grant_parts};
-ghost use Rattle.bip_explain.specs.Grants.{AreNamedSo, name_parts, named_on, named_text};
+ghost use Rattle.bip_explain.specs.Grants.{AreNamedSo, name_parts, named_by_line, named_text};
 ghost use Rattle.bip_explain.specs.Grants.{names_comp, next_parts, role_behind, seen_text};
 ghost use Rattle.bip_model.specs.declared.grants.Grant.{Grant};
 ghost use Rattle.bip_replay.specs.Lines.{grant_on};
@@ -178,7 +178,7 @@ pub(crate) fn find_party<'t>(model: &Model, line: &'t [u8]) -> Option<GrantReaso
     for number in 0..model.components().len() as u16 {
         let comp = CompId(number);
         let wanted = wanted_of(model, inter, comp);
-        if named_on(model, line, comp) != wanted {
+        if named_by_line(model, line, comp) != wanted {
             return Some(GrantReason::Party(want_on(model, line, comp), inter, comp, wanted));
         }
     }
@@ -198,8 +198,8 @@ fn wanted_of(model: &Model, inter: InterId, comp: CompId) -> Named
 }
 
 // How a line names a component.
-fn named_on(model: &Model, line: &[u8], comp: CompId) -> Named
-    ensures { result ≡ named_on model.now line.now comp.0 }
+fn named_by_line(model: &Model, line: &[u8], comp: CompId) -> Named
+    ensures { result ≡ named_by_line model.now line.now comp.0 }
 {
     let mut named = Named::Moved;
     for placed in PlacedWords::of(line) {
