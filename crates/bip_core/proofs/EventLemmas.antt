@@ -41,8 +41,7 @@ use Rattle.bip_ip.proofs.LawLemmas.{refusals_teach}
 use Rattle.bip_bank.specs.Banks.{BankContent, IsActed, with_request}
 use Rattle.bip_bank.specs.declared.banks.Acted.{Acted}
 use Rattle.bip_bank.specs.declared.banks.Acted.TheVariants as acted
-use Rattle.bip_core.specs.Events.{AreSent, IsDelivered, IsDone, IsHandedOn, IsStep, are_notified}
-use Rattle.bip_frame.specs.Views.{reply_class}
+use Rattle.bip_core.specs.Events.{AreSent, IsDelivered, IsDone, IsHandedOn, IsStep, are_notified, class_named}
 use Rattle.bip_core.specs.Events.{grant_in, trace_with}
 use Rattle.bip_core.specs.Worlds.{WorldContent, with_class_node, with_component_node}
 use Rattle.bip_core.specs.declared.events.Did.{Did}
@@ -232,9 +231,9 @@ module _ {p : Planned} (planned : IsPlanned p) {base : ℕ} {w : WorldContent} (
 
     -- any reply is handed on
     learned : (r : Reply) → w.mail ≡ front ++ ReplyToClass r ∷ back → (did : Answered)
-        (node later : ClassNode) → w.classes (reply_class r).0 ≡ Some node → IsAnswered node r did
+        (node later : ClassNode) → w.classes (class_named r) ≡ Some node → IsAnswered node r did
         → IsLeftByReply r did node later → (sent : List Message) → AreSent p (Learns did) sent
-        → Keeps p base (with_class_node (reply_class r).0 later left) sent
+        → Keeps p base (with_class_node (class_named r) later left) sent
     learned (reply.Granted k i a serial) whole (answered.Told ns) node later at did is sent sends =
         let (e, awaits, tells) = did in
         keeps_same (ap (λ (x : ClassNode). with_class_node k.0 x left) (is e awaits))
@@ -245,9 +244,9 @@ module _ {p : Planned} (planned : IsPlanned p) {base : ℕ} {w : WorldContent} (
         keeps_same refl none
         (heard_refused k node at a e awaits.pending i c used later whole leaves)
     learned r whole answered.Stale node later at stale is sent none =
-        keeps_same (ap (λ (x : ClassNode). with_class_node (reply_class r).0 x left) is) none
-        (quiet (with_class_node (reply_class r).0 node left)
-        (same_view base left (reply_class r).0 node at)
+        keeps_same (ap (λ (x : ClassNode). with_class_node (class_named r) x left) is) none
+        (quiet (with_class_node (class_named r) node left)
+        (same_view base left (class_named r) node at)
         (taken h front back (ReplyToClass r) whole))
     learned r whole did node later at none is sent sends = absurd none
 

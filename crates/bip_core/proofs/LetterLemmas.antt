@@ -22,9 +22,11 @@ use Rattle.bip_ip.specs.declared.nodes.Answered.TheVariants as answered
 use Rattle.bip_ip.specs.declared.nodes.Tried.TheVariants as tried
 use Rattle.bip_bank.specs.declared.banks.Acted.TheVariants as acted
 use Rattle.bip_bank.specs.Decisions.{reply_to}
+use Rattle.bip_frame.specs.Views.{reply_class}
+use Rattle.bip_model.specs.declared.messages.Reply.TheVariants as reply
 use Rattle.bip_frame.specs.Frames.{IsFrame, of_notify, of_offer, of_reply, of_request}
 use Rattle.bip_frame.proofs.ReadingLemmas.{whole_again}
-use Rattle.bip_core.specs.Events.{AreSent, SendsWhatFits}
+use Rattle.bip_core.specs.Events.{AreSent, SendsWhatFits, class_named}
 use Rattle.bip_core.specs.Letters.{CanBeHandedOn, CanBeOffered, CanBeSubmitted, CanBeTold, IsLetterOf, IsNumberedRequest, address_of, as_spelled, message_at, message_in}
 use Rattle.bip_core.specs.Worlds.{AreOffersOf}
 use Rattle.bip_core.specs.declared.accepting.Address.{Address}
@@ -79,6 +81,11 @@ numbered p m q bytes is accepted frame =
     let its = subst (CanBeHandedOn p) is accepted in
     let spelled = subst (λ (x : Message). IsFrame (as_spelled x) bytes) is frame in
     record { some = spelled.can.head.some; fit = its.fits; numbered = spelled.can.wants.numbered }
+
+-- the class that a reply names
+pub class_is : (r : Reply) → (reply_class r).0 ≡ class_named r
+class_is (reply.Granted k q a s) = refl
+class_is (reply.Refused k q a c n) = refl
 
 -- a component that is read is there
 some_within : (xs : List Component) (c : ℕ) (P : Component → Type 0) → IsSomeAnd (slice_get xs c) P → c < length xs

@@ -33,8 +33,7 @@ use Rattle.bip_bank.specs.Laws.{MovesInOneWay, acted_but_serial}
 use Rattle.bip_bank.specs.declared.banks.Acted.{Acted}
 use Rattle.bip_bank.specs.declared.banks.Acted.TheVariants as acted
 use Rattle.bip_bank.specs.declared.banks.BankStep.{BankStep}
-use Rattle.bip_frame.specs.Views.{reply_class}
-use Rattle.bip_core.specs.Events.{AreKeptOf, ArePut, AreSent, IsDelivered, IsDone, IsHandedOn, IsStep, IsTraced, TakesOut, all_done, are_notified, grant_in, one_kept, one_lost, trace_with}
+use Rattle.bip_core.specs.Events.{AreKeptOf, ArePut, AreSent, IsDelivered, IsDone, IsHandedOn, IsStep, IsTraced, TakesOut, all_done, are_notified, grant_in, one_kept, one_lost, trace_with, class_named}
 use Rattle.bip_core.specs.Repeats.{AreAlike, but_serials, message_but_serial}
 use Rattle.bip_core.specs.Worlds.{AreOffersOf, WorldContent, with_class_node, with_component_node}
 use Rattle.bip_core.specs.declared.events.Did.{Did}
@@ -125,7 +124,7 @@ HandedTo w (OfferTo k offer) what v =
     (node : ClassNode) × (receipt : Receipt) × (w.classes k.0 ≡ Some node) × IsReceipt node.offers offer receipt × (what ≡ Hears receipt) × (v ≡ with_class_node k.0 (after_offer offer receipt node) w)
 HandedTo w (RequestToBank q) what v = (what ≡ Submits) × (v ≡ record w { bank = with_request q w.bank })
 HandedTo w (ReplyToClass r) what v =
-    (node : ClassNode) × (later : ClassNode) × (did : Answered) × (w.classes (reply_class r).0 ≡ Some node) × IsAnswered node r did × IsLeftByReply r did node later × (what ≡ Learns did) × (v ≡ with_class_node (reply_class r).0 later w)
+    (node : ClassNode) × (later : ClassNode) × (did : Answered) × (w.classes (class_named r) ≡ Some node) × IsAnswered node r did × IsLeftByReply r did node later × (what ≡ Learns did) × (v ≡ with_class_node (class_named r) later w)
 HandedTo w (NotifyComponent n) what v =
     (node : Node) × (later : Node) × (did : Notified) × (w.components n.comp.0 ≡ Some node) × IsNotified node n did × IsNodeAfter node n did later × (what ≡ Moves did) × (v ≡ with_component_node n.comp.0 later w)
 
@@ -202,7 +201,7 @@ handed_once w v x (ReplyToClass r) what also is other =
     let node : is.0 ≡ other.0 = same_some is.0 other.0 (sym is.3 ∙ other.3) in
     let did : is.2 ≡ other.2 = one_reply other.0 r is.2 other.2 (subst (λ (n : ClassNode). IsAnswered n r is.2) node is.4) other.4 in
     let left : IsLeftByReply r other.2 other.0 is.1 = subst (λ (d : Answered). IsLeftByReply r d other.0 is.1) did (subst (λ (n : ClassNode). IsLeftByReply r is.2 n is.1) node is.5) in
-    (is.6 ∙ (ap Learns did ∙ sym other.6), is.7 ∙ (ap (λ (n : ClassNode). with_class_node (reply_class r).0 n w) (left_once other.0 r other.2 is.1 other.1 other.4 left other.5) ∙ sym other.7))
+    (is.6 ∙ (ap Learns did ∙ sym other.6), is.7 ∙ (ap (λ (n : ClassNode). with_class_node (class_named r) n w) (left_once other.0 r other.2 is.1 other.1 other.4 left other.5) ∙ sym other.7))
 handed_once w v x (NotifyComponent n) what also is other =
     let node : is.0 ≡ other.0 = same_some is.0 other.0 (sym is.3 ∙ other.3) in
     let did : is.2 ≡ other.2 = notified_once other.0 n is.2 other.2 (subst (λ (x : Node). IsNotified x n is.2) node is.4) other.4 in

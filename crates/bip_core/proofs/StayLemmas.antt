@@ -8,8 +8,7 @@ use Rattle.bip_ip.specs.Nodes.{ClassNode, after_offer, after_try}
 use Rattle.bip_bank.specs.Banks.{BankContent, IsActed, with_request}
 use Rattle.bip_bank.specs.declared.banks.Acted.{Acted}
 use Rattle.bip_bank.specs.declared.banks.Acted.TheVariants as acted
-use Rattle.bip_frame.specs.Views.{reply_class}
-use Rattle.bip_core.specs.Events.{IsDelivered, IsDone, IsHandedOn, IsStep}
+use Rattle.bip_core.specs.Events.{IsDelivered, IsDone, IsHandedOn, IsStep, class_named}
 use Rattle.bip_core.specs.Laws.{KeepsThePlan}
 use Rattle.bip_core.specs.Worlds.{WorldContent, with_class_node, with_component_node}
 use Rattle.bip_core.specs.declared.events.Did.{Did}
@@ -106,7 +105,7 @@ module _ {w : WorldContent} where
       stays_by is (bank_stays (with_request q w.bank) (refl, refl))
   handed_stays (ReplyToClass r) (Learns did) v (node, later, at, answers, leaves, is) =
       let same = replied_same r did node later answers leaves in
-      stays_by is (class_stays (reply_class r).0 later at same)
+      stays_by is (class_stays (class_named r) later at same)
   handed_stays (NotifyComponent n) (Moves did) v (node, later, at, answers, leaves, is) =
       let same = notified_same node later n did leaves in
       stays_by is (component_stays n.comp.0 later at same)

@@ -48,8 +48,7 @@ use Rattle.bip_core.specs.Traces.{trace_by}
 use Rattle.bip_partition.specs.Laws.{IsPlanned}
 use Rattle.bip_model.specs.declared.numbering.ClassId.{ClassId}
 use Rattle.bip_observe.specs.Offers.{IsReceipt, observed}
-use Rattle.bip_frame.specs.Views.{reply_class}
-use Rattle.bip_core.specs.Events.{AreSent, CanBeSkipped, IsCounted, IsDelivered, IsDone, IsHandedOn, IsSending, IsTakenIn, IsTraced, SendsWhatFits, StepCanBeSkipped, TakesOut, grant_acted, grant_in, grant_tried, is_serving, kind_of, trace_with}
+use Rattle.bip_core.specs.Events.{AreSent, CanBeSkipped, IsCounted, IsDelivered, IsDone, IsHandedOn, IsSending, IsTakenIn, IsTraced, SendsWhatFits, StepCanBeSkipped, TakesOut, grant_acted, grant_in, grant_tried, is_serving, kind_of, trace_with, class_named}
 use Rattle.bip_core.specs.declared.events.Event.{Event}
 use Rattle.bip_core.specs.declared.events.Event.TheVariants.{Bank, Mail, Try}
 use Rattle.bip_core.specs.declared.events.What.TheVariants.{Acts, Hears, Learns, Moves, Nothing, Submits, Tries}
@@ -218,7 +217,7 @@ moved_on w c n did old later named is within answer after = (
 )
 
 -- a reply
-pub learned_on : (w : KeptWorld) (k : ℕ) (r : Reply) (did : Answered) (old n : KeptNode) → k ≡ (reply_class r).0 → slice_get w.classes k ≡ Some old → IsAnswered (node_of old) r did → IsLeftByReply r did (node_of old) (node_of n)
+pub learned_on : (w : KeptWorld) (k : ℕ) (r : Reply) (did : Answered) (old n : KeptNode) → k ≡ class_named r → slice_get w.classes k ≡ Some old → IsAnswered (node_of old) r did → IsLeftByReply r did (node_of old) (node_of n)
     → IsHandedOn (world_of w) (ReplyToClass r) (Learns did) (world_of (record w { classes = set w.classes k n }))
 learned_on w k r did old n named is answered left =
     rw (← named) (node_of old, node_of n, ap (option_map node_of) is, answered, left, class_put w k n (node_of n) (slice_get_within w.classes k old is) refl)

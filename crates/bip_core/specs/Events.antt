@@ -4,12 +4,13 @@ use Rattle.std.specs.Prelude.{None, Some, length}
 use Rattle.std.specs.Prelude.{◌⊎◌, map, ⊤, All, Bool, true, false}
 use Rattle.bip_model.specs.declared.grants.Grant.{Grant}
 use Rattle.bip_model.specs.declared.messages.Notify.{Notify}
+use Rattle.bip_model.specs.declared.messages.Reply.{Reply}
+use Rattle.bip_model.specs.declared.messages.Reply.TheVariants as reply
 use Rattle.bip_model.specs.declared.messages.Request.{Request}
 use Rattle.bip_bank.specs.Decisions.{grant_of, reply_to}
 use Rattle.bip_bank.specs.Decisions.Decision.{Decision}
 use Rattle.bip_bank.specs.Decisions.Decision.TheVariants as decision
 use Rattle.bip_partition.specs.Plans.{IsReserved, Planned}
-use Rattle.bip_frame.specs.Views.{reply_class}
 use Rattle.bip_component.specs.Components.{IsNodeAfter, IsNotified, Node}
 use Rattle.bip_component.specs.declared.components.Notified.TheVariants as notified
 use Rattle.bip_ip.specs.Nodes.{CanBeAsked, ClassNode, IsAnswered, IsLeftByReply, IsTried}
@@ -39,6 +40,11 @@ use Rattle.bip_core.specs.declared.outcomes.Kind.TheVariants as kind
 use Rattle.bip_core.specs.declared.outcomes.Outcome.{Outcome}
 use Rattle.bip_core.specs.declared.messages.Message.TheVariants.{ReplyToClass, NotifyComponent}
 
+-- the class that a reply names
+abbrev pub class_named : Reply → ℕ
+class_named (reply.Granted k request a serial) = k.0
+class_named (reply.Refused k request a c used) = k.0
+
 -- a message that is handed on: the node for which it is answers by its own contract, and nothing
 -- else changes
 abbrev pub IsHandedOn : WorldContent → Message → What → WorldContent → Type 0
@@ -47,9 +53,9 @@ IsHandedOn w (OfferTo k offer) (Hears receipt) v =
     × (v ≡ with_class_node k.0 (after_offer offer receipt node) w)
 IsHandedOn w (RequestToBank q) Submits v = v ≡ record w { bank = with_request q w.bank }
 IsHandedOn w (ReplyToClass r) (Learns did) v =
-    (node : ClassNode) × (later : ClassNode) × (w.classes (reply_class r).0 ≡ Some node)
+    (node : ClassNode) × (later : ClassNode) × (w.classes (class_named r) ≡ Some node)
     × IsAnswered node r did × IsLeftByReply r did node later
-    × (v ≡ with_class_node (reply_class r).0 later w)
+    × (v ≡ with_class_node (class_named r) later w)
 IsHandedOn w (NotifyComponent n) (Moves did) v =
     (node : Node) × (later : Node) × (w.components n.comp.0 ≡ Some node)
     × IsNotified node n did × IsNodeAfter node n did later

@@ -1,9 +1,11 @@
-use Rattle.std.proofs.Common.{◌≡◌, ◌<◌, ap, length, refl, rules, set}
+use Rattle.std.proofs.Common.{◌≡◌, ◌<◌, ◌∙◌, ap, length, refl, rules, set}
 use Rattle.bip_model.specs.declared.numbering.ClassId.{ClassId}
-use Rattle.bip_frame.specs.Views.{reply_class, reply_shown}
+use Rattle.bip_frame.specs.Views.{reply_shown}
 use Rattle.bip_ip.specs.Nodes.{node_of}
+use Rattle.bip_core.specs.Events.{class_named}
 use Rattle.bip_core.specs.Worlds.{world_of}
 use Rattle.bip_core.specs.declared.events.What.TheVariants.{Learns}
+use Rattle.bip_core.proofs.LetterLemmas.{class_is}
 use Rattle.bip_core.proofs.FitLemmas.{replied_fits, replied_keeps}
 use Rattle.bip_core.proofs.WorldLemmas.{class_kept, kept_by, learned_on, read_here, replied_same, sent_kept}
 use Rattle.bip_core.proofs.machines.Machine.learn.Goals as goal
@@ -39,7 +41,7 @@ returns g c =
     let r = reply_shown c.args.reply.now in
     let within : c.class-class.result.0 < length w.classes = search rules in
     let is = read_here w.classes c.class-class.result.0 old within c.index_mut.ensures.value in
-    let named : c.class-class.result.0 ≡ (reply_class r).0 = ap (λ (k : ClassId). k.0) c.class-class.ensures in
+    let named : c.class-class.result.0 ≡ class_named r = ap (λ (k : ClassId). k.0) c.class-class.ensures ∙ class_is r in
     rw (← c.self.view_is) (record {
       what = Learns c.on_reply_frame-did.result;
       seen = c.see.ensures;
