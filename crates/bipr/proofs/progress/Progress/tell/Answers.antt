@@ -1,4 +1,4 @@
-use Rattle.std.proofs.Common.{◌∙◌, [], ℕ, List, subst, sym}
+use Rattle.std.proofs.Common.{◌∙◌, [], ℕ, List, subst}
 use Rattle.bipr.specs.Streams.{Puts, none_put}
 use Rattle.bipr.proofs.ExploredLemmas.{told_here, untold, untold_yet}
 use Rattle.bipr.proofs.StreamLemmas.{puts_each_one}
