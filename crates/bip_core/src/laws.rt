@@ -9,9 +9,9 @@ ghost use Rattle.bip_core.specs.Laws.{WorldsKeepTheirPlan};
 /// An event's grant joins the trace, and nothing else does; so traces go on, by as many grants as
 /// were given. Messages are neither made up nor doubled, and one that is handed on is in flight no
 /// more; none vanishes but by that, or is counted as lost. At first each component's first offer is
-/// in flight, once to each class that touches it, and nothing else. The plan stays, the bank's base,
-/// and whose nodes stand where. What is told by offers that show a state, each component can do
-/// there (docs/PROTOCOL.md, "The world and its events").
+/// in flight, once to each class that touches it, and nothing else. The plan stays, the bank's
+/// base, and whose nodes stand where. What is told by offers that show a state, each component can
+/// do there (docs/PROTOCOL.md, "The world and its events").
 pub fn world_laws()
     ensures join { GrantsJoinTheTrace }
     ensures go_on { TracesGoOn }
