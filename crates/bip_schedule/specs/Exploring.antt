@@ -1,5 +1,6 @@
 -- Exploring: many seeds, each of whose traces is checked to be a run of the model, as it is.
-use Rattle.std.specs.Prelude.{List, Ok, Result, length, ⊤, ℕ, ◌++◌, ◌+◌, ◌≡◌, ◌∷◌}
+use Rattle.std.specs.Fmt.{decimal}
+use Rattle.std.specs.Prelude.{List, Ok, Result, codes, length, ⊤, ℕ, ◌++◌, ◌+◌, ◌≡◌, ◌∷◌}
 use Rattle.bip_bank.specs.Banks.{KeptBank}
 use Rattle.bip_bank.specs.Sharing.{Sharing}
 use Rattle.bip_core.specs.Runs.{IsLossless}
@@ -10,7 +11,7 @@ use Rattle.bip_core.specs.declared.runs.Report.{Report}
 use Rattle.bip_model.specs.declared.grants.Grant.{Grant}
 use Rattle.bip_model.specs.declared.parts.System.{System}
 use Rattle.bip_partition.specs.Plans.{Planned}
-use Rattle.bip_replay.specs.Faults.{IsFaultAt}
+use Rattle.bip_replay.specs.Faults.{IsFaultAt, text_of_step}
 use Rattle.bip_replay.specs.Runs.{IsModelRun, standing_after}
 use Rattle.bip_replay.specs.declared.faults.StepFault.{StepFault}
 use Rattle.bip_schedule.specs.Seeding.{AreSeeded}
@@ -60,6 +61,17 @@ pub record IsNoRun (m : System) (base : ℕ) (trace : List Grant) (fault : StepF
   pub whole : trace ≡ front ++ grant ∷ rest
   pub run : IsModelRun m base front
   pub why : IsFaultAt (standing_after m base front) grant fault
+
+-- the number of a fault
+abbrev pub number_of_explore : ExploreFault → ℕ
+number_of_explore (NotARun seed fault) = 1
+number_of_explore Memory = 2
+
+-- the words of a fault
+abbrev pub text_of_explore : ExploreFault → List ℕ
+text_of_explore (NotARun seed fault) =
+    codes "seed " ++ (decimal seed ++ (codes ": " ++ text_of_step fault))
+text_of_explore Memory = codes "no memory"
 
 -- What contracts of private functions say.
 

@@ -1,11 +1,13 @@
 //! The explorer: many runs by chance, each checked to be a run of the model.
 ghost use Rattle.std.specs.Prelude.{◌≡◌, ◌↔◌, ◌<◌, ◌≤◌, IfErr, IfOk, IsTrue, Ok};
+ghost use Rattle.std.specs.Prelude.{Some};
 ghost use Rattle.bip_model.specs.Numbering.{last_number};
 ghost use Rattle.bip_bank.specs.Banks.{content_of};
 ghost use Rattle.bip_core.specs.Runs.{IsLossless};
 ghost use Rattle.bip_core.specs.Starting.{IsNewWorld, IsUnasked};
 ghost use Rattle.bip_core.specs.Worlds.{world_of};
-ghost use Rattle.bip_schedule.specs.Exploring.{AreExplored, IsSeedRun, IsSharedBy};
+ghost use Rattle.bip_schedule.specs.Exploring.{AreExplored, IsSeedRun};
+ghost use Rattle.bip_schedule.specs.Exploring.{IsSharedBy, number_of_explore, text_of_explore};
 ghost use Rattle.bip_schedule.specs.declared.exploring.ExploreFault.TheVariants.{Memory};
 
 use crate::checking::Checked;
@@ -16,6 +18,8 @@ use bip_model::Number;
 use bip_partition::Plan;
 use bip_replay::StepFault;
 use std::alloc::{AllocError, Global};
+use std::fmt;
+use thiserror::Error;
 
 /// What was explored: how many seeds, and how many grants their traces have in all.
 #[derive(Clone, Copy, Debug, PartialEq, Eq)]
@@ -25,13 +29,36 @@ pub struct Explored {
 }
 
 /// Why seeds aren't explored.
-#[derive(Debug, Drop)]
+#[derive(Debug, Drop, Error)]
 pub enum ExploreFault {
     /// The trace of this seed is no run of the model: its first grant that can't be next has this
     /// fault. No call answers so: it is what the check would say if the proof were wrong.
     NotARun(u32, StepFault),
     /// Want of memory.
     Memory,
+}
+
+impl fmt::Display for ExploreFault {
+    ghost output = { λ fault. Some (text_of_explore fault) };
+
+    fn fmt<W: fmt::Write>(&self, f: &mut fmt::Formatter<W>) -> fmt::Result {
+        match self {
+            ExploreFault::NotARun(seed, fault) => write!(f, "seed {seed}: {fault}"),
+            ExploreFault::Memory => write!(f, "no memory"),
+        }
+    }
+}
+
+impl ExploreFault {
+    /// The fault's number.
+    pub fn number(&self) -> u8
+        ensures { result ≡ number_of_explore self.now }
+    {
+        match self {
+            ExploreFault::NotARun(_, _) => 1,
+            ExploreFault::Memory => 2,
+        }
+    }
 }
 
 impl From<AllocError> for ExploreFault {
