@@ -6,9 +6,9 @@ use Rattle.std.specs.Option.{option_to_list}
 use Rattle.std.proofs.lemmas.List.Sums.{sum_by-append, sum_by-cons, sum_by_push}
 use Rattle.std.proofs.lemmas.Option.{slice_get_past}
 use Rattle.bip_model.specs.declared.grants.Grant.{Grant}
-use Rattle.bip_core.specs.Events.{AreKeptOf, AreSent, CanBeSkipped, IsDelivered, IsCounted, IsDone, IsHandedOn, IsStep, TakesOut, all_done, grant_in, kind_of, one_kept, one_lost, trace_with}
+use Rattle.bip_core.specs.Events.{AreKeptOf, AreSent, CanBeSkipped, IsDelivered, IsCounted, IsDone, IsHandedOn, IsStep, TakesOut, all_done, grant_in, effect_of, one_kept, one_lost, trace_with}
 use Rattle.bip_core.specs.Laws.{handed_out}
-use Rattle.bip_core.specs.Runs.{AreSteps, IsEventCounted, IsRunOfEvents, did_so, is_grant, is_idle, is_kind_granted, is_kind_idle, is_kind_refused, is_refusal, lost_by, number_if, report_counted, report_of, report_with, was_skipped}
+use Rattle.bip_core.specs.Runs.{AreSteps, IsEventCounted, IsRunOfEvents, did_so, is_grant, is_idle, is_effect_granted, is_effect_idle, is_effect_refused, is_refusal, lost_by, number_if, report_counted, report_of, report_with, was_skipped}
 use Rattle.bip_core.specs.Worlds.{WorldContent}
 use Rattle.bip_core.specs.declared.events.Did.{Did}
 use Rattle.bip_core.specs.declared.events.Event.{Event}
@@ -62,27 +62,27 @@ report_by lost events grants refusals idle skipped = record { lost = lost; event
 pub report_more : (ds : List (Option Did)) (d : Option Did) → report_with (report_of ds) d ≡ report_of (ds ++ d ∷ [])
 report_more ds d = rw (← sum_by_push lost_by ds d, length-append ds (d ∷ []), ← count_push (did_so is_grant) ds d, ← count_push (did_so is_refusal) ds d, ← count_push (did_so is_idle) ds d, ← count_push was_skipped ds d) refl
 
--- an event counts as its kind says
-kind_counts : (what : What) → (is_kind_granted (kind_of what) ≡ is_grant what) × (is_kind_refused (kind_of what) ≡ is_refusal what) × (is_kind_idle (kind_of what) ≡ is_idle what)
-kind_counts Nothing = (refl, refl, refl)
-kind_counts (Hears r) = (refl, refl, refl)
-kind_counts Submits = (refl, refl, refl)
-kind_counts (Learns r) = (refl, refl, refl)
-kind_counts (Moves r) = (refl, refl, refl)
-kind_counts (Tries tried.Foreign) = (refl, refl, refl)
-kind_counts (Tries (tried.Pending b)) = (refl, refl, refl)
-kind_counts (Tries (tried.Not x)) = (refl, refl, refl)
-kind_counts (Tries (tried.Local g notifies)) = (refl, refl, refl)
-kind_counts (Tries tried.Ended) = (refl, refl, refl)
-kind_counts (Tries (tried.Sent q)) = (refl, refl, refl)
-kind_counts (Acts acted.Nothing) = (refl, refl, refl)
-kind_counts (Acts acted.Moved) = (refl, refl, refl)
-kind_counts (Acts (acted.Answered q (decision.Granted serial))) = (refl, refl, refl)
-kind_counts (Acts (acted.Answered q (decision.Refused c used))) = (refl, refl, refl)
+-- an event counts as what it did says
+effect_counts : (what : What) → (is_effect_granted (effect_of what) ≡ is_grant what) × (is_effect_refused (effect_of what) ≡ is_refusal what) × (is_effect_idle (effect_of what) ≡ is_idle what)
+effect_counts Nothing = (refl, refl, refl)
+effect_counts (Hears r) = (refl, refl, refl)
+effect_counts Submits = (refl, refl, refl)
+effect_counts (Learns r) = (refl, refl, refl)
+effect_counts (Moves r) = (refl, refl, refl)
+effect_counts (Tries tried.Foreign) = (refl, refl, refl)
+effect_counts (Tries (tried.Pending b)) = (refl, refl, refl)
+effect_counts (Tries (tried.Not x)) = (refl, refl, refl)
+effect_counts (Tries (tried.Local g notifies)) = (refl, refl, refl)
+effect_counts (Tries tried.Ended) = (refl, refl, refl)
+effect_counts (Tries (tried.Sent q)) = (refl, refl, refl)
+effect_counts (Acts acted.Nothing) = (refl, refl, refl)
+effect_counts (Acts acted.Moved) = (refl, refl, refl)
+effect_counts (Acts (acted.Answered q (decision.Granted serial))) = (refl, refl, refl)
+effect_counts (Acts (acted.Answered q (decision.Refused c used))) = (refl, refl, refl)
 
-counted_same : (report : Report) (what : What) (outcome : Outcome) → outcome.kind ≡ kind_of what → report_counted report outcome ≡ report_with report (Some (record { what = what; lost = outcome.lost }))
+counted_same : (report : Report) (what : What) (outcome : Outcome) → outcome.effect ≡ effect_of what → report_counted report outcome ≡ report_with report (Some (record { what = what; lost = outcome.lost }))
 counted_same report what outcome is =
-    let counts = kind_counts what in
+    let counts = effect_counts what in
     let skipped : report.skipped + 0 ≡ report.skipped = omega arith in
     rw (is, counts.0, counts.1, counts.2, skipped) refl
 
@@ -99,7 +99,7 @@ pub event_counted : {saw : What → Type 0} (v x : WorldContent) (report later :
 event_counted v x report later e outcome counted is = record {
   did = Some (record { what = counted.what; lost = outcome.lost });
   steps = (x, counted.step, refl);
-  sums = is ∙ counted_same report counted.what outcome counted.kind;
+  sums = is ∙ counted_same report counted.what outcome counted.effect;
 }
 
 -- events and one more

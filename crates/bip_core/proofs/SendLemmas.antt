@@ -8,7 +8,7 @@ use Rattle.bip_partition.specs.Laws.{IsPlanned}
 use Rattle.bip_core.specs.Letters.{CanBeHandedOn}
 use Rattle.bip_core.proofs.LetterLemmas.{sent_accepted}
 use Rattle.bip_core.specs.declared.events.What.{What}
-use Rattle.bip_core.specs.Events.{AreKeptOf, ArePut, AreSent, IsSending, SendsWhatFits, all_done, kind_of, one_kept, one_lost}
+use Rattle.bip_core.specs.Events.{AreKeptOf, ArePut, AreSent, IsSending, SendsWhatFits, all_done, effect_of, one_kept, one_lost}
 use Rattle.bip_core.specs.declared.messages.Message.{Message}
 use Rattle.bip_core.specs.declared.outcomes.Outcome.{Outcome}
 
@@ -55,12 +55,12 @@ pub one_missed : (m : Message) (mail : List Message) → ArePut (m ∷ []) 1 mai
 one_missed m mail = record { put = []; kept = one_lost all_done; count = refl; last = sym (append-nil mail) }
 
 -- an answer that sends nothing
-pub sends_nothing : (p : Planned) (what : What) (outcome : Outcome) (mail : List Message) → AreSent p what [] → outcome ≡ record { kind = kind_of what; lost = 0 } → IsSending p what outcome mail mail
+pub sends_nothing : (p : Planned) (what : What) (outcome : Outcome) (mail : List Message) → AreSent p what [] → outcome ≡ record { effect = effect_of what; lost = 0 } → IsSending p what outcome mail mail
 sends_nothing p what outcome mail sends is = record {
   sent = [];
   sends = sends;
   put = subst (λ (n : ℕ). ArePut [] n mail mail) (sym (ap (λ (o : Outcome). o.lost) is)) (none_put mail);
-  kind = ap (λ (o : Outcome). o.kind) is;
+  effect = ap (λ (o : Outcome). o.effect) is;
 }
 
 -- all are missed

@@ -48,14 +48,14 @@ use Rattle.bip_core.specs.Traces.{trace_by}
 use Rattle.bip_partition.specs.Laws.{IsPlanned}
 use Rattle.bip_model.specs.declared.numbering.ClassId.{ClassId}
 use Rattle.bip_observe.specs.Offers.{IsReceipt, observed}
-use Rattle.bip_core.specs.Events.{AreSent, CanBeSkipped, IsCounted, IsDelivered, IsDone, IsHandedOn, IsSending, IsTakenIn, IsTraced, SendsWhatFits, StepCanBeSkipped, TakesOut, grant_acted, grant_in, grant_tried, is_serving, kind_of, trace_with, class_named}
+use Rattle.bip_core.specs.Events.{AreSent, CanBeSkipped, IsCounted, IsDelivered, IsDone, IsHandedOn, IsSending, IsTakenIn, IsTraced, SendsWhatFits, StepCanBeSkipped, TakesOut, grant_acted, grant_in, grant_tried, is_serving, effect_of, trace_with, class_named}
 use Rattle.bip_core.specs.declared.events.Event.{Event}
 use Rattle.bip_core.specs.declared.events.Event.TheVariants.{Bank, Mail, Try}
 use Rattle.bip_core.specs.declared.events.What.TheVariants.{Acts, Hears, Learns, Moves, Nothing, Submits, Tries}
 use Rattle.bip_core.specs.declared.events.What.{What}
 use Rattle.bip_core.specs.declared.messages.Message.TheVariants.{NotifyComponent, OfferTo, ReplyToClass, RequestToBank}
 use Rattle.bip_core.specs.declared.messages.Message.{Message}
-use Rattle.bip_core.specs.declared.outcomes.Kind.TheVariants as kind
+use Rattle.bip_core.specs.declared.outcomes.Effect.TheVariants as effect
 use Rattle.bip_core.specs.declared.outcomes.Outcome.{Outcome}
 use Rattle.bip_core.proofs.SendLemmas.{put_fit, sends_nothing}
 
@@ -513,15 +513,15 @@ counted_by saw w event what outcome middle v seen traced sending others = record
   what = what;
   seen = seen;
   step = record { middle = middle; acted = traced; sent = sending.sent; sends = sending.sends; put = sending.put; others = others };
-  kind = sending.kind;
+  effect = sending.effect;
 }
 
 -- an event that does nothing, or hands a request on, sends nothing
-pub counted_quiet : (saw : What → Type 0) (w : WorldContent) (event : Event) (what : What) (outcome : Outcome) (v : WorldContent) → saw what → IsTraced w event what v → AreSent w.plan what [] → outcome ≡ record { kind = kind_of what; lost = 0 } → IsCounted saw w event outcome v
+pub counted_quiet : (saw : What → Type 0) (w : WorldContent) (event : Event) (what : What) (outcome : Outcome) (v : WorldContent) → saw what → IsTraced w event what v → AreSent w.plan what [] → outcome ≡ record { effect = effect_of what; lost = 0 } → IsCounted saw w event outcome v
 counted_quiet saw w event what outcome v seen traced sends is = counted_by saw w event what outcome v v seen traced (sends_nothing w.plan what outcome v.mail sends is) refl
 
 -- a try that asks for nothing
-pub counted_idly : (saw : What → Type 0) (w : KeptWorld) (k : ClassId) (a : InterId) (why : WhyNot) (old : KeptNode) (outcome : Outcome) → saw (Tries (tried_of why)) → slice_get w.classes k.0 ≡ Some old → IsTried (node_of old) a.0 (tried_of why) → outcome ≡ record { kind = kind.Idle; lost = 0 }
+pub counted_idly : (saw : What → Type 0) (w : KeptWorld) (k : ClassId) (a : InterId) (why : WhyNot) (old : KeptNode) (outcome : Outcome) → saw (Tries (tried_of why)) → slice_get w.classes k.0 ≡ Some old → IsTried (node_of old) a.0 (tried_of why) → outcome ≡ record { effect = effect.Idle; lost = 0 }
     → IsCounted saw (world_of w) (Try k a) outcome (world_of w)
 counted_idly saw w k a why_not.Foreign old outcome seen is tries idle = counted_quiet saw (world_of w) (Try k a) (Tries tried.Foreign) outcome (world_of w) seen (tried_idly w k a tried.Foreign old is tries refl refl) refl idle
 counted_idly saw w k a (why_not.Pending b) old outcome seen is tries idle = counted_quiet saw (world_of w) (Try k a) (Tries (tried.Pending b)) outcome (world_of w) seen (tried_idly w k a (tried.Pending b) old is tries refl refl) refl idle

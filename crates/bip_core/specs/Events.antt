@@ -35,8 +35,8 @@ use Rattle.bip_core.specs.declared.events.What.TheVariants.{Nothing, Hears, Subm
 use Rattle.bip_core.specs.declared.events.What.TheVariants.{Tries, Acts}
 use Rattle.bip_core.specs.declared.messages.Message.{Message}
 use Rattle.bip_core.specs.declared.messages.Message.TheVariants.{OfferTo, RequestToBank}
-use Rattle.bip_core.specs.declared.outcomes.Kind.{Kind}
-use Rattle.bip_core.specs.declared.outcomes.Kind.TheVariants as kind
+use Rattle.bip_core.specs.declared.outcomes.Effect.{Effect}
+use Rattle.bip_core.specs.declared.outcomes.Effect.TheVariants as effect
 use Rattle.bip_core.specs.declared.outcomes.Outcome.{Outcome}
 use Rattle.bip_core.specs.declared.messages.Message.TheVariants.{ReplyToClass, NotifyComponent}
 
@@ -187,21 +187,21 @@ abbrev pub is_serving : BankStep → Bool
 is_serving (Serve s) = true
 is_serving step = false
 
--- what kind of event it was, by what it did: runs count these
-abbrev pub kind_decided : Decision → Kind
-kind_decided (decision.Granted serial) = kind.Granted
-kind_decided (decision.Refused c used) = kind.Refused
+-- what an event did, in the words of a report: runs count these
+abbrev pub effect_decided : Decision → Effect
+effect_decided (decision.Granted serial) = effect.Granted
+effect_decided (decision.Refused c used) = effect.Refused
 
-abbrev pub kind_of : What → Kind
-kind_of Nothing = kind.Idle
-kind_of (Tries tried.Foreign) = kind.Idle
-kind_of (Tries (tried.Pending b)) = kind.Idle
-kind_of (Tries (tried.Not verdict)) = kind.Idle
-kind_of (Tries (tried.Local g notifies)) = kind.Granted
-kind_of (Tries tried.Ended) = kind.Idle
-kind_of (Acts acted.Nothing) = kind.Idle
-kind_of (Acts (acted.Answered q d)) = kind_decided d
-kind_of what = kind.Done
+abbrev pub effect_of : What → Effect
+effect_of Nothing = effect.Idle
+effect_of (Tries tried.Foreign) = effect.Idle
+effect_of (Tries (tried.Pending b)) = effect.Idle
+effect_of (Tries (tried.Not verdict)) = effect.Idle
+effect_of (Tries (tried.Local g notifies)) = effect.Granted
+effect_of (Tries tried.Ended) = effect.Idle
+effect_of (Acts acted.Nothing) = effect.Idle
+effect_of (Acts (acted.Answered q d)) = effect_decided d
+effect_of what = effect.Done
 
 -- what an answer sends is put last
 pub record IsSending (p : Planned) (what : What) (outcome : Outcome) (mail later : List Message)
@@ -209,7 +209,7 @@ pub record IsSending (p : Planned) (what : What) (outcome : Outcome) (mail later
   pub sent : List Message
   pub sends : AreSent p what sent
   pub put : ArePut sent outcome.lost mail later
-  pub kind : outcome.kind ≡ kind_of what
+  pub effect : outcome.effect ≡ effect_of what
 
 -- a message is handed on, and what that sends is put last; a witness saw what it did
 pub record IsTakenIn (saw : What → Type 0) (w : WorldContent) (message : Message)
@@ -227,4 +227,4 @@ pub record IsCounted (saw : What → Type 0) (w : WorldContent) (event : Event) 
   pub what : What
   pub seen : saw what
   pub step : IsStep w event (record { what = what; lost = outcome.lost }) v
-  pub kind : outcome.kind ≡ kind_of what
+  pub effect : outcome.effect ≡ effect_of what

@@ -10,8 +10,8 @@ use Rattle.bip_core.specs.declared.events.Did.{Did}
 use Rattle.bip_core.specs.declared.events.Event.{Event}
 use Rattle.bip_core.specs.declared.events.What.{What}
 use Rattle.bip_core.specs.declared.events.What.TheVariants.{Acts, Nothing, Tries}
-use Rattle.bip_core.specs.declared.outcomes.Kind.{Kind}
-use Rattle.bip_core.specs.declared.outcomes.Kind.TheVariants as kind
+use Rattle.bip_core.specs.declared.outcomes.Effect.{Effect}
+use Rattle.bip_core.specs.declared.outcomes.Effect.TheVariants as effect
 use Rattle.bip_core.specs.declared.outcomes.Outcome.{Outcome}
 use Rattle.bip_core.specs.declared.runs.Report.{Report}
 
@@ -110,25 +110,25 @@ pub record AddsUp (report : Report) : Type 0 where
 -- What contracts of private functions say.
 
 -- a report with one more event, which comes to this
-abbrev pub is_kind_granted : Kind → Bool
-is_kind_granted kind.Granted = true
-is_kind_granted other = false
+abbrev pub is_effect_granted : Effect → Bool
+is_effect_granted effect.Granted = true
+is_effect_granted other = false
 
-abbrev pub is_kind_refused : Kind → Bool
-is_kind_refused kind.Refused = true
-is_kind_refused other = false
+abbrev pub is_effect_refused : Effect → Bool
+is_effect_refused effect.Refused = true
+is_effect_refused other = false
 
-abbrev pub is_kind_idle : Kind → Bool
-is_kind_idle kind.Idle = true
-is_kind_idle other = false
+abbrev pub is_effect_idle : Effect → Bool
+is_effect_idle effect.Idle = true
+is_effect_idle other = false
 
 abbrev pub report_counted : Report → Outcome → Report
 report_counted report outcome =
     record {
       lost = report.lost + outcome.lost;
       events = report.events + 1;
-      grants = report.grants + number_if (is_kind_granted outcome.kind);
-      refusals = report.refusals + number_if (is_kind_refused outcome.kind);
-      idle = report.idle + number_if (is_kind_idle outcome.kind);
+      grants = report.grants + number_if (is_effect_granted outcome.effect);
+      refusals = report.refusals + number_if (is_effect_refused outcome.effect);
+      idle = report.idle + number_if (is_effect_idle outcome.effect);
       skipped = report.skipped;
     }

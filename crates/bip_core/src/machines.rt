@@ -21,12 +21,12 @@ ghost use Rattle.bip_core.specs.declared.messages.Message.{Message};
 ghost use Rattle.bip_core.specs.declared.messages.Message.TheVariants.{NotifyComponent, OfferTo};
 ghost use Rattle.bip_core.specs.declared.messages.Message.TheVariants.{ReplyToClass};
 ghost use Rattle.bip_core.specs.declared.messages.Message.TheVariants.{RequestToBank};
-ghost use Rattle.bip_core.specs.declared.outcomes.Kind.TheVariants.{Done};
+ghost use Rattle.bip_core.specs.declared.outcomes.Effect.TheVariants.{Done};
 
 use crate::letters::Letter;
 use crate::mailbags::Mailbag;
 use crate::messages::Message;
-use crate::outcomes::{Kind, Outcome, Witness};
+use crate::outcomes::{Effect, Outcome, Witness};
 use crate::sending::{send_acted, send_moved, send_told, send_tried};
 use crate::starting::{first_classes, first_components, first_offers};
 use crate::traces::{join_acted, join_tried, make_room, make_room_to_serve, trace_by};
@@ -182,7 +182,7 @@ impl<'p, B: bip_bank::Bank> Machine<'p, B> {
     {
         let receipt = self.classes[class.0 as usize].on_offer_frame(offer);
         witness.see(What::Hears(receipt));
-        Outcome::of(Kind::Done)
+        Outcome::of(Effect::Done)
     }
 
     /// Hands a reply on to the class that it names.
@@ -228,11 +228,11 @@ impl<'p, B: bip_bank::Bank> Machine<'p, B> {
     {
         if class.0 as usize >= self.classes.len() {
             witness.see(What::Nothing);
-            return Ok(Outcome::of(Kind::Idle));
+            return Ok(Outcome::of(Effect::Idle));
         }
         if let Some(why) = self.classes[class.0 as usize].why_not(inter) {
             witness.see_why_not(why);
-            return Ok(Outcome::of(Kind::Idle));
+            return Ok(Outcome::of(Effect::Idle));
         }
         self.ask_one(class, inter, witness)
     }
@@ -293,7 +293,7 @@ impl<'p, B: bip_bank::Bank> Machine<'p, B> {
     {
         if place >= self.mails() {
             witness.see(What::Nothing);
-            return Ok(Outcome::of(Kind::Idle));
+            return Ok(Outcome::of(Effect::Idle));
         }
         match self.address_at(place) {
             Address::Layer => self.submit_at(place, witness),
@@ -419,11 +419,11 @@ impl<'p, B: bip_bank::Bank> Machine<'p, B> {
 
 /// A request has been handed on to the bank.
 fn let_go<W: Witness>(witness: &mut W) -> Outcome
-    ensures outcome { result ≡ record { kind = Done; lost = 0 } }
+    ensures outcome { result ≡ record { effect = Done; lost = 0 } }
     ensures seen { W.saw Submits witness.new }
 {
     witness.see(What::Submits);
-    Outcome::of(Kind::Done)
+    Outcome::of(Effect::Done)
 }
 
 /// Does nothing: it reminds the prover that a bank without grants has used up nothing.

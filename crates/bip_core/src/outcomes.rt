@@ -5,9 +5,9 @@ ghost use Rattle.bip_core.specs.declared.outcomes.Outcome.{Outcome};
 use crate::What;
 use bip_ip::{Tried, WhyNot};
 
-/// What kind of event it was, for the report of a run.
+/// What an event did, for the report of a run.
 #[derive(Clone, Copy)]
-pub(crate) enum Kind {
+pub(crate) enum Effect {
     /// It did something, and neither gave a grant nor refused a request.
     Done,
     /// A grant joined the trace.
@@ -18,19 +18,19 @@ pub(crate) enum Kind {
     Idle,
 }
 
-/// What an event comes to: its kind, and how many of its messages were lost.
+/// What an event comes to: what it did, and how many of its messages were lost.
 #[derive(Clone, Copy)]
 pub(crate) struct Outcome {
-    pub kind: Kind,
+    pub effect: Effect,
     pub lost: usize,
 }
 
 impl Outcome {
-    /// An event of this kind that lost no message.
-    pub fn of(kind: Kind) -> Outcome
-        ensures { result ≡ record { kind = kind; lost = 0 } }
+    /// An event that did this and lost no message.
+    pub fn of(effect: Effect) -> Outcome
+        ensures { result ≡ record { effect = effect; lost = 0 } }
     {
-        Outcome { kind, lost: 0 }
+        Outcome { effect, lost: 0 }
     }
 }
 

@@ -9,7 +9,7 @@ ghost use Rattle.bip_core.specs.Runs.{AddsUp, AreSteps, IsEventCounted, IsRunOfE
 ghost use Rattle.bip_core.specs.Runs.{report_counted, report_of, report_with};
 ghost use Rattle.bip_core.specs.Worlds.{world_of};
 
-use crate::outcomes::{Kind, Outcome};
+use crate::outcomes::{Effect, Outcome};
 use crate::{Did, Event, World};
 
 /// The sums of a run of events (docs/PROTOCOL.md, "The world and its events").
@@ -55,11 +55,11 @@ impl Report {
     {
         self.lost += outcome.lost as u128;
         self.events += 1;
-        match outcome.kind {
-            Kind::Done => {}
-            Kind::Granted => self.grants += 1,
-            Kind::Refused => self.refusals += 1,
-            Kind::Idle => self.idle += 1,
+        match outcome.effect {
+            Effect::Done => {}
+            Effect::Granted => self.grants += 1,
+            Effect::Refused => self.refusals += 1,
+            Effect::Idle => self.idle += 1,
         }
     }
 

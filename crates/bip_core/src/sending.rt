@@ -5,7 +5,7 @@ ghost use Rattle.bip_model.specs.declared.messages.Offer.{Offer};
 ghost use Rattle.bip_frame.specs.Frames.{IsFrame, IsNumbered, of_offer};
 ghost use Rattle.bip_frame.specs.Views.{reply_class};
 ghost use Rattle.bip_core.specs.Events.{ArePut, IsSending, SendsWhatFits, are_notified};
-ghost use Rattle.bip_core.specs.Events.{kind_decided};
+ghost use Rattle.bip_core.specs.Events.{effect_decided};
 ghost use Rattle.bip_core.specs.declared.events.What.TheVariants.{Acts, Learns, Moves, Tries};
 ghost use Rattle.bip_core.specs.declared.messages.Message.TheVariants.{NotifyComponent, OfferTo};
 ghost use Rattle.bip_core.specs.declared.messages.Message.TheVariants.{ReplyToClass};
@@ -14,7 +14,7 @@ ghost use Rattle.bip_core.specs.declared.messages.Message.TheVariants.{RequestTo
 use crate::Address;
 use crate::letters::Letter;
 use crate::mailbags::Mailbag;
-use crate::outcomes::{Kind, Outcome};
+use crate::outcomes::{Effect, Outcome};
 use bip_bank::{Acted, Decision, reply_to};
 use bip_component::Notified;
 use bip_frame::{write_notify, write_offer, write_reply, write_reserve};
@@ -30,11 +30,11 @@ pub(crate) fn send_told(plan: &Plan, mail: &mut Mailbag, did: &Answered) -> Outc
 {
     match did {
         Answered::Told(notifies) => Outcome {
-            kind: Kind::Done,
+            effect: Effect::Done,
             lost: notify_all(mail, notifies.as_slice()),
         },
-        Answered::Dropped => Outcome::of(Kind::Done),
-        Answered::Stale => Outcome::of(Kind::Done),
+        Answered::Dropped => Outcome::of(Effect::Done),
+        Answered::Stale => Outcome::of(Effect::Done),
     }
 }
 
@@ -45,11 +45,11 @@ pub(crate) fn send_moved(plan: &Plan, mail: &mut Mailbag, did: &Notified) -> Out
 {
     match did {
         Notified::Moved(offer) => Outcome {
-            kind: Kind::Done,
+            effect: Effect::Done,
             lost: offer_to_all(mail, plan.classes_of(offer.comp), offer),
         },
-        Notified::Spent => Outcome::of(Kind::Done),
-        Notified::Stale => Outcome::of(Kind::Done),
+        Notified::Spent => Outcome::of(Effect::Done),
+        Notified::Stale => Outcome::of(Effect::Done),
     }
 }
 
@@ -59,16 +59,16 @@ pub(crate) fn send_tried(plan: &Plan, mail: &mut Mailbag, did: &Tried) -> Outcom
     ensures { IsSending plan.now (Tries did.now) result mail.old mail.new }
 {
     match did {
-        Tried::Foreign => Outcome::of(Kind::Idle),
-        Tried::Pending(_) => Outcome::of(Kind::Idle),
-        Tried::Not(_) => Outcome::of(Kind::Idle),
+        Tried::Foreign => Outcome::of(Effect::Idle),
+        Tried::Pending(_) => Outcome::of(Effect::Idle),
+        Tried::Not(_) => Outcome::of(Effect::Idle),
         Tried::Local(_, notifies) => Outcome {
-            kind: Kind::Granted,
+            effect: Effect::Granted,
             lost: notify_all(mail, notifies.as_slice()),
         },
-        Tried::Ended => Outcome::of(Kind::Idle),
+        Tried::Ended => Outcome::of(Effect::Idle),
         Tried::Sent(request) => Outcome {
-            kind: Kind::Done,
+            effect: Effect::Done,
             lost: put_request(mail, request),
         },
     }
@@ -82,22 +82,22 @@ pub(crate) fn send_acted(plan: &Plan, mail: &mut Mailbag, did: &Acted) -> Outcom
     ensures { IsSending plan.now (Acts did.now) result mail.old mail.new }
 {
     match did {
-        Acted::Nothing => Outcome::of(Kind::Idle),
-        Acted::Moved => Outcome::of(Kind::Done),
+        Acted::Nothing => Outcome::of(Effect::Idle),
+        Acted::Moved => Outcome::of(Effect::Done),
         Acted::Answered { request, decision } => Outcome {
-            kind: kind_decided(decision),
+            effect: effect_decided(decision),
             lost: put_reply(mail, &reply_to(request, decision)),
         },
     }
 }
 
-/// What kind of event a decision is.
-fn kind_decided(decision: &Decision) -> Kind
-    ensures { result ≡ kind_decided decision.now }
+/// What an event did that brought a decision.
+fn effect_decided(decision: &Decision) -> Effect
+    ensures { result ≡ effect_decided decision.now }
 {
     match decision {
-        Decision::Granted(_) => Kind::Granted,
-        Decision::Refused { .. } => Kind::Refused,
+        Decision::Granted(_) => Effect::Granted,
+        Decision::Refused { .. } => Effect::Refused,
     }
 }
 

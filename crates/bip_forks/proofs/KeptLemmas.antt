@@ -30,7 +30,7 @@ use Rattle.bip_forks.specs.declared.sending.Sent.{Sent}
 use Rattle.bip_forks.specs.declared.sending.Sent.TheVariants as sent
 use Rattle.bip_forks.specs.declared.shares.AskToken.{AskToken}
 use Rattle.bip_forks.specs.declared.shares.Fork.{Fork}
-use Rattle.bip_forks.specs.declared.shares.Pair.{Pair}
+use Rattle.bip_forks.specs.declared.shares.Neighbours.{Neighbours}
 use Rattle.bip_forks.specs.declared.shares.Side.{Side}
 
 pub apart_of : (k : KeptForks) → IsKeptForks k → AreApart k.parts.stations
@@ -168,7 +168,7 @@ steps_ask k s t token is (first, may) pair =
     ]
 
 -- pairs, from either station
-abbrev ordered : Bool → StationId → StationId → Pair
+abbrev ordered : Bool → StationId → StationId → Neighbours
 ordered b s t = cond b (record { low = s; high = t }) (record { low = t; high = s })
 
 pair_swap : (s t : StationId) → s.0 ≢ t.0 → pair_of_stations s t ≡ pair_of_stations t s
@@ -209,7 +209,7 @@ can_arrive k is (sent.Fork s t f) there =
     let fork = is.sent (sent.Fork s t f) there in
     let none : here ((machine_of k).forks t.0 s.0) ≡ 0 = omega (arith, is.machine.one s.0 t.0 share, flies s.0 t.0 (used_at f.rows) (machine_of k).flight flies') in (
       share.other,
-      ap (λ (p : Pair). other_of p (station_at k.parts.stations t.0).number) fork.pair ∙ other_pair s t (station_at k.parts.stations t.0).number share.apart (is.numbered t.0 share.other),
+      ap (λ (p : Neighbours). other_of p (station_at k.parts.stations t.0).number) fork.pair ∙ other_pair s t (station_at k.parts.stations t.0).number share.apart (is.numbered t.0 share.other),
       ((is.machine.net.share t.0 s.0).1 (share_swap (net_of k) s.0 t.0 share), no_fork (side_at k.parts.stations t.0 s.0) none),
     )
 can_arrive k is (sent.Ask s t token) there =
@@ -218,7 +218,7 @@ can_arrive k is (sent.Ask s t token) there =
     let pair = is.sent (sent.Ask s t token) there in
     let none : held ((machine_of k).tokens t.0 s.0) ≡ 0 = omega (arith, is.machine.one_token s.0 t.0 share, asks s.0 t.0 (machine_of k).flight flies') in (
       share.other,
-      ap (λ (p : Pair). other_of p (station_at k.parts.stations t.0).number) pair ∙ other_pair s t (station_at k.parts.stations t.0).number share.apart (is.numbered t.0 share.other),
+      ap (λ (p : Neighbours). other_of p (station_at k.parts.stations t.0).number) pair ∙ other_pair s t (station_at k.parts.stations t.0).number share.apart (is.numbered t.0 share.other),
       ((is.machine.net.share t.0 s.0).1 (share_swap (net_of k) s.0 t.0 share), no_token (side_at k.parts.stations t.0 s.0).asked none),
     )
 

@@ -15,7 +15,7 @@ use Rattle.bip_table.specs.declared.rows.Row.{Row}
 use Rattle.bip_bank.specs.declared.banks.StationId.{StationId}
 use Rattle.bip_forks.specs.Machines.{HasSerial, rows_after, serial_after}
 use Rattle.bip_forks.specs.declared.shares.Fork.{Fork}
-use Rattle.bip_forks.specs.declared.shares.Pair.{Pair}
+use Rattle.bip_forks.specs.declared.shares.Neighbours.{Neighbours}
 use Rattle.bip_forks.specs.declared.shares.Side.{Side}
 
 -- what a station keeps: its number and its interaction; its table; its open requests, the oldest
@@ -28,11 +28,11 @@ pub record KeptStation : Type 0 where
   pub sides : List Side
 
 -- the pair of two stations, and the other one of a pair that has this one
-abbrev pub pair_of_stations : StationId → StationId → Pair
+abbrev pub pair_of_stations : StationId → StationId → Neighbours
 pair_of_stations s t =
     if nat_lt s.0 t.0 then record { low = s; high = t } else record { low = t; high = s }
 
-abbrev pub other_of : Pair → StationId → Option StationId
+abbrev pub other_of : Neighbours → StationId → Option StationId
 other_of p s =
     if p.low.0 == s.0 then Some p.high else (if p.high.0 == s.0 then Some p.low else None)
 

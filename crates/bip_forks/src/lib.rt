@@ -10,5 +10,5 @@ mod stations;
 
 pub use forks::Forks;
 pub use laws::fork_laws;
-pub use shares::{AskToken, Fork, Pair, Side};
+pub use shares::{AskToken, Fork, Neighbours, Side};
 pub use stations::Station;

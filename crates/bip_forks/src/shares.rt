@@ -12,7 +12,7 @@ use bip_table::Row;
 
 /// Two stations that share a fork, the lower and the higher.
 #[derive(Clone, Copy, Debug, PartialEq, Eq)]
-pub struct Pair {
+pub struct Neighbours {
     pub(crate) low: StationId,
     pub(crate) high: StationId,
 }
@@ -20,14 +20,14 @@ pub struct Pair {
 /// The request token of a fork. Only a station makes one.
 #[derive(Drop)]
 pub struct AskToken {
-    pub(crate) pair: Pair,
+    pub(crate) pair: Neighbours,
 }
 
 /// A fork: its two stations, and the number of each component that both touch. Only a station makes
 /// one.
 #[derive(Drop)]
 pub struct Fork {
-    pub(crate) pair: Pair,
+    pub(crate) pair: Neighbours,
     pub(crate) rows: Seq<Row>,
 }
 
@@ -42,16 +42,16 @@ pub struct Side {
 }
 
 /// The pair of two stations.
-pub(crate) fn pair_of_stations(one: StationId, other: StationId) -> Pair
+pub(crate) fn pair_of_stations(one: StationId, other: StationId) -> Neighbours
     ensures { result ≡ pair_of_stations one other }
 {
     if one.0 < other.0 {
-        Pair {
+        Neighbours {
             low: one,
             high: other,
         }
     } else {
-        Pair {
+        Neighbours {
             low: other,
             high: one,
         }
@@ -59,7 +59,7 @@ pub(crate) fn pair_of_stations(one: StationId, other: StationId) -> Pair
 }
 
 /// The other station of a pair that has this one.
-pub(crate) fn other_of(pair: Pair, station: StationId) -> Option<StationId>
+pub(crate) fn other_of(pair: Neighbours, station: StationId) -> Option<StationId>
     ensures { result ≡ other_of pair station }
 {
     if pair.low.0 == station.0 {

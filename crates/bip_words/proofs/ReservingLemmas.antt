@@ -9,7 +9,7 @@ use Rattle.bip_model.specs.Wants.{components_of, is_moved, moved_in}
 use Rattle.bip_model.specs.declared.wants.Want.{Want}
 use Rattle.bip_model.specs.declared.grants.Grant.{Grant}
 use Rattle.bip_model.specs.declared.numbering.CompId.{CompId}
-use Rattle.bip_words.specs.declared.knowledge.Kind.TheVariants.{Look, Changed, Wrote}
+use Rattle.bip_words.specs.declared.knowledge.Learned.TheVariants.{Look, Changed, Wrote}
 use Rattle.bip_words.specs.declared.tables.Attempt.TheVariants.{Granted, Used, Busy, Unknown}
 use Rattle.bip_model.specs.Numbering.{IsLowest}
 use Rattle.std.specs.List.Sorted.{IsStrictlyIncreasing}

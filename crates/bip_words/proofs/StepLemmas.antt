@@ -9,7 +9,7 @@ use Rattle.atomic_table.proofs.Lists.{exchanged, set_again}
 use Rattle.bip_model.specs.Wants.{moved_in}
 use Rattle.bip_model.specs.Grants.{used_by}
 use Rattle.bip_model.specs.declared.numbering.CompId.{CompId}
-use Rattle.bip_words.specs.declared.knowledge.Kind.TheVariants.{Look, Changed, Wrote}
+use Rattle.bip_words.specs.declared.knowledge.Learned.TheVariants.{Look, Changed, Wrote}
 use Rattle.std.specs.List.{AllByRecursion}
 use Rattle.bip_model.specs.declared.messages.Request.{Request}
 use Rattle.bip_words.proofs.ClaimLemmas.{drawn, noted, opened, taken_in, wrote}

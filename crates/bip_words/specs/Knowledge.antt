@@ -4,9 +4,9 @@ use Rattle.std.specs.Prelude.{ℕ, ◌+◌, ◌/◌, max, Bool, true, false, ◌
 use Rattle.std.specs.Prelude.{List, [], ◌∷◌, ◌++◌}
 use Rattle.bip_model.specs.declared.grants.Grant.{Grant}
 use Rattle.bip_model.specs.declared.messages.Request.{Request}
-use Rattle.bip_words.specs.declared.knowledge.Kind.TheVariants.{Look, Changed, Wrote}
+use Rattle.bip_words.specs.declared.knowledge.Learned.TheVariants.{Look, Changed, Wrote}
 use Rattle.bip_words.specs.declared.knowledge.Claim.{Claim}
-use Rattle.bip_words.specs.declared.knowledge.Kind.{Kind}
+use Rattle.bip_words.specs.declared.knowledge.Learned.{Learned}
 use Rattle.bip_words.specs.declared.knowledge.Knowledge.{Knowledge}
 use Rattle.bip_words.specs.declared.knowledge.Note.{Note}
 
@@ -38,8 +38,9 @@ nobody = that_counted []
 abbrev pub claim : ℕ → ℕ → Bool → Claim
 claim row used due = record { row = row; used = used; due = due }
 
-abbrev pub note : ℕ → ℕ → ℕ → Kind → Note
-note row word own kind = record { row = row; word = word; own = own; kind = kind }
+abbrev pub note : ℕ → ℕ → ℕ → Learned → Note
+note row word own learned =
+    record { row = row; word = word; own = own; learned = learned }
 
 -- with one note more
 abbrev pub with_note : Note → Knowledge → Knowledge
@@ -55,12 +56,12 @@ abbrev pub seen_in : ℕ → List Note → ℕ
 seen_in r [] = 0
 seen_in r (n ∷ ns) = max (if n.row == r then n.word / 2 else 0) (seen_in r ns)
 
-abbrev pub is_look : Kind → Bool
+abbrev pub is_look : Learned → Bool
 is_look Look = true
 is_look Changed = false
 is_look Wrote = false
 
-abbrev pub is_changed : Kind → Bool
+abbrev pub is_changed : Learned → Bool
 is_changed Look = false
 is_changed Changed = true
 is_changed Wrote = false
@@ -69,12 +70,12 @@ is_changed Wrote = false
 abbrev pub look_count : ℕ → List Note → ℕ
 look_count r [] = 0
 look_count r (n ∷ ns) =
-    (if n.row == r then (if is_look n.kind then 1 else 0) else 0) + look_count r ns
+    (if n.row == r then (if is_look n.learned then 1 else 0) else 0) + look_count r ns
 
 -- how many exchanges found another word
 abbrev pub change_count : List Note → ℕ
 change_count [] = 0
-change_count (n ∷ ns) = (if is_changed n.kind then 1 else 0) + change_count ns
+change_count (n ∷ ns) = (if is_changed n.learned then 1 else 0) + change_count ns
 
 -- how many of the grants have serial k
 abbrev pub grants_at : ℕ → List (ℕ × Grant) → ℕ

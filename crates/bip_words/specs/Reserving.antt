@@ -7,7 +7,7 @@ use Rattle.bip_model.specs.Wants.{is_moved}
 use Rattle.bip_model.specs.declared.grants.Grant.{Grant}
 use Rattle.bip_model.specs.declared.numbering.CompId.{CompId}
 use Rattle.bip_model.specs.declared.wants.Want.{Want}
-use Rattle.bip_words.specs.declared.knowledge.Kind.TheVariants.{Look, Changed}
+use Rattle.bip_words.specs.declared.knowledge.Learned.TheVariants.{Look, Changed}
 use Rattle.bip_words.specs.declared.tables.Attempt.TheVariants.{Granted, Used, Busy, Unknown}
 use Rattle.bip_words.specs.Knowledge.{change_count, claims_on, look_count, note, seen_in}
 use Rattle.bip_words.specs.Rows.{HasRow, IsRowOf, WantsWithoutRow, row_comps, wanted_at}

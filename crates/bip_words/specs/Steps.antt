@@ -7,8 +7,8 @@ use mathlib.Core.Option.{some}
 use Rattle.atomic_table.specs.Table.{Me, Step}
 use Rattle.bip_model.specs.declared.grants.Grant.{Grant}
 use Rattle.bip_model.specs.declared.wants.Want.{Want}
-use Rattle.bip_words.specs.declared.knowledge.Kind.{Kind}
-use Rattle.bip_words.specs.declared.knowledge.Kind.TheVariants.{Look, Changed, Wrote}
+use Rattle.bip_words.specs.declared.knowledge.Learned.{Learned}
+use Rattle.bip_words.specs.declared.knowledge.Learned.TheVariants.{Look, Changed, Wrote}
 use Rattle.bip_model.specs.declared.messages.Request.{Request}
 use Rattle.bip_words.specs.Knowledge.{asked_by, claim, claims_on, knows, nobody, note, with_note}
 use Rattle.bip_words.specs.Rows.{IsRowOf}
@@ -29,8 +29,9 @@ abbrev pub IsSeenMost : ℕ → ℕ → Note → Type 0
 IsSeenMost row word n = n.row ≡ row → n.word / 2 ≤ word / 2
 
 -- a word that was found in a row is noted
-abbrev pub with_found : Kind → ℕ → ℕ → Knowledge → Knowledge
-with_found kind row word v = with_note (note row word (claims_on row v.claims) kind) v
+abbrev pub with_found : Learned → ℕ → ℕ → Knowledge → Knowledge
+with_found learned row word v =
+    with_note (note row word (claims_on row v.claims) learned) v
 
 -- a look
 abbrev pub Looks : Step Request → Mine → ℕ → Mine → Type 0

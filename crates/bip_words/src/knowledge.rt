@@ -11,7 +11,7 @@ pub struct Claim {
 
 /// How a row's word was learned: by a look, by an exchange that found another one, or as it was
 /// written.
-pub enum Kind {
+pub enum Learned {
     Look,
     Changed,
     Wrote,
@@ -22,7 +22,7 @@ pub struct Note {
     pub row: u64,
     pub word: u64,
     pub own: u64,
-    pub kind: Kind,
+    pub learned: Learned,
 }
 
 /// What a seat knows: its claims, the one made last first; what it saw, the newest first; what it

@@ -17,8 +17,8 @@ ghost use Rattle.bip_words.specs.Steps.{IsBelow, IsCovered, IsSeenMost, IsSmall,
 ghost use Rattle.bip_words.specs.Steps.{with_claim, with_found, with_row_back, with_ticket};
 ghost use Rattle.bip_words.specs.Tables.{IsSeatOf};
 ghost use Rattle.bip_words.specs.declared.knowledge.Claim.{Claim};
-ghost use Rattle.bip_words.specs.declared.knowledge.Kind.TheVariants.{Look as Looked};
-ghost use Rattle.bip_words.specs.declared.knowledge.Kind.TheVariants.{Changed};
+ghost use Rattle.bip_words.specs.declared.knowledge.Learned.TheVariants.{Look as Looked};
+ghost use Rattle.bip_words.specs.declared.knowledge.Learned.TheVariants.{Changed};
 
 use crate::rows::row_of;
 use crate::rule::Token;

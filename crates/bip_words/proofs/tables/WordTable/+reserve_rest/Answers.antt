@@ -5,7 +5,7 @@ use Rattle.bip_model.proofs.NumberingLemmas.{Rises, rises_from_increasing}
 use Rattle.bip_model.specs.Wants.{components_of, is_moved, moved_in}
 use Rattle.bip_model.specs.declared.wants.Want.{Want}
 use Rattle.bip_words.specs.declared.tables.Attempt.TheVariants.{Used, Busy}
-use Rattle.bip_words.specs.declared.knowledge.Kind.TheVariants.{Look, Changed, Wrote}
+use Rattle.bip_words.specs.declared.knowledge.Learned.TheVariants.{Look, Changed, Wrote}
 use Rattle.std.specs.List.{AllByRecursion}
 use Rattle.bip_model.specs.declared.numbering.CompId.{CompId}
 use Rattle.bip_model.specs.declared.messages.Request.{Request}
