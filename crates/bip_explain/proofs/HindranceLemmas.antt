@@ -51,7 +51,8 @@ use Rattle.bip_replay.specs.declared.faults.StepFault.{StepFault}
 use Rattle.bip_replay.proofs.ItemLemmas.{first_read}
 use Rattle.bip_replay.proofs.RunLemmas.{counts_moves, end_of-push, grants-back}
 use Rattle.bip_explain.specs.Hindrances.{IsFirstFailed, IsUnhindered, IsLedBy, IsLedOn, IsStateBefore, IsUnoffered, IsUnofferedIn}
-use Rattle.bip_explain.specs.Placed.{first_two, line_at, line_in, said_words, words_told}
+use Rattle.bip_model.specs.Texts.{line_at, line_in}
+use Rattle.bip_explain.specs.Placed.{first_two, said_words, words_told}
 use Rattle.bip_explain.proofs.LineLemmas.{neq-eqb}
 
 -- what is read of the last of some lines, and of those before it

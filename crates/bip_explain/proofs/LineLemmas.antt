@@ -4,7 +4,7 @@ use Rattle.std.proofs.Math.Dec.{eqb}
 use Rattle.std.proofs.Common.{eq-eqb}
 use Rattle.std.proofs.lemmas.Bool.{eqb-true}
 use Rattle.bip_model.specs.Texts.{lines, numbered, numbered_lines}
-use Rattle.bip_explain.specs.Placed.{line_at, line_in}
+use Rattle.bip_model.specs.Texts.{line_at, line_in}
 
 -- the lines from this number on are left
 pub record IsAtLine (text : List ℕ) (m : ℕ) (left : List (ℕ × List ℕ)) : Type 0 where

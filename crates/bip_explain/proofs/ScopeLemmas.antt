@@ -5,7 +5,8 @@ use Rattle.std.proofs.lemmas.Bool.{cases_lt, false≢true}
 use Rattle.std.proofs.Math.Bool.{or-true}
 use Rattle.bip_model.specs.Naming.{same_text}
 use Rattle.bip_explain.specs.Declarations.{IsLineWith, begins_component, begins_with}
-use Rattle.bip_explain.specs.Placed.{line_at, said_words}
+use Rattle.bip_model.specs.Texts.{line_at}
+use Rattle.bip_explain.specs.Placed.{said_words}
 use Rattle.bip_explain.specs.Scopes.{IsInside, IsOutside, IsStandingAt, StandsBehind, bounds_component, ends_component}
 use Rattle.bip_explain.specs.declared.scopes.Standing.{Standing}
 use Rattle.bip_explain.specs.declared.scopes.Standing.TheVariants.{First, Outside, Inside}

@@ -6,7 +6,8 @@ use Rattle.bip_model.specs.Naming.{same_text}
 use Rattle.bip_reader.proofs.SpellingLemmas.{same_word}
 use Rattle.bip_explain.specs.Declarations.{IsBegunBetween, IsInnerLine, IsSameComponent, begins_component, declares}
 use Rattle.bip_model.specs.Texts.{words}
-use Rattle.bip_explain.specs.Placed.{IsPlacedOn, first_three, line_at, said_words}
+use Rattle.bip_model.specs.Texts.{line_at}
+use Rattle.bip_explain.specs.Placed.{IsPlacedOn, first_three, said_words}
 use Rattle.bip_explain.specs.Twice.{IsTargetAt, NoSameTransition, leave_same, say_same}
 use Rattle.bip_explain.specs.declared.placed.Placed.{Placed}
 

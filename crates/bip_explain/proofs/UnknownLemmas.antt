@@ -7,7 +7,8 @@ use Rattle.std.proofs.lemmas.List.Elements.{All-nil, All-push}
 use Rattle.bip_model.specs.Naming.{same_text}
 use Rattle.bip_reader.proofs.SpellingLemmas.{same_word}
 use Rattle.bip_explain.specs.Declarations.{HasLineWith, IsLineWith, IsMore, begins_with}
-use Rattle.bip_explain.specs.Placed.{first_two, line_at, said_words}
+use Rattle.bip_model.specs.Texts.{line_at}
+use Rattle.bip_explain.specs.Placed.{first_two, said_words}
 use Rattle.bip_model.specs.Texts.{words}
 use Rattle.bip_explain.specs.Limits.{begins_list}
 use Rattle.bip_explain.specs.Unknown.{AreDeclared, kind_at, kind_behind, kind_in_transition, name_interactions, named_interactions, next_place, place_behind}

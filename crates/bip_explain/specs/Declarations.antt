@@ -3,7 +3,8 @@ use Rattle.std.specs.Prelude.{◌≡◌, ℕ, ◌<◌, Bool, false, ◌&&◌, �
 use Rattle.std.specs.Prelude.{true, nat_le, if◌then◌else◌, ◌⊎◌, ◌++◌, Option, None, Some}
 use Rattle.bip_model.specs.Texts.{numbered_lines}
 use Rattle.bip_model.specs.Naming.{same_text}
-use Rattle.bip_explain.specs.Placed.{line_at, said_words}
+use Rattle.bip_model.specs.Texts.{line_at}
+use Rattle.bip_explain.specs.Placed.{said_words}
 
 -- words begin with these two
 abbrev pub begins_with : List ℕ → List ℕ → List (List ℕ) → Bool

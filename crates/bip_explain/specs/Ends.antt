@@ -9,7 +9,8 @@ use Rattle.bip_reader.specs.declared.faults.Why.TheVariants.{Missing, NotAPartit
 use Rattle.bip_explain.specs.Declarations.{IsLineWith, begins_component}
 use Rattle.bip_explain.specs.Scopes.{IsInside, IsOutside, ends_component}
 use Rattle.bip_explain.specs.Explanations.{marked, placed_parts}
-use Rattle.bip_explain.specs.Placed.{IsWordAt, first_four, line_at, said_words}
+use Rattle.bip_model.specs.Texts.{line_at}
+use Rattle.bip_explain.specs.Placed.{IsWordAt, first_four, said_words}
 use Rattle.bip_explain.specs.declared.ends.EndReason.{EndReason}
 use Rattle.bip_explain.specs.declared.ends.SaidPriority.{SaidPriority}
 use Rattle.bip_explain.specs.declared.placed.Placed.{Placed}

@@ -31,7 +31,7 @@ use Rattle.bip_replay.specs.declared.faults.BookFault.TheVariants.{Below, NotEna
 use Rattle.bip_replay.specs.declared.faults.ReplayFault.TheVariants.{NotARun}
 use Rattle.bip_explain.specs.Explanations.{Telling, Tells}
 use Rattle.bip_explain.specs.Grants.{IsGrantOn, component_parts, name_parts}
-use Rattle.bip_explain.specs.Placed.{line_at}
+use Rattle.bip_model.specs.Texts.{line_at}
 use Rattle.bip_explain.specs.declared.hindrances.FailedComparison.{FailedComparison}
 use Rattle.bip_explain.specs.declared.hindrances.Hindered.{Hindered}
 use Rattle.bip_explain.specs.declared.hindrances.Hindrance.{Hindrance}

@@ -14,7 +14,8 @@ use Rattle.bip_explain.specs.Explanations.{marked, placed_parts}
 use Rattle.bip_explain.specs.Forms.{IsByteReason, IsFormReason, IsNoLine, IsWantedThere}
 use Rattle.bip_explain.specs.Forms.{form_parts}
 use Rattle.bip_explain.specs.Limits.{AreWithin, IsLimitReason, limit_parts}
-use Rattle.bip_explain.specs.Placed.{IsFirstOn, line_at, said_words}
+use Rattle.bip_model.specs.Texts.{line_at}
+use Rattle.bip_explain.specs.Placed.{IsFirstOn, said_words}
 use Rattle.bip_explain.specs.Scopes.{IsStandingAt}
 use Rattle.bip_explain.specs.Twice.{AreUnsaid, IsTwiceReason, NoSameTransition, twice_parts}
 use Rattle.bip_explain.specs.Twice.{why_of_twice}

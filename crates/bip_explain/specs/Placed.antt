@@ -49,15 +49,6 @@ abbrev pub IsBehindTwo : List ℕ → List ℕ → Type 0
 IsBehindTwo line rest =
     (first : List ℕ) × (second : List ℕ) × IsBehind (first ∷ second ∷ []) line rest
 
--- the line with a number, among lines that have theirs; empty where none has it
-abbrev pub line_in : List (ℕ × List ℕ) → ℕ → List ℕ
-line_in [] number = []
-line_in ((n, line) ∷ rest) number = if n == number then line else line_in rest number
-
--- the line of a text with this number, counted from 1
-abbrev pub line_at : List ℕ → ℕ → List ℕ
-line_at text number = line_in (numbered_lines text) number
-
 -- the words that a line says; none of a comment, or where a byte can stand in no text
 abbrev pub words_told : Option (List (List ℕ)) → List (List ℕ)
 words_told None = []

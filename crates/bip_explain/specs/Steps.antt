@@ -11,7 +11,7 @@ use Rattle.bip_explain.specs.Explanations.{Telling, Tells, is_open, with_part}
 use Rattle.bip_explain.specs.Grants.{IsCountOf, IsGrantReason, IsOfFault, component_parts}
 use Rattle.bip_explain.specs.Grants.{grant_parts, name_parts}
 use Rattle.bip_explain.specs.Hindrances.{TellsHindrance}
-use Rattle.bip_explain.specs.Placed.{line_at}
+use Rattle.bip_model.specs.Texts.{line_at}
 
 -- what is told is a reason that is true of the line, and of the state before it
 abbrev pub TellsStep : System → ℕ → List ℕ → ℕ → BookFault → Telling → Telling → Type 0

@@ -11,7 +11,8 @@ use Rattle.bip_explain.specs.Declarations.{IsBegunBetween, NoLineWith}
 use Rattle.bip_explain.specs.Declarations.{declares_inner}
 use Rattle.bip_explain.specs.Explanations.{column_parts, marked, placed_parts}
 use Rattle.bip_explain.specs.Limits.{are_head}
-use Rattle.bip_explain.specs.Placed.{IsPlacedOn, IsWordAt, line_at, said_words}
+use Rattle.bip_model.specs.Texts.{line_at}
+use Rattle.bip_explain.specs.Placed.{IsPlacedOn, IsWordAt, said_words}
 use Rattle.bip_explain.specs.Unknown.{IsOf}
 use Rattle.bip_explain.specs.declared.placed.Placed.{Placed}
 use Rattle.bip_explain.specs.declared.twice.TwiceReason.{TwiceReason}

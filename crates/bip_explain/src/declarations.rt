@@ -9,8 +9,7 @@ ghost use Rattle.bip_explain.specs.Declarations.{IsBegunBetween, declares_inside
 ghost use Rattle.bip_explain.specs.Placed.{said_words};
 
 use crate::placed::two_words;
-use crate::words::is_text;
-use bip_model::{Name, Names, NumberedLines};
+use bip_model::{Name, Names, NumberedLines, is_text};
 use std::alloc::{AllocError, Global};
 
 /// The names that a component has declared.

@@ -18,15 +18,11 @@ ghost use Rattle.bip_model.specs.Texts.{words};
 
 use crate::Explanation;
 use crate::declarations::{Declared, begins_component, line_with};
-use crate::placed::{Placed, PlacedWords, four_words, line_at, two_words, words_of};
+use crate::placed::{Placed, PlacedWords, four_words, two_words, words_of};
 use crate::scopes::{Standing, ends_component, standing_at, standing_behind};
 use crate::unknown::behind_first;
-use crate::words::is_text;
-use bip_model::{Name, Names, NumberedLines};
+use bip_model::{MOST_INTERACTIONS, Name, Names, NumberedLines, is_text, line_at};
 use std::alloc::{AllocError, Global};
-
-/// How many interactions a model has at most.
-const MOST_INTERACTIONS: usize = 128;
 
 /// What the text of a model lacks as a whole.
 #[derive(Clone, Copy)]

@@ -5,9 +5,9 @@ ghost use Rattle.bip_explain.specs.Expected.{after_step, can_end, wanted_in_clau
 ghost use Rattle.bip_explain.specs.Expected.{wanted_in_step, wanted_text};
 
 use crate::words::{
-    is_name, is_pair, is_relation, is_sign, is_term, is_text, is_value, is_variable, is_want,
+    is_name, is_pair, is_relation, is_sign, is_term, is_value, is_variable, is_want,
 };
-use bip_model::Spelling;
+use bip_model::{Spelling, is_text};
 
 /// What a line goes on with.
 #[derive(Clone, Copy)]

@@ -12,8 +12,8 @@ ghost use Rattle.bip_replay.specs.declared.faults.BookFault.TheVariants.{Parties
 
 use crate::Explanation;
 use crate::placed::{Placed, PlacedWords, two_words};
-use crate::words::{is_text, want_of};
-use bip_model::{CompId, InterId, Model, Name, Number};
+use crate::words::want_of;
+use bip_model::{CompId, InterId, Model, Name, Number, is_text};
 
 /// What is wrong with what a line's grant names.
 #[derive(Clone, Copy)]

@@ -22,11 +22,10 @@ ghost use Rattle.bip_replay.specs.declared.faults.BookFault.TheVariants.{NotEnab
 
 use crate::Explanation;
 use crate::grants::{interaction_on, say_component, say_name};
-use crate::placed::line_at;
 use arrayvec::ArrayVec;
 use bip_model::{
     CompId, Comparison, Component, InterId, LocId, LocalState, MOST_PARTICIPANTS, Model, Name,
-    NumberedLines, PortId, Relation, State, Transition, Values, Variable,
+    NumberedLines, PortId, Relation, State, Transition, Values, Variable, line_at,
 };
 use bip_replay::BookFault;
 use std::alloc::{AllocError, Global};

@@ -11,8 +11,8 @@ ghost use Rattle.bip_model.specs.Texts.{number_sign};
 
 use crate::Explanation;
 use crate::expected::{Expected, Sort};
-use crate::words::{is_name, is_relation, is_sign, is_text, is_value};
-use bip_model::{Spelling, parse_number, split_pair};
+use crate::words::{is_name, is_relation, is_sign, is_value};
+use bip_model::{Spelling, is_text, parse_number, split_pair};
 
 /// How many bytes a name has at most.
 const MOST_OF_NAME: usize = 32;

@@ -9,19 +9,14 @@ ghost use Rattle.bip_explain.specs.Limits.{IsLimitReason, IsOver, begins_list, b
 ghost use Rattle.bip_explain.specs.Limits.{counted_behind, counted_on, has_lists, has_point};
 ghost use Rattle.bip_explain.specs.Limits.{is_of_component, limit_of, limit_parts, lines_so};
 ghost use Rattle.bip_explain.specs.Limits.{none_counted, parts_list};
-ghost use Rattle.bip_explain.specs.Placed.{IsBehind, line_at, said_words};
+ghost use Rattle.bip_model.specs.Texts.{line_at};
+ghost use Rattle.bip_explain.specs.Placed.{IsBehind, said_words};
 
 use crate::Explanation;
 use crate::declarations::{begins_component, declares_inner};
-use crate::placed::{Placed, PlacedWords, line_at, words_of};
-use crate::words::{is_relation, is_sign, is_text};
-use bip_model::NumberedLines;
-
-const MOST_PARTICIPANTS: u32 = 8;
-
-const MOST_PARTS: u32 = 16;
-
-const MOST_TERMS: u32 = 16;
+use crate::placed::{Placed, PlacedWords, words_of};
+use crate::words::{is_relation, is_sign};
+use bip_model::{MOST_CLAUSES, MOST_PARTICIPANTS, MOST_TERMS, NumberedLines, is_text, line_at};
 
 /// Which limit a line passes.
 #[derive(Clone, Copy)]
@@ -228,11 +223,11 @@ impl Counted {
         ensures some { IfSome result (λ limit. IsOver self.now limit.now) }
         ensures none { IfNone result (AreFewYet self.now) }
     {
-        if MOST_PARTICIPANTS < self.participants {
+        if MOST_PARTICIPANTS < self.participants as usize {
             Some(b"an interaction has at most 8 participants")
-        } else if MOST_PARTS < self.parts {
+        } else if MOST_CLAUSES < self.parts as usize {
             Some(b"a guard or a list has at most 16 parts")
-        } else if MOST_TERMS < self.terms {
+        } else if MOST_TERMS < self.terms as usize {
             Some(b"a sum has at most 16 terms")
         } else {
             None

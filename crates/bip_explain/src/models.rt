@@ -13,12 +13,12 @@ use crate::ends::{EndReason, find_cycle, find_missing, find_unparted};
 use crate::expected::Expected;
 use crate::forms::{FormReason, find_byte, find_word};
 use crate::limits::{LimitReason, find_limit};
-use crate::placed::{Placed, line_at, words_of};
+use crate::placed::{Placed, words_of};
 use crate::scopes::{Standing, standing_at};
 use crate::twice::{TwiceReason, find_transition, find_twice};
 use crate::unknown::{UnknownReason, find_unknown};
-use crate::words::{is_text, is_verb};
-use bip_model::Spelling;
+use crate::words::is_verb;
+use bip_model::{Spelling, is_text, line_at};
 use bip_reader::{ReadFault, Why};
 use std::alloc::{AllocError, Global};
 

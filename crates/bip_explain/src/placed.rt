@@ -3,7 +3,7 @@ ghost use Rattle.std.specs.Prelude.{◌≡◌, ◌∷◌, ◌+◌, [], length, I
 ghost use Rattle.std.specs.Option.{option_map};
 ghost use Rattle.bip_model.specs.Texts.{words};
 ghost use Rattle.bip_explain.specs.Placed.{IsFirstOn, IsRestOf, first_four, first_three};
-ghost use Rattle.bip_explain.specs.Placed.{first_two, line_at, said_words};
+ghost use Rattle.bip_explain.specs.Placed.{first_two, said_words};
 
 use bip_model::{Line, NumberedLines, read_words, split_word};
 
@@ -58,18 +58,6 @@ impl<'t> Iterator for PlacedWords<'t> {
         self.rest = rest;
         Some(Placed { column, word })
     }
-}
-
-/// The line with this number; empty where the text has none.
-pub(crate) fn line_at(text: &[u8], number: u64) -> &[u8]
-    ensures { result.now ≡ line_at text.now number }
-{
-    for (at, line) in NumberedLines::of(text) {
-        if at == number {
-            return line;
-        }
-    }
-    &[]
 }
 
 /// The first word of a line that says something, and the words behind it.

@@ -4,8 +4,7 @@ ghost use Rattle.bip_explain.specs.Placed.{said_words};
 ghost use Rattle.bip_explain.specs.Scopes.{IsPastFirst, IsStandingAt, StandsBehind, ends_component};
 
 use crate::placed::words_of;
-use crate::words::is_text;
-use bip_model::NumberedLines;
+use bip_model::{NumberedLines, is_text};
 
 /// Where a line stands.
 #[derive(Clone, Copy)]

@@ -7,8 +7,7 @@ ghost use Rattle.bip_explain.specs.Steps.{TellsStep, fault_parts, seed_parts};
 use crate::Explanation;
 use crate::grants::{GrantReason, find_party, say_component, say_name, want_on};
 use crate::hindrances::find_hindered;
-use crate::placed::line_at;
-use bip_model::{Model, Number};
+use bip_model::{Model, Number, line_at};
 use bip_replay::{BookFault, StepFault};
 use std::alloc::Global;
 

@@ -7,7 +7,7 @@ ghost use Rattle.bip_model.specs.declared.parts.System.{System};
 ghost use Rattle.bip_replay.specs.declared.faults.TraceFault.{TraceFault};
 ghost use Rattle.bip_replay.specs.declared.faults.TraceFault.TheVariants.{Syntax, Unknown};
 ghost use Rattle.bip_explain.specs.Explanations.{Tells, with_parts};
-ghost use Rattle.bip_explain.specs.Placed.{line_at};
+ghost use Rattle.bip_model.specs.Texts.{line_at};
 ghost use Rattle.bip_explain.specs.Traces.{IsTraceReasonOf, MayKeepTrace, are_apart, are_known};
 ghost use Rattle.bip_explain.specs.Traces.{trace_parts};
 ghost use Rattle.bip_explain.specs.Words.{HasNot};
@@ -15,11 +15,11 @@ ghost use Rattle.bip_explain.specs.Words.{HasNot};
 use crate::Explanation;
 use crate::expected::Expected;
 use crate::forms::{FormReason, find_byte, find_word};
-use crate::placed::{Placed, PlacedWords, line_at, words_of};
+use crate::placed::{Placed, PlacedWords, words_of};
 use crate::unknown::behind_first;
-use crate::words::{is_text, named_in, want_of};
+use crate::words::{named_in, want_of};
 use arrayvec::ArrayVec;
-use bip_model::{MOST_WANTS, Model, Name, Spelling};
+use bip_model::{MOST_WANTS, Model, Name, Spelling, is_text, line_at};
 use bip_replay::TraceFault;
 
 /// Why a line of a trace says no grant of a model.

@@ -3,7 +3,8 @@ ghost use Rattle.std.specs.Prelude.{◌≡◌, ◌<◌, ◌∷◌, ℕ, List, []
 ghost use Rattle.std.specs.Prelude.{Some, codes, false};
 ghost use Rattle.std.specs.Fmt.{decimal};
 ghost use Rattle.bip_explain.specs.Explanations.{with_parts};
-ghost use Rattle.bip_explain.specs.Placed.{IsBehindTwo, first_four, first_three, line_at};
+ghost use Rattle.bip_model.specs.Texts.{line_at};
+ghost use Rattle.bip_explain.specs.Placed.{IsBehindTwo, first_four, first_three};
 ghost use Rattle.bip_explain.specs.Placed.{said_words};
 ghost use Rattle.bip_explain.specs.Twice.{IsDeclaration, IsPartyAgain, IsPartyBefore};
 ghost use Rattle.bip_explain.specs.Twice.{IsSameTransition, IsTargetBefore, IsTwiceReason};
@@ -15,19 +16,12 @@ ghost use Rattle.bip_reader.specs.declared.faults.Why.TheVariants.{Twice, TwoTra
 use crate::Explanation;
 use crate::declarations::{Declared, begins_component, declares_inner, inner_line_with, line_with};
 use crate::limits::begins_list;
-use crate::placed::{Placed, PlacedWords, four_words, line_at, three_words, words_of};
-use crate::words::{is_text, pair_of};
-use bip_model::{Name, NumberedLines};
+use crate::placed::{Placed, PlacedWords, four_words, three_words, words_of};
+use crate::words::pair_of;
+use bip_model::{
+    MOST_COMPONENTS, MOST_VALUES, MOST_VARIABLES, Name, NumberedLines, is_text, line_at,
+};
 use std::alloc::{AllocError, Global};
-
-/// How many components a model has at most.
-const MOST_COMPONENTS: usize = 64;
-
-/// How many variables a component has at most.
-const MOST_VARIABLES: usize = 8;
-
-/// How many variables all components have at most.
-const MOST_TARGETS: usize = 512;
 
 /// What a line names twice.
 #[derive(Clone, Copy)]
@@ -234,7 +228,7 @@ fn find_target_again<'t>(declared: &Declared, line: &'t [u8]) -> Option<TwiceRea
         → IfSome result (IsTwiceReason text number line.now) }
     ensures kind { IfSome result (λ reason. why_of_twice reason ≡ Twice) }
 {
-    let mut seen = [false; MOST_TARGETS];
+    let mut seen = [false; MOST_VARIABLES];
     let mut before: Option<Placed<'_>> = None;
     for placed in PlacedWords::of(line) {
         if is_text(placed.word, b":=") {
@@ -319,7 +313,7 @@ fn variable_place(declared: &Declared, word: &[u8]) -> Option<usize> {
     let (component, variable) = pair_of(word)?;
     let (number, inner) = declared.inner(&component)?;
     let place = inner.variables.number_of(&variable)?;
-    number.checked_mul(MOST_VARIABLES)?.checked_add(place)
+    number.checked_mul(MOST_VALUES)?.checked_add(place)
 }
 
 /// The transition that leaves the location of a line's transition with its port already.

@@ -4,7 +4,8 @@ ghost use Rattle.std.specs.Prelude.{List, false, true, ℕ};
 ghost use Rattle.bip_explain.specs.Explanations.{with_parts};
 ghost use Rattle.bip_model.specs.Naming.{IsName, is_known};
 ghost use Rattle.bip_model.specs.Texts.{pair_of, words};
-ghost use Rattle.bip_explain.specs.Placed.{IsBehind, IsPlacedOn, line_at, said_words};
+ghost use Rattle.bip_model.specs.Texts.{line_at};
+ghost use Rattle.bip_explain.specs.Placed.{IsBehind, IsPlacedOn, said_words};
 ghost use Rattle.bip_explain.specs.Declarations.{HasLineWith, declares_inside};
 ghost use Rattle.bip_explain.specs.Unknown.{AreDeclared, IsKindAt, IsLack, IsOf, IsOther};
 ghost use Rattle.bip_explain.specs.Unknown.{IsUnknownReason, kind_at, kind_keyword, next_place};
@@ -16,10 +17,10 @@ ghost use Rattle.bip_explain.specs.Words.{point};
 use crate::Explanation;
 use crate::declarations::{Declared, Inner, declares_inside, later_line_with, line_with};
 use crate::limits::begins_list;
-use crate::placed::{Placed, PlacedWords, line_at, words_of};
+use crate::placed::{Placed, PlacedWords, words_of};
 use crate::scopes::{Standing, standing_at};
-use crate::words::{is_text, pair_of};
-use bip_model::{Name, Names, split_pair};
+use crate::words::pair_of;
+use bip_model::{Name, Names, is_text, line_at, split_pair};
 use std::alloc::{AllocError, Global};
 
 /// What a component has inside.

@@ -5,13 +5,7 @@ ghost use Rattle.bip_explain.specs.Words.{IsPair, IsWant, is_pair, is_relation, 
 ghost use Rattle.bip_explain.specs.Words.{is_value, is_variable, is_verb, is_want, named_in};
 ghost use Rattle.std.specs.Option.{option_map};
 
-use bip_model::{Name, Spelling, parse_number, parse_value, split_pair};
-
-pub(crate) fn is_text(word: &[u8], text: &[u8]) -> bool
-    ensures { result ≡ same_text word.now text.now }
-{
-    word == text
-}
+use bip_model::{Name, Spelling, is_text, parse_number, parse_value, split_pair};
 
 pub(crate) fn is_name(word: &[u8]) -> bool
     ensures { result ≡ is_name word.now }

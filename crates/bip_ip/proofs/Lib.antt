@@ -4,4 +4,3 @@ pub mod NodeLemmas
 pub mod OwnLemmas
 pub mod RecordLemmas
 pub mod TellLemmas
-pub mod SetLemmas

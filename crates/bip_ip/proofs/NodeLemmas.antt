@@ -1,5 +1,5 @@
 -- What is kept of a node, as the node, and what its calls leave.
-use Rattle.std.proofs.Common.{◌≡◌, ◌⊎◌, ℕ, ◌+◌, ◌<◌, true, false, cond, max, List, length, take, set, get_or, Some, None, Option, inl, inr, refl, sym, ap, ◌∙◌, subst, arith}
+use Rattle.std.proofs.Common.{◌≡◌, ◌⊎◌, ℕ, ◌+◌, ◌<◌, Bool, true, false, eqb, ◌||◌, cond, max, List, length, take, set, get_or, Some, None, Option, inl, inr, refl, sym, ap, ◌∙◌, subst, arith}
 use Rattle.std.specs.Prelude.{All, IfSome, OnSome, is_some}
 use Rattle.std.specs.List.Sorted.{IsStrictlyIncreasing}
 use Rattle.std.proofs.Math.Path.{fun_ext}
@@ -44,6 +44,13 @@ parties_touched p a wants planned parties k d within =
 pub class_touched : (p : Planned) (a class : ℕ) (wants : List Want) → IsPlanned p → AreParties p.model a wants → class_in p.classes a ≡ class → All (λ (w : Want). ClassTouches p class w.comp.0) wants
 class_touched p a class wants planned parties same =
     subst (λ (k : ℕ). All (λ (w : Want). ClassTouches p k w.comp.0) wants) same (parties_touched p a wants planned parties)
+
+-- a set with one more number, number by number
+pub put_on : (f : ℕ → Bool) (k b : ℕ) → (eqb b k || f b) ≡ put f k true b
+put_on f k b = elim (eqb_tells b k) [
+  | inl same ↦ rw same.0 refl
+  | inr other ↦ rw other.0 refl
+]
 
 -- a component's number, raised by a want that moves it
 moved_step : (f : ℕ → ℕ) (w : Want) (k : ℕ) → is_moved w.role ≡ true → put f w.comp.0 (max (f w.comp.0) w.number) k ≡ cond (moves_it w k) (max (f k) w.number) (f k)

@@ -5,7 +5,6 @@ mod asking;
 mod laws;
 mod nodes;
 mod records;
-mod sets;
 
 pub use laws::{node_laws, notify_laws};
 pub use nodes::{Answered, IpNode, OpenRecord, Tried, WhyNot};

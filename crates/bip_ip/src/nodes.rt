@@ -17,9 +17,11 @@ ghost use Rattle.bip_ip.specs.declared.nodes.OpenRecord.{OpenRecord};
 
 use crate::asking::{told_by, wants_by};
 use crate::records::Records;
-use crate::sets::{lowest_inter, with_inter, without_inter};
 use bip_frame::{OfferFrame, ReplyFrame};
-use bip_model::{ClassId, Grant, InterId, Notifies, Number, Offer, Reply, Request, Role, Want};
+use bip_model::{
+    ClassId, Grant, InterId, Notifies, Number, Offer, Reply, Request, Role, Want, lowest_inter,
+    with_inter, without_inter,
+};
 use bip_observe::{Offers, Receipt, Verdict, decide};
 use bip_partition::Plan;
 use std::alloc::{AllocError, Global};

@@ -39,6 +39,15 @@ numbered n (line ∷ rest) = (n, line) ∷ numbered (n + 1) rest
 abbrev pub numbered_lines : List ℕ → List (ℕ × List ℕ)
 numbered_lines text = numbered 1 (lines text)
 
+-- the line with a number, among lines that have theirs; empty where none has it
+abbrev pub line_in : List (ℕ × List ℕ) → ℕ → List ℕ
+line_in [] number = []
+line_in ((n, line) ∷ rest) number = if n == number then line else line_in rest number
+
+-- the line of a text with this number, counted from 1
+abbrev pub line_at : List ℕ → ℕ → List ℕ
+line_at text number = line_in (numbered_lines text) number
+
 -- the number of the last line; an empty text has one line
 abbrev pub last_line : List ℕ → ℕ
 last_line text = max 1 (length (lines text))

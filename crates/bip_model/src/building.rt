@@ -1,5 +1,5 @@
 //! Models built line by line.
-ghost use Rattle.std.specs.Prelude.{◌≡◌, ◌↔◌, length, position, IsTrue, IsSome, IsNone};
+ghost use Rattle.std.specs.Prelude.{◌≡◌, ◌↔◌, position, IsTrue, IsSome, IsNone};
 ghost use Rattle.std.specs.Prelude.{IfErr, IfOk, OnErr, OnOk};
 ghost use Rattle.std.specs.Option.{option_map};
 ghost use Rattle.bip_model.specs.Drafts.{component_line, empty_draft, end_line};
@@ -7,13 +7,11 @@ ghost use Rattle.bip_model.specs.Drafts.{inside, interaction_line};
 ghost use Rattle.bip_model.specs.Drafts.{priority_line, IsEndFault, IsWhole};
 ghost use Rattle.bip_model.specs.Components.{loc_line, port_line, trans_line, var_line};
 ghost use Rattle.bip_model.specs.Naming.{same_text};
-ghost use Rattle.bip_model.specs.Partitions.{IsPartition};
 ghost use Rattle.bip_model.specs.Faults.{Answers, new_or_fault};
 ghost use Rattle.bip_model.specs.Priorities.{IsCyclic};
 ghost use Rattle.bip_model.specs.declared.faults.BuildFault.TheVariants.{Memory};
 
 use crate::drafts::{Draft, has_pair, place_for};
-use crate::partitions::are_partition;
 use crate::parts::MOST_COMPONENTS;
 use crate::{Assignments, BuildFault, Component, Guard, InterId, Model, Name, OneOrMore, Pair};
 use std::alloc::{AllocError, Global};
@@ -64,15 +62,6 @@ impl Builder {
     {
         let number = self.draft.system.interaction_names.number_of(name)?;
         Some(InterId(number as u16))
-    }
-
-    /// Whether these classes are a partition of the interactions so far (docs/DEFINITIONS.md,
-    /// "Partitions"). Takes no memory.
-    pub fn are_classes(&self, classes: &[(Name, Vec<InterId>)]) -> bool
-        ensures { IsTrue result ↔ IsPartition (λ c. c.0) (λ c. c.1.items)
-            (length self.now.system.interactions) classes.now }
-    {
-        are_partition(classes, self.draft.system.interactions.len() as u16)
     }
 
     /// `component NAME` begins a component. Twice: a component has this name; then TooMany: there

@@ -43,19 +43,20 @@ pub use laws::{
 };
 pub use messages::{MOST_NOTIFIES, Notifies, Notify, Offer, Reply, Request};
 pub use models::Model;
-pub use naming::{Name, Names, is_text};
+pub use naming::{MOST_NAME_BYTES, Name, Names, is_text};
 pub use numbering::{ClassId, CompId, InterId, LocId, Number, PortId, VarId};
 pub use partitions::{Classes, MOST_CLASSES, Partition};
 pub use parts::{
-    Component, Interaction, MOST_CLAUSES, MOST_PARTICIPANTS, MOST_TERMS, Pair, System, Transition,
+    Component, Interaction, MOST_CLAUSES, MOST_COMPONENTS, MOST_INTERACTIONS, MOST_PARTICIPANTS,
+    MOST_TERMS, Pair, System, Transition,
 };
-pub use scopes::VariableName;
+pub use scopes::{MOST_VARIABLES, VariableName};
 pub use sequence::Seq;
-pub use sets::has_port;
-pub use states::{LocalState, State, Values};
+pub use sets::{has_port, lowest_inter, with_inter, without_inter};
+pub use states::{LocalState, MOST_VALUES, State, Values};
 pub use texts::{
-    Line, NumberedLines, is_plain, parse_number, parse_value, read_words, split_line, split_pair,
-    split_word, write_word,
+    Line, NumberedLines, is_plain, line_at, parse_number, parse_value, read_words, split_line,
+    split_pair, split_word, write_word,
 };
 pub use wants::{MOST_WANTS, Role, Want, Wants};
 pub use words::{Each, OneOrMore, PORT_MARK, Word, Words};

@@ -12,7 +12,7 @@ use std::hash::{Hash, Hasher};
 use std::marker::Model;
 
 /// How many bytes a name has at most.
-pub(crate) const MOST_NAME_BYTES: usize = 32;
+pub const MOST_NAME_BYTES: usize = 32;
 
 /// A name: a letter or `_`, then letters, digits and `_`, at most 32 bytes in all, and none of the
 /// languages' words (docs/ANSWERS.md, "Names"). Contracts see it as its bytes.

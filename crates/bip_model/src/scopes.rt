@@ -23,7 +23,7 @@ use crate::{
 use std::alloc::{AllocError, Global};
 
 /// How many variables all components of a model have at most, 8 each.
-const MOST_VARIABLES: usize = 512;
+pub const MOST_VARIABLES: usize = 512;
 
 /// A variable as a text names it: in a component by its name alone, in an interaction by its
 /// component's name and its own.

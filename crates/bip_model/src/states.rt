@@ -7,7 +7,7 @@ use crate::{CompId, LocId, Transition};
 use std::marker::Model;
 
 /// How many values a local state has at most.
-pub(crate) const MOST_VALUES: usize = 8;
+pub const MOST_VALUES: usize = 8;
 
 /// The values of a component's variables, at most eight, in order of their numbers. Contracts see
 /// them as the list.

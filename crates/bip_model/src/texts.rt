@@ -6,8 +6,8 @@ ghost use Rattle.std.specs.List.{list_all};
 ghost use Rattle.std.specs.Option.{option_map};
 ghost use Rattle.std.specs.Str.Parse.{digits_value};
 ghost use Rattle.bip_model.specs.Texts.{words_read, words_said, IsLineAndRest, IsWordAndRest};
-ghost use Rattle.bip_model.specs.Texts.{is_blank, is_line_feed, is_numeral, is_plain, lines};
-ghost use Rattle.bip_model.specs.Texts.{number_of, pair_of, spaced, value_said, words};
+ghost use Rattle.bip_model.specs.Texts.{is_blank, is_line_feed, is_numeral, is_plain, line_at};
+ghost use Rattle.bip_model.specs.Texts.{lines, number_of, pair_of, spaced, value_said, words};
 
 use memchr::memchr;
 use std::alloc::AllocError;
@@ -72,6 +72,18 @@ impl<'a> Iterator for NumberedLines<'a> {
         self.before += 1;
         Some((self.before, line))
     }
+}
+
+/// The line of a text with this number, counted from 1; empty where the text has none.
+pub fn line_at(text: &[u8], number: u64) -> &[u8]
+    ensures { result.now ≡ line_at text.now number }
+{
+    for (at, line) in NumberedLines::of(text) {
+        if at == number {
+            return line;
+        }
+    }
+    &[]
 }
 
 /// The first line of a text without its line feed, and what follows it.

@@ -12,8 +12,8 @@ ghost use Rattle.bip_replay.specs.Lines.{wants_known, wants_said, with_want};
 use crate::faults::LineFault;
 use arrayvec::ArrayVec;
 use bip_model::{
-    Line, MOST_WANTS, Model, Name, Number, Role, Want, parse_number, read_words, split_pair,
-    split_word,
+    Line, MOST_WANTS, Model, Name, Number, Role, Want, Word, is_text, parse_number, read_words,
+    split_pair, split_word,
 };
 
 /// A want as a line names it: a component, its number, and whether it is moved.
@@ -58,6 +58,7 @@ pub(crate) fn read_line(
 }
 
 // The interaction of a line that begins with a word, with its wants in the room for them.
+#[tactic(auto, unfolding(bip_model::specs::Words::name_of))]
 fn read_grant(
     named: &mut ArrayVec<NamedWant, MOST_WANTS>,
     word: &[u8],
@@ -71,7 +72,7 @@ fn read_grant(
     if !is_text(word, b"grant") {
         return Err(LineFault::Syntax);
     }
-    let Some(inter) = name_of(inter) else {
+    let Some(inter) = Name::read(inter) else {
         return Err(LineFault::Syntax);
     };
     if !read_wants(named, rest) {
@@ -137,20 +138,14 @@ fn is_named(named: &[NamedWant], name: &Name) -> bool
     named.iter().any(|other| *name == other.name)
 }
 
-#[tactic(auto, using(std::proofs::lemmas::Option::cond_some))]
+#[tactic(auto, using(std::proofs::lemmas::Option::cond_some), unfolding(bip_model::specs::Words::name_of))]
 fn parse_want(role: Role, word: &[u8]) -> Option<NamedWant>
     ensures { result ≡ want_said role word.now }
 {
     let (name, number) = split_pair(word, b':')?;
-    let name = name_of(name)?;
+    let name = Name::read(name)?;
     let number = parse_number(number)?;
     Some(NamedWant { name, number, role })
-}
-
-fn name_of(text: &[u8]) -> Option<Name>
-    ensures { result ≡ (if is_name text.now then Some text.now else None) }
-{
-    Name::of(text)
 }
 
 /// The wants by the numbers of their components, by component, in the room for them; where the
@@ -178,10 +173,4 @@ pub(crate) fn look_up(
     }
     wants.sort_unstable_by_key(|want| want.comp.0);
     true
-}
-
-fn is_text(text: &[u8], word: &[u8]) -> bool
-    ensures { result ≡ same_text text.now word.now }
-{
-    text == word
 }

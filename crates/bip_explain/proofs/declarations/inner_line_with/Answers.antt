@@ -1,7 +1,8 @@
 use Rattle.std.proofs.Common.{◌≡◌, true, false, sym, ◌∙◌, ◌+◌, arith, rules}
 use Rattle.std.proofs.lemmas.Bool.{false≢true}
 use Rattle.bip_explain.specs.Declarations.{begins_component, declares}
-use Rattle.bip_explain.specs.Placed.{line_at, said_words}
+use Rattle.bip_model.specs.Texts.{line_at}
+use Rattle.bip_explain.specs.Placed.{said_words}
 use Rattle.bip_explain.proofs.LineLemmas.{at_end, at_first, at_next, line_zero}
 use Rattle.bip_explain.proofs.TwiceLemmas.{declares_no_component, declares_not, found_last, found_more, found_there, none_last, none_still, none_there, over_begun, over_first}
 use Rattle.bip_explain.proofs.declarations.inner_line_with.Goals as goal

@@ -1,6 +1,7 @@
 use Rattle.std.proofs.Common.{◌≡◌, ℕ, ◌<◌, false}
 use Rattle.bip_explain.specs.Declarations.{begins_with}
-use Rattle.bip_explain.specs.Placed.{line_at, said_words}
+use Rattle.bip_model.specs.Texts.{line_at}
+use Rattle.bip_explain.specs.Placed.{said_words}
 use Rattle.bip_explain.proofs.LineLemmas.{IsAtLine}
 use Rattle.bip_explain.proofs.declarations.later_line_with.Given as goal
 

@@ -1,7 +1,8 @@
 use Rattle.std.proofs.Common.{◌≡◌, inl, inr, false, refl, ◌∙◌, ◌+◌, arith, rules, below_more}
 use Rattle.std.proofs.lemmas.Bool.{cases_lt}
 use Rattle.bip_explain.specs.Declarations.{begins_component}
-use Rattle.bip_explain.specs.Placed.{line_at, said_words}
+use Rattle.bip_model.specs.Texts.{line_at}
+use Rattle.bip_explain.specs.Placed.{said_words}
 use Rattle.bip_explain.proofs.LineLemmas.{at_end, at_first, at_next, line_zero}
 use Rattle.bip_explain.proofs.ends.has_component.Goals as goal
 

@@ -1,7 +1,8 @@
 use Rattle.std.proofs.Common.{◌≡◌, ℕ, ◌<◌, false}
 use Rattle.bip_model.specs.Naming.{is_known}
 use Rattle.bip_explain.specs.Ends.{members}
-use Rattle.bip_explain.specs.Placed.{line_at, said_words}
+use Rattle.bip_model.specs.Texts.{line_at}
+use Rattle.bip_explain.specs.Placed.{said_words}
 use Rattle.bip_explain.proofs.LineLemmas.{IsAtLine}
 use Rattle.bip_explain.proofs.ends.is_parted.Given as goal
 

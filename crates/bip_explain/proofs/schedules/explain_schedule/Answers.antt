@@ -1,5 +1,5 @@
 use Rattle.std.proofs.Common.{sym, ◌∙◌}
-use Rattle.bip_explain.specs.Placed.{line_at}
+use Rattle.bip_model.specs.Texts.{line_at}
 use Rattle.bip_explain.specs.Schedules.{IsScheduleReasonOf, schedule_parts}
 use Rattle.bip_explain.specs.declared.schedules.ScheduleReason.TheVariants.{Unexplained}
 use Rattle.bip_explain.proofs.SayLemmas.{tells}

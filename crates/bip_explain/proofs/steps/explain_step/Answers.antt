@@ -1,6 +1,6 @@
 use Rattle.std.proofs.Common.{refl, sym, ◌∙◌}
 use Rattle.bip_explain.specs.Grants.{IsCountOf, IsGrantReason, IsOfFault, grant_parts}
-use Rattle.bip_explain.specs.Placed.{line_at}
+use Rattle.bip_model.specs.Texts.{line_at}
 use Rattle.bip_explain.specs.declared.grants.GrantReason.TheVariants.{Next, Unexplained}
 use Rattle.bip_replay.specs.declared.faults.BookFault.TheVariants.{Number, Parties}
 use Rattle.bip_explain.proofs.HindranceLemmas.{counted}

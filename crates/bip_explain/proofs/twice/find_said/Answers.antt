@@ -1,6 +1,7 @@
 use Rattle.std.proofs.Common.{◌≡◌, inl, inr, ◌+◌, false, ◌∙◌, below_more, arith, rules}
 use Rattle.std.proofs.lemmas.Bool.{cases_lt}
-use Rattle.bip_explain.specs.Placed.{line_at, said_words}
+use Rattle.bip_model.specs.Texts.{line_at}
+use Rattle.bip_explain.specs.Placed.{said_words}
 use Rattle.bip_explain.specs.Twice.{say_same}
 use Rattle.bip_explain.proofs.LineLemmas.{at_end, at_first, at_next, line_zero}
 use Rattle.bip_explain.proofs.TwiceLemmas.{nothing_same}

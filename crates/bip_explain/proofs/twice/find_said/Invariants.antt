@@ -1,5 +1,6 @@
 use Rattle.std.proofs.Common.{◌≡◌, ℕ, ◌<◌, false}
-use Rattle.bip_explain.specs.Placed.{line_at, said_words}
+use Rattle.bip_model.specs.Texts.{line_at}
+use Rattle.bip_explain.specs.Placed.{said_words}
 use Rattle.bip_explain.specs.Twice.{say_same}
 use Rattle.bip_explain.proofs.LineLemmas.{IsAtLine}
 use Rattle.bip_explain.proofs.twice.find_said.Given as goal

@@ -1,5 +1,6 @@
 use Rattle.std.proofs.Common.{ℕ, List, ◌∷◌, ap, sym, ◌∙◌, subst, IfSome}
-use Rattle.bip_explain.specs.Placed.{line_at, said_words}
+use Rattle.bip_model.specs.Texts.{line_at}
+use Rattle.bip_explain.specs.Placed.{said_words}
 use Rattle.bip_explain.specs.Twice.{AreUnsaid, IsTwiceReason, say_same}
 use Rattle.bip_explain.proofs.FormLemmas.{if_none, words_from_said}
 use Rattle.bip_explain.proofs.twice.find_twice.Goals as goal

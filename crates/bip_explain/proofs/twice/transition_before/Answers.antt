@@ -1,7 +1,8 @@
 use Rattle.std.proofs.Common.{◌≡◌, true, false, sym, ◌∙◌, ◌+◌, arith, rules}
 use Rattle.std.proofs.lemmas.Bool.{false≢true}
 use Rattle.bip_explain.specs.Declarations.{begins_component}
-use Rattle.bip_explain.specs.Placed.{line_at, said_words}
+use Rattle.bip_model.specs.Texts.{line_at}
+use Rattle.bip_explain.specs.Placed.{said_words}
 use Rattle.bip_explain.specs.Twice.{leave_same}
 use Rattle.bip_explain.proofs.LineLemmas.{at_end, at_first, at_next, line_zero}
 use Rattle.bip_explain.proofs.TwiceLemmas.{found_first, found_last, found_more, found_there, leaves_no_component, leaves_not, none_last, none_still, none_there, over_begun, over_first}

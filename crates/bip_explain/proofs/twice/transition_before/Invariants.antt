@@ -1,6 +1,7 @@
 use Rattle.std.proofs.Common.{ℕ, IfNone, IfSome, List}
 use Rattle.std.specs.Prelude.{IsTrue}
-use Rattle.bip_explain.specs.Placed.{line_at, said_words}
+use Rattle.bip_model.specs.Texts.{line_at}
+use Rattle.bip_explain.specs.Placed.{said_words}
 use Rattle.bip_explain.specs.Twice.{leave_same}
 use Rattle.bip_explain.proofs.LineLemmas.{IsAtLine}
 use Rattle.bip_explain.proofs.TwiceLemmas.{AreOver, IsFound}

@@ -1,10 +1,11 @@
 use Rattle.std.proofs.Common.{◌≡◌, ◌<◌, ◌∙◌, Some, ap, length, refl, subst, sym, rules}
+use Rattle.bip_model.specs.Sets.{has}
 use Rattle.bip_model.specs.declared.messages.Request.{Request}
 use Rattle.bip_partition.specs.Laws.{IsPlanned}
 use Rattle.bip_partition.specs.Plans.{IsFit, IsReserved}
 use Rattle.bip_observe.specs.Offers.{Observed}
 use Rattle.bip_ip.specs.Nodes.{IsOwn, KeptNode, node_of}
-use Rattle.bip_ip.proofs.NodeLemmas.{asked_node, asked_put, class_touched, kept_on, one_more_kept, record_by, same_record}
+use Rattle.bip_ip.proofs.NodeLemmas.{asked_node, asked_put, class_touched, kept_on, one_more_kept, put_on, record_by, same_record}
 use Rattle.bip_ip.proofs.nodes.IpNode.ask.Goals as goal
 
 pub learn-requires-clause-touched : goal.learn-requires-clause-touched
@@ -51,7 +52,7 @@ invariant_of-self-2 c =
     let e = record_by q c.told_by-notifies.result in
     rw (c.put.ensures, c.copy.ensures) (record {
       kept = one_more_kept n a e within refl c.class.ensures fit number c.self.invariant.kept;
-      asked = asked_put c.self.inside.asked c.with_inter-self-inside.result n.pending a (Some e) within c.self.invariant.asked c.with_inter-self-inside.ensures;
+      asked = asked_put c.self.inside.asked c.with_inter-self-inside.result n.pending a (Some e) within c.self.invariant.asked (λ b. c.with_inter-self-inside.ensures.has b ∙ put_on (has c.self.inside.asked) a b);
       plan = c.self.invariant.plan;
       class = c.self.invariant.class;
     })

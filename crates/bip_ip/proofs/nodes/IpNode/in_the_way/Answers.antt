@@ -1,12 +1,11 @@
 use Rattle.std.proofs.Common.{◌≡◌, ◌⊎◌, ℕ, ◌∙◌, ap, false, get_or, inl, inr, refl, subst, sym, None}
 use Rattle.std.specs.Prelude.{is_some}
-use Rattle.std.proofs.lemmas.Bool.{false≢true}
+use Rattle.std.proofs.lemmas.Bool.{false_from_ne_true, false≢true}
 use Rattle.std.proofs.lemmas.Bool.Decides.{eqb_tells}
 use Rattle.std.proofs.lemmas.Nat.Bits.{bit_at-zero}
 use Rattle.bip_model.specs.Sets.{has}
 use Rattle.bip_partition.specs.Plans.{InConflict}
 use Rattle.bip_ip.specs.Nodes.{KeptNode, node_of}
-use Rattle.bip_ip.proofs.SetLemmas.{is_off}
 use Rattle.bip_ip.proofs.nodes.IpNode.in_the_way.Goals as goal
 
 pub loop-other-init : goal.loop-other-init
@@ -42,7 +41,7 @@ returns-then-keeps_out-clause-some c =
     let lowest = c.in-Some.ensures.some in
     record {
       here = (c.loop-other.invariant.asked c.in-Some.other.0 lowest.here, c.keeps_out.ensures.0 c.if-keeps_out.true);
-      lower = λ b less. c.loop-other.invariant.none b (is_off (has c.loop-other.left b) (lowest.lower b less));
+      lower = λ b less. c.loop-other.invariant.none b (false_from_ne_true (has c.loop-other.left b) (lowest.lower b less));
     }
 
 pub returns-clause-none : goal.returns-clause-none

@@ -2,7 +2,7 @@ use Rattle.std.proofs.Common.{◌≡◌, ◌<◌, arith, refl}
 use Rattle.std.specs.Int.{bit_at}
 use Rattle.std.proofs.lemmas.Nat.Bits.{bit_at-trailing_zeros}
 use mir.Syntax.{w128}
-use Rattle.bip_ip.proofs.sets.lowest_inter.Goals as goal
+use Rattle.bip_model.proofs.sets.lowest_inter.Goals as goal
 
 pub returns : goal.returns
 returns c =
