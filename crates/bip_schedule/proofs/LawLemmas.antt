@@ -117,8 +117,8 @@ done_whole e v w r later is whole = by_did is.did is.steps is.sums
         let sent = subst IsLossless sums whole in
         ((did, steps, omega (arith, sent.sent)), whole_before r (Some did) sent)
 
-abbrev AreOneDrawing : WorldContent → WorldContent → Lcg → Lcg → Type 0
-AreOneDrawing v u ws xs = AreAlike v u × MovesInOneWay v.bank.sharing × (ws ≡ xs)
+abbrev AreOneDrawing : WorldContent → WorldContent → Lcg → Lcg → List Event → List Event → Type 0
+AreOneDrawing v u ws xs es fs = AreAlike v u × MovesInOneWay v.bank.sharing × (ws ≡ xs) × (es ≡ fs)
 
 once_more : (e f : Event) (v u next after : WorldContent) → e ≡ f → AreAlike v u → MovesInOneWay v.bank.sharing → one_done e v next → one_done f u after → AreAlike next after × MovesInOneWay next.bank.sharing
 once_more e f v u next after same alike way one other =
@@ -133,8 +133,8 @@ not_ended : (xs : List Event) (e : Event) → length (xs ++ e ∷ []) ≡ 0 → 
 not_ended xs e none = omega (arith, none, length-append xs (e ∷ []))
 
 drawn_once : (start : Lcg) (w x : WorldContent) (es fs : List Event) (v u : WorldContent) (ws xs : Lcg) (r s : Report) → AreAlike w x → MovesInOneWay w.bank.sharing → AreDrawn start w es v ws r → AreDrawn start x fs u xs s → length es ≡ length fs → IsLossless r → IsLossless s
-    → AreOneDrawing v u ws xs
-drawn_once start w x _ _ _ _ _ _ _ _ alike way none_drawn none_drawn same whole so = (alike, way, refl)
+    → AreOneDrawing v u ws xs es fs
+drawn_once start w x _ _ _ _ _ _ _ _ alike way none_drawn none_drawn same whole so = (alike, way, refl, refl)
 drawn_once start w x _ _ _ _ _ _ _ _ alike way none_drawn (one_drawn fs u xs s f after t drawn is counted) same whole so = absurd (not_ended fs f (sym same))
 drawn_once start w x _ _ _ _ _ _ _ _ alike way (one_drawn es v ws r e next later drawn is counted) none_drawn same whole so = absurd (not_ended es e same)
 drawn_once start w x _ _ _ _ _ _ _ _ alike way (one_drawn es v ws r e next later drawn is counted) (one_drawn fs u xs s f after t drew was count) same whole so =
@@ -143,7 +143,7 @@ drawn_once start w x _ _ _ _ _ _ _ _ alike way (one_drawn es v ws r e next later
     let before = drawn_once start w x es fs v u ws xs r s alike way drawn drew (same_ends es fs e f same) here.1 there.1 in
     let event : e ≡ f = drawn_alike v u (pcg32 xs).0 e f before.0 (subst (λ (words : Lcg). IsDrawn v.plan (pcg32 words).0 (length v.mail) (in_flight v.bank.sharing) e) before.2 is) was in
     let once = once_more e f v u next after event before.0 before.1 here.0 there.0 in
-    (once.0, once.1, ap (λ (words : Lcg). (pcg32 words).1) before.2)
+    (once.0, once.1, ap (λ (words : Lcg). (pcg32 words).1) before.2, ap (λ (ds : List Event). ds ++ e ∷ []) before.3 ∙ ap (λ (d : Event). fs ++ d ∷ []) event)
 
 pub one_seed_trace : OneSeedTrace
 one_seed_trace sharing p base count seed m n way one other =
@@ -153,4 +153,4 @@ one_seed_trace sharing p base count seed m n way one other =
     let drawn = drawn_once (generator_of seed) b.first b.first a.events b.events a.last b.last a.seeded.words b.seeded.words a.report b.report refl (subst MovesInOneWay (sym b.shared) way)
     (subst (λ (w : WorldContent). AreDrawn (generator_of seed) w a.events a.last a.seeded.words a.report) worlds a.seeded.drawn) b.seeded.drawn (a.seeded.each ∙ sym b.seeded.each) one.whole other.whole in
     let trace : one.trace ≡ other.trace = a.is ∙ (ap (λ (w : WorldContent). w.trace) drawn.0 ∙ sym b.is) in
-    (trace, one.counted ∙ (ap length trace ∙ sym other.counted))
+    (drawn.3, trace, one.counted ∙ (ap length trace ∙ sym other.counted))

@@ -13,8 +13,8 @@ use Rattle.bip_model.specs.declared.numbering.InterId.{InterId}
 use Rattle.bip_partition.specs.Plans.{Planned}
 use Rattle.bip_replay.specs.declared.faults.LineFault.{LineFault}
 use Rattle.bip_replay.specs.declared.faults.LineFault.TheVariants.{Syntax, Unknown}
-use Rattle.bip_schedule.specs.Laws.{IsEventLine, IsStationNamed, LinesAreEvents, of_ask, of_deliver, of_mail, of_pass, of_serve, of_try}
-use Rattle.bip_schedule.specs.Lines.{event_in_words, event_known, event_looked_up, name_said, named_said, one_said, station_known, stations_known, two_said}
+use Rattle.bip_schedule.specs.Laws.{IsEventForm, IsEventLine, IsStationNamed, LinesAreEvents, LinesAreUnknown, LinesSayNothing, ask_form, deliver_form, mail_form, of_ask, of_deliver, of_mail, of_pass, of_serve, of_try, pass_form, serve_form, try_form}
+use Rattle.bip_schedule.specs.Lines.{event_in_words, event_known, event_looked_up, event_said, name_said, named_said, one_said, station_known, stations_known, two_said}
 use Rattle.bip_schedule.specs.declared.lines.NamedEvent.TheVariants as named
 use Rattle.bip_schedule.specs.declared.lines.NamedEvent.{NamedEvent}
 
@@ -185,3 +185,77 @@ lines_are_events p stations line e = (λ is. forth (words_said line) refl is, λ
     forth : (said : Option (List (List ℕ))) → words_said line ≡ said → event_looked_up p stations (option_map_or event_in_words said (Err Syntax)) ≡ Ok (Some e) → (ws : List (List ℕ)) × (words_said line ≡ Some ws) × IsEventLine p stations ws e
     forth None was is = cc
     forth (Some ws) was is = (ws, was, some_words p stations ws e is)
+
+-- a line that says nothing
+
+never_nothing : (p : Planned) (stations : List InterId) (o : Option NamedEvent) → event_looked_up p stations (option_map_or (λ x. Ok (Some x)) o (Err Syntax)) ≡ Ok None → ⊥
+never_nothing p stations None is = cc
+never_nothing p stations (Some n) is = by_known (event_known p stations n) is
+  where
+    by_known : (o : Option Event) → option_map_or (λ event. Ok (Some event)) o (Err Unknown) ≡ Ok None → ⊥
+    by_known None said = cc
+    by_known (Some x) said = cc
+
+pub lines_say_nothing : LinesSayNothing
+lines_say_nothing p stations line = (λ is. forth (words_said line) refl is, λ none. rw none refl)
+  where
+    forth : (said : Option (List (List ℕ))) → words_said line ≡ said → event_looked_up p stations (option_map_or event_in_words said (Err Syntax)) ≡ Ok None → words_said line ≡ Some []
+    forth None was is = cc
+    forth (Some []) was is = was
+    forth (Some (verb ∷ words)) was is = absurd (never_nothing p stations (event_said verb words) is)
+
+-- a line with an unknown name
+
+form_said : (p : Planned) (stations : List InterId) (o : Option NamedEvent) → event_looked_up p stations (option_map_or (λ x. Ok (Some x)) o (Err Syntax)) ≡ Err Unknown → (n : NamedEvent) × (o ≡ Some n)
+form_said p stations None is = cc
+form_said p stations (Some n) is = (n, refl)
+
+one_form : (verb word : List ℕ) (n : NamedEvent) → Said verb word n → IsEventForm (verb ∷ word ∷ [])
+one_form verb word n (inl mail) = subst (λ (v : List ℕ). IsEventForm (v ∷ word ∷ [])) (sym mail.1) (mail_form word mail.0 mail.2)
+one_form verb word n (inr (inl deliver)) = subst (λ (v : List ℕ). IsEventForm (v ∷ word ∷ [])) (sym deliver.1) (deliver_form word deliver.0 deliver.2)
+one_form verb word n (inr (inr serve)) = subst (λ (v : List ℕ). IsEventForm (v ∷ word ∷ [])) (sym serve.0) (serve_form word serve.1)
+
+two_form : (verb word other : List ℕ) (n : NamedEvent) → is_name word ≡ true → is_name other ≡ true → Named verb word other n → IsEventForm (verb ∷ word ∷ other ∷ [])
+two_form verb word other n one two (inl try') = subst (λ (v : List ℕ). IsEventForm (v ∷ word ∷ other ∷ [])) (sym try'.0) (try_form word other one two)
+two_form verb word other n one two (inr (inl pass)) = subst (λ (v : List ℕ). IsEventForm (v ∷ word ∷ other ∷ [])) (sym pass.0) (pass_form word other one two)
+two_form verb word other n one two (inr (inr ask)) = subst (λ (v : List ℕ). IsEventForm (v ∷ word ∷ other ∷ [])) (sym ask.0) (ask_form word other one two)
+
+unknown_form : (p : Planned) (stations : List InterId) (ws : List (List ℕ)) → event_looked_up p stations (event_in_words ws) ≡ Err Unknown → IsEventForm ws
+unknown_form p stations [] is = cc
+unknown_form p stations (verb ∷ []) is = cc
+unknown_form p stations (verb ∷ word ∷ []) is =
+    let said = form_said p stations (one_said verb word) is in
+    one_form verb word said.0 (one_from verb word said.0 said.1)
+unknown_form p stations (verb ∷ word ∷ other ∷ []) is =
+    let said = form_said p stations (two_said verb word other) is in
+    let named = two_from verb word other said.0 said.1 in
+    two_form verb word other said.0 named.0 named.1 named.2
+unknown_form p stations (verb ∷ word ∷ other ∷ more ∷ rest) is = cc
+
+form_named : (ws : List (List ℕ)) → IsEventForm ws → (n : NamedEvent) × (event_in_words ws ≡ Ok (Some n))
+form_named _ (mail_form word k value) = (named.Mail k, rw value refl)
+form_named _ (deliver_form word k value) = (named.Deliver k, rw value refl)
+form_named _ (serve_form name is) = (named.Serve name, rw (said_name name is) refl)
+form_named _ (try_form class name one two) = (named.Try class name, rw (said_name class one, said_name name two) refl)
+form_named _ (pass_form from to one two) = (named.Pass from to, rw (said_name from one, said_name to two) refl)
+form_named _ (ask_form from to one two) = (named.Ask from to, rw (said_name from one, said_name to two) refl)
+
+unknown_back : (p : Planned) (stations : List InterId) (ws : List (List ℕ)) (n : NamedEvent) → event_in_words ws ≡ Ok (Some n) → ((e : Event) → ¬ IsEventLine p stations ws e) → event_looked_up p stations (event_in_words ws) ≡ Err Unknown
+unknown_back p stations ws n is none = rw is (by_known (event_known p stations n) refl)
+  where
+    by_known : (o : Option Event) → event_known p stations n ≡ o → option_map_or (λ event. Ok (Some event)) o (Err Unknown) ≡ Err Unknown
+    by_known None was = refl
+    by_known (Some e) was = absurd (none e (some_words p stations ws e (rw is (rw was refl))))
+
+never_known : (p : Planned) (stations : List InterId) (ws : List (List ℕ)) (e : Event) → event_looked_up p stations (event_in_words ws) ≡ Err Unknown → IsEventLine p stations ws e → ⊥
+never_known p stations ws e is line =
+    let both : Err Unknown ≡ Ok (Some e) = sym is ∙ words_back p stations ws e line in
+    cc
+
+pub lines_are_unknown : LinesAreUnknown
+lines_are_unknown p stations line = (λ is. forth (words_said line) refl is, λ (ws, said, form, none). rw said (let n = form_named ws form in unknown_back p stations ws n.0 n.1 none))
+  where
+    forth : (said : Option (List (List ℕ))) → words_said line ≡ said → event_looked_up p stations (option_map_or event_in_words said (Err Syntax)) ≡ Err Unknown
+        → (ws : List (List ℕ)) × (words_said line ≡ Some ws) × IsEventForm ws × ((e : Event) → ¬ IsEventLine p stations ws e)
+    forth None was is = cc
+    forth (Some ws) was is = (ws, was, unknown_form p stations ws is, λ e line'. never_known p stations ws e is line')

@@ -1,6 +1,6 @@
 -- What schedules and seeds mean, in the subject's own words: laws that a reviewer reads.
-use Rattle.std.specs.Prelude.{List, [], ◌∷◌, ◌≡◌, ◌≢◌, ◌⊎◌, ◌↔◌, ◌==◌, ℕ, true, Ok, Some, codes}
-use Rattle.std.specs.Prelude.{position}
+use Rattle.std.specs.Prelude.{List, [], ◌∷◌, ◌≡◌, ◌≢◌, ◌⊎◌, ◌↔◌, ◌==◌, ℕ, true, None, Ok, Some, Err}
+use Rattle.std.specs.Prelude.{codes, position}
 use Rattle.bip_bank.specs.Laws.{MovesInOneWay}
 use Rattle.bip_bank.specs.Sharing.{Sharing}
 use Rattle.bip_bank.specs.declared.banks.BankStep.TheVariants.{Ask, Deliver, Pass, Serve}
@@ -12,6 +12,7 @@ use Rattle.bip_model.specs.Texts.{value_said, words_said}
 use Rattle.bip_model.specs.declared.numbering.ClassId.{ClassId}
 use Rattle.bip_model.specs.declared.numbering.InterId.{InterId}
 use Rattle.bip_partition.specs.Plans.{AreStations, Planned}
+use Rattle.bip_replay.specs.declared.faults.LineFault.TheVariants.{Unknown}
 use Rattle.bip_replay.specs.declared.faults.TraceFault.{TraceFault}
 use Rattle.bip_replay.specs.declared.faults.TraceFault.TheVariants.{Memory}
 use Rattle.bip_schedule.specs.Exploring.{IsSeedRun}
@@ -85,12 +86,41 @@ LinesAreEvents =
     → (event_on p stations line ≡ Ok (Some e))
     ↔ ((ws : List (List ℕ)) × (words_said line ≡ Some ws) × IsEventLine p stations ws e)
 
+-- the form of an event's line: its verb, with a value, or with one name or two
+pub data IsEventForm : List (List ℕ) → Type 0 where
+  mail_form : (word : List ℕ) (k : ℕ) → value_said word ≡ Some k
+      → IsEventForm (codes "mail" ∷ word ∷ [])
+  deliver_form : (word : List ℕ) (k : ℕ) → value_said word ≡ Some k
+      → IsEventForm (codes "deliver" ∷ word ∷ [])
+  serve_form : (name : List ℕ) → is_name name ≡ true → IsEventForm (codes "serve" ∷ name ∷ [])
+  try_form : (class name : List ℕ) → is_name class ≡ true → is_name name ≡ true
+      → IsEventForm (codes "try" ∷ class ∷ name ∷ [])
+  pass_form : (from to : List ℕ) → is_name from ≡ true → is_name to ≡ true
+      → IsEventForm (codes "pass" ∷ from ∷ to ∷ [])
+  ask_form : (from to : List ℕ) → is_name from ≡ true → is_name to ≡ true
+      → IsEventForm (codes "ask" ∷ from ∷ to ∷ [])
+
+-- a line says nothing exactly where it has no words, or is a comment
+abbrev pub LinesSayNothing : Type 0
+LinesSayNothing =
+    (p : Planned) (stations : List InterId) (line : List ℕ)
+    → (event_on p stations line ≡ Ok None) ↔ (words_said line ≡ Some [])
+
+-- a line has an unknown name exactly where its words have the form of an event's, and are those of
+-- no event of the plan; so each other line has no form
+abbrev pub LinesAreUnknown : Type 0
+LinesAreUnknown =
+    (p : Planned) (stations : List InterId) (line : List ℕ)
+    → (event_on p stations line ≡ Err Unknown)
+    ↔ ((ws : List (List ℕ)) × (words_said line ≡ Some ws) × IsEventForm ws
+    × ((e : Event) → ¬ IsEventLine p stations ws e))
+
 -- a seed draws the same each time: two runs of so many events that are drawn from it, each in the
--- new world of one plan and base, whose stations share this and move it in one way, have one trace,
--- where no event was skipped and no message lost
+-- new world of one plan and base, whose stations share this and move it in one way, did the
+-- same events and have one trace, where no event was skipped and no message lost
 abbrev pub OneSeedTrace : Type 0
 OneSeedTrace =
     (sharing : Sharing) (p : Planned) (base count seed m n : ℕ) → MovesInOneWay sharing
     → (one : IsSeedRun (λ x. x ≡ sharing) p base count seed m)
     → (other : IsSeedRun (λ x. x ≡ sharing) p base count seed n)
-    → (one.trace ≡ other.trace) × (m ≡ n)
+    → (one.of_seed.events ≡ other.of_seed.events) × (one.trace ≡ other.trace) × (m ≡ n)

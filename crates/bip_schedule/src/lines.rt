@@ -1,10 +1,10 @@
 //! What a line of a schedule says: an event by names, and the event of a plan.
-ghost use Rattle.std.specs.Prelude.{◌≡◌, ◌==◌, ◌<◌, IfOk, IfSome, None, Some, if◌then◌else◌};
+ghost use Rattle.std.specs.Prelude.{◌≡◌, ◌==◌, ◌<◌, IfOk, IfSome};
 ghost use Rattle.std.specs.Prelude.{length, position};
 ghost use Rattle.std.specs.Option.{option_map};
 ghost use Rattle.bip_bank.specs.declared.banks.StationId.{StationId};
 ghost use Rattle.bip_core.specs.declared.events.Event.{Event};
-ghost use Rattle.bip_model.specs.Naming.{is_name, same_text};
+ghost use Rattle.bip_model.specs.Naming.{same_text};
 ghost use Rattle.bip_model.specs.Texts.{words};
 ghost use Rattle.bip_model.specs.declared.numbering.InterId.{InterId};
 ghost use Rattle.bip_partition.specs.Plans.{AreStations};
@@ -14,7 +14,9 @@ ghost use Rattle.bip_schedule.specs.Writing.{HasSpelling};
 
 use bip_bank::{BankStep, StationId};
 use bip_core::Event;
-use bip_model::{ClassId, InterId, Line, Name, parse_value, read_words, split_word};
+use bip_model::{
+    ClassId, InterId, Line, Name, Word, is_text, parse_value, read_words, split_word,
+};
 use bip_partition::Plan;
 use bip_replay::LineFault;
 
@@ -75,6 +77,7 @@ fn parse_event(verb: &[u8], line: &[u8]) -> Option<NamedEvent>
 }
 
 // The event of a word with one more.
+#[tactic(auto, unfolding(bip_model::specs::Words::name_of))]
 fn parse_one(verb: &[u8], word: &[u8]) -> Option<NamedEvent>
     ensures { result ≡ one_said verb.now word.now }
 {
@@ -85,17 +88,18 @@ fn parse_one(verb: &[u8], word: &[u8]) -> Option<NamedEvent>
         return Some(NamedEvent::Deliver(parse_value(word)?));
     }
     if is_text(verb, b"serve") {
-        return Some(NamedEvent::Serve(name_of(word)?));
+        return Some(NamedEvent::Serve(Name::read(word)?));
     }
     None
 }
 
 // The event of a word with two more.
+#[tactic(auto, unfolding(bip_model::specs::Words::name_of))]
 fn parse_two(verb: &[u8], word: &[u8], other: &[u8]) -> Option<NamedEvent>
     ensures { result ≡ two_said verb.now word.now other.now }
 {
-    let word = name_of(word)?;
-    let other = name_of(other)?;
+    let word = Name::read(word)?;
+    let other = Name::read(other)?;
     if is_text(verb, b"try") {
         return Some(NamedEvent::Try(word, other));
     }
@@ -188,16 +192,4 @@ fn place_of(stations: &[InterId], inter: InterId) -> Option<usize>
     ensures there { IfSome result (λ s. s < length stations.now) }
 {
     stations.iter().position(|other| *other == inter)
-}
-
-fn name_of(text: &[u8]) -> Option<Name>
-    ensures { result ≡ (if is_name text.now then Some text.now else None) }
-{
-    Name::of(text)
-}
-
-fn is_text(text: &[u8], word: &[u8]) -> bool
-    ensures { result ≡ same_text text.now word.now }
-{
-    text == word
 }

@@ -1,5 +1,5 @@
 use Rattle.bip_schedule.proofs.LawLemmas.{events_or_fault, not_both, one_schedule, one_schedule_fault, one_seed_trace}
-use Rattle.bip_schedule.proofs.LineLemmas.{lines_are_events}
+use Rattle.bip_schedule.proofs.LineLemmas.{lines_are_events, lines_are_unknown, lines_say_nothing}
 use Rattle.bip_schedule.proofs.StationLemmas.{one_stations}
 use Rattle.bip_schedule.proofs.laws.schedule_laws.Goals as goal
 
@@ -23,3 +23,9 @@ returns-clause-seed c = one_seed_trace
 
 pub returns-clause-lines : goal.returns-clause-lines
 returns-clause-lines c = lines_are_events
+
+pub returns-clause-nothing : goal.returns-clause-nothing
+returns-clause-nothing c = lines_say_nothing
+
+pub returns-clause-unknown : goal.returns-clause-unknown
+returns-clause-unknown c = lines_are_unknown
