@@ -5,11 +5,9 @@ use Rattle.bip_model.specs.Texts.{is_comment, is_plain, words}
 use Rattle.bip_model.specs.declared.clauses.Spelling.{Spelling}
 use Rattle.bip_explain.specs.Expected.{after_word, after_all, can_end, ends, takes_all}
 use Rattle.bip_explain.specs.Forms.{IsFormReason}
-use Rattle.bip_explain.specs.Hints.{IsHintOf}
 use Rattle.bip_explain.specs.Placed.{IsPlacedOn, said_words}
 use Rattle.bip_explain.specs.declared.expected.Expected.{Expected}
 use Rattle.bip_explain.specs.declared.forms.FormReason.TheVariants.{Word, End}
-use Rattle.bip_explain.specs.declared.hints.Hint.{Hint}
 use Rattle.bip_explain.specs.declared.placed.Placed.{Placed}
 use Rattle.bip_explain.proofs.WantedLemmas.{behind}
 
@@ -38,12 +36,12 @@ gone-all spelling start expected all left gone so is last =
     ap ends (ap (λ (ws : List (List ℕ)). after_all spelling start ws) whole ∙ so.taken) ∙ last
 
 -- a word that can't stand where the words before it lead
-pub misplaced : (spelling : Spelling) (start expected : Expected) (front all left : List (List ℕ)) (line rest new : List ℕ) (gone : List Placed) (placed : Placed) (hint : Hint) → words line ≡ front ++ all → IsGoneTo spelling start all gone expected left → left ≡ placed.word.now ∷ words new
-    → (at : IsPlacedOn line placed) → words at.behind ≡ words new → after_word spelling expected placed.word.now ≡ None → IsHintOf placed.word.now hint → IsFormReason spelling start front line (Word placed spelling expected hint)
-misplaced spelling start expected front all left line rest new gone placed hint whole so is at same none hinted =
+pub misplaced : (spelling : Spelling) (start expected : Expected) (front all left : List (List ℕ)) (line rest new : List ℕ) (gone : List Placed) (placed : Placed) → words line ≡ front ++ all → IsGoneTo spelling start all gone expected left → left ≡ placed.word.now ∷ words new
+    → (at : IsPlacedOn line placed) → words at.behind ≡ words new → after_word spelling expected placed.word.now ≡ None → IsFormReason spelling start front line (Word placed spelling expected)
+misplaced spelling start expected front all left line rest new gone placed whole so is at same none =
     let there : at.front ++ (placed.word.now ∷ words new) ≡ (front ++ words_in gone) ++ (placed.word.now ∷ words new)
     = ap (λ (ws : List (List ℕ)). at.front ++ placed.word.now ∷ ws) (sym same) ∙ (sym at.words_are ∙ (whole ∙ (ap (λ (ws : List (List ℕ)). front ++ ws) (so.split ∙ ap (λ (ws : List (List ℕ)). words_in gone ++ ws) is) ∙ sym (append_assoc front (words_in gone) (placed.word.now ∷ words new))))) in
-    (at, refl, (words_in gone, append_cancel_right at.front (front ++ words_in gone) (placed.word.now ∷ words new) there, so.taken), none, hinted)
+    (at, refl, (words_in gone, append_cancel_right at.front (front ++ words_in gone) (placed.word.now ∷ words new) there, so.taken), none)
 
 -- a line that ends where it can't
 pub ended : (spelling : Spelling) (start expected : Expected) (front all left : List (List ℕ)) (line : List ℕ) (column : ℕ) (gone : List Placed) → words line ≡ front ++ all → IsGoneTo spelling start all gone expected left → left ≡ [] → column ≡ length line + 1 → can_end expected ≡ false

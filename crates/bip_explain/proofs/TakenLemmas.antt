@@ -695,7 +695,7 @@ completes standing keyword start expected front more word begins split leads som
 -- what is wanted in a line's form can stand there
 pub can_stand : (standing : Standing) (keyword line : List ℕ) (start : Expected) (reason : FormReason) → behind_keyword standing keyword ≡ Some start → IsFormReason (spelling_behind keyword) start (keyword ∷ []) line reason → IsWantedThere IsModelLine line reason
 can_stand standing keyword line start (Byte column byte) begins is = tt
-can_stand standing keyword line start (Word placed other expected hint) begins is =
+can_stand standing keyword line start (Word placed other expected) begins is =
     let leads = is.2 in
     (is.0, λ word some. completes standing keyword start expected is.0.front leads.0 word begins leads.1 leads.2 (rw is.1 at some))
 can_stand standing keyword line start (LineEnd column other expected) begins is =

@@ -343,7 +343,7 @@ module _ (IsLine : List (List ℕ) → Type 0) (spelling : Spelling) (start : Ex
 
   pub no_line : (line : List ℕ) (reason : FormReason) → IsFormReason spelling start first line reason → IsNoLine IsLine line reason
   no_line line (Byte column byte) is = tt
-  no_line line (Word placed other expected hint) is = (is.0, stops_there line placed expected is.0 is.2 is.3)
+  no_line line (Word placed other expected) is = (is.0, stops_there line placed expected is.0 is.2 is.3)
   no_line line (LineEnd column other expected) is = ends_there line expected is.2 is.3
 
 suc_eqb : (n : ℕ) → eqb (suc n) 0 ≡ false

@@ -6,7 +6,7 @@ use Rattle.bip_model.specs.Texts.{is_plain, words}
 use Rattle.bip_model.specs.declared.clauses.Spelling.{Spelling}
 use Rattle.bip_explain.specs.Expected.{after_word, after_all, can_end, wanted_text}
 use Rattle.bip_explain.specs.Explanations.{column_parts, placed_parts}
-use Rattle.bip_explain.specs.Hints.{IsHintOf, hint_parts}
+use Rattle.bip_explain.specs.Hints.{hint_for}
 use Rattle.bip_explain.specs.Placed.{IsPlacedOn}
 use Rattle.bip_explain.specs.declared.expected.Expected.{Expected}
 use Rattle.bip_explain.specs.declared.forms.FormReason.{FormReason}
@@ -34,11 +34,10 @@ LeadsTo spelling start front ws expected =
 abbrev pub IsFormReason :
     Spelling → Expected → List (List ℕ) → List ℕ → FormReason → Type 0
 IsFormReason spelling start front line (Byte column byte) = ⊥
-IsFormReason spelling start front line (Word placed other expected hint) =
+IsFormReason spelling start front line (Word placed other expected) =
     (at : IsPlacedOn line placed) × (other ≡ spelling)
     × LeadsTo spelling start front at.front expected
     × (after_word spelling expected placed.word.now ≡ None)
-    × IsHintOf placed.word.now hint
 IsFormReason spelling start front line (End column other expected) =
     (column ≡ length line + 1) × (other ≡ spelling)
     × LeadsTo spelling start front (words line) expected × (can_end expected ≡ false)
@@ -51,7 +50,7 @@ NoLineBegins IsLine front = (rest : List (List ℕ)) → ¬ IsLine (front ++ res
 -- told; or, where the line ends, it is no line of it
 abbrev pub IsNoLine : (List (List ℕ) → Type 0) → List ℕ → FormReason → Type 0
 IsNoLine IsLine line (Byte column byte) = ⊤
-IsNoLine IsLine line (Word placed spelling expected hint) =
+IsNoLine IsLine line (Word placed spelling expected) =
     (at : IsPlacedOn line placed) × NoLineBegins IsLine (at.front ++ placed.word.now ∷ [])
 IsNoLine IsLine line (End column spelling expected) = ¬ IsLine (words line)
 
@@ -65,7 +64,7 @@ CanStand IsLine spelling expected front =
 -- what a reason tells to be wanted can stand there
 abbrev pub IsWantedThere : (List (List ℕ) → Type 0) → List ℕ → FormReason → Type 0
 IsWantedThere IsLine line (Byte column byte) = ⊤
-IsWantedThere IsLine line (Word placed spelling expected hint) =
+IsWantedThere IsLine line (Word placed spelling expected) =
     (at : IsPlacedOn line placed) × CanStand IsLine spelling expected at.front
 IsWantedThere IsLine line (End column spelling expected) =
     CanStand IsLine spelling expected (words line)
@@ -85,8 +84,9 @@ abbrev pub form_parts : FormReason → List (List ℕ)
 form_parts (Byte column byte) =
     column_parts column
     ++ codes "byte " ∷ decimal byte ∷ codes " can't stand in a text" ∷ hint_of_byte byte ∷ []
-form_parts (Word placed spelling expected hint) =
+form_parts (Word placed spelling expected) =
     placed_parts placed
-    ++ codes " stands where " ∷ wanted_parts spelling expected ++ hint_parts hint
+    ++ codes " stands where " ∷ wanted_parts spelling expected
+    ++ hint_for spelling expected placed.word.now
 form_parts (End column spelling expected) =
     column_parts column ++ codes "the line ends where " ∷ wanted_parts spelling expected

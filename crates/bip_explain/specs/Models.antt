@@ -13,6 +13,7 @@ use Rattle.bip_explain.specs.Ends.{IsComplete, IsEndReason, end_parts, why_of_en
 use Rattle.bip_explain.specs.Explanations.{marked, placed_parts}
 use Rattle.bip_explain.specs.Forms.{IsByteReason, IsFormReason, IsNoLine, IsWantedThere}
 use Rattle.bip_explain.specs.Forms.{form_parts}
+use Rattle.bip_explain.specs.Hints.{first_hint, text_parts}
 use Rattle.bip_explain.specs.Limits.{AreWithin, IsLimitReason, limit_parts}
 use Rattle.bip_model.specs.Texts.{line_at}
 use Rattle.bip_explain.specs.Placed.{IsFirstOn, said_words}
@@ -21,7 +22,6 @@ use Rattle.bip_explain.specs.Twice.{AreUnsaid, IsTwiceReason, NoSameTransition, 
 use Rattle.bip_explain.specs.Twice.{why_of_twice}
 use Rattle.bip_explain.specs.Unknown.{AreDeclared, IsUnknownReason, named_interactions}
 use Rattle.bip_explain.specs.Unknown.{unknown_parts}
-use Rattle.bip_explain.specs.Words.{is_verb}
 use Rattle.bip_explain.specs.declared.expected.Expected.{Expected}
 use Rattle.bip_explain.specs.declared.expected.Expected.TheVariants as expected
 use Rattle.bip_explain.specs.declared.expected.Expected.TheVariants.{One, Name, VariableName}
@@ -165,24 +165,19 @@ IsOfWhy kind Unexplained = ⊤
 abbrev pub IsReasonOf : List ℕ → ReadFault → ModelReason → Type 0
 IsReasonOf text fault reason = IsModelReason text fault reason × IsOfWhy fault.why reason
 
--- what the first word of a text shows that is none of a model
-abbrev pub other_text : List ℕ → List ℕ
-other_text word =
-    if same_text word (codes "grant") then codes "; it begins a line of a trace"
-    else (if is_verb word then codes "; it begins a line of a schedule" else [])
-
-abbrev pub standing_parts : List ℕ → Standing → List (List ℕ)
-standing_parts word First =
-    codes " stands where `bip 1` is wanted, the first line of a model" ∷ other_text word ∷ []
-standing_parts word Outside =
+-- which words can begin a line that stands so
+abbrev pub standing_parts : Standing → List (List ℕ)
+standing_parts First = codes " stands where `bip 1` is wanted, the first line of a model" ∷ []
+standing_parts Outside =
     codes " can't begin a line outside a component; "
     ∷ codes "component, interaction, priority and class can" ∷ []
-standing_parts word (Inside component) =
+standing_parts (Inside component) =
     codes " can't begin a line inside component " ∷ marked component.now
     ∷ codes "; var, loc, port, trans and end can" ∷ []
 
 abbrev pub keyword_parts : Placed → Standing → List (List ℕ)
-keyword_parts placed standing = placed_parts placed ++ standing_parts placed.word.now standing
+keyword_parts placed standing =
+    placed_parts placed ++ standing_parts standing ++ text_parts (first_hint placed.word.now)
 
 -- how a reason is told
 abbrev pub model_parts : ModelReason → List (List ℕ)

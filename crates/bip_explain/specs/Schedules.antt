@@ -1,6 +1,7 @@
 -- Why a line of a schedule says no event, and how it is told.
 use Rattle.std.specs.Prelude.{◌≡◌, ◌⊎◌, ℕ, ◌||◌, List, [], ◌∷◌, ◌++◌, codes, position, Option, Bool}
 use Rattle.std.specs.Prelude.{All, None, Some, if◌then◌else◌, is_some, not, true, false, ⊤}
+use Rattle.std.specs.Prelude.{unwrap_or}
 use Rattle.std.specs.Option.{option_map_or}
 use Rattle.bip_model.specs.Naming.{IsName, same_text}
 use Rattle.bip_model.specs.Texts.{is_plain}
@@ -11,6 +12,7 @@ use Rattle.bip_replay.specs.declared.faults.TraceFault.TheVariants.{Syntax, Unkn
 use Rattle.bip_explain.specs.Explanations.{placed_parts}
 use Rattle.bip_explain.specs.Forms.{IsByteReason, IsFormReason, form_parts}
 use Rattle.bip_explain.specs.Expected.{takes_all}
+use Rattle.bip_explain.specs.Hints.{first_hint}
 use Rattle.bip_explain.specs.Placed.{IsFirstOn, IsNameBehind, said_words}
 use Rattle.bip_explain.specs.Words.{HasNot}
 use Rattle.bip_explain.specs.declared.expected.Expected.{Expected}
@@ -138,12 +140,16 @@ if_interaction is_interaction =
 abbrev pub if_class : Bool → List ℕ
 if_class is_class = if is_class then codes ", but a class of that name" else []
 
+-- what a first word shows that begins no line; of another one, what can begin a line
+abbrev pub verbs_or_first : List ℕ → List ℕ
+verbs_or_first word =
+    unwrap_or (first_hint word) (codes "; mail, try, serve, deliver, pass and ask can")
+
 -- how a reason is told
 abbrev pub schedule_parts : ScheduleReason → List (List ℕ)
 schedule_parts (Form reason) = form_parts reason
 schedule_parts (Keyword placed) =
-    placed_parts placed
-    ++ codes " can't begin a line; " ∷ codes "mail, try, serve, deliver, pass and ask can" ∷ []
+    placed_parts placed ++ codes " can't begin a line" ∷ verbs_or_first placed.word.now ∷ []
 schedule_parts (NoClass placed is_interaction) =
     placed_parts placed ++ codes " is no class of the model" ∷ if_interaction is_interaction ∷ []
 schedule_parts (NoInteraction placed is_class) =

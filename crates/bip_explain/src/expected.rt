@@ -57,23 +57,6 @@ pub(crate) enum Expected {
     End,
 }
 
-/// A sort of words.
-#[derive(Clone, Copy)]
-pub(crate) enum Sort {
-    /// The first word of a trace's line.
-    First,
-    Name,
-    Value,
-    NameOrValue,
-    /// A component with one of its ports, or of its variables: `C.p`.
-    Pair,
-    PairOrValue,
-    /// A component with its number: `C:N`.
-    Want,
-    /// A word between names and values, or none.
-    Mark,
-}
-
 impl Expected {
     /// What the line goes on with behind a word; none where the word can't stand here.
     pub(crate) fn after(self, spelling: Spelling, word: &[u8]) -> Option<Expected>
@@ -172,48 +155,6 @@ impl Expected {
                 | Expected::MoreSeen
                 | Expected::End
         )
-    }
-
-    /// What sort of word is wanted here, if one is.
-    pub(crate) fn sort(self, spelling: Spelling) -> Sort {
-        match self {
-            Expected::Grant => Sort::First,
-            Expected::Name
-            | Expected::VariableName
-            | Expected::TransitionPort
-            | Expected::TransitionSource
-            | Expected::TransitionTarget
-            | Expected::InteractionName
-            | Expected::LowInteraction
-            | Expected::HighInteraction
-            | Expected::ClassName
-            | Expected::FirstMember
-            | Expected::MoreMembers
-            | Expected::Granted
-            | Expected::Class
-            | Expected::Tried
-            | Expected::FirstStation
-            | Expected::LastStation => Sort::Name,
-            Expected::StartValue | Expected::FlightPlace => Sort::Value,
-            Expected::FirstParticipant | Expected::MoreParticipants => Sort::Pair,
-            Expected::FirstMoved | Expected::MoreMoved | Expected::FirstSeen | Expected::MoreSeen =>
-                Sort::Want,
-            _ => self.sort_in_clause(spelling),
-        }
-    }
-
-    fn sort_in_clause(self, spelling: Spelling) -> Sort {
-        match (self, spelling) {
-            (Expected::LeftTerm | Expected::RightTerm | Expected::SumTerm, Spelling::Own) => {
-                Sort::NameOrValue
-            }
-            (Expected::LeftTerm | Expected::RightTerm | Expected::SumTerm, Spelling::Shared) => {
-                Sort::PairOrValue
-            }
-            (Expected::Target, Spelling::Own) => Sort::Name,
-            (Expected::Target, Spelling::Shared) => Sort::Pair,
-            _ => Sort::Mark,
-        }
     }
 
     /// What is wanted here, in words.

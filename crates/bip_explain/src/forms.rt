@@ -9,7 +9,7 @@ ghost use Rattle.bip_explain.specs.Placed.{IsBehind};
 
 use crate::Explanation;
 use crate::expected::Expected;
-use crate::hints::{Hint, hint_of};
+use crate::hints::hint_of;
 use crate::placed::{Placed, PlacedWords};
 use bip_model::{Spelling, is_plain};
 
@@ -18,8 +18,8 @@ use bip_model::{Spelling, is_plain};
 pub(crate) enum FormReason<'t> {
     /// A byte, at a column, that can stand in no text.
     Byte(usize, u8),
-    /// A word that can't stand where it stands, what is wanted there, and a hint.
-    Word(Placed<'t>, Spelling, Expected, Hint<'t>),
+    /// A word that can't stand where it stands, and what is wanted there.
+    Word(Placed<'t>, Spelling, Expected),
     /// The line ends right before a column, where something more is wanted.
     End(usize, Spelling, Expected),
 }
@@ -37,11 +37,11 @@ impl FormReason<'_> {
                 explanation.say(b" can't stand in a text");
                 explanation.say(hint_of_byte(byte));
             }
-            FormReason::Word(placed, spelling, expected, hint) => {
+            FormReason::Word(placed, spelling, expected) => {
                 explanation.say_placed(placed);
                 explanation.say(b" stands where ");
                 say_wanted(explanation, spelling, expected);
-                hint.say(explanation);
+                hint_of(spelling, expected, placed.word).say(explanation);
             }
             FormReason::End(column, spelling, expected) => {
                 explanation.say_column(column);
@@ -102,10 +102,7 @@ pub(crate) fn find_word<'t>(
     for placed in left {
         match expected.after(spelling, placed.word) {
             Some(next) => expected = next,
-            None => {
-                let hint = hint_of(spelling, expected, placed.word);
-                return Some(FormReason::Word(placed, spelling, expected, hint));
-            }
+            None => return Some(FormReason::Word(placed, spelling, expected)),
         }
     }
     if expected.can_end() {

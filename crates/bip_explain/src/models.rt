@@ -6,18 +6,18 @@ ghost use Rattle.bip_explain.specs.Explanations.{Tells, with_parts};
 ghost use Rattle.bip_explain.specs.Models.{IsModelReason, IsOfWhy, IsReasonOf, MayLackReason};
 ghost use Rattle.bip_explain.specs.Models.{HasForm, behind_inside, takes_memory};
 ghost use Rattle.bip_explain.specs.Models.{behind_keyword, behind_outside, keyword_parts};
-ghost use Rattle.bip_explain.specs.Models.{model_parts, other_text, spelling_behind};
+ghost use Rattle.bip_explain.specs.Models.{model_parts, spelling_behind, standing_parts};
 
 use crate::Explanation;
 use crate::ends::{EndReason, find_cycle, find_missing, find_unparted};
 use crate::expected::Expected;
 use crate::forms::{FormReason, find_byte, find_word};
+use crate::hints::hint_of_first;
 use crate::limits::{LimitReason, find_limit};
 use crate::placed::{Placed, words_of};
 use crate::scopes::{Standing, standing_at};
 use crate::twice::{TwiceReason, find_transition, find_twice};
 use crate::unknown::{UnknownReason, find_unknown};
-use crate::words::is_verb;
 use bip_model::{Spelling, is_text, line_at};
 use bip_reader::{ReadFault, Why};
 use std::alloc::{AllocError, Global};
@@ -75,16 +75,22 @@ impl ModelReason<'_> {
     }
 }
 
-// Says which words can begin the line.
+// Says which words can begin the line, and what the first word shows.
 fn say_keyword(explanation: &mut Explanation, first: Placed<'_>, standing: Standing<'_>)
     ensures { explanation.new
         ≡ with_parts (keyword_parts first.entry standing.entry) explanation.old }
 {
     explanation.say_placed(first);
+    say_standing(explanation, standing);
+    hint_of_first(first.word).say(explanation);
+}
+
+fn say_standing(explanation: &mut Explanation, standing: Standing<'_>)
+    ensures { explanation.new ≡ with_parts (standing_parts standing.entry) explanation.old }
+{
     match standing {
         Standing::First => {
             explanation.say(b" stands where `bip 1` is wanted, the first line of a model");
-            explanation.say(other_text(first.word));
         }
         Standing::Outside => {
             explanation.say(b" can't begin a line outside a component; ");
@@ -136,19 +142,6 @@ fn find_reason<'t>(
             Err(error) => Err(error),
         },
         Why::Memory => Ok(Some(ModelReason::NoMemory)),
-    }
-}
-
-// What text a word shows that begins none of a model.
-fn other_text(word: &[u8]) -> &'static [u8]
-    ensures { result.now ≡ other_text word.now }
-{
-    if is_text(word, b"grant") {
-        b"; it begins a line of a trace"
-    } else if is_verb(word) {
-        b"; it begins a line of a schedule"
-    } else {
-        b""
     }
 }
 

@@ -12,11 +12,12 @@ ghost use Rattle.bip_explain.specs.Schedules.{AreNamesKnown, AreTried, HasStatio
 ghost use Rattle.bip_explain.specs.Schedules.{IsScheduleReasonOf, MayLackEvent};
 ghost use Rattle.bip_explain.specs.Schedules.{behind_verb, if_class, if_interaction};
 ghost use Rattle.bip_explain.specs.Schedules.{name_station};
-ghost use Rattle.bip_explain.specs.Schedules.{schedule_parts};
+ghost use Rattle.bip_explain.specs.Schedules.{schedule_parts, verbs_or_first};
 
 use crate::Explanation;
 use crate::expected::Expected;
 use crate::forms::{FormReason, find_byte, find_word};
+use crate::hints::first_hint;
 use crate::placed::{Placed, PlacedWords, words_of};
 use bip_model::{Name, Spelling, is_text, line_at};
 use bip_partition::Plan;
@@ -69,8 +70,8 @@ impl ScheduleReason<'_> {
             ScheduleReason::Form(reason) => reason.say(explanation),
             ScheduleReason::Keyword(placed) => {
                 explanation.say_placed(placed);
-                explanation.say(b" can't begin a line; ");
-                explanation.say(b"mail, try, serve, deliver, pass and ask can");
+                explanation.say(b" can't begin a line");
+                explanation.say(verbs_or_first(placed.word));
             }
             ScheduleReason::NoClass(placed, is_interaction) => {
                 explanation.say_placed(placed);
@@ -91,6 +92,16 @@ impl ScheduleReason<'_> {
             }
             ScheduleReason::Unexplained => explanation.say(b"no reason is found"),
         }
+    }
+}
+
+// What a first word shows; of another one, what can begin a line.
+fn verbs_or_first(word: &[u8]) -> &'static [u8]
+    ensures { result.now ≡ verbs_or_first word.now }
+{
+    match first_hint(word) {
+        Some(text) => text,
+        None => b"; mail, try, serve, deliver, pass and ask can",
     }
 }
 

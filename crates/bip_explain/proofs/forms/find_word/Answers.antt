@@ -7,8 +7,8 @@ pub returns-in-None-after-clause-some : goal.returns-in-None-after-clause-some
 returns-in-None-after-clause-some c = λ front behind.
     let l = c.loop-placed in
     let taken = rw l.invariant.line at c.in-Some.ensures.steps.1 in
-    misplaced c.args.spelling c.args.start l.expected front (words c.args.left.rest.now) (words l.placed-iterator.rest.now) c.args.left.line.now c.args.left.rest.now c.next.new.self.rest.now l.yielded c.in-Some.placed c.hint_of-hint.result
-    behind l.invariant.gone taken.0 taken.1 taken.2 (sym c.after.ensures ∙ c.in-None-after.is) c.hint_of-hint.ensures
+    misplaced c.args.spelling c.args.start l.expected front (words c.args.left.rest.now) (words l.placed-iterator.rest.now) c.args.left.line.now c.args.left.rest.now c.next.new.self.rest.now l.yielded c.in-Some.placed
+    behind l.invariant.gone taken.0 taken.1 taken.2 (sym c.after.ensures ∙ c.in-None-after.is)
 
 pub returns-clause-some : goal.returns-clause-some
 returns-clause-some c = λ front behind.
