@@ -12,8 +12,8 @@ use Rattle.bip_explain.specs.Placed.{first_two, said_words}
 use Rattle.bip_model.specs.Texts.{words}
 use Rattle.bip_explain.specs.Limits.{begins_list}
 use Rattle.bip_explain.specs.Unknown.{AreDeclared, kind_at, kind_behind, kind_in_transition, name_interactions, named_interactions, next_place, place_behind}
-use Rattle.bip_explain.specs.declared.unknown.Kind.{Kind}
-use Rattle.bip_explain.specs.declared.unknown.Kind.TheVariants.{Variable, Location, Port}
+use Rattle.bip_explain.specs.declared.unknown.NameKind.{NameKind}
+use Rattle.bip_explain.specs.declared.unknown.NameKind.TheVariants.{Variable, Location, Port}
 use Rattle.bip_explain.proofs.FormLemmas.{words_from_said}
 use Rattle.bip_explain.proofs.FrontLemmas.{HeadSo, head_ends, head_first, head_word}
 
@@ -103,7 +103,7 @@ pub kind_of_place : (place : ℕ) (front : List (List ℕ)) → IsPlaceOf place 
 kind_of_place place front (more, same, at) = ap kind_at at ∙ (kind_there more ∙ rw same refl)
 
 -- the words of an interaction in front of one that names something of this kind
-pub record IsKindOf (kind : Kind) (front : List (List ℕ)) : Type 0 where
+pub record IsKindOf (kind : NameKind) (front : List (List ℕ)) : Type 0 where
   pub more : List (List ℕ)
   pub of : front ≡ codes "interaction" ∷ more
   pub is_head : Bool
@@ -113,7 +113,7 @@ pub record IsKindOf (kind : Kind) (front : List (List ℕ)) : Type 0 where
 pub kind_first : (name : List ℕ) → IsKindOf Port (codes "interaction" ∷ name ∷ [])
 kind_first name = record { more = name ∷ []; of = refl; is_head = true; head = head_first (codes "interaction") name; is = refl }
 
-pub kind_more : (word : List ℕ) (kind : Kind) → begins_list word ≡ false → (front : List (List ℕ)) → IsKindOf kind front → IsKindOf kind (front ++ word ∷ [])
+pub kind_more : (word : List ℕ) (kind : NameKind) → begins_list word ≡ false → (front : List (List ℕ)) → IsKindOf kind front → IsKindOf kind (front ++ word ∷ [])
 kind_more word kind none front so = record {
   more = so.more ++ word ∷ [];
   of = ap (λ (ws : List (List ℕ)). ws ++ word ∷ []) so.of;
@@ -122,7 +122,7 @@ kind_more word kind none front so = record {
   is = so.is;
 }
 
-pub kind_ends : (word : List ℕ) (kind : Kind) → begins_list word ≡ true → (front : List (List ℕ)) → IsKindOf kind front → IsKindOf Variable (front ++ word ∷ [])
+pub kind_ends : (word : List ℕ) (kind : NameKind) → begins_list word ≡ true → (front : List (List ℕ)) → IsKindOf kind front → IsKindOf Variable (front ++ word ∷ [])
 kind_ends word kind begins front so = record {
   more = so.more ++ word ∷ [];
   of = ap (λ (ws : List (List ℕ)). ws ++ word ∷ []) so.of;
@@ -131,7 +131,7 @@ kind_ends word kind begins front so = record {
   is = refl;
 }
 
-pub kind_so : (kind : Kind) (front : List (List ℕ)) → IsKindOf kind front → kind ≡ kind_behind front
+pub kind_so : (kind : NameKind) (front : List (List ℕ)) → IsKindOf kind front → kind ≡ kind_behind front
 kind_so kind front so = so.is ∙ (ap (λ b. cond b Port Variable) (sym so.head.so) ∙ rw so.of refl)
 
 -- two words less
@@ -141,7 +141,7 @@ drop_two (a ∷ []) = refl
 drop_two (a ∷ b ∷ ws) = refl
 
 -- nothing of any kind
-pub all_kinds : (P : Kind → Type 0) → P Variable → P Location → P Port → (kind : Kind) → P kind
+pub all_kinds : (P : NameKind → Type 0) → P Variable → P Location → P Port → (kind : NameKind) → P kind
 all_kinds P v l p Variable = v
 all_kinds P v l p Location = l
 all_kinds P v l p Port = p

@@ -12,8 +12,8 @@ use Rattle.bip_explain.specs.Placed.{IsNameBehind, IsPlacedOn}
 use Rattle.bip_explain.specs.Scopes.{IsInside}
 use Rattle.bip_explain.specs.Words.{IsPair, point}
 use Rattle.bip_explain.specs.declared.placed.Placed.{Placed}
-use Rattle.bip_explain.specs.declared.unknown.Kind.{Kind}
-use Rattle.bip_explain.specs.declared.unknown.Kind.TheVariants.{Variable, Location, Port}
+use Rattle.bip_explain.specs.declared.unknown.NameKind.{NameKind}
+use Rattle.bip_explain.specs.declared.unknown.NameKind.TheVariants.{Variable, Location, Port}
 use Rattle.bip_explain.specs.declared.unknown.Lack.{Lack}
 use Rattle.bip_explain.specs.declared.unknown.UnknownReason.{UnknownReason}
 use Rattle.bip_explain.specs.declared.unknown.UnknownReason.TheVariants.{Interaction, Component}
@@ -36,16 +36,16 @@ has_participant component (word ∷ rest) =
     else is_front component (pair_of point word) || has_participant component rest
 
 -- what a line declares a kind with
-abbrev pub kind_keyword : Kind → List ℕ
+abbrev pub kind_keyword : NameKind → List ℕ
 kind_keyword Variable = codes "var"
 kind_keyword Location = codes "loc"
 kind_keyword Port = codes "port"
 
 -- what the lines before one declare by a name inside a component: something of the kind that is
 -- told, or else nothing of any kind
-abbrev pub IsOther : List ℕ → ℕ → List ℕ → List ℕ → Option Kind → Type 0
+abbrev pub IsOther : List ℕ → ℕ → List ℕ → List ℕ → Option NameKind → Type 0
 IsOther text number component name None =
-    (kind : Kind) → declares_inside text number component (kind_keyword kind) name ≡ false
+    (kind : NameKind) → declares_inside text number component (kind_keyword kind) name ≡ false
 IsOther text number component name (Some kind) =
     IsTrue (declares_inside text number component (kind_keyword kind) name)
 
@@ -59,7 +59,7 @@ IsLack text number lack =
 
 -- what a word names in a component by its place in a transition: a port, then two locations, and
 -- variables behind them
-abbrev pub kind_in_transition : List (List ℕ) → Kind
+abbrev pub kind_in_transition : List (List ℕ) → NameKind
 kind_in_transition [] = Port
 kind_in_transition (port ∷ []) = Location
 kind_in_transition (port ∷ source ∷ []) = Location
@@ -67,7 +67,7 @@ kind_in_transition (port ∷ source ∷ target ∷ more) = Variable
 
 -- what it names there behind these, the first words of a line: of an interaction's participants a
 -- port, and behind them a variable
-abbrev pub kind_behind : List (List ℕ) → Kind
+abbrev pub kind_behind : List (List ℕ) → NameKind
 kind_behind [] = Port
 kind_behind (keyword ∷ front) =
     if same_text keyword (codes "trans") then kind_in_transition front
@@ -120,12 +120,12 @@ IsUnknownReason text number line (Inner placed lack) =
     (at : IsPlacedOn line placed) × (lack.kind ≡ kind_behind at.front)
     × IsLackOf text number lack placed.word.now × IsLack text number lack
 
-abbrev pub kind_word : Kind → List ℕ
+abbrev pub kind_word : NameKind → List ℕ
 kind_word Variable = codes "variable"
 kind_word Location = codes "location"
 kind_word Port = codes "port"
 
-abbrev pub other_parts : Option Kind → List (List ℕ)
+abbrev pub other_parts : Option NameKind → List (List ℕ)
 other_parts None = []
 other_parts (Some kind) = codes ", but a " ∷ kind_word kind ∷ codes " of that name" ∷ []
 
@@ -155,7 +155,7 @@ unknown_parts (Inner placed lack) = column_parts placed.column ++ lack_parts lac
 -- What contracts of private functions say.
 
 -- what a word names that stands at its column
-abbrev pub IsKindAt : List ℕ → Placed → Kind → Type 0
+abbrev pub IsKindAt : List ℕ → Placed → NameKind → Type 0
 IsKindAt line placed kind = (at : IsPlacedOn line placed) × (kind ≡ kind_behind at.front)
 
 -- the place of a word of a transition behind these: 0 is the port's, 1 and 2 are those of
@@ -167,7 +167,7 @@ place_behind (port ∷ source ∷ []) = 2
 place_behind (port ∷ source ∷ target ∷ more) = 3
 
 -- what is named there, and the place behind it
-abbrev pub kind_at : ℕ → Kind
+abbrev pub kind_at : ℕ → NameKind
 kind_at place =
     if place == 0 then Port else (if place == 1 || place == 2 then Location else Variable)
 

@@ -25,7 +25,7 @@ use std::alloc::{AllocError, Global};
 
 /// What a component has inside.
 #[derive(Clone, Copy)]
-pub(crate) enum Kind {
+pub(crate) enum NameKind {
     Variable,
     Location,
     Port,
@@ -35,9 +35,9 @@ pub(crate) enum Kind {
 #[derive(Clone, Copy)]
 pub(crate) struct Lack {
     pub component: Name,
-    pub kind: Kind,
+    pub kind: NameKind,
     pub name: Name,
-    pub other: Option<Kind>,
+    pub other: Option<NameKind>,
 }
 
 /// Why a name of a line is unknown.
@@ -110,7 +110,7 @@ impl Lack {
     }
 }
 
-fn say_other(explanation: &mut Explanation, other: Option<Kind>)
+fn say_other(explanation: &mut Explanation, other: Option<NameKind>)
     ensures { explanation.new ≡ with_parts (other_parts other) explanation.old }
 {
     if let Some(kind) = other {
@@ -120,12 +120,12 @@ fn say_other(explanation: &mut Explanation, other: Option<Kind>)
     }
 }
 
-impl Kind {
+impl NameKind {
     fn names(self, inner: &Inner) -> &Names {
         match self {
-            Kind::Variable => &inner.variables,
-            Kind::Location => &inner.locations,
-            Kind::Port => &inner.ports,
+            NameKind::Variable => &inner.variables,
+            NameKind::Location => &inner.locations,
+            NameKind::Port => &inner.ports,
         }
     }
 
@@ -133,9 +133,9 @@ impl Kind {
         ensures { result.now ≡ kind_keyword self }
     {
         match self {
-            Kind::Variable => b"var",
-            Kind::Location => b"loc",
-            Kind::Port => b"port",
+            NameKind::Variable => b"var",
+            NameKind::Location => b"loc",
+            NameKind::Port => b"port",
         }
     }
 
@@ -143,9 +143,9 @@ impl Kind {
         ensures { result.now ≡ kind_word self }
     {
         match self {
-            Kind::Variable => b"variable",
-            Kind::Location => b"location",
-            Kind::Port => b"port",
+            NameKind::Variable => b"variable",
+            NameKind::Location => b"location",
+            NameKind::Port => b"port",
         }
     }
 }
@@ -265,15 +265,15 @@ fn find_in_transition<'t>(
 }
 
 // What a word of a transition names, by its place.
-fn kind_at(place: u8) -> Kind
+fn kind_at(place: u8) -> NameKind
     ensures { result ≡ kind_at place }
 {
     if place == 0 {
-        Kind::Port
+        NameKind::Port
     } else if place == 1 || place == 2 {
-        Kind::Location
+        NameKind::Location
     } else {
-        Kind::Variable
+        NameKind::Variable
     }
 }
 
@@ -296,7 +296,7 @@ fn lack_of(
     number: u64,
     inner: &Inner,
     component: Name,
-    kind: Kind,
+    kind: NameKind,
     name: Name,
 ) -> Option<Lack>
     ensures component { IfSome result (λ lack. lack.component ≡ component) }
@@ -318,7 +318,7 @@ fn lack_of(
 }
 
 // Whether a component has something of a kind by a name.
-fn is_inside(text: &[u8], number: u64, component: &Name, kind: Kind, name: &Name) -> bool
+fn is_inside(text: &[u8], number: u64, component: &Name, kind: NameKind, name: &Name) -> bool
     ensures { result
         ≡ declares_inside text.now number component.now (kind_keyword kind) name.now }
 {
@@ -332,15 +332,15 @@ fn is_inside(text: &[u8], number: u64, component: &Name, kind: Kind, name: &Name
 }
 
 // What a component has by a name.
-fn kind_of(text: &[u8], number: u64, component: &Name, name: &Name) -> Option<Kind>
+fn kind_of(text: &[u8], number: u64, component: &Name, name: &Name) -> Option<NameKind>
     ensures { IsOther text.now number component.now name.now result }
 {
-    if is_inside(text, number, component, Kind::Variable, name) {
-        Some(Kind::Variable)
-    } else if is_inside(text, number, component, Kind::Location, name) {
-        Some(Kind::Location)
-    } else if is_inside(text, number, component, Kind::Port, name) {
-        Some(Kind::Port)
+    if is_inside(text, number, component, NameKind::Variable, name) {
+        Some(NameKind::Variable)
+    } else if is_inside(text, number, component, NameKind::Location, name) {
+        Some(NameKind::Location)
+    } else if is_inside(text, number, component, NameKind::Port, name) {
+        Some(NameKind::Port)
     } else {
         None
     }
@@ -358,10 +358,10 @@ fn find_in_interaction<'t>(
     ensures { IfSome result (IsUnknownReason text.now number words.entry.line.now) }
 {
     let line = words.line;
-    let mut kind = Kind::Port;
+    let mut kind = NameKind::Port;
     for placed in words {
         if begins_list(placed.word) {
-            kind = Kind::Variable;
+            kind = NameKind::Variable;
         } else if let Some(reason) = find_in_pair(text, number, declared, line, kind, placed) {
             return Some(reason);
         }
@@ -375,7 +375,7 @@ fn find_in_pair<'t>(
     number: u64,
     declared: &Declared,
     line: &[u8],
-    kind: Kind,
+    kind: NameKind,
     placed: Placed<'t>,
 ) -> Option<UnknownReason<'t>>
     requires { IsKindAt line.now placed kind }

@@ -1,6 +1,6 @@
 use Rattle.std.proofs.Common.{◌∷◌, [], codes, refl, sym, ◌∙◌}
 use Rattle.bip_model.specs.Texts.{words}
-use Rattle.bip_explain.specs.declared.unknown.Kind.TheVariants.{Variable}
+use Rattle.bip_explain.specs.declared.unknown.NameKind.TheVariants.{Variable}
 use Rattle.bip_explain.proofs.FrontLemmas.{left_more, left_there}
 use Rattle.bip_explain.proofs.UnknownLemmas.{IsKindOf, kind_ends, kind_first, kind_more, kind_so}
 use Rattle.bip_explain.proofs.unknown.find_in_interaction.Goals as goal
