@@ -138,7 +138,7 @@ fn is_named(named: &[NamedWant], name: &Name) -> bool
     named.iter().any(|other| *name == other.name)
 }
 
-#[tactic(auto, using(std::proofs::lemmas::Option::cond_some), unfolding(bip_model::specs::Words::name_of))]
+#[tactic(auto, unfolding(bip_model::specs::Words::name_of))]
 fn parse_want(role: Role, word: &[u8]) -> Option<NamedWant>
     ensures { result ≡ want_said role word.now }
 {
