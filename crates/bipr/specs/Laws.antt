@@ -90,13 +90,13 @@ ToldOrNot =
     (told : List Put) (a b : Answer) → IsToldStepped p base resolver schedule report told a
     → IsStepped p base resolver schedule other b → IsLossless report → IsLossless other → a ≡ b
 
--- with each resolver, a seed that is explored again has the same trace
+-- with each resolver, a seed that is explored again does the same events, and has the same trace
 abbrev pub OneTraceOfASeed : Type 0
 OneTraceOfASeed =
     (p : Planned) (resolver : Resolver) (count seed m n : ℕ)
     → (one : IsSeedRun (IsSharedAtFirst resolver p) p 0 count seed m)
     → (other : IsSeedRun (IsSharedAtFirst resolver p) p 0 count seed n)
-    → (one.trace ≡ other.trace) × (m ≡ n)
+    → (one.of_seed.events ≡ other.of_seed.events) × (one.trace ≡ other.trace) × (m ≡ n)
 
 -- a text is the trace of a run of the model that another text means; or its first line at fault has
 -- a grant that can't be next
