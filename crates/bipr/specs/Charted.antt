@@ -17,7 +17,10 @@ use Rattle.bipr.specs.declared.answers.Answer.{Answer}
 use Rattle.bipr.specs.declared.answers.Status.{Status}
 use Rattle.bipr.specs.declared.answers.Status.TheVariants.{Done, NotARun, Refused}
 use Rattle.bipr.specs.declared.charted.Shown.{Shown}
-use Rattle.bipr.specs.declared.charted.TheConstants.{MOST_ROWS}
+
+-- how many rows a chart has at most
+abbrev pub most_rows : ℕ
+most_rows = 2000
 
 -- the grants up to the last row that is shown
 abbrev pub until_last : Shown → List Grant → List Grant
@@ -68,13 +71,13 @@ pub record IsChartOf (m : System) (classes : Partition) (shown : Shown) (grants 
 -- it has too many rows
 pub data IsPictured (m : System) (classes : Partition) (shown : Shown) (grants : List Grant)
     (verdict : Answer) : Answer → Type 0 where
-  fitting : (chart : Chart) → count_shown shown grants ≤ MOST_ROWS
+  fitting : (chart : Chart) → count_shown shown grants ≤ most_rows
       → IsChartOf m classes shown (until_last shown grants)
       (reason_shown shown (length grants) verdict) chart
       → IsPictured m classes shown grants verdict
       (record { status = verdict.status; output = chart_of chart; complaint = verdict.output })
-  too_long : MOST_ROWS < count_shown shown grants
-      → IsPictured m classes shown grants verdict (complaining Refused chart_refusal)
+  too_long : most_rows < count_shown shown grants
+      → IsPictured m classes shown grants verdict (complaining Refused (chart_refusal most_rows))
 
 -- the answer to the chart of the texts of a model and a trace, from a base
 pub data IsChartAnswer (base : ℕ) (shown : Shown) (model trace : List ℕ) : Answer → Type 0 where

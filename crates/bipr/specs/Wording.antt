@@ -1,8 +1,8 @@
 -- What the program writes: verdicts on standard output, complaints on standard error.
-use Rattle.std.specs.Prelude.{ℕ, List, [], ◌∷◌, ◌++◌, ◌-◌, ◌/◌, ◌%◌, codes, length}
+use Rattle.std.specs.Prelude.{ℕ, List, [], ◌∷◌, ◌++◌, ◌/◌, ◌%◌, codes, length}
 use Rattle.std.specs.Prelude.{slice_index_or}
 use Rattle.std.specs.Fmt.{decimal}
-use Rattle.bip_model.specs.Texts.{line_feed, lines, words}
+use Rattle.bip_model.specs.Texts.{line_at, line_feed, words}
 use Rattle.bip_model.specs.declared.parts.System.{System}
 use Rattle.bip_reader.specs.Faults.{text_of_fault}
 use Rattle.bip_reader.specs.declared.faults.ReadFault.{ReadFault}
@@ -23,10 +23,9 @@ run_text count = codes "run " ++ (decimal count ++ line_feed ∷ [])
 
 -- the word behind `grant` on the line of a trace with this number, which names the interaction
 abbrev pub interaction_on : List ℕ → ℕ → List ℕ
-interaction_on trace number =
-    slice_index_or (words (slice_index_or (lines trace) (number - 1) [])) 1 []
+interaction_on trace number = slice_index_or (words (line_at trace number)) 1 []
 
--- why a grant of an interaction can't be next, by names; a replay never says so for want of memory
+-- why a grant of an interaction can't be next, by names
 abbrev pub step_text : System → List ℕ → BookFault → List ℕ
 step_text m inter NotEnabled = inter ++ codes " not enabled"
 step_text m inter (Below above) = inter ++ (codes " below " ++ name_in m.interaction_names above.0)
@@ -49,9 +48,11 @@ complaint_text why = codes "bipr: " ++ (why ++ line_feed ∷ [])
 abbrev pub model_refusal : ReadFault → List ℕ
 model_refusal fault = complaint_text (codes "model " ++ text_of_fault fault)
 
--- a chart would have too many rows
-abbrev pub chart_refusal : List ℕ
-chart_refusal = complaint_text (codes "a chart has at most 2000 rows, see --from and --to")
+-- a chart would have more than so many rows
+abbrev pub chart_refusal : ℕ → List ℕ
+chart_refusal most =
+    complaint_text
+    (codes "a chart has at most " ++ (decimal most ++ codes " rows, see --from and --to"))
 
 -- what a check counts
 abbrev pub counts_text : Counts → List ℕ

@@ -112,7 +112,7 @@ fn answer_begun(
     let count = grants.as_slice().len();
     let drawn = until_last(grants, shown);
     if count_rows(shown, drawn.as_slice()) > MOST_ROWS {
-        let complaint = chart_refusal(alloc)?;
+        let complaint = chart_refusal(alloc, MOST_ROWS)?;
         return Ok(complained(alloc, Status::Refused, complaint));
     }
     let book = book_of(alloc, model, base, drawn)?;

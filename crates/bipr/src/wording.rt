@@ -1,6 +1,5 @@
 //! The texts of answers.
-ghost use Rattle.std.specs.Prelude.{◌≡◌, ◌≤◌, ◌++◌, ◌-◌, [], IfOk, OnOk, slice_index_or};
-ghost use Rattle.bip_model.specs.Texts.{lines, words};
+ghost use Rattle.std.specs.Prelude.{◌≡◌, ◌++◌, IfOk, OnOk};
 ghost use Rattle.bip_model.specs.Naming.{name_in};
 ghost use Rattle.bipr.specs.Wording.{chart_refusal};
 ghost use Rattle.bipr.specs.Wording.{counts_text, interaction_on, model_refusal, plan_refusal};
@@ -13,7 +12,7 @@ ghost use Rattle.bipr.specs.Wording.{timed_text, trace_refusal, verdict_text};
 use crate::hosted::Hosted;
 use crate::progress::Pace;
 use bip_core::Report;
-use bip_model::{CompId, InterId, Model, NumberedLines, split_word};
+use bip_model::{CompId, InterId, Model, line_at, split_word};
 use bip_reader::ReadFault;
 use bip_replay::{BookFault, ReplayFault, TraceFault};
 use std::alloc::{AllocError, Global};
@@ -78,14 +77,12 @@ pub fn trace_refusal(alloc: Global, line: u64, fault: &ReplayFault) -> Result<Ve
     Ok(format!(in alloc; "bipr: trace line {line}: {fault}\n")?.into_bytes())
 }
 
-/// The complaint where a chart would have too many rows.
-pub fn chart_refusal(alloc: Global) -> Result<Vec<u8>, AllocError>
-    ensures { IfOk result (λ text. text.items ≡ chart_refusal) }
+/// The complaint where a chart would have more than so many rows.
+pub fn chart_refusal(alloc: Global, most: usize) -> Result<Vec<u8>, AllocError>
+    ensures { IfOk result (λ text. text.items ≡ chart_refusal most) }
 {
-    Vec::from_slice(
-        alloc,
-        b"bipr: a chart has at most 2000 rows, see --from and --to\n",
-    )
+    let text = format!(in alloc; "bipr: a chart has at most {most} rows, see --from and --to\n")?;
+    Ok(text.into_bytes())
 }
 
 /// The complaint of a schedule's text.
@@ -305,15 +302,5 @@ fn interaction_on(trace: &[u8], number: u64) -> &[u8]
             None => &[],
             Some((word, _)) => word,
         },
-    }
-}
-
-// The line with this number; empty where the text has none.
-fn line_at(text: &[u8], number: u64) -> &[u8]
-    ensures { result.now ≡ slice_index_or (lines text.now) (number - 1) [] }
-{
-    match NumberedLines::of(text).nth(number.saturating_sub(1) as usize) {
-        None => &[],
-        Some((_, line)) => line,
     }
 }

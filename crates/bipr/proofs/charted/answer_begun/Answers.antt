@@ -1,9 +1,8 @@
 use Rattle.std.proofs.Common.{◌≡◌, ◌<◌, ◌≤◌, ◌-◌, ◌∙◌, ℕ, List, ap, arith, length, subst, sym}
 use Rattle.bip_model.specs.declared.grants.Grant.{Grant}
 use Rattle.bipr.specs.Answers.{complaining}
-use Rattle.bipr.specs.Charted.{IsChartOf, IsPictured, fitting, reason_shown, count_shown, too_long}
+use Rattle.bipr.specs.Charted.{IsChartOf, IsPictured, fitting, most_rows, reason_shown, count_shown, too_long}
 use Rattle.bipr.specs.declared.answers.Status.TheVariants.{Refused}
-use Rattle.bipr.specs.declared.charted.TheConstants.{MOST_ROWS}
 use Rattle.bipr.proofs.charted.answer_begun.Goals as goal
 
 pub returns-then-count_rows-gt-MOST_ROWS : goal.returns-then-count_rows-gt-MOST_ROWS
@@ -13,7 +12,7 @@ returns-then-count_rows-gt-MOST_ROWS c =
     c.count_rows.ensures ∙ ap (λ (gs : List Grant). length gs - (shown.from - 1)) (c.as_slice.ensures.value ∙ c.until_last-drawn.ensures) in
     subst (IsPictured c.args.model.now c.args.classes.now shown c.args.grants.items c.args.verdict)
     (sym (c.complained.ensures ∙ ap (complaining Refused) c.in_ok-complaint.ensures))
-    (too_long (subst (λ (n : ℕ). MOST_ROWS < n) counted c.if-count_rows-gt-MOST_ROWS.true))
+    (too_long (subst (λ (n : ℕ). most_rows < n) counted c.if-count_rows-gt-MOST_ROWS.true))
 
 pub returns : goal.returns
 returns c =
@@ -24,7 +23,7 @@ returns c =
     let verdict = c.args.verdict in
     let counted : c.count_rows.result ≡ count_shown shown grants =
     c.count_rows.ensures ∙ ap (λ (gs : List Grant). length gs - (shown.from - 1)) (c.as_slice.ensures.value ∙ c.until_last-drawn.ensures) in
-    let fits : count_shown shown grants ≤ MOST_ROWS = omega (arith, c.if-count_rows-gt-MOST_ROWS.false, counted) in
+    let fits : count_shown shown grants ≤ most_rows = omega (arith, c.if-count_rows-gt-MOST_ROWS.false, counted) in
     let (chart, is, same) = c.in_ok-picture.ensures in
     let of_grants = subst (λ (n : ℕ). IsChartOf m classes shown c.in_ok-book.book.grants (reason_shown shown n verdict) chart) (ap length c.as_slice-count.ensures.value) is in
     let of_shown = subst (λ (gs : List Grant). IsChartOf m classes shown gs (reason_shown shown (length grants) verdict) chart) (c.in_ok-book.ensures.1 ∙ c.until_last-drawn.ensures) of_grants in
