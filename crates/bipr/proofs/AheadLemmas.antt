@@ -7,8 +7,8 @@ use Rattle.bipr.specs.declared.ahead.Ahead.{Ahead}
 use Rattle.bipr.specs.declared.command_line.ExploreArguments.{ExploreArguments}
 
 -- where nothing is, each is
-pub none_ahead : (p : Planned) (asked : ExploreArguments) (ahead : Ahead) → length ahead.explored.items ≡ 0 → 0 < ahead.size → AreAhead p asked ahead
-none_ahead p asked ahead none sized = record { sized = sized; explored = λ block is. absurd (omega arith) }
+pub none_ahead : (p : Planned) (asked : ExploreArguments) (ahead : Ahead) → length ahead.explored.items ≡ 0 → 0 < ahead.size → ahead.from ≡ 0 → AreAhead p asked ahead
+none_ahead p asked ahead none sized first = record { sized = sized; within = rw (none, first) (omega arith); explored = λ block is. absurd (omega arith) }
 
 -- a seed stands at its place in its block
 placed : (from done size : ℕ) → from ≤ done → from + (done - from) / size * size + (done - from) % size + 1 ≡ done + 1

@@ -4,6 +4,7 @@ ghost use Rattle.std.specs.Prelude.{IsTrue, OnOk, length};
 ghost use Rattle.bip_schedule.specs.Exploring.{IsSeedRun};
 ghost use Rattle.bip_schedule.specs.declared.exploring.ExploreFault.TheVariants.{Memory};
 ghost use Rattle.bipr.specs.Ahead.{AreAhead, AreExploredBehind, IsAhead, IsExplored};
+ghost use Rattle.bipr.specs.Ahead.{block_size, round_end};
 ghost use Rattle.bipr.specs.Resolvers.{IsSharedAtFirst};
 
 use crate::command_line::ExploreArguments;
@@ -44,6 +45,7 @@ impl Ahead {
     pub fn nothing(alloc: Global, last: u32) -> Ahead
         ensures none { length result.explored.items ≡ 0 }
         ensures sized { 0 < result.size }
+        ensures first { result.from ≡ 0 }
         ensures last { result.last ≡ last }
     {
         Ahead {
@@ -72,7 +74,7 @@ impl Ahead {
 /// In how many threads seeds are explored: as many as are asked for, and else one a processor, if
 /// the system tells how many there are.
 pub fn jobs_of<R: Threads>(rt: &R, asked: Option<u32>) -> u32
-    ensures asked { IfSome asked (λ jobs. result ≡ jobs) }
+    ensures asked { IfSome asked (λ most. result ≡ most) }
     ensures few { IfNone asked (result ≤ 256) }
 {
     if let Some(jobs) = asked {
@@ -87,8 +89,9 @@ pub fn jobs_of<R: Threads>(rt: &R, asked: Option<u32>) -> u32
 }
 
 /// Explores a round of seeds ahead, from the one behind so many, where that stands behind the last
-/// round, unless one thread is all. A seed of a round that wasn't explored there begins no other
-/// one: where memory is short, each is explored twice at most.
+/// round, in no more threads than are asked for; unless one thread is all: then none is made. A
+/// seed of a round that wasn't explored there begins no other one: where memory is short, each is
+/// explored twice at most.
 pub fn keep_ahead<R: Threads + Sync>(
     rt: &R,
     alloc: Global,
@@ -98,19 +101,24 @@ pub fn keep_ahead<R: Threads + Sync>(
     ahead: &mut Ahead,
     done: u32,
 )
+    requires jobs { IfSome asked.now.jobs (λ most. jobs ≡ most) }
     requires left { done < asked.now.seeds }
     requires ahead { AreAhead plan.now asked.now ahead.old }
     ensures ahead { AreAhead plan.now asked.now ahead.new }
     ensures kept { done < ahead.old.last → ahead.new ≡ ahead.old }
+    ensures alone { jobs ≤ 1 → ahead.new ≡ ahead.old }
+    ensures begun { 1 < jobs → ahead.old.last ≤ done
+        → ahead.new.last ≡ round_end asked.now jobs done }
+    ensures few { 1 < jobs → ahead.old.last ≤ done → length ahead.new.explored.items ≤ jobs }
 {
     if jobs > 1 && ahead.last <= done {
         *ahead = explore_ahead(rt, alloc, plan, asked, jobs, done);
     }
 }
 
-// Explores a round of seeds behind so many, a block in each thread: one seed at least, whatever
-// comes of it. Where no thread can be made the blocks are explored one after another; where memory
-// is out for what they say, nothing is explored ahead.
+// Explores a round of seeds behind so many, a block in each thread: one seed at least. The round
+// ends where it was planned, whatever comes of it. Where no thread can be made the blocks are
+// explored one after another; where memory is out for what they say, nothing is explored ahead.
 fn explore_ahead<R: Threads + Sync>(
     rt: &R,
     alloc: Global,
@@ -122,7 +130,9 @@ fn explore_ahead<R: Threads + Sync>(
     requires jobs { 0 < jobs }
     requires left { done < asked.now.seeds }
     ensures ahead { AreAhead plan.now asked.now result }
+    ensures planned { result.last ≡ round_end asked.now jobs done }
     ensures further { done < result.last }
+    ensures few { length result.explored.items ≤ jobs }
 {
     let left = asked.seeds - done;
     let blocks = jobs.min(left);
@@ -163,6 +173,7 @@ pub fn outcome(
 fn block_size(left: u32, blocks: u32, events: u32) -> u32
     requires some { 0 < blocks }
     requires enough { blocks ≤ left }
+    ensures is { result ≡ block_size left blocks events }
     ensures some { 0 < result }
     ensures enough { blocks * result ≤ left }
 {

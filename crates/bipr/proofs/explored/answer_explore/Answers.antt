@@ -10,7 +10,7 @@ use Rattle.bipr.proofs.explored.answer_explore.Goals as goal
 
 pub loop-done-init : goal.loop-done-init
 loop-done-init g c =
-    (0, none_explored, ([], none_put, no_progress), none_ahead c.args.plan.now c.args.asked.now c.nothing-ahead.result c.nothing-ahead.ensures.none c.nothing-ahead.ensures.sized)
+    (0, none_explored, ([], none_put, no_progress), none_ahead c.args.plan.now c.args.asked.now c.nothing-ahead.result c.nothing-ahead.ensures.none c.nothing-ahead.ensures.sized c.nothing-ahead.ensures.first)
 
 pub loop-done-preserved : goal.loop-done-preserved
 loop-done-preserved g c =
