@@ -8,7 +8,7 @@ use Rattle.bipr.specs.declared.answers.Status.TheVariants.{Done, Refused, BadCom
 use Rattle.bipr.specs.Stops.{answer_of_stop, out_of_memory}
 use Rattle.bipr.specs.declared.answers.Answer.{Answer}
 use Rattle.bipr.specs.declared.stops.Stop.{Stop}
-use Rattle.bipr.specs.declared.stops.Stop.TheVariants.{CannotRead, CannotWrite, OutOfMemory}
+use Rattle.bipr.specs.declared.stops.Stop.TheVariants.{CannotRead, CannotWrite, GrantRefused, OutOfMemory, SeedNotARun, ThreadRefused}
 
 -- an answer is said as it is
 pub outcome_answered : (P : Answer → Type 0) (given : Answer) → P given → (answer : Answer) → answer ≡ given → P answer
@@ -24,16 +24,29 @@ outcome_stopped (Err why) P given is told lacking = λ answer said. by_why why a
     by_why (CannotRead path) answer held (inl same) = subst P (sym same) held
     by_why (CannotRead path) answer held (inr same) = subst P (sym same) lacking
     by_why CannotWrite answer held same = subst P (sym same) held
+    by_why GrantRefused answer held same = subst P (sym same) held
+    by_why ThreadRefused answer held same = subst P (sym same) held
+    by_why (SeedNotARun seed) answer held same = subst P (sym same) held
     by_why OutOfMemory answer held same = subst P (sym same) held
 
 -- that a line can't be written is said, with no memory
 pub outcome_unwritten : (P : Answer → Type 0) → P (answer_of_stop CannotWrite) → AllOutcomes (Err CannotWrite) P
 outcome_unwritten P told = λ answer same. subst P (sym same) told
 
+-- nor does it take any that a host's grant was refused, or a thread
+pub outcome_grant_refused : (P : Answer → Type 0) → P (answer_of_stop GrantRefused) → AllOutcomes (Err GrantRefused) P
+outcome_grant_refused P told = λ answer same. subst P (sym same) told
+
+pub outcome_thread_refused : (P : Answer → Type 0) → P (answer_of_stop ThreadRefused) → AllOutcomes (Err ThreadRefused) P
+outcome_thread_refused P told = λ answer same. subst P (sym same) told
+
 -- want of memory is said
 pub outcome_lacking : (result : Result Answer Stop) (P : Answer → Type 0) → IsErrAnd result (λ why. why ≡ OutOfMemory)
     → P out_of_memory → AllOutcomes result P
 outcome_lacking result P is lacking = outcome_stopped result P OutOfMemory is lacking lacking
+
+pub outcome_lacks : (P : Answer → Type 0) → P out_of_memory → AllOutcomes (Err OutOfMemory) P
+outcome_lacks P lacking = λ answer same. subst P (sym same) lacking
 
 -- and so it is where nothing was told before
 pub lacks_quietly : {S : Type 0} (writes : S → List ℕ → Bool → S → Type 0) (stream : S) (result : Result Answer Stop) (P : List Put → Answer → Type 0)

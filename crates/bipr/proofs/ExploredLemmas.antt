@@ -1,17 +1,15 @@
 -- What is told on the way while seeds are explored, and the answers.
 use Rattle.std.proofs.Common.{◌≡◌, ◌∙◌, ◌+◌, ◌++◌, ◌∷◌, add-one, ap, ℕ, true, false, List, [], Result, Ok, Err, refl, subst, sym}
-use Rattle.std.specs.Prelude.{IfOk, IsErr, MatchResult}
-use Rattle.std.specs.declared.alloc.AllocError.{AllocError}
+use Rattle.std.specs.Prelude.{IfOk}
 use Rattle.bip_partition.specs.Plans.{Planned}
 use Rattle.bip_bank.specs.Sharing.{Sharing}
 use Rattle.bip_schedule.specs.Exploring.{AreExplored, IsSeedRun}
-use Rattle.bip_schedule.specs.declared.exploring.ExploreFault.TheVariants.{Memory}
 use Rattle.bip_schedule.specs.declared.exploring.ExploreFault.{ExploreFault}
-use Rattle.bipr.specs.Answers.{HasPlan, saying}
-use Rattle.bipr.specs.Commands.Explore.{IsExplore, IsTextExplored, of_no_text, of_plan}
-use Rattle.bipr.specs.Explored.{IsExploreAnswer, IsProgressAt, IsProgressUntil, IsSaidOfFault, by_count, ends_hundredth, explored, more_progress, told_at}
+use Rattle.bipr.specs.Answers.{saying}
+use Rattle.bipr.specs.Commands.Explore.{IsExplore, of_no_text}
+use Rattle.bipr.specs.Explored.{IsExploreAnswer, IsProgressAt, IsProgressUntil, by_count, ends_hundredth, explored, more_progress, told_at}
 use Rattle.bipr.specs.Resolvers.{IsSharedAtFirst}
-use Rattle.bipr.specs.Stops.{answer_of_stop, out_of_memory, unread}
+use Rattle.bipr.specs.Stops.{answer_of_stop, unread}
 use Rattle.bipr.specs.Streams.{Put, texts}
 use Rattle.bipr.specs.Wording.{progress_text, seeds_text}
 use Rattle.bipr.specs.declared.answers.Answer.{Answer}
@@ -45,30 +43,12 @@ pub told_more : (asked : ExploreArguments) (done : ℕ) (told more : List (List 
 told_more asked done told more so here =
     subst (λ (n : ℕ). IsProgressAt asked n more → IsProgressUntil asked n (told ++ more)) (sym (add-one done)) (more_progress done told more so) here
 
--- want of memory ends with an error
-pub told_lacking : (result : Result Answer AllocError) (P : Answer → Type 0) (Q : Type 0) → IsErr result → Q → MatchResult result P (λ (e : AllocError). Q)
-told_lacking (Ok answer) P Q is held = cc
-told_lacking (Err e) P Q is held = held
-
--- where a seed isn't explored memory is out, so nothing else is said
-pub fault_lacking : (result : Result Answer AllocError) (fault : ExploreFault) (P : Answer → Type 0) (Q : Type 0) → IfOk result (IsSaidOfFault fault) → fault ≡ Memory → Q
-    → MatchResult result P (λ (e : AllocError). Q)
-fault_lacking (Ok answer) fault P Q said is held = absurd (subst (λ (f : ExploreFault). IsSaidOfFault f answer) is said)
-fault_lacking (Err e) fault P Q said is held = held
-
 -- that all are runs is said
 pub explored_said : (p : Planned) (asked : ExploreArguments) (grants : ℕ) (told : List Put) (answer : Answer) (text : List ℕ)
     → AreExplored (IsSharedAtFirst asked.resolver p) p 0 asked.events asked.seeds grants → IsProgressUntil asked asked.seeds (texts told)
     → answer ≡ saying Done text → text ≡ seeds_text asked.seeds → IsExploreAnswer p asked told answer
 explored_said p asked grants told answer text so lines said spelled =
     subst (IsExploreAnswer p asked told) (sym (said ∙ ap (saying Done) spelled)) (explored grants told so lines)
-
--- what the exploring of a plan says, of the text that has it
-pub text_explored : (model : List ℕ) (asked : ExploreArguments) (p : Planned) (told : List Put) (result : Result Answer AllocError) → HasPlan model p
-    → MatchResult result (IsExploreAnswer p asked told) (λ (e : AllocError). IsExploreAnswer p asked told out_of_memory)
-    → MatchResult result (IsTextExplored model asked told) (λ (e : AllocError). IsTextExplored model asked told out_of_memory)
-text_explored model asked p told (Ok answer) has is = of_plan p told answer has is
-text_explored model asked p told (Err e) has is = of_plan p told out_of_memory has is
 
 -- what is said where the text isn't read
 pub stopped_at_explored : (gives : List ℕ → Result (List ℕ) InputFault → Type 0) (asked : ExploreArguments) (why : Stop)

@@ -1,14 +1,12 @@
 -- Answers to running nodes as threads that were written out are those that the text has.
 use Rattle.std.proofs.Common.{◌≡◌, ℕ, Bool, List, Result, Ok, Err, length, subst, sym}
-use Rattle.std.specs.Prelude.{IfOk}
-use Rattle.std.specs.declared.alloc.AllocError.{AllocError}
 use Rattle.bip_host.specs.declared.faults.HostFault.{HostFault}
 use Rattle.bip_partition.specs.Plans.{Planned}
 use Rattle.bip_replay.specs.Replays.{IsRunOf}
 use Rattle.bip_replay.specs.Writing.{text_of}
 use Rattle.bipr.specs.Answers.{HasPlan, IsAnswer, run, saying}
-use Rattle.bipr.specs.Commands.Run.{IsThreadedRun, IsTextHosted, of_no_text, of_plan}
-use Rattle.bipr.specs.Hosted.{IsHostAnswer, hosted, no_thread, refused_grant, stats_told}
+use Rattle.bipr.specs.Commands.Run.{IsThreadedRun, of_no_text}
+use Rattle.bipr.specs.Hosted.{IsHostAnswer, host_lacking, hosted, no_thread, refused_grant, stats_told, text_lacking}
 use Rattle.bipr.specs.Laws.{HostsReplay}
 use Rattle.bipr.specs.Scheduled.{reporting}
 use Rattle.bipr.specs.Stops.{answer_of_stop, unread}
@@ -30,14 +28,6 @@ pub stopped_at_run : (gives : List ℕ → Result (List ℕ) InputFault → Type
 stopped_at_run gives hosts asked why (fault, given, same) =
     subst (IsThreadedRun gives hosts asked) (sym same) (of_no_text fault given)
 
--- what is said of a plan is said of the text that has it
-pub text_hosted : (model : List ℕ) (hosts : Planned → Resolver → ℕ → Result Hosted HostFault → Type 0)
-    (asked : RunArguments) (p : Planned) (result : Result Answer AllocError) → HasPlan model p
-    → IfOk result (IsHostAnswer (hosts p asked.resolver asked.turns) p asked.with_stats)
-    → IfOk result (IsTextHosted model hosts asked)
-text_hosted model hosts asked p (Ok answer) has is = of_plan p answer has is
-text_hosted model hosts asked p (Err e) has is = tt
-
 -- what is written of a host is replayed as a run
 pub hosts_replay : HostsReplay
 hosts_replay given model p with_stats answer has is done = by_answer answer is done
@@ -48,16 +38,16 @@ hosts_replay given model p with_stats answer has is done = by_answer answer is d
         (length done_by.report.grants.items, run p.model p.classes _ has.means is)
     by_answer _ (refused_grant fault gave) done = cc
     by_answer _ (no_thread gave) done = cc
+    by_answer _ (host_lacking gave) done = cc
+    by_answer _ (text_lacking given gave) done = cc
 
 -- what a host gave is answered
 pub host_answered : (gives : Result Hosted HostFault → Type 0) (p : Planned) (with_stats : Bool)
-    (given : Hosted) (result : Result Answer AllocError) → gives (Ok given)
-    → IfOk result (λ answer. answer
-    ≡ reporting (text_of p.model given.report.grants.items) (stats_told with_stats given))
-    → IfOk result (λ answer. IsRunOf p.model 0 answer.output (length given.report.grants.items))
-    → IfOk result (IsHostAnswer gives p with_stats)
-host_answered gives p with_stats given (Ok answer) gave is of_run =
+    (given : Hosted) (answer : Answer) → gives (Ok given)
+    → answer ≡ reporting (text_of p.model given.report.grants.items) (stats_told with_stats given)
+    → IsRunOf p.model 0 answer.output (length given.report.grants.items)
+    → IsHostAnswer gives p with_stats answer
+host_answered gives p with_stats given answer gave is of_run =
     subst (IsHostAnswer gives p with_stats) (sym is)
     (hosted given gave
-    (subst (λ a. IsRunOf p.model 0 a.output (length given.report.grants.items)) is of_run))
-host_answered gives p with_stats given (Err e) gave is of_run = tt
+    (subst (λ (a : Answer). IsRunOf p.model 0 a.output (length given.report.grants.items)) is of_run))

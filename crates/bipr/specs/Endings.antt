@@ -1,8 +1,7 @@
 -- How a command ends: what is written of its answer, and its status.
 use Rattle.std.specs.Prelude.{◌≡◌, ◌⊎◌, ℕ, Bool, false, true, List, [], ◌∷◌, Result, Ok, Err}
-use Rattle.std.specs.Prelude.{◌≤◌, MatchResult, length}
+use Rattle.std.specs.Prelude.{◌≤◌, length}
 use Rattle.std.specs.List.{list_all}
-use Rattle.std.specs.declared.alloc.AllocError.{AllocError}
 use Rattle.bip_explain.specs.Explanations.{is_shown}
 use Rattle.bipr.specs.Answers.{complaining}
 use Rattle.bipr.specs.Stops.{answer_of_stop, out_of_memory, unread_text, unwritten_text}
@@ -83,8 +82,7 @@ IsUnread path answer =
 abbrev pub IsOutcome : Result Answer Stop → Answer → Type 0
 IsOutcome (Ok given) answer = answer ≡ given
 IsOutcome (Err (stop.CannotRead path)) answer = IsUnread path.now answer
-IsOutcome (Err stop.CannotWrite) answer = answer ≡ answer_of_stop stop.CannotWrite
-IsOutcome (Err stop.OutOfMemory) answer = answer ≡ answer_of_stop stop.OutOfMemory
+IsOutcome (Err why) answer = answer ≡ answer_of_stop why
 
 -- a fact of whatever a command says that has an answer, or was stopped
 abbrev pub AllOutcomes : Result Answer Stop → (Answer → Type 0) → Type 0
@@ -97,10 +95,3 @@ pub record AllOutcomesTelling {S : Type 0} (writes : S → List ℕ → Bool →
   pub told : List Put
   pub on_the_way : PutsEach writes before told after
   pub outcomes : AllOutcomes given (holds told)
-
--- the same, where it has an answer or wants memory, and is stopped by nothing else
-abbrev pub IsAnsweredTelling : {S : Type 0} → (S → List ℕ → Bool → S → Type 0) → S → S
-    → Result Answer AllocError → (List Put → Answer → Type 0) → Type 0
-IsAnsweredTelling writes before after given holds =
-    (told : List Put) × PutsEach writes before told after
-    × MatchResult given (holds told) (λ (e : AllocError). holds told out_of_memory)

@@ -9,10 +9,12 @@ use Rattle.bipr.specs.Answers.{saying}
 use Rattle.bipr.specs.Resolvers.{IsSharedAtFirst}
 use Rattle.bipr.specs.Stops.{out_of_memory}
 use Rattle.bipr.specs.Streams.{Put, texts}
-use Rattle.bipr.specs.Wording.{progress_text, seed_verdict, seeds_text, timed_text}
+use Rattle.bipr.specs.Wording.{progress_text, seeds_text, timed_text}
 use Rattle.bipr.specs.declared.answers.Answer.{Answer}
-use Rattle.bipr.specs.declared.answers.Status.TheVariants.{Done, NotARun}
+use Rattle.bipr.specs.declared.answers.Status.TheVariants.{Done}
 use Rattle.bipr.specs.declared.command_line.ExploreArguments.{ExploreArguments}
+use Rattle.bipr.specs.declared.stops.Stop.TheVariants as stop
+use Rattle.bipr.specs.declared.stops.Stop.{Stop}
 
 -- with this seed another hundredth of the seeds is done
 abbrev pub ends_hundredth : ℕ → ℕ → Bool
@@ -55,8 +57,7 @@ pub data IsExploreAnswer (p : Planned) (asked : ExploreArguments) :
 
 -- What contracts of private functions say.
 
--- what is said where a seed isn't explored: that its trace is no run; want of memory is no answer
-abbrev pub IsSaidOfFault : ExploreFault → Answer → Type 0
-IsSaidOfFault (explore_fault.NotARun seed why) answer =
-    answer ≡ saying NotARun (seed_verdict seed)
-IsSaidOfFault explore_fault.Memory answer = ⊥
+-- what stops the exploring where a seed isn't explored: that its trace is no run, or want of memory
+abbrev pub stop_of_fault : ExploreFault → Stop
+stop_of_fault (explore_fault.NotARun seed why) = stop.SeedNotARun seed
+stop_of_fault explore_fault.Memory = stop.OutOfMemory

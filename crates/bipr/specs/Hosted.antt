@@ -8,6 +8,7 @@ use Rattle.bip_replay.specs.Writing.{text_of}
 use Rattle.bip_replay.specs.declared.faults.BookFault.{BookFault}
 use Rattle.bipr.specs.Answers.{complaining}
 use Rattle.bipr.specs.Scheduled.{reporting}
+use Rattle.bipr.specs.Stops.{out_of_memory}
 use Rattle.bipr.specs.Wording.{host_refusal, no_thread_text, stats_text}
 use Rattle.bipr.specs.declared.answers.Answer.{Answer}
 use Rattle.bipr.specs.declared.answers.Status.TheVariants.{NoThread, NotARun}
@@ -33,3 +34,7 @@ pub data IsHostAnswer (gives : Result Hosted HostFault → Type 0) (p : Planned)
   -- a thread couldn't be made
   no_thread : gives (Err host_fault.Thread)
       → IsHostAnswer gives p with_stats (complaining NoThread no_thread_text)
+  -- memory is out: the host's, or for the text of the grants that it gave
+  host_lacking : gives (Err host_fault.Memory) → IsHostAnswer gives p with_stats out_of_memory
+  text_lacking : (given : Hosted) → gives (Ok given)
+      → IsHostAnswer gives p with_stats out_of_memory

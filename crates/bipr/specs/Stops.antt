@@ -1,10 +1,10 @@
 -- What stops a command before it has an answer, and what is said of it.
 use Rattle.std.specs.Prelude.{ℕ, Bool, List, ◌++◌, ◌&&◌, ◌||◌, codes, if◌then◌else◌, map, nat_le}
 use Rattle.std.specs.Prelude.{chars, encode_utf8_all}
-use Rattle.bipr.specs.Answers.{complaining}
-use Rattle.bipr.specs.Wording.{complaint_text}
+use Rattle.bipr.specs.Answers.{complaining, saying}
+use Rattle.bipr.specs.Wording.{complaint_text, host_refusal, no_thread_text, seed_verdict}
 use Rattle.bipr.specs.declared.answers.Answer.{Answer}
-use Rattle.bipr.specs.declared.answers.Status.TheVariants.{Refused, NoMemory}
+use Rattle.bipr.specs.declared.answers.Status.TheVariants.{Refused, NoMemory, NoThread, NotARun}
 use Rattle.bipr.specs.declared.inputs.InputFault.{InputFault}
 use Rattle.bipr.specs.declared.inputs.InputFault.TheVariants as input_fault
 use Rattle.bipr.specs.declared.stops.Stop.{Stop}
@@ -55,4 +55,7 @@ unread path input_fault.NoMemory = out_of_memory
 abbrev pub answer_of_stop : Stop → Answer
 answer_of_stop (stop.CannotRead path) = complaining Refused (unread_text path.now)
 answer_of_stop stop.CannotWrite = complaining Refused unwritten_text
+answer_of_stop stop.GrantRefused = complaining NotARun host_refusal
+answer_of_stop stop.ThreadRefused = complaining NoThread no_thread_text
+answer_of_stop (stop.SeedNotARun seed) = saying NotARun (seed_verdict seed)
 answer_of_stop stop.OutOfMemory = out_of_memory

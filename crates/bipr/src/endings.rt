@@ -9,8 +9,9 @@ ghost use Rattle.bipr.specs.Answers.{complaining};
 ghost use Rattle.bipr.specs.Streams.{Puts};
 
 use crate::answers::{Answer, Status};
-use crate::stops::{CANNOT_WRITE, NO_MEMORY, Stop, unread_text};
+use crate::stops::{CANNOT_WRITE, NO_MEMORY, NO_THREAD, NOT_A_RUN, Stop, unread_text};
 use crate::streams::{Stream, put};
+use crate::wording::seed_verdict;
 use arrayvec::ArrayVec;
 use bip_explain::{Explanation, MOST_BYTES};
 use std::alloc::Global;
@@ -45,13 +46,29 @@ fn end_answered<O: Stream, E: Stream>(
     ensures { IsEnd (Puts O.writes output.old output.new) (Puts E.writes errors.old errors.new)
         answer.now result }
 {
-    if !put(output, answer.output.as_slice()) {
+    let (said, complaint) = (answer.output.as_slice(), answer.complaint.as_slice());
+    end_texts(explanation, output, errors, answer.status, said, complaint)
+}
+
+// Ends a command whose answer has this status and these texts.
+fn end_texts<O: Stream, E: Stream>(
+    explanation: &mut Explanation,
+    output: &mut O,
+    errors: &mut E,
+    status: Status,
+    said: &[u8],
+    complaint: &[u8],
+) -> Status
+    ensures { IsEnd (Puts O.writes output.old output.new) (Puts E.writes errors.old errors.new)
+        (record { status = status; output = said.now; complaint = complaint.now }) result }
+{
+    if !put(output, said) {
         explanation.say_instead(b"standard output took not all of the answer");
         put(errors, CANNOT_WRITE);
         return Status::Refused;
     }
-    let is_told = put(errors, answer.complaint.as_slice());
-    told_status(is_told, answer.status)
+    let is_out = put(errors, complaint);
+    told_status(is_out, status)
 }
 
 fn end_stopped<O: Stream, E: Stream>(
@@ -67,6 +84,13 @@ fn end_stopped<O: Stream, E: Stream>(
     match *why {
         Stop::CannotRead(path) => end_unread(alloc, explanation, output, errors, path),
         Stop::CannotWrite => complain(output, errors, Status::Refused, CANNOT_WRITE),
+        Stop::GrantRefused => complain(output, errors, Status::NotARun, NOT_A_RUN),
+        Stop::ThreadRefused => complain(output, errors, Status::NoThread, NO_THREAD),
+        Stop::SeedNotARun(seed) => {
+            let verdict = seed_verdict(seed);
+            let verdict = verdict.as_slice();
+            end_texts(explanation, output, errors, Status::NotARun, verdict, &[])
+        }
         Stop::OutOfMemory => {
             explanation.say_instead(b"the answer takes more memory than there is");
             complain(output, errors, Status::NoMemory, NO_MEMORY)

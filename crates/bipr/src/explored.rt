@@ -1,18 +1,19 @@
 //! Answers to exploring: what the seeds come to, and what is told on the way.
-ghost use Rattle.std.specs.Prelude.{IfOk};
-ghost use Rattle.bipr.specs.Endings.{IsAnsweredTelling};
-ghost use Rattle.bipr.specs.Explored.{IsExploreAnswer, IsSaidOfFault};
+ghost use Rattle.std.specs.Prelude.{◌≡◌};
+ghost use Rattle.bipr.specs.Endings.{AllOutcomesTelling};
+ghost use Rattle.bipr.specs.Explored.{IsExploreAnswer, stop_of_fault};
 
 use crate::ahead::{Ahead, jobs_of, keep_ahead, outcome};
 use crate::answers::{Answer, Status, said};
 use crate::command_line::ExploreArguments;
 use crate::progress::Progress;
+use crate::stops::Stop;
 use crate::streams::Stream;
-use crate::wording::{seed_verdict, seeds_text};
+use crate::wording::seeds_text;
 use bip_explain::{Explanation, explain_seed};
 use bip_partition::Plan;
 use bip_schedule::ExploreFault;
-use std::alloc::{AllocError, Global};
+use std::alloc::Global;
 use std::thread::Threads;
 use std::time::Clock;
 
@@ -22,17 +23,17 @@ use std::time::Clock;
 /// standard error each time that another hundredth of the seeds is done, and one with the time
 /// where nothing was told for more than a second; whether they are out decides nothing
 /// (docs/ANSWERS.md, "Answers"). Threads explore seeds ahead, and change nothing of what is
-/// said but the lines with the time: a seed that isn't explored there is explored in its turn. The
-/// only error is want of memory.
-pub fn answer_explore<R: Threads + Clock + Sync, E: Stream>(
+/// said but the lines with the time: a seed that isn't explored there is explored in its turn. What
+/// stops it is want of memory.
+pub fn answer_explore<'a, R: Threads + Clock + Sync, E: Stream>(
     rt: &R,
     alloc: Global,
     explanation: &mut Explanation,
     plan: &Plan,
-    asked: &ExploreArguments<'_>,
+    asked: &ExploreArguments<'a>,
     errors: &mut E,
-) -> Result<Answer, AllocError>
-    ensures { IsAnsweredTelling E.writes errors.old errors.new result
+) -> Result<Answer, Stop<'a>>
+    ensures { AllOutcomesTelling E.writes errors.old errors.new result
         (IsExploreAnswer plan.now asked.now) }
 {
     let jobs = jobs_of(rt, asked.jobs);
@@ -41,7 +42,7 @@ pub fn answer_explore<R: Threads + Clock + Sync, E: Stream>(
     for done in 0..asked.seeds {
         keep_ahead(rt, alloc, plan, asked, jobs, &mut ahead, done);
         if let Err(fault) = outcome(alloc, plan, asked, &ahead, done) {
-            return answer_fault(alloc, explanation, plan, &fault);
+            return Err(stop_of_fault(explanation, plan, &fault));
         }
         let is_next_open = !ahead.reaches(done + 1);
         progress.tell(rt, alloc, asked, done + 1, is_next_open, errors)?;
@@ -49,21 +50,16 @@ pub fn answer_explore<R: Threads + Clock + Sync, E: Stream>(
     Ok(said(alloc, Status::Done, seeds_text(alloc, asked.seeds)?))
 }
 
-// What is said where a seed isn't explored, whatever its fault is, though it is proved to be want
-// of memory.
-fn answer_fault(
-    alloc: Global,
-    explanation: &mut Explanation,
-    plan: &Plan,
-    fault: &ExploreFault,
-) -> Result<Answer, AllocError>
-    ensures { IfOk result (IsSaidOfFault fault.now) }
+// What stops the exploring where a seed isn't explored, whatever its fault is, though it is proved
+// to be want of memory.
+fn stop_of_fault(explanation: &mut Explanation, plan: &Plan, fault: &ExploreFault) -> Stop<'static>
+    ensures { result ≡ stop_of_fault fault.now }
 {
     match fault {
         ExploreFault::NotARun(seed, why) => {
             explain_seed(explanation, plan.model(), why);
-            Ok(said(alloc, Status::NotARun, seed_verdict(alloc, *seed)?))
+            Stop::SeedNotARun(*seed)
         }
-        ExploreFault::Memory => Err(AllocError),
+        ExploreFault::Memory => Stop::OutOfMemory,
     }
 }

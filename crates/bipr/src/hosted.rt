@@ -3,14 +3,16 @@ ghost use Rattle.std.specs.Prelude.{◌≡◌, IfOk, length};
 ghost use Rattle.bip_replay.specs.Replays.{IsRunOf};
 ghost use Rattle.bip_replay.specs.Runs.{IsModelRun};
 ghost use Rattle.bip_replay.specs.Writing.{text_of};
+ghost use Rattle.bipr.specs.Endings.{AllOutcomes};
 ghost use Rattle.bipr.specs.Hosted.{IsHostAnswer, stats_told};
 ghost use Rattle.bipr.specs.Scheduled.{reporting};
 
-use crate::answers::{Answer, Status, complained};
+use crate::answers::Answer;
 use crate::command_line::RunArguments;
 use crate::hosting::Hosting;
 use crate::scheduled::reported;
-use crate::wording::{host_refusal, no_thread_text, stats_text};
+use crate::stops::Stop;
+use crate::wording::stats_text;
 use bip_explain::Explanation;
 use bip_host::{HostFault, HostFigures, HostReport};
 use bip_partition::Plan;
@@ -30,30 +32,31 @@ pub struct Hosted {
 
 /// The answer to running the nodes of a plan as threads: the trace of the host's grants, which are
 /// a run of the model, with what is counted where that is asked for; else that a grant was refused,
-/// or that no thread could be made (docs/ANSWERS.md, "Answers"). The only error is want of memory.
-pub fn answer_host<R: Threads + Wait + Clock + Sync, H: Hosting>(
+/// or that no thread could be made, which takes no memory (docs/ANSWERS.md, "Answers"). Want of
+/// memory stops it only where the host wants it, or the text of its grants.
+pub fn answer_host<'a, R: Threads + Wait + Clock + Sync, H: Hosting>(
     rt: &R,
     alloc: Global,
     explanation: &mut Explanation,
     plan: &Plan,
     hosting: &H,
-    asked: &RunArguments<'_>,
-) -> Result<Answer, AllocError>
-    ensures { IfOk result (IsHostAnswer
+    asked: &RunArguments<'a>,
+) -> Result<Answer, Stop<'a>>
+    ensures { AllOutcomes result (IsHostAnswer
         (H.hosts hosting.now plan.now asked.now.resolver asked.now.turns) plan.now
         asked.now.with_stats) }
 {
     match hosting.host(rt, alloc, plan, asked.resolver, asked.turns) {
-        Ok(hosted) => answer_hosted(alloc, plan, &hosted, asked.with_stats),
+        Ok(hosted) => Ok(answer_hosted(alloc, plan, &hosted, asked.with_stats)?),
         Err(HostFault::NotARun(fault)) => {
             explain_refused(explanation, &fault);
-            Ok(complained(alloc, Status::NotARun, host_refusal(alloc)?))
+            Err(Stop::GrantRefused)
         }
         Err(HostFault::Thread) => {
             explanation.say(b"the system makes no more threads");
-            Ok(complained(alloc, Status::NoThread, no_thread_text(alloc)?))
+            Err(Stop::ThreadRefused)
         }
-        Err(HostFault::Memory) => Err(AllocError),
+        Err(HostFault::Memory) => Err(Stop::OutOfMemory),
     }
 }
 

@@ -15,6 +15,12 @@ pub enum Stop<'a> {
     CannotRead(&'a str),
     /// What is told on the way can't be written.
     CannotWrite,
+    /// A host's book refused a grant.
+    GrantRefused,
+    /// The system makes no thread for a host.
+    ThreadRefused,
+    /// The trace of the seed with this number is no run of the model.
+    SeedNotARun(u32),
     /// Want of memory.
     OutOfMemory,
 }
@@ -24,6 +30,12 @@ pub const NO_MEMORY: &[u8] = b"bipr: no memory\n";
 
 /// The complaint where what the command says can't be written, which takes no memory either.
 pub const CANNOT_WRITE: &[u8] = b"bipr: cannot write\n";
+
+/// The complaint where a host's book refused a grant; and where a thread couldn't be made. Want of
+/// memory isn't told in their place.
+pub const NOT_A_RUN: &[u8] = b"bipr: not a run\n";
+
+pub const NO_THREAD: &[u8] = b"bipr: no thread\n";
 
 impl<'a> Stop<'a> {
     /// Why the text of this path isn't read.

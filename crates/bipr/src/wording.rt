@@ -5,17 +5,22 @@ ghost use Rattle.bipr.specs.Wording.{chart_refusal};
 ghost use Rattle.bipr.specs.Wording.{counts_text, interaction_on, model_refusal, plan_refusal};
 ghost use Rattle.bipr.specs.Wording.{decisions_text, losses_text, report_text, run_text};
 ghost use Rattle.bipr.specs.Wording.{progress_text, schedule_refusal, seed_verdict, seeds_text};
-ghost use Rattle.bipr.specs.Wording.{host_refusal, host_work_text, host_end_text, no_thread_text};
+ghost use Rattle.bipr.specs.Wording.{host_work_text, host_end_text};
 ghost use Rattle.bipr.specs.Wording.{pace_text, reached_text, seconds_text, stats_text, step_text};
 ghost use Rattle.bipr.specs.Wording.{timed_text, trace_refusal, verdict_text};
 
 use crate::hosted::Hosted;
 use crate::progress::Pace;
+use arrayvec::ArrayVec;
 use bip_core::Report;
 use bip_model::{CompId, InterId, Model, line_at, split_word};
 use bip_reader::ReadFault;
 use bip_replay::{BookFault, ReplayFault, TraceFault};
+use itoa::Buffer;
 use std::alloc::{AllocError, Global};
+
+/// How many bytes the verdict on a seed has at most.
+const MOST_OF_VERDICT: usize = 64;
 
 /// What a check counts: the components, interactions and classes of a model, the components that
 /// have a row in the table, and the interactions that are reserved.
@@ -160,20 +165,6 @@ fn seconds_text(alloc: Global, milliseconds: u64) -> Result<String, AllocError>
     format!(in alloc; "{seconds}.{tenth}{hundredth}{thousandth}\n")
 }
 
-/// The complaint where a host's book refused a grant.
-pub fn host_refusal(alloc: Global) -> Result<Vec<u8>, AllocError>
-    ensures { IfOk result (λ text. text.items ≡ host_refusal) }
-{
-    Vec::from_slice(alloc, b"bipr: not a run\n")
-}
-
-/// The complaint where a thread couldn't be made.
-pub fn no_thread_text(alloc: Global) -> Result<Vec<u8>, AllocError>
-    ensures { IfOk result (λ text. text.items ≡ no_thread_text) }
-{
-    Vec::from_slice(alloc, b"bipr: no thread\n")
-}
-
 /// `seeds K runs K`.
 pub fn seeds_text(alloc: Global, seeds: u32) -> Result<Vec<u8>, AllocError>
     ensures { IfOk result (λ text. text.items ≡ seeds_text seeds) }
@@ -181,11 +172,15 @@ pub fn seeds_text(alloc: Global, seeds: u32) -> Result<Vec<u8>, AllocError>
     Ok(format!(in alloc; "seeds {seeds} runs {seeds}\n")?.into_bytes())
 }
 
-/// `seed S: not a run`.
-pub fn seed_verdict(alloc: Global, seed: u32) -> Result<Vec<u8>, AllocError>
-    ensures { IfOk result (λ text. text.items ≡ seed_verdict seed) }
+/// `seed S: not a run`, which takes no memory.
+pub fn seed_verdict(seed: u32) -> ArrayVec<u8, MOST_OF_VERDICT>
+    ensures { result.items ≡ seed_verdict seed }
 {
-    Ok(format!(in alloc; "seed {seed}: not a run\n")?.into_bytes())
+    let mut text = ArrayVec::new();
+    let _begun = text.try_extend_from_slice(b"seed ");
+    let _named = text.try_extend_from_slice(Buffer::new().format(seed).as_bytes());
+    let _ended = text.try_extend_from_slice(b": not a run\n");
+    text
 }
 
 /// `seeds D of K`, where so many of the seeds are done.

@@ -23,6 +23,8 @@ pub data IsTextHosted (model : List ℕ)
   -- it has none
   of_no_plan : (answer : Answer) → IsRefusedModel model answer
       → IsTextHosted model hosts asked answer
+  -- memory is out before it has a plan
+  of_no_memory : IsTextHosted model hosts asked out_of_memory
 
 -- what the run that is asked for may answer, where reading a path may give these texts
 pub data IsThreadedRun (gives : List ℕ → Result (List ℕ) InputFault → Type 0)
@@ -34,5 +36,5 @@ pub data IsThreadedRun (gives : List ℕ → Result (List ℕ) InputFault → Ty
   -- it isn't read
   of_no_text : (fault : InputFault) → gives asked.model.now (Err fault)
       → IsThreadedRun gives hosts asked (unread asked.model.now fault)
-  -- memory is out
+  -- memory is out before it is read
   of_no_room : IsThreadedRun gives hosts asked out_of_memory

@@ -1,6 +1,6 @@
 //! The command `explore`.
 ghost use Rattle.bipr.specs.Commands.Explore.{IsExplore, IsTextExplored};
-ghost use Rattle.bipr.specs.Endings.{AllOutcomesTelling, EndsTelling, IsAnsweredTelling};
+ghost use Rattle.bipr.specs.Endings.{AllOutcomesTelling, EndsTelling};
 ghost use Rattle.bipr.specs.Streams.{Puts};
 
 use crate::answers::{Answer, PlanOrRefusal, Status, plan_text};
@@ -12,7 +12,7 @@ use crate::inputs::Inputs;
 use crate::stops::Stop;
 use crate::streams::Stream;
 use bip_explain::Explanation;
-use std::alloc::{AllocError, Global};
+use std::alloc::Global;
 use std::thread::Threads;
 use std::time::Clock;
 
@@ -49,19 +49,19 @@ fn answer_asked<'a, R: Threads + Clock + Sync, I: Inputs, E: Stream>(
 {
     let text = read_input(alloc, explanation, inputs, asked.model)?;
     let text = text.as_slice();
-    Ok(answer_text(rt, alloc, explanation, text, asked, errors)?)
+    answer_text(rt, alloc, explanation, text, asked, errors)
 }
 
-// The answer where the path names this text. The only error is want of memory.
-fn answer_text<R: Threads + Clock + Sync, E: Stream>(
+// The answer where the path names this text.
+fn answer_text<'a, R: Threads + Clock + Sync, E: Stream>(
     rt: &R,
     alloc: Global,
     explanation: &mut Explanation,
     text: &[u8],
-    asked: &ExploreArguments<'_>,
+    asked: &ExploreArguments<'a>,
     errors: &mut E,
-) -> Result<Answer, AllocError>
-    ensures { IsAnsweredTelling E.writes errors.old errors.new result
+) -> Result<Answer, Stop<'a>>
+    ensures { AllOutcomesTelling E.writes errors.old errors.new result
         (IsTextExplored text.now asked.now) }
 {
     let given = plan_text(alloc, explanation, text)?;

@@ -1,5 +1,4 @@
 //! The command `run`.
-ghost use Rattle.std.specs.Prelude.{IfOk};
 ghost use Rattle.bipr.specs.Commands.Run.{IsThreadedRun, IsTextHosted};
 ghost use Rattle.bipr.specs.Endings.{AllOutcomes, Ends};
 ghost use Rattle.bipr.specs.Streams.{Puts};
@@ -14,7 +13,7 @@ use crate::inputs::Inputs;
 use crate::stops::Stop;
 use crate::streams::Stream;
 use bip_explain::Explanation;
-use std::alloc::{AllocError, Global};
+use std::alloc::Global;
 use std::sync::Wait;
 use std::thread::Threads;
 use std::time::Clock;
@@ -53,19 +52,19 @@ fn answer_asked<'a, R: Threads + Wait + Clock + Sync, I: Inputs, H: Hosting>(
 {
     let text = read_input(alloc, explanation, inputs, asked.model)?;
     let text = text.as_slice();
-    Ok(answer_text(rt, alloc, explanation, text, hosting, asked)?)
+    answer_text(rt, alloc, explanation, text, hosting, asked)
 }
 
-// The answer where the path names this text. The only error is want of memory.
-fn answer_text<R: Threads + Wait + Clock + Sync, H: Hosting>(
+// The answer where the path names this text.
+fn answer_text<'a, R: Threads + Wait + Clock + Sync, H: Hosting>(
     rt: &R,
     alloc: Global,
     explanation: &mut Explanation,
     text: &[u8],
     hosting: &H,
-    asked: &RunArguments<'_>,
-) -> Result<Answer, AllocError>
-    ensures { IfOk result (IsTextHosted text.now (H.hosts hosting.now) asked.now) }
+    asked: &RunArguments<'a>,
+) -> Result<Answer, Stop<'a>>
+    ensures { AllOutcomes result (IsTextHosted text.now (H.hosts hosting.now) asked.now) }
 {
     let given = plan_text(alloc, explanation, text)?;
     match given {

@@ -1,10 +1,13 @@
-use Rattle.std.proofs.Common.{◌≡◌, ◌+◌, ◌++◌, ◌≤◌, ℕ, [], arith, rules, subst, sym}
+use Rattle.std.proofs.Common.{◌≡◌, ◌∙◌, ◌+◌, ◌++◌, ◌≤◌, ℕ, [], Err, Result, ap, arith, subst, sym}
 use Rattle.bip_schedule.specs.Exploring.{AreExplored, none_explored, one_explored}
-use Rattle.bipr.specs.Explored.{IsProgressUntil, ends_without_memory, no_progress}
+use Rattle.bipr.specs.Explored.{IsExploreAnswer, IsProgressUntil, ends_without_memory, no_progress, stop_of_fault}
 use Rattle.bipr.specs.Resolvers.{IsSharedAtFirst}
 use Rattle.bipr.specs.Streams.{none_put, texts}
+use Rattle.bipr.specs.declared.answers.Answer.{Answer}
+use Rattle.bipr.specs.declared.stops.Stop.{Stop}
 use Rattle.bipr.proofs.AheadLemmas.{none_ahead}
-use Rattle.bipr.proofs.ExploredLemmas.{explored_said, fault_lacking, told_lacking, told_more}
+use Rattle.bipr.proofs.EndingLemmas.{outcome_answered, outcome_lacking}
+use Rattle.bipr.proofs.ExploredLemmas.{explored_said, told_more}
 use Rattle.bipr.proofs.StreamLemmas.{puts_each_append, texts_append}
 use Rattle.bipr.proofs.explored.answer_explore.Goals as goal
 
@@ -32,29 +35,44 @@ pub returns-in-Err : goal.returns-in-Err
 returns-in-Err g c =
     let so = c.loop-done.invariant in
     let few : c.loop-done.done ≤ c.args.asked.now.seeds = omega arith in
-    (so.2.0, so.2.1, fault_lacking c.answer_fault.result c.in-Err.fault _ _ c.answer_fault.ensures c.in-Err.ensures.fault (ends_without_memory c.loop-done.done so.0 so.2.0 few so.1 so.2.2))
+    let given : Result Answer Stop = Err c.stop_of_fault.result in
+    record {
+      told = so.2.0;
+      on_the_way = so.2.1;
+      outcomes = outcome_lacking given (IsExploreAnswer c.args.plan.now c.args.asked.now so.2.0) (c.stop_of_fault.ensures ∙ ap stop_of_fault c.in-Err.ensures.fault)
+          (ends_without_memory c.loop-done.done so.0 so.2.0 few so.1 so.2.2);
+    }
 
 pub returns-in_err-tell : goal.returns-in_err-tell
 returns-in_err-tell g c =
     let so = c.loop-done.invariant in
-    let few : c.loop-done.done ≤ c.args.asked.now.seeds = omega arith in (
-      so.2.0,
-      rw c.in_err-tell.ensures.err so.2.1,
-      told_lacking c.from_residual.result _ _ (search rules) (ends_without_memory c.loop-done.done so.0 so.2.0 few so.1 so.2.2),
-    )
+    let few : c.loop-done.done ≤ c.args.asked.now.seeds = omega arith in
+    record {
+      told = so.2.0;
+      on_the_way = rw c.in_err-tell.ensures.err so.2.1;
+      outcomes = outcome_lacking c.from_residual.result (IsExploreAnswer c.args.plan.now c.args.asked.now so.2.0) c.from_residual.ensures.1
+          (ends_without_memory c.loop-done.done so.0 so.2.0 few so.1 so.2.2);
+    }
 
 pub returns-in_err-seeds_text : goal.returns-in_err-seeds_text
 returns-in_err-seeds_text g c =
     let so = c.loop-done.invariant in
     let few : c.loop-done.done ≤ c.args.asked.now.seeds = omega arith in
-    (so.2.0, so.2.1, told_lacking c.from_residual-in_err-seeds_text.result _ _ (search rules) (ends_without_memory c.loop-done.done so.0 so.2.0 few so.1 so.2.2))
+    record {
+      told = so.2.0;
+      on_the_way = so.2.1;
+      outcomes = outcome_lacking c.from_residual-in_err-seeds_text.result (IsExploreAnswer c.args.plan.now c.args.asked.now so.2.0) c.from_residual-in_err-seeds_text.ensures.1
+          (ends_without_memory c.loop-done.done so.0 so.2.0 few so.1 so.2.2);
+    }
 
 pub returns : goal.returns
 returns g c =
     let so = c.loop-done.invariant in
-    let all : c.loop-done.done ≡ c.args.asked.now.seeds = omega (arith, c.loop-done-test.false) in (
-      so.2.0,
-      so.2.1,
-      explored_said c.args.plan.now c.args.asked.now so.0 so.2.0 c.said.result _ (subst (λ (n : ℕ). AreExplored (IsSharedAtFirst c.args.asked.now.resolver c.args.plan.now) c.args.plan.now 0 c.args.asked.now.events n so.0) all so.1)
-          (subst (λ (n : ℕ). IsProgressUntil c.args.asked.now n (texts so.2.0)) all so.2.2) c.said.ensures c.in_ok-seeds_text.ensures,
-    )
+    let all : c.loop-done.done ≡ c.args.asked.now.seeds = omega (arith, c.loop-done-test.false) in
+    record {
+      told = so.2.0;
+      on_the_way = so.2.1;
+      outcomes = outcome_answered (IsExploreAnswer c.args.plan.now c.args.asked.now so.2.0) c.said.result
+          (explored_said c.args.plan.now c.args.asked.now so.0 so.2.0 c.said.result _ (subst (λ (n : ℕ). AreExplored (IsSharedAtFirst c.args.asked.now.resolver c.args.plan.now) c.args.plan.now 0 c.args.asked.now.events n so.0) all so.1)
+          (subst (λ (n : ℕ). IsProgressUntil c.args.asked.now n (texts so.2.0)) all so.2.2) c.said.ensures c.in_ok-seeds_text.ensures);
+    }

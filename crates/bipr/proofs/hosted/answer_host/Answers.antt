@@ -1,29 +1,30 @@
-use Rattle.std.proofs.Common.{◌∙◌, ap, subst, sym}
-use Rattle.bipr.specs.Answers.{complaining}
-use Rattle.bipr.specs.Hosted.{IsHostAnswer, no_thread, refused_grant}
-use Rattle.bipr.specs.declared.answers.Status.TheVariants.{NoThread, NotARun}
+use Rattle.bipr.specs.Hosted.{IsHostAnswer, host_lacking, no_thread, refused_grant, text_lacking}
+use Rattle.bipr.proofs.EndingLemmas.{outcome_answered, outcome_grant_refused, outcome_lacking, outcome_lacks, outcome_thread_refused}
 use Rattle.bipr.proofs.HostedLemmas.{host_answered}
 use Rattle.bipr.proofs.hosted.answer_host.Goals as goal
 
-pub returns-in-Ok : goal.returns-in-Ok
-returns-in-Ok g c =
-    host_answered _ c.args.plan.now c.args.asked.now.with_stats c.in-Ok.hosted
-    c.answer_hosted.result c.in-Ok.ensures.gives c.answer_hosted.ensures.is
-    c.answer_hosted.ensures.run
+pub returns-in_err-answer_hosted-in-Ok : goal.returns-in_err-answer_hosted-in-Ok
+returns-in_err-answer_hosted-in-Ok g c =
+    outcome_lacking c.from_residual.result (IsHostAnswer _ c.args.plan.now c.args.asked.now.with_stats) c.from_residual.ensures.1
+    (text_lacking c.in-Ok.hosted c.in-Ok.ensures.gives)
 
-pub returns-in_ok-host_refusal-in-Err-NotARun : goal.returns-in_ok-host_refusal-in-Err-NotARun
-returns-in_ok-host_refusal-in-Err-NotARun g c =
-    subst (IsHostAnswer _ c.args.plan.now c.args.asked.now.with_stats)
-    (sym
-    (c.complained.ensures
-    ∙ ap (complaining NotARun) c.in_ok-host_refusal-in-Err-NotARun.ensures))
-    (refused_grant c.in-Err-NotARun.fault
-    (rw c.in-Err-NotARun.field-0-is at c.in-Err-NotARun.ensures.gives))
+pub returns-in_ok-answer_hosted-in-Ok : goal.returns-in_ok-answer_hosted-in-Ok
+returns-in_ok-answer_hosted-in-Ok g c =
+    outcome_answered (IsHostAnswer _ c.args.plan.now c.args.asked.now.with_stats) c.in_ok-answer_hosted-in-Ok.field-0
+    (host_answered _ c.args.plan.now c.args.asked.now.with_stats c.in-Ok.hosted c.in_ok-answer_hosted-in-Ok.field-0
+    c.in-Ok.ensures.gives c.in_ok-answer_hosted-in-Ok.ensures.is c.in_ok-answer_hosted-in-Ok.ensures.run)
 
-pub returns-in_ok-no_thread_text-in-Err-Thread : goal.returns-in_ok-no_thread_text-in-Err-Thread
-returns-in_ok-no_thread_text-in-Err-Thread g c =
-    subst (IsHostAnswer _ c.args.plan.now c.args.asked.now.with_stats)
-    (sym
-    (c.complained-in-Err-Thread.ensures
-    ∙ ap (complaining NoThread) c.in_ok-no_thread_text-in-Err-Thread.ensures))
+pub returns-in-Err-NotARun : goal.returns-in-Err-NotARun
+returns-in-Err-NotARun g c =
+    outcome_grant_refused (IsHostAnswer _ c.args.plan.now c.args.asked.now.with_stats)
+    (refused_grant c.in-Err-NotARun.fault (rw c.in-Err-NotARun.field-0-is at c.in-Err-NotARun.ensures.gives))
+
+pub returns-in-Err-Thread : goal.returns-in-Err-Thread
+returns-in-Err-Thread g c =
+    outcome_thread_refused (IsHostAnswer _ c.args.plan.now c.args.asked.now.with_stats)
     (no_thread (rw c.in-Err-Thread.field-0-is at c.in-Err-Thread.ensures.gives))
+
+pub returns-in-Err-Memory : goal.returns-in-Err-Memory
+returns-in-Err-Memory g c =
+    outcome_lacks (IsHostAnswer _ c.args.plan.now c.args.asked.now.with_stats)
+    (host_lacking (rw c.in-Err-Memory.field-0-is at c.in-Err-Memory.ensures.gives))

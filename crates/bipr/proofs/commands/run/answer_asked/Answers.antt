@@ -1,5 +1,5 @@
 use Rattle.bipr.specs.Commands.Run.{IsThreadedRun, of_no_room, of_text}
-use Rattle.bipr.proofs.EndingLemmas.{outcome_answered, outcome_lacking, outcome_stopped}
+use Rattle.bipr.proofs.EndingLemmas.{outcome_stopped}
 use Rattle.bipr.proofs.HostedLemmas.{stopped_at_run}
 use Rattle.bipr.proofs.commands.run.answer_asked.Goals as goal
 
@@ -13,18 +13,7 @@ returns-in_err-text g c =
     c.in_err-text.ensures.unread)
     of_no_room
 
-pub returns-in_err-answer_text : goal.returns-in_err-answer_text
-returns-in_err-answer_text g c =
-    outcome_lacking c.from_residual-in_err-answer_text.result
-    (IsThreadedRun (g.I.Inputs.gives c.args.inputs.now) (g.H.Hosting.hosts c.args.hosting.now)
-    c.args.asked.now)
-    c.from_residual-in_err-answer_text.ensures.1 of_no_room
-
 pub returns : goal.returns
-returns g c =
-    outcome_answered
-    (IsThreadedRun (g.I.Inputs.gives c.args.inputs.now) (g.H.Hosting.hosts c.args.hosting.now)
-    c.args.asked.now)
-    c.in_ok-answer_text.field-0
-    (of_text c.in_ok-text.text c.in_ok-answer_text.field-0 c.in_ok-text.ensures.read
-    (rw (← c.as_slice-text.ensures) c.in_ok-answer_text.ensures))
+returns g c = λ answer said.
+    of_text c.in_ok-text.text answer c.in_ok-text.ensures.read
+    (rw (← c.as_slice-text.ensures) (c.answer_text.ensures answer said))
