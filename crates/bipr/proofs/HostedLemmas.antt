@@ -4,7 +4,7 @@ use Rattle.bip_host.specs.declared.faults.HostFault.{HostFault}
 use Rattle.bip_partition.specs.Plans.{Planned}
 use Rattle.bip_replay.specs.Replays.{IsRunOf}
 use Rattle.bip_replay.specs.Writing.{text_of}
-use Rattle.bipr.specs.Answers.{HasPlan, IsAnswer, run, saying}
+use Rattle.bipr.specs.Answers.{IsAnswer, run, saying}
 use Rattle.bipr.specs.Commands.Run.{IsThreadedRun, of_no_text}
 use Rattle.bipr.specs.Hosted.{IsHostAnswer, host_lacking, hosted, no_thread, refused_grant, stats_told, text_lacking}
 use Rattle.bipr.specs.Laws.{HostsReplay}
@@ -33,9 +33,10 @@ pub hosts_replay : HostsReplay
 hosts_replay given model p with_stats answer has is done = by_answer answer is done
   where
     by_answer : (a : Answer) → IsHostAnswer (λ gives. gives ≡ given) p with_stats a → a.status ≡ Done
-        → (count : ℕ) × IsAnswer 0 model a.output (saying Done (run_text count))
+        → (host : Hosted) × (given ≡ Ok host)
+        × IsAnswer 0 model a.output (saying Done (run_text (length host.report.grants.items)))
     by_answer _ (hosted done_by gave is) done =
-        (length done_by.report.grants.items, run p.model p.classes _ has.means is)
+        (done_by, sym gave, run p.model p.classes _ has.means is)
     by_answer _ (refused_grant fault gave) done = cc
     by_answer _ (no_thread gave) done = cc
     by_answer _ (host_lacking gave) done = cc

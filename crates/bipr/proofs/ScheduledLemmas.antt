@@ -72,11 +72,18 @@ is_run p base events w v report text keep begins steps ran grown reads =
       counted = ap length whole ∙ sym grown.2;
     }
 
--- what is written of a schedule is replayed as a run
+-- what is written is replayed as a run of as many grants as the report says that stands beside it
+abbrev IsReplayed : ℕ → List ℕ → Answer → Type 0
+IsReplayed base model a =
+    (report : Report) × (a.complaint ≡ report_text report) × IsAnswer base model a.output (saying Done (run_text report.grants))
+
 run_of_stepped : (base : ℕ) (resolver : Resolver) (model schedule : List ℕ) (p : Planned) (report : Report) (a : Answer) → HasPlan model p
-    → IsStepped p base resolver schedule report a → (count : ℕ) × IsAnswer base model a.output (saying Done (run_text count))
-run_of_stepped base resolver model schedule p report a has is =
-    (report.grants, subst (λ (text : List ℕ). IsAnswer base model text (saying Done (run_text report.grants))) (sym (ap (λ (x : Answer). x.output) is.is)) (run p.model p.classes report.grants has.means is.run))
+    → IsStepped p base resolver schedule report a → IsReplayed base model a
+run_of_stepped base resolver model schedule p report a has is = (
+  report,
+  ap (λ (x : Answer). x.complaint) is.is,
+  subst (λ (text : List ℕ). IsAnswer base model text (saying Done (run_text report.grants))) (sym (ap (λ (x : Answer). x.output) is.is)) (run p.model p.classes report.grants has.means is.run),
+)
 
 not_done : (p : Planned) (schedule : List ℕ) (a : Answer) → IsScheduleRefused p schedule a → a.status ≡ Done → ⊥
 not_done p schedule a refused done =
@@ -85,16 +92,16 @@ not_done p schedule a refused done =
 pub steps_replay : StepsReplay
 steps_replay base resolver is_told model schedule p told answer has is done = by_answered told answer is done
   where
-    by_answer : (a : Answer) → IsScheduleAnswer p base resolver schedule a → a.status ≡ Done → (count : ℕ) × IsAnswer base model a.output (saying Done (run_text count))
+    by_answer : (a : Answer) → IsScheduleAnswer p base resolver schedule a → a.status ≡ Done → IsReplayed base model a
     by_answer a (stepped report _ is) done = run_of_stepped base resolver model schedule p report a has is
     by_answer a (no_schedule _ refused) done = absurd (not_done p schedule a refused done)
 
-    by_told : (ts : List Put) (a : Answer) → IsToldAnswer p base resolver schedule ts a → a.status ≡ Done → (count : ℕ) × IsAnswer base model a.output (saying Done (run_text count))
+    by_told : (ts : List Put) (a : Answer) → IsToldAnswer p base resolver schedule ts a → a.status ≡ Done → IsReplayed base model a
     by_told ts a (told_stepped report _ _ is) done = run_of_stepped base resolver model schedule p report a has is.stepped
     by_told ts _ (unheard _ last until) done = cc
     by_told ts _ (told_lacking _ heard until) done = cc
 
-    by_answered : (ts : List Put) (a : Answer) → IsScheduleAnswered p base resolver is_told schedule ts a → a.status ≡ Done → (count : ℕ) × IsAnswer base model a.output (saying Done (run_text count))
+    by_answered : (ts : List Put) (a : Answer) → IsScheduleAnswered p base resolver is_told schedule ts a → a.status ≡ Done → IsReplayed base model a
     by_answered _ a (quietly _ off is) done = by_answer a is done
     by_answered ts a (aloud _ _ on is) done = by_told ts a is done
     by_answered _ a (untold _ refused) done = absurd (not_done p schedule a refused done)

@@ -1,5 +1,6 @@
 -- The laws of answers, and of the replay of texts that are known.
-use Rattle.std.specs.Prelude.{◌≡◌, ◌↔◌, ◌≤◌, ◌⊎◌, ℕ, Bool, false, true, List, [], Result, length}
+use Rattle.std.specs.Prelude.{◌≡◌, ◌↔◌, ◌≤◌, ◌⊎◌, ℕ, Bool, false, true, List, [], Ok, Result}
+use Rattle.std.specs.Prelude.{length}
 use Rattle.bip_host.specs.declared.faults.HostFault.{HostFault}
 use Rattle.bip_partition.specs.Plans.{Planned}
 use Rattle.bip_core.specs.Runs.{IsLossless}
@@ -26,7 +27,7 @@ use Rattle.bipr.specs.Resolvers.{IsSharedAtFirst}
 use Rattle.bipr.specs.Scheduled.{IsScheduleAnswered, IsStepped, IsToldStepped}
 use Rattle.bipr.specs.Stops.{out_of_memory, unread_text}
 use Rattle.bipr.specs.Streams.{AreOut, Put}
-use Rattle.bipr.specs.Wording.{run_text}
+use Rattle.bipr.specs.Wording.{report_text, run_text}
 use Rattle.bipr.specs.declared.answers.Answer.{Answer}
 use Rattle.bipr.specs.declared.answers.Status.{Status}
 use Rattle.bipr.specs.declared.answers.Status.TheVariants.{Done, NotARun, Refused}
@@ -59,21 +60,25 @@ SomeAnswer = (base : ℕ) (model trace : List ℕ)
     → (answer : Answer) × IsAnswer base model trace answer
 
 -- with each resolver, what `steps` writes where it ends as done is a trace of which `replay`, of
--- the same model from the same base, says that it is a run
+-- the same model from the same base, says that it is a run, of as many grants as the report beside
+-- it says
 abbrev pub StepsReplay : Type 0
 StepsReplay =
     (base : ℕ) (resolver : Resolver) (is_told : Bool) (model schedule : List ℕ) (p : Planned)
     (told : List Put) (answer : Answer) → HasPlan model p
     → IsScheduleAnswered p base resolver is_told schedule told answer → answer.status ≡ Done
-    → (count : ℕ) × IsAnswer base model answer.output (saying Done (run_text count))
+    → (report : Report) × (answer.complaint ≡ report_text report)
+    × IsAnswer base model answer.output (saying Done (run_text report.grants))
 
--- and so it is with what `run` writes where it ends as done, from base 0, whatever a host gave
+-- and so it is with what `run` writes where it ends as done, from base 0, whatever a host gave: of
+-- as many grants as those are
 abbrev pub HostsReplay : Type 0
 HostsReplay =
     (given : Result Hosted HostFault) (model : List ℕ) (p : Planned) (with_stats : Bool)
     (answer : Answer) → HasPlan model p → IsHostAnswer (λ gives. gives ≡ given) p with_stats answer
     → answer.status ≡ Done
-    → (count : ℕ) × IsAnswer 0 model answer.output (saying Done (run_text count))
+    → (host : Hosted) × (given ≡ Ok host)
+    × IsAnswer 0 model answer.output (saying Done (run_text (length host.report.grants.items)))
 
 -- two answers of the same schedule, whose events are done, are one: with each resolver, where no
 -- event was skipped and no message lost
