@@ -17,7 +17,7 @@ use crate::wording::{
 };
 use bip_explain::{Explanation, explain_model, explain_plan, explain_step, explain_trace};
 use bip_model::{Classes, InterId, Model, Number, Seq};
-use bip_partition::{Plan, first_touching_too_many};
+use bip_partition::{Plan, PlanFault, first_touching_too_many};
 use bip_reader::{ReadFault, Why, read_model};
 use bip_replay::{ReplayFault, TraceFault, replay};
 use bip_review::write_plan;
@@ -123,7 +123,8 @@ fn plan_model(
         }
         None => match Plan::of(alloc, model, classes) {
             Ok(plan) => Ok(PlanOrRefusal::Plan(plan)),
-            Err(_) => Err(AllocError),
+            Err(PlanFault::TooManyTouched(_)) => unreachable!(),
+            Err(PlanFault::Memory) => Err(AllocError),
         },
     }
 }

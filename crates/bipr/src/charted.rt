@@ -1,11 +1,14 @@
 //! What is answered to a chart: the picture of the run with which a trace begins.
-ghost use Rattle.std.specs.Prelude.{◌≡◌, ◌≤◌, ◌-◌, ℕ, List, IfOk, Ok, length, take};
+ghost use Rattle.std.specs.Prelude.{◌≡◌, ◌≤◌, ◌-◌, ◌++◌, ◌∷◌, [], ℕ, List, IfOk, IsOk, Ok, OnOk};
+ghost use Rattle.std.specs.Prelude.{length, take};
 ghost use Rattle.std.specs.Option.{option_map};
 ghost use Rattle.bip_draw.specs.Charts.{chart_of};
 ghost use Rattle.bip_draw.specs.declared.charts.Chart.{Chart};
 ghost use Rattle.bip_model.specs.Partitions.{AreClassesOf};
 ghost use Rattle.bip_model.specs.Texts.{lines};
 ghost use Rattle.bip_reader.specs.Texts.{Means};
+ghost use Rattle.bip_replay.specs.Book.{IsRunWith};
+ghost use Rattle.bip_replay.specs.Runs.{IsModelRun};
 ghost use Rattle.bip_replay.specs.Traces.{grants_from, grants_of};
 ghost use Rattle.bipr.specs.Charted.{IsChartAnswer, IsChartOf, IsPictured, reason_of, reason_shown};
 ghost use Rattle.bipr.specs.Charted.{shows_behind, until_last};
@@ -16,7 +19,7 @@ use crate::wording::chart_refusal;
 use bip_draw::{Chart, draw_chart};
 use bip_explain::Explanation;
 use bip_model::{Classes, Grant, Model, Number, Seq};
-use bip_replay::{Book, ReplayFault, read_front, read_trace, replay};
+use bip_replay::{Book, BookFault, ReplayFault, TraceFault, read_front, read_trace, replay};
 use std::alloc::{AllocError, Global};
 
 /// Which rows of a run are shown, by their numbers from 1, the last one included; and whether the
@@ -68,34 +71,42 @@ pub fn answer_chart(
     }
 }
 
-// The grants of a trace that was read before; the only error is want of memory.
+// The grants of a trace that reads; the only error is want of memory.
 fn all_grants(alloc: Global, model: &Model, trace: &[u8]) -> Result<Vec<Grant>, AllocError>
+    requires { IsOk (grants_of model.now trace.now) }
     ensures { IfOk result (λ grants. grants_of model.now trace.now ≡ Ok grants.items) }
 {
     match read_trace(alloc, model, trace) {
         Ok(grants) => Ok(grants),
-        Err(_) => Err(AllocError),
+        Err((_, fault)) => match fault {
+            TraceFault::Memory => Err(AllocError),
+            _ => unreachable!(),
+        },
     }
 }
 
-// The same of its lines before one.
+// The same of its lines before one, where these read.
 fn grants_before(
     alloc: Global,
     model: &Model,
     trace: &[u8],
     line: u64,
 ) -> Result<Vec<Grant>, AllocError>
+    requires { IsOk (grants_from model.now 1 (take (line - 1) (lines trace.now))) }
     ensures { IfOk result (λ grants.
         grants_from model.now 1 (take (line - 1) (lines trace.now)) ≡ Ok grants.items) }
 {
     match read_front(alloc, model, trace, line) {
         Ok(grants) => Ok(grants),
-        Err(_) => Err(AllocError),
+        Err((_, fault)) => match fault {
+            TraceFault::Memory => Err(AllocError),
+            _ => unreachable!(),
+        },
     }
 }
 
 // The chart of a run that has this verdict, with the verdict beside it; or that it has too many
-// rows. The only error is want of memory, as the grants are a run.
+// rows. The only error is want of memory.
 fn answer_begun(
     alloc: Global,
     model: &Model,
@@ -107,6 +118,7 @@ fn answer_begun(
 ) -> Result<Answer, AllocError>
     requires base { base ≤ greatest_base }
     requires classes { AreClassesOf model.now classes.now }
+    requires run { IsModelRun model.now base grants.items }
     ensures { IfOk result (IsPictured model.now classes.now shown.now grants.items verdict) }
 {
     let count = grants.as_slice().len();
@@ -152,23 +164,36 @@ fn draw_shown<'x, 'r>(
     draw_chart(alloc, &chart)
 }
 
-// A book of these grants; one that can't be next is told as want of memory.
+// The book of a run; the only error is want of memory.
 fn book_of<'m>(
     alloc: Global,
     model: &'m Model,
     base: Number,
     grants: Vec<Grant>,
 ) -> Result<Book<'m>, AllocError>
-    requires { base ≤ greatest_base }
+    requires base { base ≤ greatest_base }
+    requires run { IsModelRun model.now base grants.items }
     ensures { IfOk result (λ book. (book.model ≡ model.now) × (book.grants ≡ grants.items)) }
 {
     let mut book = Book::start(alloc, model, base)?;
     for grant in grants {
-        if book.append(grant).is_err() {
-            return Err(AllocError);
-        }
+        append_next(&mut book, grant)?;
     }
     Ok(book)
+}
+
+// Appends a grant that can be next; the only error is want of memory.
+fn append_next(book: &mut Book<'_>, grant: Grant) -> Result<(), AllocError>
+    requires { IsRunWith book.old grant }
+    ensures { OnOk result (book.new ≡ record book.old { grants = book.old.grants ++ grant ∷ [] }) }
+{
+    match book.append(grant) {
+        Ok(_) => Ok(()),
+        Err(fault) => match fault {
+            BookFault::Memory => Err(AllocError),
+            _ => unreachable!(),
+        },
+    }
 }
 
 // The grants up to the last row that is shown.

@@ -1,9 +1,16 @@
 use Rattle.std.proofs.Common.{◌≡◌, ◌<◌, ◌≤◌, ◌-◌, ◌∙◌, ℕ, List, ap, arith, length, subst, sym}
 use Rattle.bip_model.specs.declared.grants.Grant.{Grant}
+use Rattle.bip_replay.specs.Runs.{IsModelRun}
 use Rattle.bipr.specs.Answers.{complaining}
 use Rattle.bipr.specs.Charted.{IsChartOf, IsPictured, fitting, most_rows, reason_shown, count_shown, too_long}
 use Rattle.bipr.specs.declared.answers.Status.TheVariants.{Refused}
+use Rattle.bipr.proofs.ChartLemmas.{run_until_last}
 use Rattle.bipr.proofs.charted.answer_begun.Goals as goal
+
+pub book_of-requires-clause-run : goal.book_of-requires-clause-run
+book_of-requires-clause-run c =
+    subst (IsModelRun c.args.model.now c.args.base) (sym c.until_last-drawn.ensures)
+    (run_until_last c.args.model.now c.args.base c.args.shown.now c.args.grants.items c.requires.run)
 
 pub returns-then-count_rows-gt-MOST_ROWS : goal.returns-then-count_rows-gt-MOST_ROWS
 returns-then-count_rows-gt-MOST_ROWS c =

@@ -3,8 +3,26 @@ use Rattle.std.proofs.lemmas.Result.{IfOk-weaker}
 use Rattle.bipr.specs.Charted.{charted, uncharted}
 use Rattle.bipr.specs.declared.answers.Answer.{Answer}
 use Rattle.bipr.proofs.AnswerLemmas.{said_answers}
-use Rattle.bipr.proofs.ChartLemmas.{begins_stopped, begins_whole}
+use Rattle.bipr.proofs.ChartLemmas.{begins_stopped, begins_whole, stopped_reads, stopped_run, whole_reads, whole_run}
 use Rattle.bipr.proofs.charted.answer_chart.Goals as goal
+
+pub all_grants-requires : goal.all_grants-requires
+all_grants-requires c =
+    whole_reads c.args.model.now c.args.base c.args.trace.now c.in-Ok.field-0 (rw c.in-Ok.is at c.replay-replayed.ensures.run)
+
+pub answer_begun-requires-clause-run : goal.answer_begun-requires-clause-run
+answer_begun-requires-clause-run c =
+    whole_run c.args.model.now c.args.base c.args.trace.now c.in-Ok.field-0 c.in_ok-grants-in-Ok.grants.items (rw c.in-Ok.is at c.replay-replayed.ensures.run) c.in_ok-grants-in-Ok.ensures
+
+pub grants_before-requires : goal.grants_before-requires
+grants_before-requires c =
+    let first = rw (c.in-Err.is, c.in-NotARun.is) at c.replay-replayed.ensures.fault in
+    stopped_reads c.args.model.now c.args.base c.args.trace.now c.in-Err.line c.in-NotARun.field-0 first
+
+pub answer_begun-requires-in-NotARun-clause-run : goal.answer_begun-requires-in-NotARun-clause-run
+answer_begun-requires-in-NotARun-clause-run c =
+    let first = rw (c.in-Err.is, c.in-NotARun.is) at c.replay-replayed.ensures.fault in
+    stopped_run c.args.model.now c.args.base c.args.trace.now c.in-Err.line c.in-NotARun.field-0 c.in_ok-grants-in-NotARun.grants.items first c.in_ok-grants-in-NotARun.ensures
 
 pub returns-in_ok-grants-in-Ok : goal.returns-in_ok-grants-in-Ok
 returns-in_ok-grants-in-Ok c =
