@@ -2,6 +2,10 @@
 -- The answer to a check: the one that the text of a model has.
 use Rattle.std.specs.Prelude.{◌≡◌, ◌≢◌, ◌++◌, ℕ, Bool, false, true, List, [], length, ⊤}
 use Rattle.std.specs.Prelude.{Result, Ok, Err}
+use Rattle.bip_explain.specs.Explanations.{Telling, Tells}
+use Rattle.bip_explain.specs.Steps.{TellsStep}
+use Rattle.bip_explain.specs.Traces.{IsTraceReasonOf, MayKeepTrace, trace_parts}
+use Rattle.bip_model.specs.Texts.{line_at}
 use Rattle.bip_model.specs.declared.parts.System.{System}
 use Rattle.bip_model.specs.declared.partitions.Partition.{Partition}
 use Rattle.bip_model.specs.declared.numbering.InterId.{InterId}
@@ -14,6 +18,8 @@ use Rattle.bip_replay.specs.Replays.{IsFirstFault, IsRunOf}
 use Rattle.bip_replay.specs.declared.faults.BookFault.{BookFault}
 use Rattle.bip_replay.specs.declared.faults.ReplayFault.{ReplayFault}
 use Rattle.bip_replay.specs.declared.faults.ReplayFault.TheVariants as replay_fault
+use Rattle.bip_replay.specs.declared.faults.TraceFault.TheVariants as trace_fault
+use Rattle.bip_replay.specs.declared.faults.TraceFault.{TraceFault}
 use Rattle.bip_review.specs.Writing.{IsPlanText}
 use Rattle.bipr.specs.Wording.{counts_text, model_refusal, plan_refusal, run_text, trace_refusal}
 use Rattle.bipr.specs.Wording.{verdict_text}
@@ -59,6 +65,24 @@ IsSaidOf m trace (Err (number, replay_fault.Syntax)) answer =
 IsSaidOf m trace (Err (number, replay_fault.Unknown)) answer =
     answer ≡ complaining Refused (trace_refusal number replay_fault.Unknown)
 IsSaidOf m trace (Err (number, replay_fault.Memory)) answer = ⊥
+
+-- what is explained of a line that says no grant
+abbrev pub ExplainsLine : System → List ℕ → ℕ → TraceFault → Telling → Telling → Type 0
+ExplainsLine m trace number fault old new =
+    let line = line_at trace number in
+    Tells (MayKeepTrace m line fault) (IsTraceReasonOf m line fault) trace_parts old new
+
+-- what is explained of a trace that was replayed so: the line at fault, by its fault
+abbrev pub ExplainsReplayed : System → ℕ → List ℕ → Result ℕ (ℕ × ReplayFault) → Telling → Telling
+    → Type 0
+ExplainsReplayed m base trace (Ok count) old new = new ≡ old
+ExplainsReplayed m base trace (Err (number, replay_fault.NotARun why)) old new =
+    TellsStep m base trace number why old new
+ExplainsReplayed m base trace (Err (number, replay_fault.Syntax)) old new =
+    ExplainsLine m trace number trace_fault.Syntax old new
+ExplainsReplayed m base trace (Err (number, replay_fault.Unknown)) old new =
+    ExplainsLine m trace number trace_fault.Unknown old new
+ExplainsReplayed m base trace (Err (number, replay_fault.Memory)) old new = new ≡ old
 
 -- what there is to count of a plan
 pub record AreCountsOf (p : Planned) (counts : Counts) : Type 0 where

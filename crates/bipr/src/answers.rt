@@ -1,12 +1,15 @@
 //! Answers: what the program writes for the texts that it is given, and the status with which it
 //! ends.
-ghost use Rattle.std.specs.Prelude.{◌≡◌, ◌≢◌, ◌≤◌, ℕ, List, IfOk, true};
+ghost use Rattle.std.specs.Prelude.{◌≡◌, ◌≢◌, ◌≤◌, ℕ, List, IfErr, IfOk, true};
+ghost use Rattle.bip_explain.specs.Explanations.{Tells};
+ghost use Rattle.bip_explain.specs.Models.{IsReasonOf, model_parts};
 ghost use Rattle.bip_model.specs.declared.partitions.Partition.{Partition};
-ghost use Rattle.bip_reader.specs.Texts.{Means};
+ghost use Rattle.bip_reader.specs.Texts.{HasFault, Means};
 ghost use Rattle.bip_reader.specs.declared.faults.Why.TheVariants.{Memory};
 ghost use Rattle.bip_model.specs.Partitions.{AreClassesOf};
+ghost use Rattle.bip_replay.specs.Replays.{IsReplayFault, IsRunOf};
 ghost use Rattle.bipr.specs.Answers.{AreCountsOf, HasPlan, IsAnswer, IsCheckAnswer};
-ghost use Rattle.bipr.specs.Answers.{IsCheckShowing, IsSaidOf};
+ghost use Rattle.bipr.specs.Answers.{ExplainsReplayed, IsCheckShowing, IsSaidOf};
 ghost use Rattle.bipr.specs.Answers.{IsPlanOrRefusal, code_of, complaining, saying};
 ghost use Rattle.bipr.specs.CommandLine.{greatest_base};
 ghost use Rattle.bipr.specs.declared.answers.Status.TheVariants.{Refused};
@@ -197,8 +200,11 @@ pub fn answer_fault(
     text: &[u8],
     fault: &ReadFault,
 ) -> Result<Answer, AllocError>
-    ensures { IfOk result (λ answer. (fault.now.why ≢ Memory)
+    requires { fault.now.why ≢ Memory → HasFault text.now fault.now }
+    ensures answered { IfOk result (λ answer. (fault.now.why ≢ Memory)
         × (answer ≡ complaining Refused (model_refusal fault.now))) }
+    ensures explained { fault.now.why ≢ Memory
+        → Tells ⊥ (IsReasonOf text.now fault.now) model_parts explanation.old explanation.new }
 {
     if fault.why == Why::Memory {
         return Err(AllocError);
@@ -236,8 +242,12 @@ pub fn answer_replayed(
     base: Number,
     replayed: &Result<u64, (u64, ReplayFault)>,
 ) -> Result<Answer, AllocError>
-    requires { base ≤ greatest_base }
-    ensures { IfOk result (IsSaidOf model.now trace.now replayed.now) }
+    requires base { base ≤ greatest_base }
+    requires run { IfOk replayed.now (IsRunOf model.now base trace.now) }
+    requires fault { IfErr replayed.now (λ e. IsReplayFault model.now base trace.now e.0 e.1) }
+    ensures answered { IfOk result (IsSaidOf model.now trace.now replayed.now) }
+    ensures explained { ExplainsReplayed model.now base trace.now replayed.now
+        explanation.old explanation.new }
 {
     match replayed {
         Ok(count) => Ok(said(alloc, Status::Done, run_text(alloc, *count)?)),

@@ -3,16 +3,22 @@ ghost use Rattle.std.specs.Prelude.{◌≡◌, ◌≤◌, IfOk, List, Ok, true};
 ghost use Rattle.bip_bank.specs.Banks.{content_of};
 ghost use Rattle.bip_core.specs.Starting.{IsUnasked};
 ghost use Rattle.bip_core.specs.Worlds.{world_of};
+ghost use Rattle.bip_explain.specs.Explanations.{Tells};
+ghost use Rattle.bip_explain.specs.Schedules.{IsScheduleReasonOf, schedule_parts};
+ghost use Rattle.bip_model.specs.Texts.{line_at};
 ghost use Rattle.bip_replay.specs.Runs.{IsModelRun};
 ghost use Rattle.bip_replay.specs.Traces.{grants_of};
+ghost use Rattle.bip_schedule.specs.Laws.{IsFault};
 ghost use Rattle.bip_replay.specs.Writing.{text_of};
+ghost use Rattle.bipr.specs.Answers.{complaining};
 ghost use Rattle.bipr.specs.CommandLine.{greatest_base};
 ghost use Rattle.bipr.specs.Commands.Steps.{IsScheduleOf};
 ghost use Rattle.bipr.specs.Endings.{AllOutcomesTelling};
 ghost use Rattle.bipr.specs.Resolvers.{IsSharedAtFirst};
 ghost use Rattle.bipr.specs.Scheduled.{IsScheduleAnswer, IsTelling, reporting};
 ghost use Rattle.bipr.specs.Streams.{Put, PutsEach};
-ghost use Rattle.bipr.specs.Wording.{report_text};
+ghost use Rattle.bipr.specs.Wording.{report_text, schedule_refusal};
+ghost use Rattle.bipr.specs.declared.answers.Status.TheVariants.{Refused};
 
 use crate::answers::{Answer, Status, complained};
 use crate::command_line::StepsArguments;
@@ -26,7 +32,7 @@ use bip_explain::{Explanation, explain_schedule};
 use bip_forks::Forks;
 use bip_model::{Number, Seq};
 use bip_partition::Plan;
-use bip_replay::write_trace;
+use bip_replay::{TraceFault, write_trace};
 use bip_ring::Ring;
 use bip_schedule::Schedule;
 use bip_tell::tell_event;
@@ -51,12 +57,36 @@ pub fn answer_schedule<'a, E: Stream>(
 {
     match Schedule::of(plan, schedule) {
         Ok(schedule) => answer_resolved(alloc, plan, asked, &schedule, errors),
-        Err((line, fault)) => {
-            explain_schedule(explanation, plan, schedule, line, &fault);
-            let complaint = schedule_refusal(alloc, line, &fault)?;
-            Ok(complained(alloc, Status::Refused, complaint))
-        }
+        Err((line, fault)) => Ok(refuse_schedule(
+            alloc,
+            explanation,
+            plan,
+            schedule,
+            line,
+            &fault,
+        )?),
     }
+}
+
+// The answer that refuses a schedule by its first fault, which the explanation tells more of. The
+// only error is want of memory.
+fn refuse_schedule(
+    alloc: Global,
+    explanation: &mut Explanation,
+    plan: &Plan,
+    schedule: &[u8],
+    line: u64,
+    fault: &TraceFault,
+) -> Result<Answer, AllocError>
+    requires { IsFault plan.now schedule.now line fault.now }
+    ensures refused { IfOk result (λ answer.
+        answer ≡ complaining Refused (schedule_refusal line fault.now)) }
+    ensures explained { Tells ⊥ (IsScheduleReasonOf plan.now (line_at schedule.now line) fault.now)
+        schedule_parts explanation.old explanation.new }
+{
+    explain_schedule(explanation, plan, schedule, line, fault);
+    let complaint = schedule_refusal(alloc, line, fault)?;
+    Ok(complained(alloc, Status::Refused, complaint))
 }
 
 // The answer to a schedule of the plan, with a resolver's bank.

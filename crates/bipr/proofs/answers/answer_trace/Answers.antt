@@ -6,4 +6,4 @@ pub returns : goal.returns
 returns c =
     IfOk-weaker c.answer_replayed.result _ _
     (λ answer said. said_answers c.args.base c.args.model.now c.args.trace.now c.replay-replayed.result answer c.replay-replayed.ensures.run c.replay-replayed.ensures.fault said)
-    c.answer_replayed.ensures
+    c.answer_replayed.ensures.answered

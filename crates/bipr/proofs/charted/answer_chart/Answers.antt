@@ -27,7 +27,7 @@ answer_begun-requires-in-NotARun-clause-run c =
 pub returns-in_ok-grants-in-Ok : goal.returns-in_ok-grants-in-Ok
 returns-in_ok-grants-in-Ok c =
     let run = rw c.in-Ok.is at c.replay-replayed.ensures.run in
-    let said = rw c.in-Ok.is at c.in_ok-verdict.ensures in
+    let said = rw c.in-Ok.is at c.in_ok-verdict.ensures.answered in
     let begins = begins_whole c.args.model.now c.args.base c.args.trace.now c.in-Ok.field-0 c.in_ok-verdict.verdict c.in_ok-grants-in-Ok.grants.items run said c.in_ok-grants-in-Ok.ensures in
     IfOk-weaker c.answer_begun.result _ _
     (λ answer drawn text means. charted c.args.model.now c.args.classes.now c.in_ok-grants-in-Ok.grants.items c.in_ok-verdict.verdict answer means begins drawn)
@@ -36,7 +36,7 @@ returns-in_ok-grants-in-Ok c =
 pub returns-in_ok-grants-in-NotARun : goal.returns-in_ok-grants-in-NotARun
 returns-in_ok-grants-in-NotARun c =
     let first = rw (c.in-Err.is, c.in-NotARun.is) at c.replay-replayed.ensures.fault in
-    let said = rw (c.in-Err.is, c.in-NotARun.is) at c.in_ok-verdict.ensures in
+    let said = rw (c.in-Err.is, c.in-NotARun.is) at c.in_ok-verdict.ensures.answered in
     let begins = begins_stopped c.args.model.now c.args.base c.args.trace.now c.in-Err.line c.in-NotARun.field-0 c.in_ok-verdict.verdict c.in_ok-grants-in-NotARun.grants.items first said c.in_ok-grants-in-NotARun.ensures in
     IfOk-weaker c.answer_begun-in-NotARun.result _ _
     (λ answer drawn text means. charted c.args.model.now c.args.classes.now c.in_ok-grants-in-NotARun.grants.items c.in_ok-verdict.verdict answer means begins drawn)
@@ -44,14 +44,14 @@ returns-in_ok-grants-in-NotARun c =
 
 pub returns-in-Syntax : goal.returns-in-Syntax
 returns-in-Syntax c = λ text means.
-    let said = rw (c.in-Err.is, c.in-Syntax.is) at c.in_ok-verdict.ensures in
+    let said = rw (c.in-Err.is, c.in-Syntax.is) at c.in_ok-verdict.ensures.answered in
     uncharted c.in_ok-verdict.verdict
-    (said_answers c.args.base c.args.model.now c.args.trace.now c.replay-replayed.result c.in_ok-verdict.verdict c.replay-replayed.ensures.run c.replay-replayed.ensures.fault c.in_ok-verdict.ensures text c.args.classes.now means)
+    (said_answers c.args.base c.args.model.now c.args.trace.now c.replay-replayed.result c.in_ok-verdict.verdict c.replay-replayed.ensures.run c.replay-replayed.ensures.fault c.in_ok-verdict.ensures.answered text c.args.classes.now means)
     (ap (λ (a : Answer). a.status) said)
 
 pub returns-in-Unknown : goal.returns-in-Unknown
 returns-in-Unknown c = λ text means.
-    let said = rw (c.in-Err.is, c.in-Unknown.is) at c.in_ok-verdict.ensures in
+    let said = rw (c.in-Err.is, c.in-Unknown.is) at c.in_ok-verdict.ensures.answered in
     uncharted c.in_ok-verdict.verdict
-    (said_answers c.args.base c.args.model.now c.args.trace.now c.replay-replayed.result c.in_ok-verdict.verdict c.replay-replayed.ensures.run c.replay-replayed.ensures.fault c.in_ok-verdict.ensures text c.args.classes.now means)
+    (said_answers c.args.base c.args.model.now c.args.trace.now c.replay-replayed.result c.in_ok-verdict.verdict c.replay-replayed.ensures.run c.replay-replayed.ensures.fault c.in_ok-verdict.ensures.answered text c.args.classes.now means)
     (ap (λ (a : Answer). a.status) said)

@@ -9,7 +9,7 @@ pub returns-in-Err : goal.returns-in-Err
 returns-in-Err c =
     IfOk-weaker c.answer_fault.result _ _
     (λ answer is. subst (IsDrawingAnswer c.args.model.now) (sym is.1) (undrawn c.in-Err.fault is.0 (c.in-Err.ensures.fault is.0)))
-    c.answer_fault.ensures
+    c.answer_fault.ensures.answered
 
 pub returns : goal.returns
 returns c =

@@ -21,7 +21,7 @@ returns-in_err-answer_fault-in-Err g c =
 
 pub returns : goal.returns
 returns g c = λ answer same.
-    subst (IsReplayBy (IsViewed c.args.view.now c.args.asked.now.base) (g.I.Inputs.gives c.args.inputs.now) c.args.asked.now) (sym (same ∙ c.in_ok-answer_fault-in-Err.ensures.1))
+    subst (IsReplayBy (IsViewed c.args.view.now c.args.asked.now.base) (g.I.Inputs.gives c.args.inputs.now) c.args.asked.now) (sym (same ∙ c.in_ok-answer_fault-in-Err.ensures.answered.1))
     (no_model c.in_ok-text.text c.in-Err.fault c.requires.apart c.in_ok-text.ensures.read
-    (subst (λ (text : List ℕ). HasFault text c.in-Err.fault) c.as_slice.ensures (c.in-Err.ensures.fault c.in_ok-answer_fault-in-Err.ensures.0))
-    c.in_ok-answer_fault-in-Err.ensures.0)
+    (subst (λ (text : List ℕ). HasFault text c.in-Err.fault) c.as_slice.ensures (c.in-Err.ensures.fault c.in_ok-answer_fault-in-Err.ensures.answered.0))
+    c.in_ok-answer_fault-in-Err.ensures.answered.0)

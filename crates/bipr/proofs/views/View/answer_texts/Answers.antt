@@ -6,4 +6,4 @@ pub returns-in-Err : goal.returns-in-Err
 returns-in-Err c =
     IfOk-weaker c.answer_fault.result _ _
     (λ answer is. refused_view c.args.self.now c.args.base c.args.model.now c.args.trace.now c.in-Err.fault answer is.0 is.1 (c.in-Err.ensures.fault is.0))
-    c.answer_fault.ensures
+    c.answer_fault.ensures.answered
