@@ -38,7 +38,7 @@ pub data IsWordsAnswer (error : io_error.Error) : Answer → Type 0 where
 abbrev pub IsMistake : Error → Type 0
 IsMistake error = (kind_of error ≢ parsing.DisplayHelp) × (kind_of error ≢ parsing.DisplayVersion)
 
--- what is said of words that the library takes for no request, in its own words
+-- what is said of words that the library takes for no request: in which words isn't stated
 pub data IsErrorAnswer (error : Error) : Answer → Type 0 where
   -- help or the version is asked for
   shown : (text : List ℕ) → (IsMistake error → ⊥) → IsErrorAnswer error (saying Done text)

@@ -16,7 +16,7 @@ pub trait Stream {
         ensures { writes self.old text.now result self.new };
 }
 
-// A text is one write, and a flush, of which no contract knows what it does.
+// A text is written whole, and flushed: no contract tells in how many writes, or what a flush does.
 impl<W: Write> Stream for W {
     ghost writes = { λ before text is_out after.
         is_out ≡ true → Appends (W.contents before) (W.contents after) text };
