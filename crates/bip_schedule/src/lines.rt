@@ -14,9 +14,7 @@ ghost use Rattle.bip_schedule.specs.Writing.{HasSpelling};
 
 use bip_bank::{BankStep, StationId};
 use bip_core::Event;
-use bip_model::{
-    ClassId, InterId, Line, Name, Word, is_text, parse_value, read_words, split_word,
-};
+use bip_model::{ClassId, InterId, Line, Name, Word, is_text, parse_value, read_words, split_word};
 use bip_partition::Plan;
 use bip_replay::LineFault;
 

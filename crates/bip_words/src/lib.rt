@@ -11,7 +11,7 @@ mod steps;
 mod tables;
 
 pub use closing::{Closed, Missing};
-pub use knowledge::{Claim, Learned, Knowledge, Note};
+pub use knowledge::{Claim, Knowledge, Learned, Note};
 pub use laws::word_laws;
 pub use rows::{MOST_ROWS, Rows};
 pub use tables::{Attempt, Seat, WordTable};
