@@ -1,8 +1,8 @@
 -- Words of lines, with their columns.
 use Rattle.std.specs.Prelude.{◌≡◌, ℕ, ◌+◌, ◌-◌, ◌<◌, ◌≤◌, List, [], ◌∷◌, ◌++◌, length, Option}
-use Rattle.std.specs.Prelude.{Bool, IsTrue, None, Some, drop, ◌==◌, if◌then◌else◌}
+use Rattle.std.specs.Prelude.{Bool, IsTrue, None, Some, drop}
 use Rattle.bip_model.specs.Naming.{IsName}
-use Rattle.bip_model.specs.Texts.{numbered_lines, words, words_said}
+use Rattle.bip_model.specs.Texts.{words, words_said}
 use Rattle.bip_explain.specs.declared.placed.Placed.{Placed}
 
 -- a word of a line begins at a column, counted in bytes from 1: in front of it stand a byte less,
