@@ -94,6 +94,11 @@ tested_is : {P : Type 0} (d : Decided P) → (tested d ≡ true) ↔ P
 tested_is (inl holds) = (λ _. holds, λ _. refl)
 tested_is (inr fails) = (λ e. absurd (false≢true e), λ holds. absurd (fails holds))
 
+-- what stands above an interaction can be listed
+pub above_listed : (m : System) (a : ℕ) → IsSystemSoFar m → (above : List InterId) × IsListAbove m.priorities a above
+above_listed m a valid =
+    (_, list_by m.priorities (length m.interactions) a (λ b. tested (IsAbove-decided m.priorities a b)) valid.priorities (λ b. tested_is (IsAbove-decided m.priorities a b)))
+
 -- what an interaction looks at can be listed
 pub looks_listed : (m : System) (a : ℕ) → IsSystemSoFar m → (looks : List CompId) × IsListLookedAt m a looks
 looks_listed m a valid =

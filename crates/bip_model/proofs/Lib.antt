@@ -22,6 +22,7 @@ pub mod PlaceLemmas
 pub mod PriorityLemmas
 pub mod PutLemmas
 pub mod RaiseLemmas
+pub mod ReasonLemmas
 pub mod ScopeLemmas
 pub mod SequenceLemmas
 pub mod SetLemmas

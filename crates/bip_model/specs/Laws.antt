@@ -16,7 +16,7 @@ use Rattle.bip_model.specs.Partitions.{IsPartition, numbers_in, times_in}
 use Rattle.bip_model.specs.Parts.{Participant, components_in}
 use Rattle.bip_model.specs.Priorities.{IsAbove, put_pair}
 use Rattle.bip_model.specs.Scopes.{shared}
-use Rattle.bip_model.specs.Parties.{AreParties, AreWantsBy}
+use Rattle.bip_model.specs.Parties.{AreParties, AreWantsBy, CoverAbove, HasWantOf, SeeAll}
 use Rattle.bip_model.specs.declared.messages.Offer.{Offer}
 use Rattle.bip_model.specs.States.{IsStateOf, State, with_values}
 use Rattle.bip_model.specs.Steps.{IsEnabled, IsLookedAt, IsRun, MayRun, after, end_of, guard_of}
@@ -30,6 +30,7 @@ use Rattle.bip_model.specs.declared.expressions.Term.{Term}
 use Rattle.bip_model.specs.declared.expressions.Variable.{Variable}
 use Rattle.bip_model.specs.declared.grants.Grant.{Grant}
 use Rattle.bip_model.specs.declared.wants.Role.TheVariants.{Moved}
+use Rattle.bip_model.specs.declared.reasons.Why.{Why}
 use Rattle.bip_model.specs.declared.wants.Want.{Want}
 use Rattle.bip_model.specs.declared.numbering.InterId.{InterId}
 use Rattle.bip_model.specs.declared.parts.Component.{Component}
@@ -305,17 +306,23 @@ PartiesHaveRoles =
     (m : System) (a : ℕ) (wants : List Want) → AreParties m a wants → (w : Want)
     → Contains wants w → HasItsRole m a w
 
--- and all that the interaction moves or looks at is wanted
+-- where they see all that it looks at, all that it moves or looks at is wanted
 abbrev pub PartiesAreWanted : Type 0
 PartiesAreWanted =
-    (m : System) (a : ℕ) (wants : List Want) → AreParties m a wants → (c : ℕ)
-    → (moves m a c ≡ true) ⊎ IsLookedAt m a c → Any (λ (w : Want). w.comp.0 ≡ c) wants
+    (m : System) (a : ℕ) (wants : List Want) → AreParties m a wants → SeeAll m a wants → (c : ℕ)
+    → (moves m a c ≡ true) ⊎ IsLookedAt m a c → HasWantOf wants c
 
--- by offers an interaction has one list of wants, at most
+-- and they cover all that is above it, in whatever state
+abbrev pub AllPartiesCover : Type 0
+AllPartiesCover =
+    (m : System) (a : ℕ) (wants : List Want) → AreParties m a wants → SeeAll m a wants
+    → (s : State) → CoverAbove m s a wants
+
+-- by offers and reasons an interaction has one list of wants, at most
 abbrev pub OneWantsEach : Type 0
 OneWantsEach =
-    (m : System) (o : ℕ → Offer) (a : ℕ) (xs ys : List Want) → AreWantsBy m o a xs
-    → AreWantsBy m o a ys → xs ≡ ys
+    (m : System) (o : ℕ → Offer) (a : ℕ) (reasons : List Why) (xs ys : List Want)
+    → AreWantsBy m o a reasons xs → AreWantsBy m o a reasons ys → xs ≡ ys
 
 -- used numbers and histories of grants in two parts: the second goes on where the first ends
 abbrev pub UsedGoesOn : Type 0

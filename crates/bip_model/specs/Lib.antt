@@ -13,6 +13,7 @@ pub mod Parties
 pub mod Parts
 pub mod Places
 pub mod Priorities
+pub mod Reasons
 pub mod Scopes
 pub mod Sequence
 pub mod Sets

@@ -12,7 +12,7 @@ ghost use Rattle.bip_model.specs.Laws.{IsInOrder, MovedIsWanted, NamesInAnyOrder
 ghost use Rattle.bip_model.specs.Laws.{SumsAreIntegers, TransfersAtOnce, TransfersInAnyOrder};
 ghost use Rattle.bip_model.specs.Laws.{AboveGoesOn, MayRunIsLocal, OneWantsEach};
 ghost use Rattle.bip_model.specs.Laws.{ParticipantsAreLed, PartiesAreWanted, PartiesHaveRoles};
-ghost use Rattle.bip_model.specs.Laws.{PartiesMove, SomethingMayRun};
+ghost use Rattle.bip_model.specs.Laws.{AllPartiesCover, PartiesMove, SomethingMayRun};
 ghost use Rattle.bip_model.specs.Laws.{UpdatesInOrder, UpdatesOneByOne};
 ghost use Rattle.bip_model.specs.Laws.{FindsOfParticipants, NamesParticipants};
 ghost use Rattle.bip_model.specs.Laws.{PartsOrMisplaces, PutsOnePair, UsedGoesOn};
@@ -102,6 +102,7 @@ pub fn history_laws()
     ensures parties { PartiesMove }
     ensures roles { PartiesHaveRoles }
     ensures wanted { PartiesAreWanted }
+    ensures covered { AllPartiesCover }
     ensures wants { OneWantsEach }
     ensures used { (floor : ℕ → ℕ) (gs : List Grant) (g : Grant)
         → used_by floor (gs ++ g ∷ []) ≡ raised (used_by floor gs) g.wants }

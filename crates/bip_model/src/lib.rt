@@ -20,6 +20,7 @@ mod partitions;
 mod parts;
 mod places;
 mod priorities;
+mod reasons;
 mod scopes;
 mod sequence;
 mod sets;
@@ -45,11 +46,13 @@ pub use messages::{MOST_NOTIFIES, Notifies, Notify, Offer, Reply, Request};
 pub use models::Model;
 pub use naming::{MOST_NAME_BYTES, Name, Names, is_text};
 pub use numbering::{ClassId, CompId, InterId, LocId, Number, PortId, VarId};
+pub use parties::has_want_of;
 pub use partitions::{Classes, MOST_CLASSES, Partition};
 pub use parts::{
     Component, Interaction, MOST_CLAUSES, MOST_COMPONENTS, MOST_INTERACTIONS, MOST_PARTICIPANTS,
     MOST_TERMS, Pair, System, Transition,
 };
+pub use reasons::{Cause, GUARD_NUMBER, MOST_REASONS, Reasons, Why};
 pub use scopes::{MOST_VARIABLES, VariableName};
 pub use sequence::Seq;
 pub use sets::{has_port, lowest_inter, with_inter, without_inter};

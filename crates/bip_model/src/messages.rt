@@ -2,7 +2,7 @@
 ghost use Rattle.std.specs.Prelude.{◌≡◌, ◌↔◌, IfSome, IsSome};
 ghost use Rattle.bip_model.specs.Messages.{IsNotifies};
 
-use crate::{ClassId, CompId, InterId, Number, PortId, Values, Wants};
+use crate::{ClassId, CompId, InterId, Number, PortId, Reasons, Values, Wants};
 use arrayvec::ArrayVec;
 use std::marker::Model;
 
@@ -81,11 +81,13 @@ impl Notifies {
     }
 }
 
-/// A request of a class's node to the third layer: to grant an interaction with these wants. The
-/// class numbers its requests.
+/// A request of a class's node to the third layer: to grant an interaction with these wants. Its
+/// reasons say why nothing above the interaction is enabled; without any the wants are of all that
+/// the interaction looks at. The class numbers its requests.
 #[derive(Drop)]
 pub struct Request {
     pub wants: Wants,
+    pub reasons: Reasons,
     pub request: u64,
     pub class: ClassId,
     pub inter: InterId,
@@ -101,6 +103,7 @@ impl Request {
             request: self.request,
             inter: self.inter,
             wants: self.wants.copy(),
+            reasons: self.reasons.copy(),
         }
     }
 }

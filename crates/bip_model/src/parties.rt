@@ -1,15 +1,19 @@
-//! The parties of an interaction: what it moves and what it looks at, and wants of just these.
-ghost use Rattle.std.specs.Prelude.{◌≡◌, ◌↔◌, ◌==◌, ◌<◌, length, IsTrue};
+//! The parties of an interaction: what it moves and what it looks at, wants of these, and which of
+//! them are enough.
+ghost use Rattle.std.specs.Prelude.{◌≡◌, ◌↔◌, ◌==◌, ◌<◌, ◌&&◌, not, length, All, IsTrue};
 ghost use Rattle.std.specs.List.{list_all, list_any};
-ghost use Rattle.bip_model.specs.Parties.{AreParties, are_parties, is_moving, is_party};
-ghost use Rattle.bip_model.specs.Parties.{is_seeing};
+ghost use Rattle.bip_model.specs.Parties.{AreParties, CoverAbove, SeeAll, are_parties};
+ghost use Rattle.bip_model.specs.Parties.{has_want_of, is_covered, is_moving, is_party};
+ghost use Rattle.bip_model.specs.Parties.{is_seeing, see_all};
 ghost use Rattle.bip_model.specs.Parts.{Participant};
-ghost use Rattle.bip_model.specs.Steps.{IsLookedAt};
+ghost use Rattle.bip_model.specs.States.{state_of};
+ghost use Rattle.bip_model.specs.Steps.{IsLookedAt, offered};
 ghost use Rattle.bip_model.specs.declared.numbering.CompId.{CompId};
+ghost use Rattle.bip_model.specs.declared.numbering.InterId.{InterId};
 ghost use Rattle.bip_model.specs.declared.wants.Want.{Want};
 
 use crate::looks::takes_part;
-use crate::{CompId, InterId, Model, PortId, Role, Want};
+use crate::{CompId, InterId, Model, PortId, Role, State, Want};
 
 impl Model {
     /// Whether an interaction looks at a component; false for numbers that the model lacks.
@@ -22,23 +26,76 @@ impl Model {
         is_among(self.looks(inter), comp)
     }
 
-    /// Whether wants move just the components that an interaction moves, and see just those that it
-    /// looks at.
+    /// Whether wants move just the components that an interaction moves, and see none but such as
+    /// it looks at.
     pub fn are_parties(&self, inter: InterId, wants: &[Want]) -> bool
         requires { inter.0 < length self.now.interactions }
         ensures { IsTrue result ↔ AreParties self.now inter.0 wants.now }
     {
         are_parties(wants, self.participants(inter), self.looks(inter))
     }
+
+    /// Whether wants see each component that an interaction looks at.
+    pub fn see_all(&self, inter: InterId, wants: &[Want]) -> bool
+        requires { inter.0 < length self.now.interactions }
+        ensures { IsTrue result ↔ SeeAll self.now inter.0 wants.now }
+    {
+        see_all(wants, self.looks(inter))
+    }
+
+    /// Whether wants cover each interaction above one in a state: they have one of a participant
+    /// that doesn't offer its port there, or of all its participants.
+    pub fn cover_above(&self, state: &State, inter: InterId, wants: &[Want]) -> bool
+        requires { inter.0 < length self.now.interactions }
+        ensures { IsTrue result ↔ CoverAbove self.now (state_of state.now) inter.0 wants.now }
+    {
+        self.cover_all(state, self.above(inter), wants)
+    }
+
+    fn cover_all(&self, state: &State, inters: &[InterId], wants: &[Want]) -> bool
+        requires { All (λ (b : InterId). b.0 < length self.now.interactions) inters.now }
+        ensures { result ≡ list_all (λ (b : InterId).
+            is_covered self.now (state_of state.now) wants.now b.0) inters.now }
+    {
+        inters.iter().all(|inter| self.cover(state, *inter, wants))
+    }
+
+    fn cover(&self, state: &State, inter: InterId, wants: &[Want]) -> bool
+        requires { inter.0 < length self.now.interactions }
+        ensures { result ≡ is_covered self.now (state_of state.now) wants.now inter.0 }
+    {
+        let participants = self.participants(inter);
+        self.want_idle(state, participants, wants) || want_each(wants, participants)
+    }
+
+    /// Whether wants have one of a participant that doesn't offer its port.
+    fn want_idle(&self, state: &State, participants: &[(CompId, PortId)], wants: &[Want]) -> bool
+        ensures { result ≡ list_any (λ (q : Participant). has_want_of wants.now q.0.0
+            && not (offered self.now (state_of state.now) q)) participants.now }
+    {
+        participants.iter().any(|q| has_want_of(wants, q.0) && !self.offered(state, q.0, q.1))
+    }
 }
 
-/// Whether wants move just the participants, and see just what is looked at.
+fn want_each(wants: &[Want], participants: &[(CompId, PortId)]) -> bool
+    ensures { result
+        ≡ list_all (λ (q : Participant). has_want_of wants.now q.0.0) participants.now }
+{
+    participants.iter().all(|q| has_want_of(wants, q.0))
+}
+
+/// Whether wants have one of a component.
+pub fn has_want_of(wants: &[Want], comp: CompId) -> bool
+    ensures { result ≡ has_want_of wants.now comp.0 }
+{
+    wants.iter().any(|want| want.comp == comp)
+}
+
+/// Whether wants move just the participants, and see none but what is looked at.
 fn are_parties(wants: &[Want], participants: &[(CompId, PortId)], looks: &[CompId]) -> bool
     ensures { result ≡ are_parties wants.now participants.now looks.now }
 {
-    name_parties(wants, participants, looks)
-        && move_all(wants, participants)
-        && see_all(wants, looks)
+    name_parties(wants, participants, looks) && move_all(wants, participants)
 }
 
 fn name_parties(wants: &[Want], participants: &[(CompId, PortId)], looks: &[CompId]) -> bool
@@ -72,7 +129,7 @@ fn move_all(wants: &[Want], participants: &[(CompId, PortId)]) -> bool
 }
 
 fn see_all(wants: &[Want], looks: &[CompId]) -> bool
-    ensures { result ≡ list_all (λ (c : CompId). list_any (is_seeing c.0) wants.now) looks.now }
+    ensures { result ≡ see_all wants.now looks.now }
 {
     looks.iter().all(|comp| is_seeing(wants, *comp))
 }

@@ -256,7 +256,7 @@ impl Model {
             .all(|&(comp, port)| self.offered(state, comp, port))
     }
 
-    fn offered(&self, state: &State, comp: CompId, port: PortId) -> bool
+    pub(crate) fn offered(&self, state: &State, comp: CompId, port: PortId) -> bool
         ensures { result ≡ offered self.now (state_of state.now) (comp, port) }
     {
         match (self.components().get(comp.0 as usize), state.at(comp)) {

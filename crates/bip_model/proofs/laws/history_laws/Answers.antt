@@ -1,6 +1,6 @@
 use Rattle.std.proofs.Common.{[], ◌∷◌}
 use Rattle.bip_model.proofs.HistoryLemmas.{IsHistory-append, greatest_used, moved_is_wanted, moves_once, parties_move, used_by-append, used_by-push}
-use Rattle.bip_model.proofs.PartyLemmas.{parties_are_wanted, parties_have_roles}
+use Rattle.bip_model.proofs.PartyLemmas.{all_parties_cover, parties_are_wanted, parties_have_roles}
 use Rattle.bip_model.proofs.WantLemmas.{one_wants_each}
 use Rattle.bip_model.proofs.laws.history_laws.Goals as goal
 
@@ -10,6 +10,7 @@ returns c = record {
   parties = parties_move;
   roles = parties_have_roles;
   wanted = parties_are_wanted;
+  covered = all_parties_cover;
   wants = one_wants_each;
   used = used_by-push;
   greatest = greatest_used;
