@@ -3,6 +3,7 @@ pub mod FootprintLemmas
 pub mod LawLemmas
 pub mod LinkLemmas
 pub mod ListedLemmas
+pub mod ReasonLemmas
 pub mod SetLemmas
 pub mod TableLemmas
 pub mod TouchLemmas

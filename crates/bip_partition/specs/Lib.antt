@@ -1,4 +1,5 @@
 pub mod Faults
 pub mod Laws
 pub mod Plans
+pub mod Reasons
 pub mod Tables

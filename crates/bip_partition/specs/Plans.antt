@@ -3,7 +3,7 @@
 use Rattle.std.specs.Prelude.{◌≡◌, ◌≢◌, ◌⊎◌, ◌↔◌, ℕ, ◌<◌, List, [], length, map, true}
 use Rattle.std.specs.Prelude.{Any, Contains, Some, slice_get, slice_index_or}
 use Rattle.std.specs.List.Sorted.{IsStrictlyIncreasing}
-use Rattle.bip_model.specs.Parties.{AreParties}
+use Rattle.bip_model.specs.Parties.{AreExplained, AreParties}
 use Rattle.bip_model.specs.Partitions.{class_in}
 use Rattle.bip_model.specs.Priorities.{inter}
 use Rattle.bip_model.specs.Steps.{IsLookedAt, moves}
@@ -55,12 +55,13 @@ MeetAt m a b c = Touches m a c × Touches m b c × ((moves m a c ≡ true) ⊎ (
 abbrev pub InConflict : System → ℕ → ℕ → Type 0
 InConflict m a b = (c : ℕ) × MeetAt m a b c
 
--- a request fits a plan: its interaction is reserved, and of its class, and it wants just what that
--- one moves and looks at
+-- a request fits a plan: its interaction is reserved, and of its class; it wants what that one
+-- moves, sees none but what it looks at, and says enough: all that is looked at, or its reasons
 pub record IsFit (p : Planned) (r : Request) : Type 0 where
   pub reserved : IsReserved p r.inter.0
   pub class : r.class.0 ≡ class_in p.classes r.inter.0
   pub parties : AreParties p.model r.inter.0 r.wants
+  pub explained : AreExplained p.model r.inter.0 r.wants r.reasons
 
 -- the list of the components that an interaction touches, in order of their numbers
 pub record IsListTouched (m : System) (a : ℕ) (list : List CompId) : Type 0 where

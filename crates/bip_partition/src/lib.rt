@@ -6,6 +6,7 @@ mod faults;
 mod footprints;
 mod laws;
 mod plans;
+mod reasons;
 mod sets;
 mod tables;
 

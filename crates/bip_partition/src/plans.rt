@@ -13,6 +13,7 @@ ghost use Rattle.bip_partition.specs.Tables.{IsCountTouched, IsFootprint};
 
 use crate::PlanFault;
 use crate::footprints::Footprint;
+use crate::reasons::are_explained;
 use crate::sets::{has_comp, overlap};
 use crate::tables::{Tables, touches};
 use bip_model::{ClassId, Classes, CompId, InterId, MOST_WANTS, Model, PortId, Request};
@@ -207,8 +208,10 @@ impl Plan {
         overlap(one.touched, two.moved) || overlap(one.moved, two.touched)
     }
 
-    /// Whether a request fits: its interaction is reserved, and of its class, and it wants just
-    /// what that one moves and looks at.
+    /// Whether a request fits: its interaction is reserved, and of its class; it wants what that
+    /// one moves, and sees none but what it looks at; and it sees all of that, or has for each
+    /// interaction above its own a reason, and for no other, whose components are participants of
+    /// that one, and wanted.
     pub fn fits(&self, request: &Request) -> bool
         ensures { IsTrue result ↔ IsFit self.now request.now }
     {
@@ -216,7 +219,9 @@ impl Plan {
         if !self.reserved(inter) || self.class_of(inter) != request.class {
             return false;
         }
-        self.model.are_parties(inter, request.wants.as_slice())
+        let wants = request.wants.as_slice();
+        self.model.are_parties(inter, wants)
+            && are_explained(&self.model, inter, wants, &request.reasons)
     }
 }
 
