@@ -1,54 +1,75 @@
 -- What the searches of a decision find is its verdict.
-use Rattle.std.proofs.Common.{◌≡◌, ℕ, ◌<◌, ◌≤◌, Bool, true, false, not, List, [], ◌∷◌, length, map, All, get_or, Option, None, Some, find, inl, inr, refl, sym, ◌∙◌, slice_get, arith}
-use Rattle.std.specs.Prelude.{IsSomeAnd, IsTrue, nat_lt, unwrap_or}
-use Rattle.std.specs.List.{list_all}
+use Rattle.std.proofs.Common.{◌≡◌, ℕ, ◌<◌, ◌≤◌, Bool, true, false, not, eqb, eqb-true, eq-eqb, List, [], ◌∷◌, length, map, All, Option, None, Some, find, inl, inr, refl, subst, sym, ◌∙◌, slice_get, arith}
+use Rattle.std.specs.Prelude.{Contains, IsSomeAnd, IsTrue, nat_lt, unwrap_or}
 use Rattle.std.specs.Option.{option_map, option_map_or}
-use Rattle.std.proofs.lemmas.Bool.{and_parts, false≢true, not-true}
+use Rattle.std.proofs.lemmas.Bool.{false≢true, not-true}
 use Rattle.std.proofs.lemmas.List.Elements.{All-contains, All-head, All-tail, All-weaker}
-use Rattle.std.proofs.lemmas.List.Sums.{AllPass-from_list_all, list_all-from_AllPass}
+use Rattle.std.proofs.lemmas.List.Folds.{Any-from_list_any, list_any-from_Any}
 use Rattle.bip_model.specs.Expressions.{counts}
 use Rattle.bip_model.specs.Messages.{IsOfferOf}
 use Rattle.bip_model.specs.Parts.{IsInteraction, IsSystem, Participant, count_of, counts_of}
 use Rattle.bip_model.specs.Priorities.{IsAbove, IsListAbove, inter}
-use Rattle.bip_model.specs.Steps.{participants_of}
+use Rattle.bip_model.specs.Steps.{moves, participants_of}
 use Rattle.bip_model.specs.declared.messages.Offer.{Offer}
 use Rattle.bip_model.specs.declared.numbering.CompId.{CompId}
 use Rattle.bip_model.specs.declared.numbering.InterId.{InterId}
 use Rattle.bip_model.specs.declared.parts.Component.{Component}
 use Rattle.bip_model.specs.declared.parts.System.{System}
-use Rattle.bip_model.proofs.AboveLemmas.{IsAbove-high}
 use Rattle.bip_model.proofs.LawLemmas.{rising_of}
 use Rattle.bip_model.proofs.ListLemmas.{All-slice_get, found_at, not_found}
 use Rattle.std.proofs.lemmas.Option.{slice_get_cases}
-use Rattle.std.proofs.lemmas.List.{get_or_default}
-use Rattle.bip_partition.specs.Plans.{IsListTouched}
 use Rattle.bip_model.specs.Numbering.{IsLowest}
 use Rattle.bip_model.proofs.FoundLemmas.{first_is_lowest}
-use Rattle.bip_observe.proofs.ShowLemmas.{moves_each, touches_higher}
+use Rattle.bip_observe.proofs.ExcludeLemmas.{exclude_from, exclude_to}
+use Rattle.bip_observe.proofs.ShowLemmas.{moves_each, passes}
 use Rattle.bip_observe.proofs.VerdictLemmas.{counted_own}
 use Rattle.bip_observe.specs.Offers.{AreOwn, Observed}
-use Rattle.bip_observe.specs.Verdicts.{AllCount, ArePortsOn, CanBeJudged, Enable, IsOff, IsVerdict, enables, guard_holds, is_counted, no_offer, offers_of, port_on}
-use Rattle.bip_observe.specs.declared.verdicts.Verdict.TheVariants.{Ready, NotReady, PortOff, Below}
+use Rattle.bip_observe.specs.Verdicts.{AllCount, ArePortsOn, CanBeJudged, OfferCounts, Enable, Exclude, IsMissing, IsOff, IsOpenAbove, IsVerdict, excludes, first_missing, is_counted, no_offer, offers_of, port_on}
+use Rattle.bip_observe.specs.declared.verdicts.Verdict.TheVariants.{Ready, PortOff}
 
--- a test that doesn't fail passes
-passes : (b : Bool) → not b ≡ false → b ≡ true
-passes true is = refl
-passes false is = sym is
+-- an interaction moves the component of a participant
+pub moves_it : (m : System) (a : ℕ) (q : Participant) → Contains (participants_of m a) q → moves m a q.0.0 ≡ true
+moves_it m a q at = list_any-from_Any (λ (r : Participant). eqb r.0.0 q.0.0) (participants_of m a) (at.0, q, at.1, at.2, eq-eqb q.0.0 q.0.0 refl)
 
-pub missing_found : (v : Observed) (a : ℕ) (touched : List CompId) (c : CompId) → IsListTouched v.plan.model a touched → Some c ≡ find (λ (d : CompId). not (is_counted v d.0)) touched → IsVerdict v a (NotReady c)
-missing_found v a touched c list is =
-    let test : CompId → Bool = λ d. not (is_counted v d.0) in
-    let found = found_at test touched c (sym is) in
-    record {
-      here = ((list.exact c.0).0 found.0, not-true (is_counted v c.0) found.1);
-      lower = λ k below missing.
-          let early = first_is_lowest (λ (d : CompId). d.0) test touched c list.rising (sym is) (record { 0 = k }) ((list.exact k).1 missing.0) below in
-          false≢true (sym missing.1 ∙ passes (is_counted v k) early);
-    }
+-- the lowest component of participants of which no offer counts
+pub missing_found : (v : Observed) (a : ℕ) (c : CompId) → IsSystem v.plan.model → Some c ≡ first_missing v (participants_of v.plan.model a) → IsLowest (IsMissing v a) c.0
+missing_found v a c valid is = by_find (find test (participants_of m a)) refl is
+  where
+    m : System
+    m = v.plan.model
 
-pub none_missing : (v : Observed) (a : ℕ) (touched : List CompId) → IsListTouched v.plan.model a touched → None ≡ find (λ (d : CompId). not (is_counted v d.0)) touched → AllCount v a
-none_missing v a touched list is c touches =
-    passes (is_counted v c) (All-contains (λ (d : CompId). not (is_counted v d.0) ≡ false) touched (record { 0 = c }) (not_found (λ (d : CompId). not (is_counted v d.0)) touched (sym is)) ((list.exact c).1 touches))
+    test : Participant → Bool
+    test q = not (is_counted v q.0.0)
+
+    by_find : (found : Option Participant) → find test (participants_of m a) ≡ found → Some c ≡ option_map (λ (q : Participant). q.0) found → IsLowest (IsMissing v a) c.0
+    by_find None find_is is = cc
+    by_find (Some q) find_is is =
+        let found = found_at test (participants_of m a) q find_is in
+        let same : q.0 ≡ c = cc in
+        rw (← same) (record {
+          here = (moves_it m a q found.0, not-true (is_counted v q.0.0) found.1);
+          lower = λ k below missing.
+              let at = Any-from_list_any (λ (r : Participant). eqb r.0.0 k) (participants_of m a) missing.0 in
+              let its = eqb-true at.1.0.0 k at.4 in
+              let early = first_is_lowest (λ (r : Participant). r.0.0) test (participants_of m a) q (rising_of m a valid) find_is at.1 (at.0, at.2, at.3) (omega (arith, below, its)) in
+              false≢true (sym missing.1 ∙ subst (λ (n : ℕ). is_counted v n ≡ true) its (passes (is_counted v at.1.0.0) early));
+        })
+
+pub none_missing : (v : Observed) (a : ℕ) → None ≡ first_missing v (participants_of v.plan.model a) → AllCount v a
+none_missing v a is = by_find (find test (participants_of m a)) refl is
+  where
+    m : System
+    m = v.plan.model
+
+    test : Participant → Bool
+    test q = not (is_counted v q.0.0)
+
+    by_find : (found : Option Participant) → find test (participants_of m a) ≡ found → None ≡ option_map (λ (q : Participant). q.0) found → AllCount v a
+    by_find None find_is is c takes =
+        let at = Any-from_list_any (λ (r : Participant). eqb r.0.0 c) (participants_of m a) takes in
+        let fails = All-contains (λ (r : Participant). test r ≡ false) (participants_of m a) at.1 (not_found test (participants_of m a) find_is) (at.0, at.2, at.3) in
+        subst (λ (n : ℕ). is_counted v n ≡ true) (eqb-true at.1.0.0 c at.4) (passes (is_counted v at.1.0.0) fails)
+    by_find (Some q) find_is is c takes = cc
 
 -- the component of the first participant whose port is off
 abbrev pub off_first : System → (ℕ → Offer) → ℕ → Option CompId
@@ -85,64 +106,39 @@ none_off m o a is = by_find (find test (participants_of m a)) refl is
     by_find None find_is is = All-weaker (λ q. test q ≡ false) (λ q. IsTrue (port_on o q)) (λ q fails. passes (port_on o q) fails) (participants_of m a) (not_found test (participants_of m a) find_is)
     by_find (Some q) find_is is = cc
 
--- what offers enable, as a test
-pub enable_from : (m : System) (o : ℕ → Offer) (a : ℕ) → enables m o a ≡ true → Enable m o a
-enable_from m o a test =
-    let both = and_parts (list_all (port_on o) (participants_of m a)) (guard_holds m o a) test in
-    record { ports = AllPass-from_list_all (port_on o) (participants_of m a) both.0; guard = both.1 }
+-- the first of those above that the offers don't exclude
+pub open_found : (v : Observed) (a : ℕ) (above : List InterId) (b : InterId) → IsListAbove v.plan.model.priorities a above → Some b ≡ find (λ (d : InterId). not (excludes v d.0)) above → IsLowest (IsOpenAbove v a) b.0
+open_found v a above b list is =
+    let test : InterId → Bool = λ d. not (excludes v d.0) in
+    let found = found_at test above b (sym is) in
+    record {
+      here = ((list.exact b.0).0 found.0, λ exclude. false≢true (sym (not-true (excludes v b.0) found.1) ∙ exclude_to v b.0 exclude));
+      lower = λ k below open_.
+          let early = first_is_lowest (λ (d : InterId). d.0) test above b list.rising (sym is) (inter k) ((list.exact k).1 open_.0) below in
+          open_.1 (exclude_from v k (passes (excludes v k) early));
+    }
 
-pub enable_to : (m : System) (o : ℕ → Offer) (a : ℕ) → Enable m o a → enables m o a ≡ true
-enable_to m o a enable = rw (list_all-from_AllPass (port_on o) (participants_of m a) enable.ports, enable.guard) refl
+pub none_open : (v : Observed) (a : ℕ) (above : List InterId) → IsListAbove v.plan.model.priorities a above → None ≡ find (λ (d : InterId). not (excludes v d.0)) above → (b : ℕ) → IsAbove v.plan.model.priorities a b → Exclude v.plan.model (offers_of v) (OfferCounts v) b
+none_open v a above list is b higher =
+    let test : InterId → Bool = λ d. not (excludes v d.0) in
+    let fails = All-contains (λ (d : InterId). test d ≡ false) above (inter b) (not_found test above (sym is)) ((list.exact b).1 higher) in
+    exclude_from v b (passes (excludes v b) fails)
 
-pub below_found : (v : Observed) (a : ℕ) (above : List InterId) (b : InterId) → IsListAbove v.plan.model.priorities a above → AllCount v a → Enable v.plan.model (offers_of v) a → Some b ≡ find (λ (d : InterId). enables v.plan.model (offers_of v) d.0) above → IsVerdict v a (Below b)
-below_found v a above b list all enable is =
-    let m = v.plan.model in
-    let o = offers_of v in
-    let test : InterId → Bool = λ d. enables m o d.0 in
-    let found = found_at test above b (sym is) in (
-      all,
-      enable,
-      record {
-        here = ((list.exact b.0).0 found.0, enable_from m o b.0 found.1);
-        lower = λ k below higher.
-            let early = first_is_lowest (λ (d : InterId). d.0) test above b list.rising (sym is) (inter k) ((list.exact k).1 higher.0) below in
-            false≢true (sym early ∙ enable_to m o k higher.1);
-      },
-    )
-
-pub ready_found : (v : Observed) (a : ℕ) (above : List InterId) → AreOwn v → a < length v.plan.model.interactions → IsListAbove v.plan.model.priorities a above → AllCount v a → Enable v.plan.model (offers_of v) a → None ≡ find (λ (d : InterId). enables v.plan.model (offers_of v) d.0) above → IsVerdict v a Ready
-ready_found v a above own declared list all enable is =
-    let m = v.plan.model in
-    let o = offers_of v in
-    let test : InterId → Bool = λ d. enables m o d.0 in (
-      all,
-      record {
-        declared = declared;
-        own = λ c touches. counted_own v own c (all c touches);
-        enabled = enable;
-        clear = λ b higher on.
-            let out = All-contains (λ (d : InterId). test d ≡ false) above (inter b) (not_found test above (sym is)) ((list.exact b).1 higher) in
-            false≢true (sym out ∙ enable_to m o b on);
-      },
-    )
+pub ready_found : (v : Observed) (a : ℕ) (above : List InterId) → AreOwn v → a < length v.plan.model.interactions → IsListAbove v.plan.model.priorities a above → AllCount v a → Enable v.plan.model (offers_of v) a → None ≡ find (λ (d : InterId). not (excludes v d.0)) above → IsVerdict v a Ready
+ready_found v a above own declared list all enable is = record {
+  declared = declared;
+  moved = all;
+  own = λ c counted. counted_own v own c counted;
+  enabled = enable;
+  clear = none_open v a above list is;
+}
 
 -- an interaction of which all offers count can be judged
 pub own_judged : (v : Observed) (a : ℕ) → a < length v.plan.model.interactions → AllCount v a → CanBeJudged v a
 own_judged v a declared all = record {
   declared = declared;
-  counted = λ k d within. all _ (inl (moves_each v.plan.model a k d within));
+  counted = λ k d within. all _ (moves_each v.plan.model a k d within);
 }
-
--- and so can those above it
-pub above_judged : (v : Observed) (a : ℕ) (above : List InterId) → IsSystem v.plan.model → IsListAbove v.plan.model.priorities a above → AllCount v a → All (λ (b : InterId). CanBeJudged v b.0) above
-above_judged v a above valid list all i d within =
-    let m = v.plan.model in
-    let b = get_or above i d in
-    let higher : IsAbove m.priorities a b.0 = (list.exact b.0).0 (i, within, get_or_default above i b d within) in
-    record {
-      declared = IsAbove-high (length m.interactions) m.priorities a b.0 valid.so_far.priorities higher;
-      counted = λ k q inside. all _ (touches_higher m a b.0 _ higher (moves_each m b.0 k q inside));
-    }
 
 -- an offer that counts has a value for each variable of its component
 count_held : (v : Observed) (q : Participant) → AreOwn v → IsTrue (is_counted v q.0.0) → length (offers_of v q.0.0).values ≡ count_of v.plan.model.components q

@@ -1,5 +1,7 @@
 pub mod DecideLemmas
+pub mod ExcludeLemmas
 pub mod KeptLemmas
 pub mod OfferLemmas
+pub mod ReasonLemmas
 pub mod ShowLemmas
 pub mod VerdictLemmas

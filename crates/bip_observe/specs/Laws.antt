@@ -1,8 +1,13 @@
 -- What the definitions mean, in the subject's own words: laws that a reviewer reads.
-use Rattle.std.specs.Prelude.{◌≡◌, ◌↔◌, ℕ, ◌<◌, ◌≤◌, false, true, Some, ⊤, length, map, All, Any}
-use Rattle.std.specs.Prelude.{IsTrue}
+use Rattle.std.specs.Prelude.{◌≡◌, ◌↔◌, ℕ, ◌<◌, ◌≤◌, Bool, false, true, List, Some, ⊤, length, map}
+use Rattle.std.specs.Prelude.{All, Any, IsTrue}
 use Rattle.bip_model.specs.Expressions.{holds}
 use Rattle.bip_model.specs.Messages.{IsOfferIn, ShowsState}
+use Rattle.bip_model.specs.Parties.{AreParties, AreReasonsFor, HasWantOf}
+use Rattle.bip_model.specs.Priorities.{IsAbove}
+use Rattle.bip_model.specs.Reasons.{IsNamedBy}
+use Rattle.bip_model.specs.declared.reasons.Why.{Why}
+use Rattle.bip_model.specs.declared.wants.Want.{Want}
 use Rattle.bip_model.specs.Numbering.{IsLowest}
 use Rattle.bip_model.specs.Parts.{IsSystem, Participant}
 use Rattle.bip_model.specs.States.{IsStateOf, State}
@@ -13,7 +18,8 @@ use Rattle.bip_model.specs.declared.parts.System.{System}
 use Rattle.bip_model.specs.declared.states.LocalState.{LocalState}
 use Rattle.bip_partition.specs.Plans.{ClassTouches, Planned, Touches}
 use Rattle.bip_observe.specs.Offers.{AreOwn, IsExpected, IsReceipt, Observed, with_held, with_known}
-use Rattle.bip_observe.specs.Verdicts.{AllCount, IsReady, IsVerdict, is_counted, offers_of}
+use Rattle.bip_observe.specs.Verdicts.{AreReasonsBy, Enable, IsReady, IsTrueOf, IsVerdict}
+use Rattle.bip_observe.specs.Verdicts.{OfferCounts, is_counted, offers_of}
 use Rattle.bip_observe.specs.declared.offers.Receipt.{Receipt}
 use Rattle.bip_observe.specs.declared.offers.Receipt.TheVariants.{Held, Old}
 use Rattle.bip_observe.specs.declared.verdicts.Verdict.{Verdict}
@@ -72,28 +78,54 @@ UsedNumbersDontCount =
     (v : Observed) (c number : ℕ) (offer : Offer) → v.held c ≡ Some offer
     → offer.number ≤ number → is_counted (with_known c number v) c ≡ false
 
--- the offers of all components that an interaction touches show a state
-abbrev pub AllShow : System → (ℕ → Offer) → State → ℕ → Type 0
-AllShow m o s a = (c : ℕ) → Touches m a c → ShowsState m s (o c)
+-- the offers of these components show a state
+abbrev pub AllShow : System → (ℕ → Offer) → (ℕ → Type 0) → State → Type 0
+AllShow m o of s = (c : ℕ) → of c → ShowsState m s (o c)
 
--- the verdict Ready says that all offers count, and that by them the interaction is ready
-abbrev pub ReadyIsReady : Type 0
-ReadyIsReady =
-    (v : Observed) (a : ℕ)
-    → IsVerdict v a Ready ↔ (AllCount v a × IsReady v.plan.model (offers_of v) a)
+-- a component of a set
+abbrev pub IsInSet : (ℕ → Bool) → ℕ → Type 0
+IsInSet set c = set c ≡ true
 
--- by offers that show a state an interaction is ready only where it may run there
+-- by offers of some components that show a state an interaction is ready only where it may run
+-- there
 abbrev pub ReadyMeansMayRun : Type 0
 ReadyMeansMayRun =
-    (m : System) (o : ℕ → Offer) (s : State) (a : ℕ) → IsReady m o a → AllShow m o s a
-    → MayRun m s a
+    (m : System) (o : ℕ → Offer) (set : ℕ → Bool) (s : State) (a : ℕ) → IsReady m o (IsInSet set) a
+    → AllShow m o (IsInSet set) s → MayRun m s a
 
--- and where it may run there it is ready, by the components' own offers
+-- and where it may run there it is ready, by the own offers of all components that it touches
 abbrev pub MayRunMeansReady : Type 0
 MayRunMeansReady =
     (m : System) → IsSystem m → (o : ℕ → Offer) (s : State) (a : ℕ)
-    → ((c : ℕ) → Touches m a c → (o c).comp.0 ≡ c) → AllShow m o s a → MayRun m s a
-    → IsReady m o a
+    → ((c : ℕ) → Touches m a c → (o c).comp.0 ≡ c) → AllShow m o (Touches m a) s → MayRun m s a
+    → IsReady m o (Touches m a) a
+
+-- a reason of a class for an interaction that is ready: it is for one above; what it names are
+-- participants of that one, of which the offers count; and it is true of these
+pub record IsSound (v : Observed) (a : ℕ) (y : Why) : Type 0 where
+  pub above : IsAbove v.plan.model.priorities a y.inter.0
+  pub named : (c : ℕ) → IsNamedBy v.plan.model y.inter.0 y.cause c
+      → (moves v.plan.model y.inter.0 c ≡ true) × OfferCounts v c
+  pub so : IsTrueOf v.plan.model (offers_of v) y.inter.0 y.cause
+
+abbrev pub ReasonsAreSound : Type 0
+ReasonsAreSound =
+    (v : Observed) (a : ℕ) (reasons : List Why) → IsVerdict v a Ready → AreReasonsBy v a reasons
+    → All (IsSound v a) reasons
+
+-- by what an interaction moves, and what true reasons for it name, it is ready: the offers of
+-- other components don't matter
+abbrev pub ReasonsSuffice : Type 0
+ReasonsSuffice =
+    (m : System) (o : ℕ → Offer) (a : ℕ) (wants : List Want) (reasons : List Why)
+    → a < length m.interactions → AreParties m a wants → AreReasonsFor m a wants reasons
+    → All (λ (y : Why). IsTrueOf m o y.inter.0 y.cause) reasons → Enable m o a
+    → ((c : ℕ) → HasWantOf wants c → (o c).comp.0 ≡ c) → IsReady m o (HasWantOf wants) a
+
+-- the reasons of a class for an interaction are one list, at most
+abbrev pub OneReasonsEach : Type 0
+OneReasonsEach =
+    (v : Observed) (a : ℕ) (xs ys : List Why) → AreReasonsBy v a xs → AreReasonsBy v a ys → xs ≡ ys
 
 -- the offers of all components that an interaction moves are their own
 abbrev pub MovedAreOwn : System → (ℕ → Offer) → ℕ → Type 0

@@ -2,8 +2,8 @@
 //! nothing, and have the laws for their contracts.
 ghost use Rattle.bip_observe.specs.Laws.{CountedIsHeld, HeldOnce, MayRunMeansReady, OfferedValues};
 ghost use Rattle.bip_observe.specs.Laws.{OldStaysOld, OneOfferEach, OneReceipt, OneVerdict};
-ghost use Rattle.bip_observe.specs.Laws.{OwnOffersAreExpected, OwnOffersShow, ReadyIsReady};
-ghost use Rattle.bip_observe.specs.Laws.{ReadyMeansMayRun};
+ghost use Rattle.bip_observe.specs.Laws.{OneReasonsEach, OwnOffersAreExpected, OwnOffersShow};
+ghost use Rattle.bip_observe.specs.Laws.{ReadyMeansMayRun, ReasonsAreSound, ReasonsSuffice};
 ghost use Rattle.bip_observe.specs.Laws.{SomeVerdict, UsedNumbersDontCount, VerdictsAreTrue};
 
 /// What a component offers in its local state shows the state, there is one such offer of each
@@ -21,14 +21,17 @@ pub fn offer_laws()
     ensures used { UsedNumbersDontCount }
 {}
 
-/// The verdict Ready says that all offers count, and that by them the interaction is ready. By
-/// offers that show a state an interaction is ready just where it may run there, and each verdict
-/// is true of the state; of the verdicts one holds, and no two (docs/PROTOCOL.md, "Verdicts").
+/// By offers that show a state an interaction is ready just where it may run there, and each
+/// verdict is true of the state; of the verdicts one holds, and no two. The reasons for an
+/// interaction are true, and the offers of what it moves and of what they name suffice to say that
+/// it is ready (docs/PROTOCOL.md, "Verdicts").
 pub fn verdict_laws()
-    ensures said { ReadyIsReady }
     ensures ready { ReadyMeansMayRun }
     ensures may { MayRunMeansReady }
     ensures values { OfferedValues }
+    ensures sound { ReasonsAreSound }
+    ensures suffice { ReasonsSuffice }
+    ensures reasons { OneReasonsEach }
     ensures true_of { VerdictsAreTrue }
     ensures one { OneVerdict }
     ensures some { SomeVerdict }

@@ -1,10 +1,12 @@
 //! Held offers: what a class knows of the components that it touches, and the decision on it.
 #![tactic(auto)]
 
+mod because;
 mod laws;
 mod offers;
 mod verdicts;
 
+pub use because::reasons;
 pub use laws::{offer_laws, verdict_laws};
 pub use offers::{Offers, Receipt};
 pub use verdicts::{Verdict, decide};

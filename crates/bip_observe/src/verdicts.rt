@@ -1,15 +1,16 @@
 //! The decision of a class on an interaction, by the offers that it holds.
 ghost use Rattle.std.specs.Prelude.{◌≡◌, ℕ, ◌<◌, ◌≤◌, [], All, find, length, map, not};
 ghost use Rattle.std.specs.Prelude.{slice_index_or, take};
-ghost use Rattle.std.specs.List.{list_all};
+ghost use Rattle.std.specs.List.{list_all, list_any};
 ghost use Rattle.std.specs.Option.{option_map};
 ghost use Rattle.bip_model.specs.Parts.{Participant};
 ghost use Rattle.bip_model.specs.declared.numbering.CompId.{CompId};
 ghost use Rattle.bip_model.specs.declared.numbering.InterId.{InterId};
 ghost use Rattle.bip_model.specs.declared.parts.TheConstants.{MOST_PARTICIPANTS};
 ghost use Rattle.bip_observe.specs.Offers.{observed};
-ghost use Rattle.bip_observe.specs.Verdicts.{CanBeJudged, IsVerdict, enables, guard_holds};
-ghost use Rattle.bip_observe.specs.Verdicts.{is_counted, offers_of, port_on};
+ghost use Rattle.bip_observe.specs.Verdicts.{CanBeJudged, IsVerdict, excludes, first_missing};
+ghost use Rattle.bip_observe.specs.Verdicts.{guard_holds, is_counted, is_known_off, offers_of};
+ghost use Rattle.bip_observe.specs.Verdicts.{port_on};
 
 use crate::Offers;
 use bip_model::{CompId, InterId, MOST_PARTICIPANTS, PortId, Values, has_port};
@@ -21,7 +22,8 @@ use bip_partition::Plan;
 pub enum Verdict {
     /// The interaction may run, as far as the offers show.
     Ready,
-    /// The class holds no offer that counts of this component, which the interaction touches.
+    /// The class holds no offer that counts of this component, which the interaction moves, or one
+    /// above it that the offers don't exclude.
     NotReady(CompId),
     /// This component's port for the interaction is off.
     PortOff(CompId),
@@ -32,36 +34,43 @@ pub enum Verdict {
 }
 
 /// The verdict of a class on an interaction of its plan, by the offers that it holds: the first
-/// that applies of NotReady, PortOff, GuardFalse, Below, Ready (docs/PROTOCOL.md, "Verdicts").
+/// that applies of NotReady, PortOff, GuardFalse; then by the first interaction above it that the
+/// offers don't exclude NotReady or Below; else Ready (docs/PROTOCOL.md, "Verdicts").
 pub fn decide(plan: &Plan, offers: &Offers<'_>, inter: InterId) -> Verdict
     requires of_plan { offers.now.plan ≡ plan.now }
     requires declared { inter.0 < length plan.now.model.interactions }
     ensures { IsVerdict (observed offers.now) inter.0 result }
 {
     offers.recall();
-    if let Some(comp) = offers.first_missing(plan.touches(inter)) {
+    let model = plan.model();
+    let participants = model.participants(inter);
+    if let Some(comp) = offers.first_missing(participants) {
         return Verdict::NotReady(comp);
     }
-    let model = plan.model();
-    if let Some(comp) = offers.first_off(model.participants(inter)) {
+    if let Some(comp) = offers.first_off(participants) {
         return Verdict::PortOff(comp);
     }
     if !offers.guard_holds(inter) {
         return Verdict::GuardFalse;
     }
-    match offers.first_enabled(model.above(inter)) {
-        Some(higher) => Verdict::Below(higher),
-        None => Verdict::Ready,
+    let Some(higher) = offers.first_open(model.above(inter)) else {
+        return Verdict::Ready;
+    };
+    match offers.first_missing(model.participants(higher)) {
+        Some(comp) => Verdict::NotReady(comp),
+        None => Verdict::Below(higher),
     }
 }
 
 impl<'p> Offers<'p> {
-    /// The first of these components of which no offer counts.
-    fn first_missing(&self, touched: &[CompId]) -> Option<CompId>
-        ensures { result
-            ≡ find (λ (c : CompId). not (is_counted (observed self.now) c.0)) touched.now }
+    /// The component of the first of these participants of which no offer counts.
+    fn first_missing(&self, participants: &[(CompId, PortId)]) -> Option<CompId>
+        ensures { result ≡ first_missing (observed self.now) participants.now }
     {
-        touched.iter().copied().find(|comp| !self.is_counted(*comp))
+        participants
+            .iter()
+            .find(|participant| !self.is_counted(participant.0))
+            .map(|participant| participant.0)
     }
 
     /// The component of the first of these participants whose port is off.
@@ -85,28 +94,48 @@ impl<'p> Offers<'p> {
         }
     }
 
-    /// The first of these interactions that the offers enable.
-    fn first_enabled(&self, inters: &[InterId]) -> Option<InterId>
-        requires { All (λ (a : InterId). CanBeJudged (observed self.now) a.0) inters.now }
-        ensures { result ≡ find (λ (a : InterId).
-            enables self.now.plan.model (offers_of (observed self.now)) a.0) inters.now }
+    /// The first of these interactions that the offers that count don't exclude.
+    fn first_open(&self, inters: &[InterId]) -> Option<InterId>
+        requires { All (λ (a : InterId). a.0 < length self.now.plan.model.interactions) inters.now }
+        ensures { result
+            ≡ find (λ (a : InterId). not (excludes (observed self.now) a.0)) inters.now }
     {
-        inters.iter().copied().find(|inter| self.enable(*inter))
+        inters.iter().copied().find(|inter| !self.exclude(*inter))
     }
 
-    fn enable(&self, inter: InterId) -> bool
-        requires { CanBeJudged (observed self.now) inter.0 }
-        ensures { result ≡ enables self.now.plan.model (offers_of (observed self.now)) inter.0 }
+    /// Whether the offers that count exclude an interaction: one shows that a participant's port is
+    /// off, or all participants' count, and its guard is false.
+    fn exclude(&self, inter: InterId) -> bool
+        requires { inter.0 < length self.now.plan.model.interactions }
+        ensures { result ≡ excludes (observed self.now) inter.0 }
     {
-        self.ports_on(self.plan().moves(inter)) && self.guard_holds(inter)
+        let participants = self.plan().moves(inter);
+        self.know_off(participants) || (self.all_count(participants) && !self.guard_holds(inter))
     }
 
-    fn ports_on(&self, participants: &[(CompId, PortId)]) -> bool
-        ensures { result ≡ list_all (port_on (offers_of (observed self.now))) participants.now }
+    fn know_off(&self, participants: &[(CompId, PortId)]) -> bool
+        ensures { result ≡ list_any (is_known_off (observed self.now)) participants.now }
     {
         participants
             .iter()
-            .all(|participant| self.port_on(participant))
+            .any(|participant| self.is_known_off(participant))
+    }
+
+    /// Whether an offer counts by which a participant's port is off.
+    pub(crate) fn is_known_off(&self, participant: &(CompId, PortId)) -> bool
+        ensures { result
+            ≡ is_known_off (observed self.now) (participant.now.0, participant.now.1) }
+    {
+        self.is_counted(participant.0) && !self.port_on(participant)
+    }
+
+    fn all_count(&self, participants: &[(CompId, PortId)]) -> bool
+        ensures { result ≡ list_all (λ (q : Participant). is_counted (observed self.now) q.0.0)
+            participants.now }
+    {
+        participants
+            .iter()
+            .all(|participant| self.is_counted(participant.0))
     }
 
     /// Whether the guard of an interaction holds of the offered values.
