@@ -5,12 +5,16 @@ use Rattle.std.proofs.Common.{arith, inl, inr}
 use Rattle.std.specs.Int.{Width, w16, w64, byte_len}
 use Rattle.std.proofs.lemmas.Bool.{cases_lt, lt-ltb, le-ltb}
 use Rattle.std.proofs.lemmas.List.{take-append-le, drop-append-le, length-append}
+use Rattle.bip_model.specs.Reasons.{cause_of_number}
+use Rattle.bip_model.specs.declared.messages.Request.{Request}
+use Rattle.bip_model.specs.declared.reasons.Why.{Why}
 use Rattle.bip_model.specs.declared.wants.Want.{Want}
 use Rattle.bip_frame.specs.declared.faults.FrameFault.{FrameFault}
 use Rattle.bip_frame.specs.declared.faults.FrameFault.TheVariants as faults
-use Rattle.bip_frame.specs.Entries.{want_made, one_moves, read_comp, read_role, read_entry}
-use Rattle.bip_frame.specs.Entries.{read_entries}
-use Rattle.bip_frame.specs.Entries.{read_count, read_wants}
+use Rattle.bip_frame.specs.Entries.{PartReader, want_made, why_made, one_moves}
+use Rattle.bip_frame.specs.Frames.{comp_of, inter_of}
+use Rattle.bip_frame.specs.Entries.{read_rising, read_role, read_entry, read_reason, read_parts}
+use Rattle.bip_frame.specs.Entries.{read_count, read_list, read_entries, read_reasons}
 use Rattle.bip_frame.specs.Fields.{head_made, ◌>>=◌, read_byte, read_number, read_positive}
 use Rattle.bip_frame.specs.Fields.{read_port}
 use Rattle.bip_frame.specs.Fields.{read_values, read_head}
@@ -18,7 +22,7 @@ use Rattle.bip_frame.specs.Frames.{Message, of_offer, of_request, of_reply, of_n
 use Rattle.bip_frame.specs.Lent.{role_in, values_in}
 use Rattle.bip_frame.specs.Reading.{granted_made, notify_made, offer_made, refused_made}
 use Rattle.bip_frame.specs.Reading.{request_made, read_offer, read_notify, read_granted}
-use Rattle.bip_frame.specs.Reading.{read_refused}
+use Rattle.bip_frame.specs.Reading.{if_moving, read_explained, read_refused}
 use Rattle.bip_frame.specs.Reading.{read_request, as_message, of_kind, read_frame}
 
 abbrev pub Reader : Type 0 → Type 0
@@ -127,13 +131,38 @@ head_stays =
     and_then read_positive (λ r rest. read_number w16 rest >>= λ i. Ok (head_made c r i.0, i.1)) positive_stays (λ r.
     and_then (read_number w16) (λ i rest. Ok (head_made c r i, rest)) (number_stays w16) (λ i. given (head_made c r i))))
 
--- ---- entries
+-- ---- parts that rise
 
-comp_stays : (low : ℕ) → Stays (read_comp low)
-unfolding read_comp
-comp_stays low =
+rising_stays : (low : ℕ) → Stays (read_rising low)
+unfolding read_rising
+rising_stays low =
     and_then (read_number w16) (λ c rest. cond (ltb c low) (Err faults.Order) (Ok (c, rest))) (number_stays w16) (λ c.
     tested (ltb c low) (λ rest. Err faults.Order) (λ rest. Ok (c, rest)) (refused faults.Order) (given c))
+
+parts_stay : {A : Type 0} (read : PartReader A) (key : A → ℕ) → ((low : ℕ) → Stays (read low))
+    → (n low : ℕ) → Stays (read_parts read key n low)
+unfolding read_parts
+parts_stay read key stays zero low = given []
+parts_stay {A = A} read key stays (suc n) low =
+    and_then (read low) (λ x rest. read_parts read key n (key x + 1) rest >>= λ others. Ok (x ∷ others.0, others.1)) (stays low) (λ x.
+    and_then (read_parts read key n (key x + 1)) (λ (xs : List A) rest. Ok (x ∷ xs, rest)) (parts_stay read key stays n (key x + 1)) (λ xs. given (x ∷ xs)))
+
+abbrev counted : ℕ → ℕ → Reader ℕ
+counted most n rest = cond (ltb most n) (Err faults.Count) (Ok (n, rest))
+
+count_stays : (most : ℕ) → Stays (read_count most)
+unfolding read_count
+count_stays most =
+    and_then read_byte (λ n rest. cond (eqb n 0) (Err faults.Count) (counted most n rest)) byte_stays (λ n.
+    tested (eqb n 0) (λ rest. Err faults.Count) (counted most n) (refused faults.Count)
+    (tested (ltb most n) (λ rest. Err faults.Count) (λ rest. Ok (n, rest)) (refused faults.Count) (given n)))
+
+list_stays : {A : Type 0} (most : ℕ) (read : PartReader A) (key : A → ℕ)
+    → ((low : ℕ) → Stays (read low)) → Stays (read_list most read key)
+unfolding read_list
+list_stays most read key stays = and_then (read_count most) (λ n. read_parts read key n 0) (count_stays most) (λ n. parts_stay read key stays n 0)
+
+-- ---- entries and reasons
 
 role_stays : Stays read_role
 unfolding read_role
@@ -144,33 +173,24 @@ role_stays =
 entry_stays : (low : ℕ) → Stays (read_entry low)
 unfolding read_entry
 entry_stays low =
-    and_then (read_comp low) (λ c rest. read_role rest >>= λ r. read_positive r.1 >>= λ n. Ok (want_made c r.0 n.0, n.1)) (comp_stays low) (λ c.
+    and_then (read_rising low) (λ c rest. read_role rest >>= λ r. read_positive r.1 >>= λ n. Ok (want_made c r.0 n.0, n.1)) (rising_stays low) (λ c.
     and_then read_role (λ r rest. read_positive rest >>= λ n. Ok (want_made c r n.0, n.1)) role_stays (λ r.
     and_then read_positive (λ n rest. Ok (want_made c r n, rest)) positive_stays (λ n. given (want_made c r n))))
 
-entries_stay : (n low : ℕ) → Stays (read_entries n low)
-unfolding read_entries
-entries_stay zero low = given []
-entries_stay (suc n) low =
-    and_then (read_entry low) (λ (w : Want) rest. read_entries n (w.comp.0 + 1) rest >>= λ others. Ok (w ∷ others.0, others.1)) (entry_stays low) (λ w.
-    and_then (read_entries n (w.comp.0 + 1)) (λ (ws : List Want) rest. Ok (w ∷ ws, rest)) (entries_stay n (w.comp.0 + 1)) (λ ws. given (w ∷ ws)))
+reason_stays : (low : ℕ) → Stays (read_reason low)
+unfolding read_reason
+reason_stays low =
+    and_then (read_rising low) (λ i rest. read_number w16 rest >>= λ c. Ok (why_made i (cause_of_number c.0), c.1)) (rising_stays low) (λ i.
+    and_then (read_number w16) (λ c rest. Ok (why_made i (cause_of_number c), rest)) (number_stays w16) (λ c. given (why_made i (cause_of_number c))))
 
-abbrev counted : ℕ → Reader ℕ
-counted n rest = cond (ltb 32 n) (Err faults.Count) (Ok (n, rest))
+entries_stay : Stays read_entries
+entries_stay = list_stays 32 read_entry comp_of entry_stays
 
-count_stays : Stays read_count
-unfolding read_count
-count_stays =
-    and_then read_byte (λ n rest. cond (eqb n 0) (Err faults.Count) (counted n rest)) byte_stays (λ n.
-    tested (eqb n 0) (λ rest. Err faults.Count) (counted n) (refused faults.Count)
-    (tested (ltb 32 n) (λ rest. Err faults.Count) (λ rest. Ok (n, rest)) (refused faults.Count) (given n)))
+reasons_stay : Stays read_reasons
+reasons_stay = list_stays 127 read_reason inter_of reason_stays
 
-wants_stay : Stays read_wants
-unfolding read_wants
-wants_stay =
-    and_then read_count (λ n rest. read_entries n 0 rest >>= λ x. cond (one_moves x.0) (Ok x) (Err faults.NoMover)) count_stays (λ n.
-    and_then (read_entries n 0) (λ (ws : List Want) rest. cond (one_moves ws) (Ok (ws, rest)) (Err faults.NoMover)) (entries_stay n 0) (λ ws.
-    tested (one_moves ws) (λ rest. Ok (ws, rest)) (λ rest. Err faults.NoMover) (given ws) (refused faults.NoMover)))
+moving_stays : (r : Request) → Stays (if_moving r)
+moving_stays r = tested (one_moves r.wants) (λ rest. Ok (r, rest)) (λ rest. Err faults.NoMover) (given r) (refused faults.NoMover)
 
 -- ---- kinds
 
@@ -206,8 +226,15 @@ refused_stays =
 request_stays : Stays read_request
 unfolding read_request
 request_stays =
-    and_then read_head (λ h rest. read_wants rest >>= λ ws. Ok (request_made h ws.0, ws.1)) head_stays (λ h.
-    and_then read_wants (λ (ws : List Want) rest. Ok (request_made h ws, rest)) wants_stay (λ ws. given (request_made h ws)))
+    and_then read_head (λ h rest. read_entries rest >>= λ ws. if_moving (request_made h ws.0 []) ws.1) head_stays (λ h.
+    and_then read_entries (λ (ws : List Want) rest. if_moving (request_made h ws []) rest) entries_stay (λ ws. moving_stays (request_made h ws [])))
+
+explained_stays : Stays read_explained
+unfolding read_explained
+explained_stays =
+    and_then read_head (λ h rest. read_entries rest >>= λ ws. read_reasons ws.1 >>= λ ys. if_moving (request_made h ws.0 ys.0) ys.1) head_stays (λ h.
+    and_then read_entries (λ (ws : List Want) rest. read_reasons rest >>= λ ys. if_moving (request_made h ws ys.0) ys.1) entries_stay (λ ws.
+    and_then read_reasons (λ (ys : List Why) rest. if_moving (request_made h ws ys) rest) reasons_stay (λ ys. moving_stays (request_made h ws ys))))
 
 message_stays : {A : Type 0} (message : A → Message) (read : Reader A) → Stays read
     → Stays (λ bytes. as_message message (read bytes))
@@ -219,10 +246,14 @@ kind_stays kind =
     (tested (eqb kind 2) (λ rest. as_message of_request (read_request rest)) (λ rest. from_3 rest) (message_stays of_request read_request request_stays)
     (tested (eqb kind 3) (λ rest. as_message of_reply (read_granted rest)) (λ rest. from_4 rest) (message_stays of_reply read_granted granted_stays)
     (tested (eqb kind 4) (λ rest. as_message of_reply (read_refused rest)) (λ rest. from_5 rest) (message_stays of_reply read_refused refused_stays)
-    (tested (eqb kind 5) (λ rest. as_message of_notify (read_notify rest)) (λ rest. Err faults.Kind) (message_stays of_notify read_notify notify_stays) (refused faults.Kind)))))
+    (tested (eqb kind 5) (λ rest. as_message of_notify (read_notify rest)) (λ rest. from_6 rest) (message_stays of_notify read_notify notify_stays)
+    (tested (eqb kind 6) (λ rest. as_message of_request (read_explained rest)) (λ rest. Err faults.Kind) (message_stays of_request read_explained explained_stays) (refused faults.Kind))))))
   where
+    from_6 : Reader Message
+    from_6 rest = cond (eqb kind 6) (as_message of_request (read_explained rest)) (Err faults.Kind)
+
     from_5 : Reader Message
-    from_5 rest = cond (eqb kind 5) (as_message of_notify (read_notify rest)) (Err faults.Kind)
+    from_5 rest = cond (eqb kind 5) (as_message of_notify (read_notify rest)) (from_6 rest)
 
     from_4 : Reader Message
     from_4 rest = cond (eqb kind 4) (as_message of_reply (read_refused rest)) (from_5 rest)

@@ -1,15 +1,14 @@
 -- The reader's faults are the first ones from the left.
 use Rattle.std.proofs.Common.{◌≡◌, ℕ, zero, suc, ◌+◌, ◌*◌, ◌^◌, ◌<◌, ◌≤◌, ◌⊎◌, Bool, true, false}
-use Rattle.std.proofs.Common.{cond, eqb, ltb, List, [], ◌∷◌, ◌++◌, length, take, drop, append_assoc}
+use Rattle.std.proofs.Common.{cond, eqb, ltb, List, [], ◌∷◌, length, take, drop}
 use Rattle.std.proofs.Common.{Result, Ok, Err, refl, sym, ap, subst, ◌∙◌, arith, inl, inr}
 use Rattle.std.specs.Prelude.{IfErr, IsErrOf}
 use Rattle.std.specs.Int.{Width, w16, w64, byte_len, from_be_bytes, to_be_bytes}
-use Rattle.std.specs.List.{flat_map, AllByRecursion}
 use Rattle.std.proofs.lemmas.Bool.{cases_lt, eqb-true, eqb-false, ltb-true, ltb-false, lt-ltb}
 use Rattle.std.proofs.lemmas.Bool.{le-ltb, ne_eqb}
-use Rattle.std.proofs.lemmas.List.Concat.{flat_map-cons}
 use Rattle.bip_model.specs.declared.messages.Reply.{Reply}
 use Rattle.bip_model.specs.declared.messages.Request.{Request}
+use Rattle.bip_model.specs.Reasons.{cause_of_number}
 use Rattle.bip_model.specs.declared.wants.Role.{Role}
 use Rattle.bip_model.specs.declared.wants.Want.{Want}
 use Rattle.bip_model.specs.declared.messages.Notify.{Notify}
@@ -22,29 +21,32 @@ use Rattle.bip_frame.specs.declared.faults.FrameFault.TheVariants as fault_kinds
 use Rattle.bip_frame.specs.Faults.{IsRole, Faults, FirstIn, ByteCut, NumberCut, IsByte, one_byte}
 use Rattle.bip_frame.specs.Faults.{Is16, IsPositive, PositiveFault, PortFault, ValuesFault}
 use Rattle.bip_frame.specs.Faults.{OfferFault, NotifyFault, HeadFault, BehindHead, GrantedFault}
-use Rattle.bip_frame.specs.Faults.{RefusedFault, CompFault, RoleFault, CountFault, EntryFault}
-use Rattle.bip_frame.specs.Faults.{IsNextEntry, EntriesFault, AreNextEntries, WantsFault, KindFault}
-use Rattle.bip_frame.specs.Faults.{IsFirstFault}
+use Rattle.bip_frame.specs.Faults.{RefusedFault, RisingFault, IsRising, RoleFault, EntryFault}
+use Rattle.bip_frame.specs.Faults.{ReasonFault, Parts, IsNextPart, PartsFault, CountFault, IsCount}
+use Rattle.bip_frame.specs.Faults.{ListFault, IsList, list_spelled, entry_parts, reason_parts}
+use Rattle.bip_frame.specs.Faults.{NoneMoves, WantsFault, ExplainedFault, KindFault, IsFirstFault}
 use Rattle.bip_frame.specs.Frames.{Message, Head, of_offer, of_request, of_reply, of_notify}
-use Rattle.bip_frame.specs.Frames.{head_fields, entry, role_byte, spelling, IsHead, IsEntry}
+use Rattle.bip_frame.specs.Frames.{head_fields, role_byte, spelling, IsHead}
 use Rattle.bip_frame.specs.Frames.{CanBeFramed}
 use Rattle.bip_frame.specs.Views.{message_shown}
 use Rattle.bip_frame.specs.declared.frames.Frame.{Frame}
 use Rattle.bip_frame.specs.Lent.{role_in, values_in}
-use Rattle.bip_frame.specs.Entries.{want_made, one_moves, read_comp, read_role, read_entry}
-use Rattle.bip_frame.specs.Entries.{read_entries, read_count, read_wants}
+use Rattle.bip_frame.specs.Entries.{PartReader, want_made, why_made, one_moves, read_rising}
+use Rattle.bip_frame.specs.Entries.{read_role, read_entry, read_reason, read_parts, read_count}
+use Rattle.bip_frame.specs.Entries.{read_list, read_entries, read_reasons}
 use Rattle.bip_frame.specs.Fields.{head_made, ◌>>=◌, read_byte, read_number, read_positive}
 use Rattle.bip_frame.specs.Fields.{read_port, read_values, read_head, Gives}
 use Rattle.bip_frame.specs.Reading.{granted_made, notify_made, offer_made, refused_made}
 use Rattle.bip_frame.specs.Reading.{request_made, read_offer, read_notify, read_granted}
 use Rattle.bip_frame.specs.Reading.{read_refused, read_request, as_message, of_kind, read_frame}
-use Rattle.bip_frame.specs.Reading.{read_whole}
-use Rattle.bip_frame.proofs.FieldLemmas.{IsBytes, Takes, wide16, wide64, number_takes, number_again}
+use Rattle.bip_frame.specs.Reading.{if_moving, read_explained, read_whole}
+use Rattle.bip_frame.proofs.FieldLemmas.{IsBytes, Part, wide16, wide64, number_takes, number_again}
 use Rattle.bip_frame.proofs.FieldLemmas.{positive_takes, positive_again, byte_takes, port_takes}
 use Rattle.bip_frame.proofs.FieldLemmas.{port_again, head_takes, head_again}
-use Rattle.bip_frame.proofs.EntryLemmas.{RisesFrom, comp_takes, comp_again, role_takes, role_again}
-use Rattle.bip_frame.proofs.EntryLemmas.{entry_takes, entry_again, entries_take, count_takes}
-use Rattle.bip_frame.proofs.EntryLemmas.{count_again}
+use Rattle.bip_frame.proofs.EntryLemmas.{rising_takes, rising_again, role_takes, role_again}
+use Rattle.bip_frame.proofs.EntryLemmas.{entry_part, entries_list}
+use Rattle.bip_frame.proofs.PartLemmas.{ReadsParts, count_part}
+use Rattle.bip_frame.proofs.ReasonLemmas.{reason_part, reasons_list}
 use Rattle.bip_frame.proofs.ReadingLemmas.{frame_takes, frame_again}
 
 abbrev failed : {A : Type 0} → FrameFault → Result A FrameFault
@@ -54,12 +56,6 @@ failed f = Err f
 pub record Exact {B : Type 0} (read : List ℕ → Result B FrameFault) (Bad : Faults) : Type 0 where
   pub found : (bytes : List ℕ) (f : FrameFault) → IsBytes bytes → read bytes ≡ Err f → Bad bytes f
   pub only : (bytes : List ℕ) (f : FrameFault) → Bad bytes f → read bytes ≡ Err f
-
--- a reader takes just the good parts
-pub record Part {A : Type 0} (read : List ℕ → Result (A × List ℕ) FrameFault) (Good : A → Type 0) (spell : A → List ℕ) : Type 0 where
-  pub takes : (bytes : List ℕ) (x : A) (rest : List ℕ) → IsBytes bytes → read bytes ≡ Ok (x, rest)
-      → Takes bytes (spell x) rest × Good x
-  pub again : (x : A) (rest : List ℕ) → Good x → read (spell x ++ rest) ≡ Ok (x, rest)
 
 pub in_order : {A B : Type 0} (read : List ℕ → Result (A × List ℕ) FrameFault)
     (next : A → List ℕ → Result B FrameFault) (Good : A → Type 0) (spell : A → List ℕ)
@@ -250,19 +246,64 @@ refused_exact =
     in_order (read_number w16) (λ c rest. read_positive rest >>= λ u. Ok (refused_made h c u.0, u.1)) Is16 (to_be_bytes w16) (NumberCut w16) (λ c. PositiveFault) part16 (cut w16) (λ c c_fits.
     last read_positive (λ (u : ℕ × List ℕ). (refused_made h c u.0, u.1)) PositiveFault positive_exact))
 
--- ---- entries
+-- ---- parts that rise
 
-comp_exact : (low : ℕ) → Exact (read_comp low) (CompFault low)
-unfolding read_comp
-comp_exact low =
+rising_exact : (low : ℕ) → Exact (read_rising low) (RisingFault low)
+unfolding read_rising
+rising_exact low =
     in_order (read_number w16) (λ c rest. cond (ltb c low) (Err Order) (Ok (c, rest))) Is16 (to_be_bytes w16) (NumberCut w16) (λ c rest f. (c < low) × (f ≡ Order)) part16 (cut w16)
     (λ c good. guard (ltb c low) Order (λ rest. (c, rest)) (c < low) (ltb-true c low) (lt-ltb c low))
 
-abbrev IsAbove : ℕ → ℕ → Type 0
-IsAbove low c = Is16 c × (low ≤ c)
+rising_part : (low : ℕ) → Part (read_rising low) (IsRising low) (to_be_bytes w16)
+rising_part low = record { takes = λ bytes c rest fits e. (let t = rising_takes low bytes c rest fits e in (t.0, (t.1, t.2))); again = λ c rest good. rising_again low c rest good.0 good.1 }
 
-comp_part : (low : ℕ) → Part (read_comp low) (IsAbove low) (to_be_bytes w16)
-comp_part low = record { takes = λ bytes c rest fits e. (let t = comp_takes low bytes c rest fits e in (t.0, (t.1, t.2))); again = λ c rest good. comp_again low c rest good.0 good.1 }
+abbrev count_tested : ℕ → ℕ → List ℕ → Result (ℕ × List ℕ) FrameFault
+count_tested most n rest = cond (eqb n 0) (Err Count) (cond (ltb most n) (Err Count) (Ok (n, rest)))
+
+abbrev NoCount : ℕ → ℕ → Faults
+NoCount most n rest f = ((n ≡ 0) ⊎ (most < n)) × (f ≡ Count)
+
+count_tests : (most n : ℕ) → Exact (count_tested most n) (NoCount most n)
+count_tests most n = record { found = λ rest f fits e. forwards rest f e; only = backwards }
+  where
+    forwards : (rest : List ℕ) (f : FrameFault) → count_tested most n rest ≡ Err f
+        → NoCount most n rest f
+    forwards rest f e = elim (by_guard (eqb n 0) Count (cond (ltb most n) (Err Count) (Ok (n, rest))) f e) [
+      | inl h ↦ (inl (eqb-true n 0 h.0), h.1)
+      | inr h ↦ elim (by_guard (ltb most n) Count (Ok (n, rest)) f h.1) [
+        | inl g ↦ (inr (ltb-true most n g.0), g.1)
+        | inr g ↦ absurd (no_ok (n, rest) f g.1)
+      ]
+    ]
+
+    backwards : (rest : List ℕ) (f : FrameFault) → NoCount most n rest f
+        → count_tested most n rest ≡ Err f
+    backwards rest f (inl is, e) = subst (λ (k : ℕ). count_tested most k rest ≡ Err f) (sym is) (ap failed (sym e))
+    backwards rest f (inr above, e) =
+        let not_zero : eqb n 0 ≡ false = ne_eqb n 0 (λ is. omega (arith, is)) in
+        rw (not_zero, lt-ltb most n above) (ap failed (sym e))
+
+count_exact : (most : ℕ) → Exact (read_count most) (CountFault most)
+unfolding read_count
+count_exact most = in_order read_byte (count_tested most) IsByte one_byte ByteCut (NoCount most) byte_part byte_exact (λ n good. count_tests most n)
+
+parts_exact : {A : Type 0} (p : Parts A) (read : PartReader A) → ReadsParts p read
+    → ((low : ℕ) → Exact (read low) (p.Fault low))
+    → (n low : ℕ) → Exact (read_parts read p.number n low) (PartsFault p n low)
+unfolding read_parts
+parts_exact p read part exact zero low = record { found = λ bytes f fits e. no_ok ([], bytes) f e; only = λ bytes f bad. absurd bad }
+parts_exact {A = A} p read part exact (suc n) low =
+    in_order (read low) (λ x rest. read_parts read p.number n (p.number x + 1) rest >>= λ others. Ok (x ∷ others.0, others.1)) (IsNextPart p low) p.spell (p.Fault low)
+    (λ x. PartsFault p n (p.number x + 1)) (part low) (exact low) (λ x good.
+    last (read_parts read p.number n (p.number x + 1)) (λ (others : List A × List ℕ). (x ∷ others.0, others.1)) (PartsFault p n (p.number x + 1)) (parts_exact p read part exact n (p.number x + 1)))
+
+list_exact : {A : Type 0} (p : Parts A) (read : PartReader A) → ReadsParts p read
+    → ((low : ℕ) → Exact (read low) (p.Fault low))
+    → Exact (read_list p.most read p.number) (ListFault p)
+unfolding read_list
+list_exact p read part exact = in_order (read_count p.most) (λ n rest. read_parts read p.number n 0 rest) (IsCount p.most) one_byte (CountFault p.most) (λ n. PartsFault p n 0) (count_part p.most) (count_exact p.most) (λ n good. parts_exact p read part exact n 0)
+
+-- ---- entries
 
 role_exact : Exact read_role RoleFault
 unfolding read_role
@@ -279,109 +320,50 @@ role_part = record { takes = λ bytes r rest fits e. (role_takes bytes r rest fi
 entry_exact : (low : ℕ) → Exact (read_entry low) (EntryFault low)
 unfolding read_entry
 entry_exact low =
-    in_order (read_comp low) (λ c rest. read_role rest >>= λ r. read_positive r.1 >>= λ n. Ok (want_made c r.0 n.0, n.1)) (IsAbove low) (to_be_bytes w16) (CompFault low)
-    (λ c. FirstIn RoleFault IsRole role_spelled (λ r. PositiveFault)) (comp_part low) (comp_exact low) (λ c c_fits.
+    in_order (read_rising low) (λ c rest. read_role rest >>= λ r. read_positive r.1 >>= λ n. Ok (want_made c r.0 n.0, n.1)) (IsRising low) (to_be_bytes w16) (RisingFault low)
+    (λ c. FirstIn RoleFault IsRole role_spelled (λ r. PositiveFault)) (rising_part low) (rising_exact low) (λ c c_fits.
     in_order read_role (λ r rest. read_positive rest >>= λ n. Ok (want_made c r n.0, n.1)) IsRole role_spelled RoleFault (λ r. PositiveFault) role_part role_exact (λ r r_fits.
     last read_positive (λ (n : ℕ × List ℕ). (want_made c r n.0, n.1)) PositiveFault positive_exact))
 
-entry_part : (low : ℕ) → Part (read_entry low) (IsNextEntry low) entry
-entry_part low = record {
-  takes = λ bytes w rest fits e. (let t = entry_takes low bytes w rest fits e in (t.0, record { fits = t.1; some = t.2; above = t.3 }));
-  again = λ w rest good. entry_again low w rest good.fits good.some good.above;
-}
+entries_exact : Exact read_entries (ListFault entry_parts)
+entries_exact = list_exact entry_parts read_entry entry_part entry_exact
 
-entries_exact : (n low : ℕ) → Exact (read_entries n low) (EntriesFault n low)
-unfolding read_entries
-entries_exact zero low = record { found = λ bytes f fits e. no_ok ([], bytes) f e; only = λ bytes f bad. absurd bad }
-entries_exact (suc n) low =
-    in_order (read_entry low) (λ (w : Want) rest. read_entries n (w.comp.0 + 1) rest >>= λ others. Ok (w ∷ others.0, others.1)) (IsNextEntry low) entry (EntryFault low)
-    (λ (w : Want). EntriesFault n (w.comp.0 + 1)) (entry_part low) (entry_exact low) (λ w good.
-    last (read_entries n (w.comp.0 + 1)) (λ (others : List Want × List ℕ). (w ∷ others.0, others.1)) (EntriesFault n (w.comp.0 + 1)) (entries_exact n (w.comp.0 + 1)))
+-- ---- reasons
 
-next_from_rises : (n low : ℕ) (ws : List Want) → length ws ≡ n → AllByRecursion IsEntry ws
-    → AllByRecursion (λ (w : Want). 1 ≤ w.number) ws → RisesFrom low ws → AreNextEntries n low ws
-next_from_rises zero low [] len entries numbered rises = tt
-next_from_rises zero low (w ∷ ws) len entries numbered rises = absurd (omega arith)
-next_from_rises (suc n) low [] len entries numbered rises = absurd (omega arith)
-next_from_rises (suc n) low (w ∷ ws) len entries numbered rises = (record { fits = entries.0; some = numbered.0; above = rises.0 }, next_from_rises n (w.comp.0 + 1) ws (omega arith) entries.1 numbered.1 rises.1)
+reason_exact : (low : ℕ) → Exact (read_reason low) (ReasonFault low)
+unfolding read_reason
+reason_exact low =
+    in_order (read_rising low) (λ i rest. read_number w16 rest >>= λ c. Ok (why_made i (cause_of_number c.0), c.1)) (IsRising low) (to_be_bytes w16) (RisingFault low)
+    (λ i. NumberCut w16) (rising_part low) (rising_exact low) (λ i i_fits.
+    last (read_number w16) (λ (c : ℕ × List ℕ). (why_made i (cause_of_number c.0), c.1)) (NumberCut w16) (cut w16))
 
-next_again : (n low : ℕ) (ws : List Want) (rest : List ℕ) → AreNextEntries n low ws
-    → read_entries n low (flat_map entry ws ++ rest) ≡ Ok (ws, rest)
-unfolding read_entries
-next_again zero low [] rest next = refl
-next_again zero low (w ∷ ws) rest next = absurd next
-next_again (suc n) low [] rest next = absurd next
-next_again (suc n) low (w ∷ ws) rest next =
-    let regrouped : flat_map entry (w ∷ ws) ++ rest ≡ entry w ++ (flat_map entry ws ++ rest) =
-    ap (λ (x : List ℕ). x ++ rest) (flat_map-cons entry w ws)
-    ∙ append_assoc (entry w) (flat_map entry ws) rest in
-    ap (read_entries (suc n) low) regrouped ∙ rw (entry_again low w (flat_map entry ws ++ rest) next.0.fits next.0.some next.0.above, next_again n (w.comp.0 + 1) ws rest next.1) refl
+reasons_exact : Exact read_reasons (ListFault reason_parts)
+reasons_exact = list_exact reason_parts read_reason reason_part reason_exact
 
-entries_part : (n low : ℕ) → Part (read_entries n low) (AreNextEntries n low) (flat_map entry)
-entries_part n low = record {
-  takes = λ bytes ws rest fits e. (let t = entries_take n low bytes ws rest fits e in (t.0, next_from_rises n low ws t.1.len t.1.entries t.1.numbered t.1.rises));
-  again = λ ws rest good. next_again n low ws rest good;
-}
+-- ---- requests
 
-abbrev count_tested : ℕ → List ℕ → Result (ℕ × List ℕ) FrameFault
-count_tested n rest = cond (eqb n 0) (Err Count) (cond (ltb 32 n) (Err Count) (Ok (n, rest)))
-
-abbrev NoCount : ℕ → Faults
-NoCount n rest f = ((n ≡ 0) ⊎ (32 < n)) × (f ≡ Count)
-
-count_tests : (n : ℕ) → Exact (count_tested n) (NoCount n)
-count_tests n = record { found = λ rest f fits e. forwards rest f e; only = backwards }
+mover_tests : (r : Request) → Exact (λ rest. if_moving r rest) (NoneMoves r.wants)
+mover_tests r = record { found = λ rest f fits e. by_test (one_moves r.wants) rest f refl e; only = λ rest f bad. rw bad.0 (ap failed (sym bad.1)) }
   where
-    forwards : (rest : List ℕ) (f : FrameFault) → count_tested n rest ≡ Err f → NoCount n rest f
-    forwards rest f e = elim (by_guard (eqb n 0) Count (cond (ltb 32 n) (Err Count) (Ok (n, rest))) f e) [
-      | inl h ↦ (inl (eqb-true n 0 h.0), h.1)
-      | inr h ↦ elim (by_guard (ltb 32 n) Count (Ok (n, rest)) f h.1) [
-        | inl g ↦ (inr (ltb-true 32 n g.0), g.1)
-        | inr g ↦ absurd (no_ok (n, rest) f g.1)
-      ]
-    ]
-
-    backwards : (rest : List ℕ) (f : FrameFault) → NoCount n rest f → count_tested n rest ≡ Err f
-    backwards rest f (inl is, e) = subst (λ (k : ℕ). count_tested k rest ≡ Err f) (sym is) (ap failed (sym e))
-    backwards rest f (inr above, e) =
-        let not_zero : eqb n 0 ≡ false = ne_eqb n 0 (λ is. omega (arith, is)) in
-        rw (not_zero, lt-ltb 32 n above) (ap failed (sym e))
-
-count_exact : Exact read_count CountFault
-unfolding read_count
-count_exact = in_order read_byte count_tested IsByte one_byte ByteCut NoCount byte_part byte_exact (λ n good. count_tests n)
-
-abbrev IsCount : ℕ → Type 0
-IsCount n = (1 ≤ n) × (n ≤ 32)
-
-count_part : Part read_count IsCount one_byte
-count_part = record { takes = λ bytes n rest fits e. (let t = count_takes bytes n rest fits e in (t.0, (t.1, t.2))); again = λ n rest good. count_again n rest good.0 good.1 }
-
-abbrev NoneMoves : List Want → Faults
-NoneMoves ws rest f = (one_moves ws ≡ false) × (f ≡ NoMover)
-
-mover_tests : (ws : List Want)
-    → Exact {B = List Want × List ℕ} (λ rest. cond (one_moves ws) (Ok (ws, rest)) (Err NoMover)) (NoneMoves ws)
-mover_tests ws = record { found = λ rest f fits e. by_test (one_moves ws) rest f refl e; only = λ rest f bad. rw bad.0 (ap failed (sym bad.1)) }
-  where
-    by_test : (b : Bool) (rest : List ℕ) (f : FrameFault) → one_moves ws ≡ b
-        → cond {A = Result (List Want × List ℕ) FrameFault} b (Ok (ws, rest)) (Err NoMover) ≡ Err f
-        → NoneMoves ws rest f
-    by_test true rest f is e = absurd (no_ok (ws, rest) f e)
+    by_test : (b : Bool) (rest : List ℕ) (f : FrameFault) → one_moves r.wants ≡ b
+        → cond {A = Result (Request × List ℕ) FrameFault} b (Ok (r, rest)) (Err NoMover) ≡ Err f
+        → NoneMoves r.wants rest f
+    by_test true rest f is e = absurd (no_ok (r, rest) f e)
     by_test false rest f is e = (is, cc)
-
-wants_exact : Exact read_wants WantsFault
-unfolding read_wants
-wants_exact =
-    in_order read_count (λ n rest. read_entries n 0 rest >>= λ x. cond (one_moves x.0) (Ok x) (Err NoMover)) IsCount one_byte CountFault
-    (λ n. FirstIn (EntriesFault n 0) (AreNextEntries n 0) (flat_map entry) NoneMoves) count_part count_exact (λ n good.
-    in_order (read_entries n 0) (λ ws rest. cond (one_moves ws) (Ok (ws, rest)) (Err NoMover)) (AreNextEntries n 0) (flat_map entry) (EntriesFault n 0) NoneMoves (entries_part n 0) (entries_exact n 0) (λ ws next. mover_tests ws))
 
 reserve_exact : Exact read_request (BehindHead WantsFault)
 unfolding read_request
 reserve_exact =
-    in_order read_head (λ h rest. read_wants rest >>= λ ws. Ok (request_made h ws.0, ws.1)) IsGoodHead head_spelled HeadFault (λ h. WantsFault) head_part head_exact (λ h h_fits.
-    last read_wants (λ (ws : List Want × List ℕ). (request_made h ws.0, ws.1)) WantsFault wants_exact)
+    in_order read_head (λ h rest. read_entries rest >>= λ ws. if_moving (request_made h ws.0 []) ws.1) IsGoodHead head_spelled HeadFault (λ h. WantsFault) head_part head_exact (λ h h_fits.
+    in_order read_entries (λ ws rest. if_moving (request_made h ws []) rest) (IsList entry_parts) (list_spelled entry_parts) (ListFault entry_parts) NoneMoves entries_list entries_exact (λ ws list. mover_tests (request_made h ws [])))
+
+explained_exact : Exact read_explained (BehindHead ExplainedFault)
+unfolding read_explained
+explained_exact =
+    in_order read_head (λ h rest. read_entries rest >>= λ ws. read_reasons ws.1 >>= λ ys. if_moving (request_made h ws.0 ys.0) ys.1) IsGoodHead head_spelled HeadFault (λ h. ExplainedFault) head_part head_exact (λ h h_fits.
+    in_order read_entries (λ ws rest. read_reasons rest >>= λ ys. if_moving (request_made h ws ys.0) ys.1) (IsList entry_parts) (list_spelled entry_parts) (ListFault entry_parts)
+    (λ (ws : List Want). FirstIn (ListFault reason_parts) (IsList reason_parts) (list_spelled reason_parts) (λ ys. NoneMoves ws)) entries_list entries_exact (λ ws list.
+    in_order read_reasons (λ ys rest. if_moving (request_made h ws ys) rest) (IsList reason_parts) (list_spelled reason_parts) (ListFault reason_parts) (λ ys. NoneMoves ws) reasons_list reasons_exact (λ ys whys. mover_tests (request_made h ws ys))))
 
 -- ---- all kinds
 
@@ -398,14 +380,17 @@ split kind k one other f e = by_test (eqb kind k) refl e
     by_test false is e = inr (eqb-false kind k is, e)
 
 none_of : (kind : ℕ) → (kind ≡ 1 → ⊥) → (kind ≡ 2 → ⊥) → (kind ≡ 3 → ⊥) → (kind ≡ 4 → ⊥)
-    → (kind ≡ 5 → ⊥) → (kind ≡ 0) ⊎ (5 < kind)
-none_of kind n1 n2 n3 n4 n5 = elim (cases_lt 5 kind) [ inl lt ↦ inr lt | inr le ↦ inl (omega (arith, n1, n2, n3, n4, n5)) ]
+    → (kind ≡ 5 → ⊥) → (kind ≡ 6 → ⊥) → (kind ≡ 0) ⊎ (6 < kind)
+none_of kind n1 n2 n3 n4 n5 n6 = elim (cases_lt 6 kind) [ inl lt ↦ inr lt | inr le ↦ inl (omega (arith, n1, n2, n3, n4, n5, n6)) ]
 
 offered_exact : Exact (λ bytes. as_message of_offer (read_offer bytes)) OfferFault
 offered_exact = last read_offer (λ (x : Offer × List ℕ). (of_offer x.0, x.1)) OfferFault offer_exact
 
 asked_exact : Exact (λ bytes. as_message of_request (read_request bytes)) (BehindHead WantsFault)
 asked_exact = last read_request (λ (x : Request × List ℕ). (of_request x.0, x.1)) (BehindHead WantsFault) reserve_exact
+
+explains_exact : Exact (λ bytes. as_message of_request (read_explained bytes)) (BehindHead ExplainedFault)
+explains_exact = last read_explained (λ (x : Request × List ℕ). (of_request x.0, x.1)) (BehindHead ExplainedFault) explained_exact
 
 grants_exact : Exact (λ bytes. as_message of_reply (read_granted bytes)) GrantedFault
 grants_exact = last read_granted (λ (x : Reply × List ℕ). (of_reply x.0, x.1)) GrantedFault granted_exact
@@ -422,7 +407,8 @@ kind_exact kind = record { found = forwards; only = backwards }
     forwards : (rest : List ℕ) (f : FrameFault) → IsBytes rest → of_kind kind rest ≡ Err f
         → KindFault kind rest f
     forwards rest f fits e =
-        let k5 : Read = cond (eqb kind 5) (as_message of_notify (read_notify rest)) (Err Kind) in
+        let k6 : Read = cond (eqb kind 6) (as_message of_request (read_explained rest)) (Err Kind) in
+        let k5 : Read = cond (eqb kind 5) (as_message of_notify (read_notify rest)) k6 in
         let k4 : Read = cond (eqb kind 4) (as_message of_reply (read_refused rest)) k5 in
         let k3 : Read = cond (eqb kind 3) (as_message of_reply (read_granted rest)) k4 in
         let k2 : Read = cond (eqb kind 2) (as_message of_request (read_request rest)) k3 in
@@ -434,9 +420,12 @@ kind_exact kind = record { found = forwards; only = backwards }
               | inl h ↦ inr (inr (inl (h.0, grants_exact.found rest f fits h.1)))
               | inr c ↦ elim (split kind 4 (as_message of_reply (read_refused rest)) k5 f c.1) [
                 | inl h ↦ inr (inr (inr (inl (h.0, refusals_exact.found rest f fits h.1))))
-                | inr d ↦ elim (split kind 5 (as_message of_notify (read_notify rest)) (Err Kind) f d.1) [
+                | inr d ↦ elim (split kind 5 (as_message of_notify (read_notify rest)) k6 f d.1) [
                   | inl h ↦ inr (inr (inr (inr (inl (h.0, notified_exact.found rest f fits h.1)))))
-                  | inr g ↦ inr (inr (inr (inr (inr (none_of kind a.0 b.0 c.0 d.0 g.0, same_fault Kind f g.1)))))
+                  | inr g ↦ elim (split kind 6 (as_message of_request (read_explained rest)) (Err Kind) f g.1) [
+                    | inl h ↦ inr (inr (inr (inr (inr (inl (h.0, explains_exact.found rest f fits h.1))))))
+                    | inr o ↦ inr (inr (inr (inr (inr (inr (none_of kind a.0 b.0 c.0 d.0 g.0 o.0, same_fault Kind f o.1))))))
+                  ]
                 ]
               ]
             ]
@@ -452,14 +441,16 @@ kind_exact kind = record { found = forwards; only = backwards }
     backwards rest f (inr (inr (inl h))) = subst (λ (k : ℕ). of_kind k rest ≡ Err f) (sym h.0) (grants_exact.only rest f h.1)
     backwards rest f (inr (inr (inr (inl h)))) = subst (λ (k : ℕ). of_kind k rest ≡ Err f) (sym h.0) (refusals_exact.only rest f h.1)
     backwards rest f (inr (inr (inr (inr (inl h))))) = subst (λ (k : ℕ). of_kind k rest ≡ Err f) (sym h.0) (notified_exact.only rest f h.1)
-    backwards rest f (inr (inr (inr (inr (inr (inl none, e)))))) = subst (λ (k : ℕ). of_kind k rest ≡ Err f) (sym none) (ap failed (sym e))
-    backwards rest f (inr (inr (inr (inr (inr (inr above, e)))))) =
+    backwards rest f (inr (inr (inr (inr (inr (inl h)))))) = subst (λ (k : ℕ). of_kind k rest ≡ Err f) (sym h.0) (explains_exact.only rest f h.1)
+    backwards rest f (inr (inr (inr (inr (inr (inr (inl none, e))))))) = subst (λ (k : ℕ). of_kind k rest ≡ Err f) (sym none) (ap failed (sym e))
+    backwards rest f (inr (inr (inr (inr (inr (inr (inr above, e))))))) =
         let n1 : eqb kind 1 ≡ false = ne_eqb kind 1 (λ is. omega (arith, is)) in
         let n2 : eqb kind 2 ≡ false = ne_eqb kind 2 (λ is. omega (arith, is)) in
         let n3 : eqb kind 3 ≡ false = ne_eqb kind 3 (λ is. omega (arith, is)) in
         let n4 : eqb kind 4 ≡ false = ne_eqb kind 4 (λ is. omega (arith, is)) in
         let n5 : eqb kind 5 ≡ false = ne_eqb kind 5 (λ is. omega (arith, is)) in
-        rw (n1, n2, n3, n4, n5) (ap failed (sym e))
+        let n6 : eqb kind 6 ≡ false = ne_eqb kind 6 (λ is. omega (arith, is)) in
+        rw (n1, n2, n3, n4, n5, n6) (ap failed (sym e))
 
 abbrev FieldFault : Faults
 FieldFault = FirstIn ByteCut IsByte one_byte KindFault

@@ -65,6 +65,12 @@ pub record Takes (bytes text rest : List ℕ) : Type 0 where
 pub Takes-then : (a x b y c : List ℕ) → Takes a x b → Takes b y c → Takes a (x ++ y) c
 Takes-then a x b y c p q = record { parts = p.parts ∙ ap (λ (t : List ℕ). x ++ t) q.parts ∙ sym (append_assoc x y c); rest_fits = q.rest_fits }
 
+-- a reader takes just the good parts
+pub record Part {A : Type 0} (read : List ℕ → Result (A × List ℕ) FrameFault) (Good : A → Type 0) (spell : A → List ℕ) : Type 0 where
+  pub takes : (bytes : List ℕ) (x : A) (rest : List ℕ) → IsBytes bytes → read bytes ≡ Ok (x, rest)
+      → Takes bytes (spell x) rest × Good x
+  pub again : (x : A) (rest : List ℕ) → Good x → read (spell x ++ rest) ≡ Ok (x, rest)
+
 -- ---- numbers
 
 pub record IsWide (w : Width) (limit : ℕ) : Type 0 where

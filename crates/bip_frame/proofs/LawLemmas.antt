@@ -3,27 +3,30 @@ use Rattle.std.proofs.Common.{◌≡◌, ℕ, zero, suc, ◌+◌, ◌^◌, ◌<�
 use Rattle.std.proofs.Common.{length}
 use Rattle.std.proofs.Common.{Result, Ok, Err, refl, sym, ap, ◌∙◌, arith, inl, inr}
 use Rattle.std.proofs.lemmas.List.{append-nil, length-append}
-use Rattle.std.proofs.lemmas.List.Elements.{All-from_recursion, recursion_from_All}
+use Rattle.std.proofs.lemmas.List.Elements.{recursion_from_All}
 use Rattle.std.specs.List.{AllByRecursion}
-use Rattle.bip_model.specs.Wants.{IsWants}
 use Rattle.bip_model.specs.declared.messages.Notify.{Notify}
 use Rattle.bip_model.specs.declared.messages.Reply.TheVariants.{Granted, Refused}
 use Rattle.bip_model.specs.declared.messages.Request.{Request}
+use Rattle.bip_model.specs.declared.reasons.Cause.TheVariants.{Guard}
+use Rattle.bip_model.specs.declared.reasons.Why.{Why}
 use Rattle.bip_model.specs.declared.wants.Role.TheVariants.{Moved}
 use Rattle.bip_model.specs.declared.wants.Want.{Want}
 use Rattle.bip_frame.specs.declared.faults.FrameFault.{FrameFault}
 use Rattle.bip_frame.specs.declared.faults.FrameFault.TheVariants.{Short}
-use Rattle.bip_frame.specs.Faults.{IsByte, IsFirstFault}
+use Rattle.bip_frame.specs.Faults.{AreNext, IsByte, IsFirstFault, IsList, entry_parts, reason_parts}
 use Rattle.bip_frame.specs.Frames.{Message, of_offer, of_request, of_reply, of_notify, spelling}
 use Rattle.bip_frame.specs.Frames.{CanBeFramed, IsEntry, IsFrame, IsNotify, IsRequest}
-use Rattle.bip_frame.specs.Laws.{frame_length, CutIsShort, FrameOrFault, IsWithin, MoreIsLong}
+use Rattle.bip_frame.specs.Laws.{frame_length, reasons_length, CutIsShort, FrameOrFault, IsWithin, MoreIsLong}
 use Rattle.bip_frame.specs.Laws.{NotBoth, OneFrameFault}
 use Rattle.bip_frame.specs.Reading.{read_frame, read_whole}
 use Rattle.bip_frame.proofs.CutLemmas.{with_more, frame_stays}
-use Rattle.bip_frame.proofs.EntryLemmas.{RisesFrom, increasing_from_rises, some_wants}
+use Rattle.bip_frame.proofs.EntryLemmas.{are_wants, entries_fit, some_wants}
 use Rattle.bip_frame.proofs.FaultLemmas.{whole_exact}
 use Rattle.bip_frame.proofs.FieldLemmas.{IsBytes, done, ok_is}
 use Rattle.bip_frame.proofs.LengthLemmas.{frame_long, front_fits}
+use Rattle.bip_frame.proofs.PartLemmas.{listed}
+use Rattle.bip_frame.proofs.ReasonLemmas.{are_reasons, reasons_fit}
 use Rattle.bip_frame.proofs.ReadingLemmas.{frame_again, whole_again, whole_takes}
 
 abbrev failed : FrameFault → Result Message FrameFault
@@ -88,9 +91,13 @@ cut_is_short m front more frame some = whole_exact.found front Short (front_fits
 pub more_is_long : MoreIsLong
 more_is_long m a more frame some = inr (m, more, frame.can, ap (λ (t : List ℕ). t ++ more) frame.is, (omega (arith, some), refl))
 
-within : (m : Message) (a : List ℕ) → IsFrame m a → (13 ≤ frame_length m) × (frame_length m ≤ 366)
+reasons_below : (ys : List Why) → length ys ≤ 127 → reasons_length ys ≤ 509
+reasons_below [] few = omega arith
+reasons_below (y ∷ ys) few = omega (arith, few)
+
+within : (m : Message) (a : List ℕ) → IsFrame m a → (13 ≤ frame_length m) × (frame_length m ≤ 875)
 within (of_offer o) a frame = (omega arith, omega (arith, frame.can.few))
-within (of_request r) a frame = (omega (arith, some_wants r.wants frame.can.wants.moving), omega (arith, frame.can.wants.few))
+within (of_request r) a frame = (omega (arith, some_wants r.wants frame.can.wants.moving), omega (arith, frame.can.wants.few, reasons_below r.reasons frame.can.reasons.few))
 within (of_reply (Granted c r i s)) a frame = (omega arith, omega arith)
 within (of_reply (Refused c r i k u)) a frame = (omega arith, omega arith)
 within (of_notify n) a frame = (omega arith, omega (arith, frame.can.few))
@@ -132,35 +139,43 @@ counted_from : (n c : ℕ) → length (wants_from n c) ≡ n
 counted_from zero c = refl
 counted_from (suc n) c = ap suc (counted_from n (c + 1))
 
-rises_from : (n c : ℕ) → RisesFrom c (wants_from n c)
-rises_from zero c = tt
-rises_from (suc n) c = (omega arith, rises_from n (c + 1))
+wants_next : (n c : ℕ) → c + n ≤ 2 ^ 16 → AreNext entry_parts n c (wants_from n c)
+wants_next zero c few = tt
+wants_next (suc n) c few =
+    let fits : IsEntry (record { comp = record { 0 = c }; role = Moved; number = 1 }) =
+    record { comp = omega (arith, few); number = omega arith } in
+    ((record { fits = fits; some = omega arith }, omega arith), wants_next n (c + 1) (omega (arith, few)))
 
-numbered_from : (n c : ℕ) → AllByRecursion (λ (w : Want). 1 ≤ w.number) (wants_from n c)
-numbered_from zero c = tt
-numbered_from (suc n) c = (omega arith, numbered_from n (c + 1))
+-- so many interactions in a row, each with a guard that is false
+abbrev reasons_from : ℕ → ℕ → List Why
+reasons_from zero i = []
+reasons_from (suc n) i = record { inter = record { 0 = i }; cause = Guard } ∷ reasons_from n (i + 1)
 
-entries_from : (n c : ℕ) → c + n ≤ 2 ^ 16 → AllByRecursion IsEntry (wants_from n c)
-entries_from zero c few = tt
-entries_from (suc n) c few = (record { comp = omega (arith, few); number = omega arith }, entries_from n (c + 1) (omega (arith, few)))
+reasons_counted_from : (n i : ℕ) → length (reasons_from n i) ≡ n
+reasons_counted_from zero i = refl
+reasons_counted_from (suc n) i = ap suc (reasons_counted_from n (i + 1))
+
+reasons_next : (n i : ℕ) → i + n ≤ 2 ^ 16 → AreNext reason_parts n i (reasons_from n i)
+reasons_next zero i few = tt
+reasons_next (suc n) i few = ((record { fits = omega (arith, few); nameable = tt }, omega arith), reasons_next n (i + 1) (omega (arith, few)))
+
+long_wants : IsList entry_parts (wants_from 32 0)
+long_wants = listed entry_parts 32 (wants_from 32 0) (omega arith, omega arith) (wants_next 32 0 (omega arith))
+
+long_reasons : IsList reason_parts (reasons_from 127 0)
+long_reasons = listed reason_parts 127 (reasons_from 127 0) (omega arith, omega arith) (reasons_next 127 0 (omega arith))
 
 abbrev long_request : Request
-long_request = record { wants = wants_from 32 0; request = 1; class = record { 0 = 0 }; inter = record { 0 = 0 } }
-
-are_wants : IsWants (wants_from 32 0)
-are_wants = record {
-  few = omega (arith, counted_from 32 0);
-  rising = increasing_from_rises 0 (wants_from 32 0) (rises_from 32 0);
-  numbered = All-from_recursion (λ (w : Want). 1 ≤ w.number) (wants_from 32 0) (numbered_from 32 0);
-  moving = refl;
-}
+long_request = record { wants = wants_from 32 0; reasons = reasons_from 127 0; request = 1; class = record { 0 = 0 }; inter = record { 0 = 0 } }
 
 long_can : IsRequest long_request
 long_can = record {
   head = record { class_fits = omega arith; some = omega arith; request_fits = omega arith; inter_fits = omega arith };
-  wants = are_wants;
-  entries = entries_from 32 0 (omega arith);
+  wants = are_wants (wants_from 32 0) long_wants refl;
+  entries = entries_fit (wants_from 32 0) long_wants;
+  reasons = are_reasons (reasons_from 127 0) long_reasons;
+  inters = reasons_fit (reasons_from 127 0) long_reasons;
 }
 
-pub longest : Reached 366
-longest = reached (of_request long_request) 366 long_can (omega (arith, counted_from 32 0))
+pub longest : Reached 875
+longest = reached (of_request long_request) 875 long_can refl

@@ -3,11 +3,13 @@ use Rattle.std.proofs.Common.{◌≡◌, ℕ, suc, zero, ◌<◌, ◌≤◌, Lis
 use Rattle.std.proofs.Common.{refl, sym, ap, subst, ◌∙◌, arith}
 use Rattle.std.specs.Int.{w16, w32, w64, to_be_bytes}
 use Rattle.std.specs.List.{flat_map}
-use Rattle.std.proofs.lemmas.List.{take_at}
+use Rattle.std.proofs.lemmas.List.{take_at, length-append}
 use Rattle.std.proofs.lemmas.List.Concat.{flat_map-cons}
 use Rattle.bip_model.specs.declared.messages.Notify.{Notify}
 use Rattle.bip_model.specs.declared.messages.Offer.{Offer}
 use Rattle.bip_model.specs.declared.messages.Reply.TheVariants.{Granted, Refused}
+use Rattle.bip_model.specs.Reasons.{cause_number}
+use Rattle.bip_model.specs.declared.reasons.Why.{Why}
 use Rattle.bip_model.specs.declared.wants.Role.TheVariants.{Moved, Seen}
 use Rattle.bip_model.specs.declared.wants.Role.{Role}
 use Rattle.bip_model.specs.declared.wants.Want.{Want}
@@ -16,15 +18,21 @@ use Rattle.bip_frame.specs.Frames.{role_byte, spelling, counted_values, counted_
 use Rattle.bip_frame.specs.Frames.{head_fields}
 use Rattle.bip_frame.specs.Frames.{offer_fields, request_fields, granted_fields, refused_fields}
 use Rattle.bip_frame.specs.Frames.{notify_fields, CanBeFramed, IsFrame}
-use Rattle.bip_frame.specs.Laws.{frame_length}
-use Rattle.bip_frame.proofs.EntryLemmas.{entries_long}
+use Rattle.bip_frame.specs.Frames.{reason_entry, reason_fields, request_kind}
+use Rattle.bip_frame.specs.Laws.{frame_length, reasons_length}
+use Rattle.bip_frame.proofs.EntryLemmas.{entries_long, entries_spelled}
+use Rattle.bip_frame.proofs.ReasonLemmas.{reasons_long}
 use Rattle.bip_frame.proofs.FieldLemmas.{IsBytes, IsBytes-take, values_long}
 
 -- ---- lengths
 
+pub reason_fields_long : (ys : List Why) → length (reason_fields ys) ≡ reasons_length ys
+reason_fields_long [] = refl
+reason_fields_long (y ∷ ys) = omega (arith, reasons_long (y ∷ ys))
+
 spelled_long : (m : Message) → length (spelling m) ≡ frame_length m
 spelled_long (of_offer o) = omega (arith, values_long o.values)
-spelled_long (of_request r) = omega (arith, entries_long r.wants)
+spelled_long (of_request r) = omega (arith, length-append (entries_spelled r.wants) (reason_fields r.reasons), entries_long r.wants, reason_fields_long r.reasons)
 spelled_long (of_reply (Granted c r i s)) = refl
 spelled_long (of_reply (Refused c r i k u)) = refl
 spelled_long (of_notify n) = omega (arith, values_long n.values)
@@ -86,6 +94,17 @@ values_fit values few = IsBytes-cons (length values) (flat_map (to_be_bytes w32)
 entries_fit : (ws : List Want) → length ws ≤ 32 → IsBytes (counted_entries ws)
 entries_fit ws few = IsBytes-cons (length ws) (flat_map entry ws) (omega arith) (each entry ws entry_fits)
 
+reason_fits : (y : Why) → IsBytes (reason_entry y)
+reason_fits y = IsBytes-append (to_be_bytes w16 y.inter.0) (to_be_bytes w16 (cause_number y.cause)) (two y.inter.0) (two (cause_number y.cause))
+
+reasons_fit : (ys : List Why) → length ys ≤ 127 → IsBytes (reason_fields ys)
+reasons_fit [] few = IsBytes-none
+reasons_fit (y ∷ ys) few = IsBytes-cons (length (y ∷ ys)) (flat_map reason_entry (y ∷ ys)) (omega (arith, few)) (each reason_entry (y ∷ ys) reason_fits)
+
+kind_fits : (ys : List Why) → request_kind ys < 256
+kind_fits [] = omega arith
+kind_fits (y ∷ ys) = omega arith
+
 head_fits : (c r i : ℕ) → IsBytes (head_fields c r i)
 head_fits c r i = IsBytes-append (to_be_bytes w16 c) (to_be_bytes w64 r ++ to_be_bytes w16 i) (two c) (IsBytes-append (to_be_bytes w64 r) (to_be_bytes w16 i) (eight r) (two i))
 
@@ -110,7 +129,9 @@ notify_fits n port few =
 spelling_fits : (m : Message) → CanBeFramed m → IsBytes (spelling m)
 spelling_fits (of_offer o) can = IsBytes-cons 1 (offer_fields o) (omega arith) (offer_fits o can.few)
 spelling_fits (of_request r) can =
-    IsBytes-cons 2 (request_fields r) (omega arith) (IsBytes-append (head_fields r.class.0 r.request r.inter.0) (counted_entries r.wants) (head_fits r.class.0 r.request r.inter.0) (entries_fit r.wants can.wants.few))
+    let lists : IsBytes (counted_entries r.wants ++ reason_fields r.reasons) =
+    IsBytes-append (counted_entries r.wants) (reason_fields r.reasons) (entries_fit r.wants can.wants.few) (reasons_fit r.reasons can.reasons.few) in
+    IsBytes-cons (request_kind r.reasons) (request_fields r) (kind_fits r.reasons) (IsBytes-append (head_fields r.class.0 r.request r.inter.0) (counted_entries r.wants ++ reason_fields r.reasons) (head_fits r.class.0 r.request r.inter.0) lists)
 spelling_fits (of_reply (Granted c r i s)) can =
     IsBytes-cons 3 (granted_fields c.0 r i.0 s) (omega arith) (IsBytes-append (head_fields c.0 r i.0) (to_be_bytes w64 s) (head_fits c.0 r i.0) (eight s))
 spelling_fits (of_reply (Refused c r i k u)) can =

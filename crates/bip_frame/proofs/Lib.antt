@@ -1,8 +1,11 @@
 pub mod FieldLemmas
+pub mod PartLemmas
 pub mod EntryLemmas
+pub mod ReasonLemmas
 pub mod ReadingLemmas
 pub mod PassLemmas
 pub mod LentLemmas
+pub mod ShownLemmas
 pub mod WritingLemmas
 pub mod FaultLemmas
 pub mod CutLemmas

@@ -1,31 +1,39 @@
 -- What is read is spelled so, and what is spelled so is read.
-use Rattle.std.proofs.Common.{◌≡◌, ℕ, ◌^◌, Bool, true, false, cond, eqb, ltb, List, [], ◌∷◌, ◌++◌}
+use Rattle.bip_model.specs.declared.reasons.Why.{Why}
+use Rattle.std.proofs.Common.{◌≡◌, ℕ, ◌+◌, ◌*◌, ◌^◌, Bool, true, false, cond, eqb, ltb, List, [], ◌∷◌, ◌++◌}
 use Rattle.std.proofs.Common.{length, take, drop, Result, Ok, Err, refl, sym, ap, subst, ◌∙◌}
 use Rattle.std.proofs.Common.{append_assoc, arith, ◌≤◌}
 use Rattle.std.specs.Prelude.{IfOk}
 use Rattle.std.specs.Int.{Width, w16, w64, byte_len, from_be_bytes, to_be_bytes}
-use Rattle.std.specs.List.{flat_map}
 use Rattle.std.proofs.lemmas.Bool.{eqb-true, ltb-false}
-use Rattle.std.proofs.lemmas.List.{append-nil, nil_from_length, take-take, drop-take, length-drop}
+use Rattle.std.proofs.lemmas.List.{append-nil, nil_from_length, take-take, drop-take, drop-drop}
+use Rattle.std.proofs.lemmas.List.{length-drop}
 use Rattle.bip_model.specs.declared.messages.Notify.{Notify}
 use Rattle.bip_model.specs.declared.messages.Offer.{Offer}
 use Rattle.bip_model.specs.declared.messages.Reply.{Reply}
 use Rattle.bip_model.specs.declared.messages.Reply.TheVariants.{Granted, Refused}
 use Rattle.bip_model.specs.declared.messages.Request.{Request}
 use Rattle.bip_frame.specs.declared.faults.FrameFault.{FrameFault}
-use Rattle.bip_frame.specs.declared.faults.FrameFault.TheVariants.{Kind, Long, Short, ZeroNumber}
+use Rattle.bip_frame.specs.declared.faults.FrameFault.TheVariants.{Kind, Long, NoMover, Short, ZeroNumber}
 use Rattle.bip_frame.specs.declared.frames.Frame.{Frame}
 use Rattle.bip_frame.specs.declared.frames.Frame.TheVariants as frames
 use Rattle.bip_frame.specs.Frames.{Message, Head, of_offer, of_request, of_reply, of_notify}
-use Rattle.bip_frame.specs.Frames.{counted_values, head_fields, entry, offer_fields, request_fields}
+use Rattle.bip_frame.specs.Frames.{counted_values, head_fields, offer_fields, request_fields}
 use Rattle.bip_frame.specs.Frames.{notify_fields, spelling, IsOffer, IsRequest, IsGranted}
-use Rattle.bip_frame.specs.Frames.{IsRefused, IsNotify, CanBeFramed, IsFrame}
-use Rattle.bip_frame.specs.Entries.{read_wants}
+use Rattle.bip_frame.specs.Frames.{IsRefused, IsNotify, CanBeFramed, IsFrame, IsHead, FitsInter}
+use Rattle.bip_frame.specs.Frames.{reason_fields, request_kind}
+use Rattle.bip_model.specs.Reasons.{IsNameable, IsReasons}
+use Rattle.std.specs.List.{AllByRecursion}
+use Rattle.std.proofs.lemmas.List.Elements.{All-from_recursion}
+use Rattle.bip_model.specs.declared.wants.Want.{Want}
+use Rattle.bip_frame.specs.Entries.{one_moves, read_entries, read_reasons}
+use Rattle.bip_frame.specs.Faults.{IsList, entry_parts, list_spelled, reason_parts}
 use Rattle.bip_frame.specs.Fields.{head_made, ◌>>=◌, Gives, read_number, read_positive, read_port}
 use Rattle.bip_frame.specs.Fields.{read_values, read_head}
 use Rattle.bip_frame.specs.Reading.{granted_made, notify_made, offer_made, refused_made}
 use Rattle.bip_frame.specs.Reading.{request_made, read_offer, read_notify, read_granted}
 use Rattle.bip_frame.specs.Reading.{read_refused, read_request, as_message, of_kind, read_frame}
+use Rattle.bip_frame.specs.Reading.{if_moving, read_explained}
 use Rattle.bip_frame.specs.Reading.{read_whole}
 use Rattle.bip_frame.specs.Views.{message_shown, IsLent}
 use Rattle.bip_frame.proofs.FieldLemmas.{IsBytes, IsBytes-rest, bind_ok, guarded, allowed, done}
@@ -33,7 +41,10 @@ use Rattle.bip_frame.proofs.FieldLemmas.{ok_is, Takes, Takes-then, wide16, wide6
 use Rattle.bip_frame.proofs.FieldLemmas.{number_again, positive_takes, positive_again, port_takes}
 use Rattle.bip_frame.proofs.FieldLemmas.{port_again, values_take, values_read, head_takes}
 use Rattle.bip_frame.proofs.FieldLemmas.{head_again}
-use Rattle.bip_frame.proofs.EntryLemmas.{wants_take, wants_read}
+use Rattle.bip_frame.proofs.EntryLemmas.{are_wants, entries_fit, entries_list}
+use Rattle.bip_frame.proofs.EntryLemmas.{wants_listed}
+use Rattle.bip_frame.proofs.ReasonLemmas.{are_reasons, reasons_fit, reasons_list, reasons_listed}
+use Rattle.bip_frame.proofs.ReasonLemmas.{some_reasons}
 
 Takes-cons : (k : ℕ) (bytes text rest : List ℕ) → Takes bytes text rest
     → Takes (k ∷ bytes) (k ∷ text) rest
@@ -220,27 +231,95 @@ refused_again c r i k u rest fits =
 
 -- ---- requests
 
+-- entries behind the head, and then reasons, as they were read
+request_made_of : (h : Head) (ws : List Want) (ys : List Why) → IsHead h.class h.request h.inter
+    → IsList entry_parts ws → one_moves ws ≡ true → IsReasons ys → AllByRecursion FitsInter ys
+    → IsRequest (request_made h ws ys)
+request_made_of h ws ys head list moving are fit = record {
+  head = head;
+  wants = are_wants ws list moving;
+  entries = entries_fit ws list;
+  reasons = are;
+  inters = fit;
+}
+
+pub no_reasons : IsReasons []
+no_reasons = record { few = omega arith; rising = λ k within. absurd (omega (arith, within)); nameable = All-from_recursion (λ (y : Why). IsNameable y.cause) [] tt }
+
 request_takes : (bytes : List ℕ) (r : Request) (rest : List ℕ) → IsBytes bytes
-    → read_request bytes ≡ Ok (r, rest) → Takes bytes (request_fields r) rest × IsRequest r
+    → read_request bytes ≡ Ok (r, rest)
+    → Takes (2 ∷ bytes) (spelling (of_request r)) rest × IsRequest r
 unfolding read_request
 request_takes bytes r rest fits e =
     let a =
-    bind_ok (read_head bytes) (λ head. read_wants head.1 >>= λ wants. Ok (request_made head.0 wants.0, wants.1)) (r, rest) e in
+    bind_ok (read_head bytes) (λ head. read_entries head.1 >>= λ wants. if_moving (request_made head.0 wants.0 []) wants.1) (r, rest) e in
     let b =
-    bind_ok (read_wants a.0.1) (λ wants. Ok (request_made a.0.0 wants.0, wants.1)) (r, rest) a.2 in
+    bind_ok (read_entries a.0.1) (λ wants. if_moving (request_made a.0.0 wants.0 []) wants.1) (r, rest) a.2 in
+    let made : Request × List ℕ = (request_made a.0.0 b.0.0 [], b.0.1) in
+    let g = allowed (one_moves b.0.0) NoMover (Ok made) (r, rest) b.2 in
     let t0 = head_takes bytes a.0.0 a.0.1 fits a.1 in
-    let t1 = wants_take a.0.1 b.0.0 b.0.1 t0.0.rest_fits b.1 in
-    let e01 =
-    Takes-then bytes (head_fields a.0.0.class a.0.0.request a.0.0.inter) a.0.1 (length b.0.0 ∷ flat_map entry b.0.0) b.0.1 t0.0 t1.0 in
-    let made : Request × List ℕ = (request_made a.0.0 b.0.0, b.0.1) in
-    subst (λ (p : Request × List ℕ). Takes bytes (request_fields p.0) p.1 × IsRequest p.0) (ok_is made (r, rest) b.2) (e01, record { head = t0.1; wants = t1.1; entries = t1.2 })
+    let t1 = entries_list.takes a.0.1 b.0.0 b.0.1 t0.0.rest_fits b.1 in
+    let entries : Takes a.0.1 (list_spelled entry_parts b.0.0 ++ []) b.0.1 =
+    subst (λ (t : List ℕ). Takes a.0.1 t b.0.1) (sym (append-nil (list_spelled entry_parts b.0.0))) t1.0 in
+    let fields =
+    Takes-then bytes (head_fields a.0.0.class a.0.0.request a.0.0.inter) a.0.1 (list_spelled entry_parts b.0.0 ++ []) b.0.1 t0.0 entries in
+    subst (λ (p : Request × List ℕ). Takes (2 ∷ bytes) (spelling (of_request p.0)) p.1 × IsRequest p.0) (ok_is made (r, rest) g.1)
+    (Takes-cons 2 bytes (request_fields (request_made a.0.0 b.0.0 [])) b.0.1 fields, request_made_of a.0.0 b.0.0 [] t0.1 t1.1 g.0 no_reasons tt)
 
-request_again : (r : Request) (rest : List ℕ) → IsRequest r
+-- with reasons, however they are spelled behind the entries
+explained_is : (h : Head) (ws : List Want) (ys : List Why) (bytes rest : List ℕ) → 1 ≤ length ys
+    → Takes bytes (head_fields h.class h.request h.inter ++ (list_spelled entry_parts ws ++ list_spelled reason_parts ys)) rest
+    → Takes (6 ∷ bytes) (spelling (of_request (request_made h ws ys))) rest
+explained_is h ws [] bytes rest some t = absurd (omega arith)
+explained_is h ws (y ∷ ys) bytes rest some t = Takes-cons 6 bytes (request_fields (request_made h ws (y ∷ ys))) rest t
+
+explained_takes : (bytes : List ℕ) (r : Request) (rest : List ℕ) → IsBytes bytes
+    → read_explained bytes ≡ Ok (r, rest)
+    → Takes (6 ∷ bytes) (spelling (of_request r)) rest × IsRequest r
+unfolding read_explained
+explained_takes bytes r rest fits e =
+    let a =
+    bind_ok (read_head bytes) (λ head. read_entries head.1 >>= λ wants. read_reasons wants.1 >>= λ reasons. if_moving (request_made head.0 wants.0 reasons.0) reasons.1) (r, rest) e in
+    let b =
+    bind_ok (read_entries a.0.1) (λ wants. read_reasons wants.1 >>= λ reasons. if_moving (request_made a.0.0 wants.0 reasons.0) reasons.1) (r, rest) a.2 in
+    let c =
+    bind_ok (read_reasons b.0.1) (λ reasons. if_moving (request_made a.0.0 b.0.0 reasons.0) reasons.1) (r, rest) b.2 in
+    let made : Request × List ℕ = (request_made a.0.0 b.0.0 c.0.0, c.0.1) in
+    let g = allowed (one_moves b.0.0) NoMover (Ok made) (r, rest) c.2 in
+    let t0 = head_takes bytes a.0.0 a.0.1 fits a.1 in
+    let t1 = entries_list.takes a.0.1 b.0.0 b.0.1 t0.0.rest_fits b.1 in
+    let t2 = reasons_list.takes b.0.1 c.0.0 c.0.1 t1.0.rest_fits c.1 in
+    let lists =
+    Takes-then a.0.1 (list_spelled entry_parts b.0.0) b.0.1 (list_spelled reason_parts c.0.0) c.0.1 t1.0 t2.0 in
+    let fields =
+    Takes-then bytes (head_fields a.0.0.class a.0.0.request a.0.0.inter) a.0.1 (list_spelled entry_parts b.0.0 ++ list_spelled reason_parts c.0.0) c.0.1 t0.0 lists in
+    subst (λ (p : Request × List ℕ). Takes (6 ∷ bytes) (spelling (of_request p.0)) p.1 × IsRequest p.0) (ok_is made (r, rest) g.1)
+    (explained_is a.0.0 b.0.0 c.0.0 bytes c.0.1 t2.1.counted.0 fields, request_made_of a.0.0 b.0.0 c.0.0 t0.1 t1.1 g.0 (are_reasons c.0.0 t2.1) (reasons_fit c.0.0 t2.1))
+
+-- three parts of a request's fields, and what stands behind
+fields_apart : (a b c rest : List ℕ) → (a ++ (b ++ c)) ++ rest ≡ a ++ (b ++ (c ++ rest))
+fields_apart a b c rest = simp append_assoc
+
+request_again : (r : Request) (rest : List ℕ) → IsRequest r → r.reasons ≡ []
     → read_request (request_fields r ++ rest) ≡ Ok (r, rest)
 unfolding read_request
-request_again r rest fits =
-    ap read_request (append_assoc (head_fields r.class.0 r.request r.inter.0) (length r.wants ∷ flat_map entry r.wants) rest)
-    ∙ rw (head_again r.class.0 r.request r.inter.0 (length r.wants ∷ (flat_map entry r.wants ++ rest)) fits.head, wants_read r.wants rest fits.wants fits.entries) refl
+request_again r rest fits none =
+    let bare : reason_fields r.reasons ++ rest ≡ rest =
+    ap (λ (ys : List Why). reason_fields ys ++ rest) none in
+    let made : read_request (head_fields r.class.0 r.request r.inter.0 ++ (list_spelled entry_parts r.wants ++ rest)) ≡ Ok (record r { reasons = [] }, rest) =
+    rw (head_again r.class.0 r.request r.inter.0 (list_spelled entry_parts r.wants ++ rest) fits.head, entries_list.again r.wants rest (wants_listed r.wants fits.wants fits.entries), fits.wants.moving) refl in
+    ap read_request (fields_apart (head_fields r.class.0 r.request r.inter.0) (list_spelled entry_parts r.wants) (reason_fields r.reasons) rest ∙ ap (λ (t : List ℕ). head_fields r.class.0 r.request r.inter.0 ++ (list_spelled entry_parts r.wants ++ t)) bare)
+    ∙ (made ∙ ap (λ (ys : List Why). Ok (record r { reasons = ys }, rest)) (sym none))
+
+explained_again : (r : Request) (rest : List ℕ) → IsRequest r → 1 ≤ length r.reasons
+    → read_explained (request_fields r ++ rest) ≡ Ok (r, rest)
+unfolding read_explained
+explained_again r rest fits some =
+    let wants = wants_listed r.wants fits.wants fits.entries in
+    let reasons = reasons_listed r.reasons some fits.reasons fits.inters in
+    let spelled : List ℕ = list_spelled reason_parts r.reasons in
+    ap read_explained (fields_apart (head_fields r.class.0 r.request r.inter.0) (list_spelled entry_parts r.wants) (reason_fields r.reasons) rest ∙ ap (λ (t : List ℕ). head_fields r.class.0 r.request r.inter.0 ++ (list_spelled entry_parts r.wants ++ (t ++ rest))) (some_reasons r.reasons some))
+    ∙ rw (head_again r.class.0 r.request r.inter.0 (list_spelled entry_parts r.wants ++ (spelled ++ rest)) fits.head, entries_list.again r.wants (spelled ++ rest) wants, reasons_list.again r.reasons rest reasons, fits.wants.moving) refl
 
 -- ---- all kinds
 
@@ -255,12 +334,12 @@ offered_takes bytes x fits e =
     let t = offer_takes bytes a.0.0 a.0.1 fits a.1 in
     subst (Reads 1 bytes) (ok_is (of_offer a.0.0, a.0.1) x a.2) (Takes-cons 1 bytes (offer_fields a.0.0) a.0.1 t.0, t.1)
 
-asked_takes : (bytes : List ℕ) (x : Message × List ℕ) → IsBytes bytes
-    → as_message of_request (read_request bytes) ≡ Ok x → Reads 2 bytes x
-asked_takes bytes x fits e =
-    let a = bind_ok (read_request bytes) (λ y. Ok (of_request y.0, y.1)) x e in
-    let t = request_takes bytes a.0.0 a.0.1 fits a.1 in
-    subst (Reads 2 bytes) (ok_is (of_request a.0.0, a.0.1) x a.2) (Takes-cons 2 bytes (request_fields a.0.0) a.0.1 t.0, t.1)
+asked_takes : (kind : ℕ) (read : List ℕ → Result (Request × List ℕ) FrameFault)
+    → ((bytes : List ℕ) (r : Request) (rest : List ℕ) → IsBytes bytes → read bytes ≡ Ok (r, rest) → Takes (kind ∷ bytes) (spelling (of_request r)) rest × IsRequest r)
+    → (bytes : List ℕ) (x : Message × List ℕ) → IsBytes bytes → as_message of_request (read bytes) ≡ Ok x → Reads kind bytes x
+asked_takes kind read takes bytes x fits e =
+    let a = bind_ok (read bytes) (λ y. Ok (of_request y.0, y.1)) x e in
+    subst (Reads kind bytes) (ok_is (of_request a.0.0, a.0.1) x a.2) (takes bytes a.0.0 a.0.1 fits a.1)
 
 replied_takes : (kind : ℕ) (read : List ℕ → Result (Reply × List ℕ) FrameFault)
     → ((bytes : List ℕ) (y : Reply) (rest : List ℕ) → IsBytes bytes → read bytes ≡ Ok (y, rest) → Takes (kind ∷ bytes) (spelling (of_reply y)) rest × CanBeFramed (of_reply y))
@@ -293,8 +372,10 @@ no_kind kind bytes x e = absurd cc
 kind_takes : (kind : ℕ) (bytes : List ℕ) (x : Message × List ℕ) → IsBytes bytes
     → of_kind kind bytes ≡ Ok x → Reads kind bytes x
 kind_takes kind bytes x fits e =
+    let k6 : Result (Message × List ℕ) FrameFault =
+    cond (eqb kind 6) (as_message of_request (read_explained bytes)) (Err Kind) in
     let k5 : Result (Message × List ℕ) FrameFault =
-    cond (eqb kind 5) (as_message of_notify (read_notify bytes)) (Err Kind) in
+    cond (eqb kind 5) (as_message of_notify (read_notify bytes)) k6 in
     let k4 : Result (Message × List ℕ) FrameFault =
     cond (eqb kind 4) (as_message of_reply (read_refused bytes)) k5 in
     let k3 : Result (Message × List ℕ) FrameFault =
@@ -302,10 +383,11 @@ kind_takes kind bytes x fits e =
     let k2 : Result (Message × List ℕ) FrameFault =
     cond (eqb kind 2) (as_message of_request (read_request bytes)) k3 in
     chosen kind 1 bytes (as_message of_offer (read_offer bytes)) k2 x (offered_takes bytes x fits)
-    (chosen kind 2 bytes (as_message of_request (read_request bytes)) k3 x (asked_takes bytes x fits)
+    (chosen kind 2 bytes (as_message of_request (read_request bytes)) k3 x (asked_takes 2 read_request request_takes bytes x fits)
     (chosen kind 3 bytes (as_message of_reply (read_granted bytes)) k4 x (replied_takes 3 read_granted granted_takes bytes x fits)
     (chosen kind 4 bytes (as_message of_reply (read_refused bytes)) k5 x (replied_takes 4 read_refused refused_takes bytes x fits)
-    (chosen kind 5 bytes (as_message of_notify (read_notify bytes)) (Err Kind) x (notified_takes bytes x fits) (λ other. no_kind kind bytes x (sym other)))))) e
+    (chosen kind 5 bytes (as_message of_notify (read_notify bytes)) k6 x (notified_takes bytes x fits)
+    (chosen kind 6 bytes (as_message of_request (read_explained bytes)) (Err Kind) x (asked_takes 6 read_explained explained_takes bytes x fits) (λ other. no_kind kind bytes x (sym other))))))) e
 
 pub frame_takes : (bytes : List ℕ) (x : Message × List ℕ) → IsBytes bytes → read_frame bytes ≡ Ok x
     → Takes bytes (spelling x.0) x.1 × CanBeFramed x.0
@@ -313,11 +395,17 @@ unfolding read_frame
 frame_takes [] x fits e = absurd cc
 frame_takes (kind ∷ bytes) x fits e = kind_takes kind bytes x (IsBytes-rest kind bytes fits) e
 
+-- behind the byte of its kind a request is read again
+by_reasons : (r : Request) (rest : List ℕ) (ys : List Why) → r.reasons ≡ ys → IsRequest r
+    → of_kind (request_kind ys) (request_fields r ++ rest) ≡ Ok (of_request r, rest)
+by_reasons r rest [] is fits = ap (as_message of_request) (request_again r rest fits is)
+by_reasons r rest (y ∷ ys) is fits = ap (as_message of_request) (explained_again r rest fits (omega (arith, ap length is)))
+
 pub frame_again : (m : Message) (rest : List ℕ) → CanBeFramed m
     → read_frame (spelling m ++ rest) ≡ Ok (m, rest)
 unfolding read_frame
 frame_again (of_offer o) rest fits = ap (as_message of_offer) (offer_again o rest fits)
-frame_again (of_request r) rest fits = ap (as_message of_request) (request_again r rest fits)
+frame_again (of_request r) rest fits = by_reasons r rest r.reasons refl fits
 frame_again (of_reply (Granted c r i s)) rest fits = ap (as_message of_reply) (granted_again c.0 r i.0 s rest fits)
 frame_again (of_reply (Refused c r i k u)) rest fits = ap (as_message of_reply) (refused_again c.0 r i.0 k.0 u rest fits)
 frame_again (of_notify n) rest fits = ap (as_message of_notify) (notify_again n rest fits)
@@ -350,7 +438,9 @@ is_found bytes (Err e) fits given = tt
 
 lies_at : (x : Frame) (bytes : List ℕ) → bytes ≡ spelling (message_shown x) → IsLent x bytes
 lies_at (frames.Offer f) bytes is = f.spelled ∙ sym (ap (drop 14) is)
-lies_at (frames.Reserve f) bytes is = f.spelled ∙ sym (ap (drop 14) is)
+lies_at (frames.Reserve f) bytes is =
+    let parts : f.parts.now ≡ drop 14 bytes = f.spelled ∙ sym (ap (drop 14) is) in
+    (parts, ap (drop (11 * f.count + 1)) parts ∙ drop-drop (11 * f.count + 1) 14 bytes ∙ ap (λ (k : ℕ). drop k bytes) (omega arith))
 lies_at (frames.Reply f) bytes is = tt
 lies_at (frames.Notify f) bytes is = f.spelled ∙ sym (ap (drop 13) is)
 

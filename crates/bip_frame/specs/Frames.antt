@@ -1,14 +1,16 @@
 -- Frames: which bytes spell which message. A frame begins with the byte of its kind; its fields
 -- follow, each number with its highest byte first.
-use Rattle.std.specs.Prelude.{◌≡◌, ℕ, ◌≤◌, ◌<◌, ◌^◌, List, ◌∷◌, ◌++◌, length}
+use Rattle.std.specs.Prelude.{◌≡◌, ℕ, ◌≤◌, ◌<◌, ◌^◌, List, [], ◌∷◌, ◌++◌, length}
 use Rattle.std.specs.Int.{w16, w32, w64, to_be_bytes}
 use Rattle.std.specs.List.{flat_map, AllByRecursion}
+use Rattle.bip_model.specs.Reasons.{IsReasons, cause_number}
 use Rattle.bip_model.specs.Wants.{IsWants}
 use Rattle.bip_model.specs.declared.messages.Notify.{Notify}
 use Rattle.bip_model.specs.declared.messages.Offer.{Offer}
 use Rattle.bip_model.specs.declared.messages.Reply.TheVariants.{Granted, Refused}
 use Rattle.bip_model.specs.declared.messages.Reply.{Reply}
 use Rattle.bip_model.specs.declared.messages.Request.{Request}
+use Rattle.bip_model.specs.declared.reasons.Why.{Why}
 use Rattle.bip_model.specs.declared.wants.Role.TheVariants.{Moved, Seen}
 use Rattle.bip_model.specs.declared.wants.Role.{Role}
 use Rattle.bip_model.specs.declared.wants.Want.{Want}
@@ -32,9 +34,25 @@ role_byte Seen = 0
 abbrev pub entry : Want → List ℕ
 entry w = to_be_bytes w16 w.comp.0 ++ (role_byte w.role ∷ to_be_bytes w64 w.number)
 
+-- entries are ordered by their components
+abbrev pub comp_of : Want → ℕ
+comp_of w = w.comp.0
+
 -- how many entries there are, and the entries
 abbrev pub counted_entries : List Want → List ℕ
 counted_entries wants = length wants ∷ flat_map entry wants
+
+-- a reason of a request: interaction, number of the cause
+abbrev pub reason_entry : Why → List ℕ
+reason_entry y = to_be_bytes w16 y.inter.0 ++ to_be_bytes w16 (cause_number y.cause)
+
+-- reasons are ordered by their interactions
+abbrev pub inter_of : Why → ℕ
+inter_of y = y.inter.0
+
+-- how many reasons there are, and the reasons
+abbrev pub counted_reasons : List Why → List ℕ
+counted_reasons reasons = length reasons ∷ flat_map reason_entry reasons
 
 -- what requests and replies begin with: class, request, interaction
 abbrev pub head_fields : ℕ → ℕ → ℕ → List ℕ
@@ -48,8 +66,15 @@ offer_fields o =
     to_be_bytes w16 o.comp.0
     ++ (to_be_bytes w64 o.number ++ (to_be_bytes w16 o.ports ++ counted_values o.values))
 
+-- reasons stand behind the entries; where there are none, so does nothing
+abbrev pub reason_fields : List Why → List ℕ
+reason_fields [] = []
+reason_fields (y ∷ ys) = counted_reasons (y ∷ ys)
+
 abbrev pub request_fields : Request → List ℕ
-request_fields r = head_fields r.class.0 r.request r.inter.0 ++ counted_entries r.wants
+request_fields r =
+    head_fields r.class.0 r.request r.inter.0
+    ++ (counted_entries r.wants ++ reason_fields r.reasons)
 
 abbrev pub granted_fields : ℕ → ℕ → ℕ → ℕ → List ℕ
 granted_fields class request inter serial =
@@ -64,10 +89,15 @@ notify_fields n =
     to_be_bytes w16 n.comp.0
     ++ (to_be_bytes w64 n.number ++ (n.port.0 ∷ counted_values n.values))
 
+-- requests without reasons are of one kind, those with reasons of another
+abbrev pub request_kind : List Why → ℕ
+request_kind [] = 2
+request_kind (y ∷ ys) = 6
+
 -- the table of kinds
 abbrev pub spelling : Message → List ℕ
 spelling (of_offer o) = 1 ∷ offer_fields o
-spelling (of_request r) = 2 ∷ request_fields r
+spelling (of_request r) = request_kind r.reasons ∷ request_fields r
 spelling (of_reply (Granted class request inter serial)) =
     3 ∷ granted_fields class.0 request inter.0 serial
 spelling (of_reply (Refused class request inter comp used)) =
@@ -101,10 +131,16 @@ pub record IsEntry (w : Want) : Type 0 where
   pub comp : w.comp.0 < 2 ^ 16
   pub number : w.number < 2 ^ 64
 
+-- a reason whose interaction fits; its cause fits since it can be named
+abbrev pub FitsInter : Why → Type 0
+FitsInter y = inter_of y < 2 ^ 16
+
 pub record IsRequest (r : Request) : Type 0 where
   pub head : IsHead r.class.0 r.request r.inter.0
   pub wants : IsWants r.wants
   pub entries : AllByRecursion IsEntry r.wants
+  pub reasons : IsReasons r.reasons
+  pub inters : AllByRecursion FitsInter r.reasons
 
 pub record IsGranted (class request inter serial : ℕ) : Type 0 where
   pub head : IsHead class request inter

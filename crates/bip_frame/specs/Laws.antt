@@ -1,6 +1,7 @@
 -- What the definitions mean: laws that a reviewer reads.
-use Rattle.std.specs.Prelude.{◌≡◌, ℕ, ◌+◌, ◌*◌, ◌<◌, ◌≤◌, ◌⊎◌, List, ◌++◌, length, All}
+use Rattle.std.specs.Prelude.{◌≡◌, ℕ, ◌+◌, ◌*◌, ◌<◌, ◌≤◌, ◌⊎◌, List, [], ◌∷◌, ◌++◌, length, All}
 use Rattle.bip_model.specs.declared.messages.Reply.TheVariants.{Granted, Refused}
+use Rattle.bip_model.specs.declared.reasons.Why.{Why}
 use Rattle.bip_frame.specs.Faults.{IsByte, IsFirstFault}
 use Rattle.bip_frame.specs.Frames.{Message, of_offer, of_request, of_reply, of_notify}
 use Rattle.bip_frame.specs.Frames.{CanBeFramed, IsFrame, spelling}
@@ -57,10 +58,15 @@ MoreIsLong =
     (m : Message) (a more : List ℕ) → IsFrame m a → 0 < length more
     → IsFirstFault (a ++ more) Long
 
+-- how many bytes reasons have with their count; where there are none, it isn't there either
+abbrev pub reasons_length : List Why → ℕ
+reasons_length [] = 0
+reasons_length (y ∷ ys) = 1 + 4 * length (y ∷ ys)
+
 -- how many bytes the frame of a message has
 abbrev pub frame_length : Message → ℕ
 frame_length (of_offer o) = 14 + 4 * length o.values
-frame_length (of_request r) = 14 + 11 * length r.wants
+frame_length (of_request r) = 14 + 11 * length r.wants + reasons_length r.reasons
 frame_length (of_reply (Granted class request inter serial)) = 21
 frame_length (of_reply (Refused class request inter comp used)) = 23
 frame_length (of_notify n) = 13 + 4 * length n.values
@@ -68,12 +74,12 @@ frame_length (of_notify n) = 13 + 4 * length n.values
 abbrev pub HasLength : Type 0
 HasLength = (m : Message) (a : List ℕ) → IsFrame m a → length a ≡ frame_length m
 
--- the shortest frames have 13 bytes and the longest 366
+-- the shortest frames have 13 bytes and the longest 875
 abbrev pub IsWithin : Type 0
-IsWithin = (m : Message) (a : List ℕ) → IsFrame m a → (13 ≤ length a) × (length a ≤ 366)
+IsWithin = (m : Message) (a : List ℕ) → IsFrame m a → (13 ≤ length a) × (length a ≤ 875)
 
 -- and there are such frames
 abbrev pub LimitsAreReached : Type 0
 LimitsAreReached =
     ((m : Message) × (a : List ℕ) × IsFrame m a × (length a ≡ 13))
-    × ((m : Message) × (a : List ℕ) × IsFrame m a × (length a ≡ 366))
+    × ((m : Message) × (a : List ℕ) × IsFrame m a × (length a ≡ 875))

@@ -1,18 +1,27 @@
 -- What contracts of private functions say of frames that are read, kind by kind.
-use Rattle.std.specs.Prelude.{ℕ, List, length, Result, Ok, Err, ◌==◌, if◌then◌else◌}
+use Rattle.std.specs.Prelude.{◌≡◌, ℕ, List, [], ◌++◌, length, Result, Ok, Err, ◌==◌}
+use Rattle.std.specs.Prelude.{if◌then◌else◌}
+use Rattle.std.specs.List.{flat_map}
 use Rattle.std.specs.Int.{w16, w64}
 use Rattle.bip_model.specs.declared.messages.Notify.{Notify}
 use Rattle.bip_model.specs.declared.messages.Offer.{Offer}
 use Rattle.bip_model.specs.declared.messages.Reply.TheVariants.{Granted, Refused}
 use Rattle.bip_model.specs.declared.messages.Reply.{Reply}
 use Rattle.bip_model.specs.declared.messages.Request.{Request}
+use Rattle.bip_model.specs.declared.reasons.Why.{Why}
 use Rattle.bip_model.specs.declared.wants.Want.{Want}
-use Rattle.bip_frame.specs.Entries.{read_wants}
+use Rattle.bip_frame.specs.Entries.{one_moves, read_entries, read_reasons}
+use Rattle.bip_frame.specs.Faults.{Parts, IsList}
 use Rattle.bip_frame.specs.Fields.{◌>>=◌, read_byte, read_number, read_positive, read_port}
 use Rattle.bip_frame.specs.Fields.{read_values, read_head}
 use Rattle.bip_frame.specs.Frames.{Head, Message, of_offer, of_request, of_reply, of_notify}
-use Rattle.bip_frame.specs.declared.faults.FrameFault.TheVariants.{Kind, Long}
+use Rattle.bip_frame.specs.declared.faults.FrameFault.TheVariants.{Kind, Long, NoMover}
 use Rattle.bip_frame.specs.declared.faults.FrameFault.{FrameFault}
+
+-- parts that were passed lie at the front of a list
+pub record Lies {A : Type 0} (p : Parts A) (xs : List A) (list rest : List ℕ) : Type 0 where
+  pub are : IsList p xs
+  pub spelled : list ≡ flat_map p.spell xs ++ rest
 
 -- messages, by what their fields say
 
@@ -20,13 +29,14 @@ abbrev pub offer_made : ℕ → ℕ → ℕ → List ℕ → Offer
 offer_made comp number ports values =
     record { comp = record { 0 = comp }; number = number; ports = ports; values = values }
 
-abbrev pub request_made : Head → List Want → Request
-request_made head wants =
+abbrev pub request_made : Head → List Want → List Why → Request
+request_made head wants reasons =
     record {
       class = record { 0 = head.class };
       request = head.request;
       inter = record { 0 = head.inter };
       wants = wants;
+      reasons = reasons;
     }
 
 abbrev pub granted_made : Head → ℕ → Reply
@@ -76,11 +86,23 @@ read_refused bytes = do
   used ← read_positive comp.1
   Ok (refused_made head.0 comp.0 used.0, used.1)
 
+-- a request, of which one entry must move its component
+abbrev pub if_moving : Request → List ℕ → Result (Request × List ℕ) FrameFault
+if_moving request rest = if one_moves request.wants then Ok (request, rest) else Err NoMover
+
 unfoldable pub read_request : List ℕ → Result (Request × List ℕ) FrameFault
 read_request bytes = do
   head ← read_head bytes
-  wants ← read_wants head.1
-  Ok (request_made head.0 wants.0, wants.1)
+  wants ← read_entries head.1
+  if_moving (request_made head.0 wants.0 []) wants.1
+
+-- a request with reasons
+unfoldable pub read_explained : List ℕ → Result (Request × List ℕ) FrameFault
+read_explained bytes = do
+  head ← read_head bytes
+  wants ← read_entries head.1
+  reasons ← read_reasons wants.1
+  if_moving (request_made head.0 wants.0 reasons.0) reasons.1
 
 -- what was read, as a message
 abbrev pub as_message : {A : Type 0} → (A → Message) → Result (A × List ℕ) FrameFault
@@ -94,6 +116,7 @@ of_kind kind rest =
     else if kind == 3 then as_message of_reply (read_granted rest)
     else if kind == 4 then as_message of_reply (read_refused rest)
     else if kind == 5 then as_message of_notify (read_notify rest)
+    else if kind == 6 then as_message of_request (read_explained rest)
     else Err Kind
 
 -- a frame at the front

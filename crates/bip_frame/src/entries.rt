@@ -1,27 +1,31 @@
 //! Entries of a request: what each wants of which component.
-ghost use Rattle.std.specs.Prelude.{◌≡◌, ◌||◌, ◌<◌, Err, length};
+ghost use Rattle.std.specs.Prelude.{◌≡◌, ◌||◌, ◌<◌, Err, IfOk, length};
 ghost use Rattle.bip_model.specs.Wants.{is_moved};
-ghost use Rattle.bip_frame.specs.Entries.{passed, read_comp, read_count, read_entries, read_entry};
-ghost use Rattle.bip_frame.specs.Entries.{read_role, read_wants};
+ghost use Rattle.bip_frame.specs.Entries.{one_moves, passed, read_entries, read_entry, read_parts};
+ghost use Rattle.bip_frame.specs.Entries.{read_role};
+ghost use Rattle.bip_frame.specs.Faults.{entry_parts};
 ghost use Rattle.bip_frame.specs.Fields.{Gives};
+ghost use Rattle.bip_frame.specs.Frames.{comp_of};
 ghost use Rattle.bip_frame.specs.Lent.{wants_in};
+ghost use Rattle.bip_frame.specs.Reading.{Lies};
 
 use crate::FrameFault;
-use crate::fields::{take_byte, take_positive, take_u16};
-use crate::frames::{ENTRY, LentEntries};
+use crate::fields::{take_byte, take_count, take_positive, take_rising};
+use crate::frames::ENTRY;
 use crate::lent::role_of;
 use bip_model::{CompId, Role, Want};
 
-/// A component that isn't below the lowest one that may stand there.
-#[tactic(auto, unfolding(crate::specs::Entries::read_comp))]
-fn take_comp(low: u32, bytes: &[u8]) -> Result<(u16, &[u8]), FrameFault>
-    ensures { Gives (λ x. (x.0, x.1.now)) result (read_comp low bytes.now) }
-{
-    let (comp, rest) = take_u16(bytes)?;
-    if (comp as u32) < low {
-        return Err(FrameFault::Order);
-    }
-    Ok((comp, rest))
+/// The most entries of a request.
+const MOST_ENTRIES: u8 = 32;
+
+/// Entries that were passed: so many at the front of a list, and what stands behind them.
+#[derive(Clone, Copy)]
+pub(crate) struct PassedEntries<'a> {
+    pub(crate) list: &'a [u8],
+    pub(crate) rest: &'a [u8],
+    pub(crate) count: u8,
+    /// Whether one of them moves its component.
+    pub(crate) moved: bool,
 }
 
 #[tactic(auto, unfolding(crate::specs::Entries::read_role))]
@@ -40,7 +44,7 @@ fn take_role(bytes: &[u8]) -> Result<(Role, &[u8]), FrameFault>
 fn take_entry(low: u32, bytes: &[u8]) -> Result<(Want, &[u8]), FrameFault>
     ensures { Gives (λ x. (x.0, x.1.now)) result (read_entry low bytes.now) }
 {
-    let (comp, rest) = take_comp(low, bytes)?;
+    let (comp, rest) = take_rising(low, bytes)?;
     let (role, rest) = take_role(rest)?;
     let (number, rest) = take_positive(rest)?;
     Ok((
@@ -90,8 +94,10 @@ fn moves(moved: bool, role: Role) -> bool
 
 /// Passes so many entries, each with a component above the one before: whether one of them moves
 /// its component, and the bytes behind them.
+#[inline(always)]
 fn pass_entries(count: u8, bytes: &[u8]) -> Result<(bool, &[u8]), FrameFault>
-    ensures { Gives (λ x. (x.0, x.1.now)) result (passed (read_entries count 0 bytes.now)) }
+    ensures { Gives (λ x. (x.0, x.1.now)) result
+        (passed one_moves (read_parts read_entry comp_of count 0 bytes.now)) }
 {
     let mut moved = false;
     let mut low: u32 = 0;
@@ -105,29 +111,23 @@ fn pass_entries(count: u8, bytes: &[u8]) -> Result<(bool, &[u8]), FrameFault>
     Ok((moved, rest))
 }
 
-/// How many entries there are.
-#[tactic(auto, unfolding(crate::specs::Entries::read_count))]
-fn take_count(bytes: &[u8]) -> Result<(u8, &[u8]), FrameFault>
-    ensures { Gives (λ x. (x.0, x.1.now)) result (read_count bytes.now) }
+/// A count of entries, and the entries. Requests without reasons and those with some each have this
+/// in place, so that neither pays for the other.
+#[inline(always)]
+#[tactic(auto, unfolding(crate::specs::Entries::read_list))]
+pub(crate) fn take_entries(bytes: &[u8]) -> Result<PassedEntries, FrameFault>
+    ensures read { Gives (λ x. (wants_in x.count x.list.now, x.rest.now)) result
+        (read_entries bytes.now) }
+    ensures lie { IfOk result
+        (λ x. Lies entry_parts (wants_in x.count x.list.now) x.list.now x.rest.now) }
+    ensures moved { IfOk result (λ x. x.moved ≡ one_moves (wants_in x.count x.list.now)) }
 {
-    let (count, rest) = take_byte(bytes)?;
-    if count == 0 || 32 < count {
-        return Err(FrameFault::Count);
-    }
-    Ok((count, rest))
-}
-
-/// A count of entries, and the entries, of which one moves its component.
-#[tactic(auto, unfolding(crate::specs::Entries::read_wants))]
-pub(crate) fn take_wants(bytes: &[u8]) -> Result<(LentEntries, &[u8]), FrameFault>
-    ensures { Gives (λ x. (wants_in x.0.count x.0.entries.now, x.1.now)) result
-        (read_wants bytes.now) }
-{
-    let (count, list) = take_count(bytes)?;
+    let (count, list) = take_count(MOST_ENTRIES, bytes)?;
     let (moved, rest) = pass_entries(count, list)?;
-    if !moved {
-        return Err(FrameFault::NoMover);
-    }
-    let (entries, _) = list.split_at(ENTRY * count as usize);
-    Ok((LentEntries { entries, count }, rest))
+    Ok(PassedEntries {
+        list,
+        rest,
+        count,
+        moved,
+    })
 }

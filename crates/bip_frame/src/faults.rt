@@ -6,19 +6,19 @@ use std::fmt;
 use thiserror::Error;
 
 /// Why bytes are no frame: the first fault from left to right. Each field is tested first for being
-/// there; a request without a mover is told of behind its entries, and bytes past the end last
-/// (docs/FRAMES.md, "Faults").
+/// there; a request without a mover is told of behind its entries and reasons, and bytes past the
+/// end last (docs/FRAMES.md, "Faults").
 #[derive(Clone, Copy, Debug, Error, PartialEq, Eq)]
 pub enum FrameFault {
     /// The first byte is that of no kind.
     Kind,
     /// A field passes the end.
     Short,
-    /// More than eight values; no entry, or more than 32.
+    /// More than eight values; no entry, or more than 32; a count of no reasons, or above 127.
     Count,
     /// A role is neither 0 nor 1.
     Role,
-    /// A component isn't above the one before.
+    /// The component of an entry, or the interaction of a reason, isn't above the one before.
     Order,
     /// No entry moves its component.
     NoMover,
@@ -39,7 +39,7 @@ impl fmt::Display for FrameFault {
             FrameFault::Short => write!(f, "too short"),
             FrameFault::Count => write!(f, "wrong count"),
             FrameFault::Role => write!(f, "no role"),
-            FrameFault::Order => write!(f, "components out of order"),
+            FrameFault::Order => write!(f, "out of order"),
             FrameFault::NoMover => write!(f, "nothing moves"),
             FrameFault::ZeroNumber => write!(f, "number 0"),
             FrameFault::PortNo => write!(f, "no port number"),

@@ -1,6 +1,7 @@
 //! Fields at the front of bytes: what a field says, and the bytes behind it.
 ghost use Rattle.std.specs.Prelude.{◌≡◌};
 ghost use Rattle.std.specs.Int.{w16, w64};
+ghost use Rattle.bip_frame.specs.Entries.{read_count, read_rising};
 ghost use Rattle.bip_frame.specs.Fields.{Gives, read_byte, read_head, read_number, read_port};
 ghost use Rattle.bip_frame.specs.Fields.{read_positive, read_values};
 ghost use Rattle.bip_frame.specs.Lent.{values_in};
@@ -88,6 +89,30 @@ pub(crate) fn take_values(bytes: &[u8]) -> Result<(LentValues, &[u8]), FrameFaul
     }
     let (vars, rest) = rest.split_at(len);
     Ok((LentValues { vars, count }, rest))
+}
+
+/// A number that isn't below the lowest one that may stand there.
+#[tactic(auto, unfolding(crate::specs::Entries::read_rising))]
+pub(crate) fn take_rising(low: u32, bytes: &[u8]) -> Result<(u16, &[u8]), FrameFault>
+    ensures { Gives (λ x. (x.0, x.1.now)) result (read_rising low bytes.now) }
+{
+    let (number, rest) = take_u16(bytes)?;
+    if (number as u32) < low {
+        return Err(FrameFault::Order);
+    }
+    Ok((number, rest))
+}
+
+/// How many parts there are: at least one, and at most so many.
+#[tactic(auto, unfolding(crate::specs::Entries::read_count))]
+pub(crate) fn take_count(most: u8, bytes: &[u8]) -> Result<(u8, &[u8]), FrameFault>
+    ensures { Gives (λ x. (x.0, x.1.now)) result (read_count most bytes.now) }
+{
+    let (count, rest) = take_byte(bytes)?;
+    if count == 0 || most < count {
+        return Err(FrameFault::Count);
+    }
+    Ok((count, rest))
 }
 
 #[tactic(auto, unfolding(crate::specs::Fields::read_head))]

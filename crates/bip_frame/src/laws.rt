@@ -8,7 +8,7 @@ ghost use Rattle.bip_frame.specs.Laws.{ReadIsWritten, WrittenIsRead};
 /// A message has one frame, a frame one message, and no frame begins another. Any bytes are a frame
 /// or have one first fault, and not both. What is written is read back, and what is read is written
 /// back. A frame that is cut is too short, and one with more behind it too long. Frames have 13 to
-/// 366 bytes, by their kind and by how many parts they have (docs/FRAMES.md, "Laws").
+/// 875 bytes, by their kind and by how many parts they have (docs/FRAMES.md, "Laws").
 pub fn frame_laws()
     ensures one_frame { OneFrame }
     ensures one_message { OneMessage }

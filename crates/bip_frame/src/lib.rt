@@ -9,6 +9,7 @@ mod frames;
 mod laws;
 mod lent;
 mod reading;
+mod reasons;
 mod views;
 mod writing;
 

@@ -3,17 +3,18 @@ ghost use Rattle.std.specs.Prelude.{◌≡◌, ◌<◌, Err, IfErr, IfOk, IsErrO
 ghost use Rattle.bip_frame.specs.Faults.{IsFirstFault};
 ghost use Rattle.bip_frame.specs.Fields.{Gives};
 ghost use Rattle.bip_frame.specs.Frames.{IsFrame, Message};
-ghost use Rattle.bip_frame.specs.Reading.{read_frame, read_granted, read_notify, read_offer};
-ghost use Rattle.bip_frame.specs.Reading.{read_refused, read_request, read_whole};
+ghost use Rattle.bip_frame.specs.Reading.{read_explained, read_frame, read_granted, read_notify};
+ghost use Rattle.bip_frame.specs.Reading.{read_offer, read_refused, read_request, read_whole};
 ghost use Rattle.bip_frame.specs.Views.{IsLent, message_shown, notify_shown, offer_shown};
 ghost use Rattle.bip_frame.specs.Views.{reply_shown, request_shown};
 ghost use Rattle.bip_frame.specs.declared.faults.FrameFault.{FrameFault};
 
-use crate::entries::take_wants;
+use crate::entries::take_entries;
 use crate::fields::{
     take_byte, take_head, take_port, take_positive, take_u16, take_u64, take_values,
 };
-use crate::frames::SHORTEST;
+use crate::frames::{ENTRY, REASON, SHORTEST};
+use crate::reasons::take_reasons;
 use crate::{Frame, FrameFault, NotifyFrame, OfferFrame, ReplyFrame, ReserveFrame};
 use bip_model::{ClassId, CompId, InterId, PortId};
 
@@ -42,16 +43,46 @@ fn take_request(bytes: &[u8]) -> Result<(ReserveFrame, &[u8]), FrameFault>
     ensures { Gives (λ x. (request_shown x.0, x.1.now)) result (read_request bytes.now) }
 {
     let (head, rest) = take_head(bytes)?;
-    let (wants, rest) = take_wants(rest)?;
+    let wants = take_entries(rest)?;
+    if !wants.moved {
+        return Err(FrameFault::NoMover);
+    }
+    let (parts, _) = wants.list.split_at(ENTRY * wants.count as usize);
     Ok((
         ReserveFrame {
             class: ClassId(head.class),
             request: head.request,
             inter: InterId(head.inter),
             count: wants.count,
-            entries: wants.entries,
+            parts,
         },
-        rest,
+        wants.rest,
+    ))
+}
+
+/// A request with reasons. It is read in place, so that no other kind pays for a call's answer.
+#[inline(always)]
+#[tactic(auto, unfolding(crate::specs::Reading::read_explained))]
+fn take_explained(bytes: &[u8]) -> Result<(ReserveFrame, &[u8]), FrameFault>
+    ensures { Gives (λ x. (request_shown x.0, x.1.now)) result (read_explained bytes.now) }
+{
+    let (head, rest) = take_head(bytes)?;
+    let entries = take_entries(rest)?;
+    let reasons = take_reasons(entries.rest)?;
+    if !entries.moved {
+        return Err(FrameFault::NoMover);
+    }
+    let len = ENTRY * entries.count as usize + 1 + REASON * reasons.count as usize;
+    let (parts, _) = entries.list.split_at(len);
+    Ok((
+        ReserveFrame {
+            class: ClassId(head.class),
+            request: head.request,
+            inter: InterId(head.inter),
+            count: entries.count,
+            parts,
+        },
+        reasons.rest,
     ))
 }
 
@@ -141,6 +172,10 @@ fn take_frame(bytes: &[u8]) -> Result<(Frame, &[u8]), FrameFault>
         5 => {
             let (frame, rest) = take_notify(fields)?;
             Ok((Frame::Notify(frame), rest))
+        }
+        6 => {
+            let (frame, rest) = take_explained(fields)?;
+            Ok((Frame::Reserve(frame), rest))
         }
         _ => Err(FrameFault::Kind),
     }

@@ -1,14 +1,21 @@
 //! What frames show: each field, and the message as a value.
-ghost use Rattle.std.specs.Prelude.{◌≡◌, IfSome, length, slice_get};
+ghost use Rattle.std.specs.Prelude.{◌≡◌, ◌*◌, ◌≤◌, IfSome, length, slice_get};
 ghost use Rattle.std.specs.Option.{option_map};
-ghost use Rattle.bip_frame.specs.Lent.{entry_in};
+ghost use Rattle.bip_frame.specs.Lent.{entry_in, whys_lent};
 ghost use Rattle.bip_frame.specs.Views.{entries_lent, entry_lent, notify_lent, notify_shown};
+ghost use Rattle.bip_frame.specs.Views.{reply_comp, reply_serial, reply_used};
 ghost use Rattle.bip_frame.specs.Views.{offer_lent, offer_shown, reply_class, reply_inter};
-ghost use Rattle.bip_frame.specs.Views.{reply_request, reply_shown, request_shown, want_shown};
+ghost use Rattle.bip_frame.specs.Views.{reasons_lent, reply_request, reply_shown, request_shown};
+ghost use Rattle.bip_frame.specs.Views.{want_shown};
 
-use crate::lent::{comp_at, entry_at, number_at, role_of, value_at, values_of, wants_of};
+use crate::frames::ENTRY;
+use crate::lent::{
+    comp_at, entry_at, number_at, reason_at, reasons_of, role_of, value_at, values_of, wants_of,
+};
 use crate::{EntryPart, NotifyFrame, OfferFrame, ReplyFrame, ReserveFrame};
-use bip_model::{ClassId, CompId, InterId, Notify, Number, Offer, PortId, Reply, Request, Role};
+use bip_model::{
+    ClassId, CompId, InterId, Notify, Number, Offer, PortId, Reasons, Reply, Request, Role, Why,
+};
 
 impl<'a> OfferFrame<'a> {
     /// The component that offers.
@@ -95,10 +102,48 @@ impl<'a> ReserveFrame<'a> {
         ensures lent { IfSome result
             (λ part. entry_lent part ≡ entry_in i (entries_lent self.now)) }
     {
-        entry_at(self.count, self.entries, i)
+        entry_at(self.count, self.parts, i)
     }
 
-    /// The request, as a value. Takes no memory.
+    /// How many reasons there are, and these as they lie in the source, four bytes each.
+    fn listed(&self) -> (u8, &'a [u8])
+        ensures shown { whys_lent result.0 result.1.now ≡ (request_shown self.now).reasons }
+        ensures whole { length result.1.now ≡ 4 * result.0 }
+        ensures lent { result.1.now ≡ reasons_lent self.now }
+        ensures few { result.0 ≤ 127 }
+    {
+        let (_, behind) = self.parts.split_at(ENTRY * self.count as usize);
+        match behind {
+            [] => (0, behind),
+            [count, reasons @ ..] => (*count, reasons),
+        }
+    }
+
+    /// How many reasons there are: at most 127, and none in a frame of kind 02.
+    #[tactic(auto, using(crate::proofs::LentLemmas::whys_counted))]
+    pub fn reason_count(&self) -> usize
+        ensures { result ≡ length (request_shown self.now).reasons }
+    {
+        self.listed().0 as usize
+    }
+
+    /// A reason, by interaction; none where there are no more.
+    pub fn reason(&self, i: usize) -> Option<Why>
+        ensures { result ≡ slice_get (request_shown self.now).reasons i }
+    {
+        let (count, reasons) = self.listed();
+        reason_at(count, reasons, i)
+    }
+
+    /// All reasons, as a value. Takes no memory.
+    pub fn reasons(&self) -> Reasons
+        ensures { result ≡ (request_shown self.now).reasons }
+    {
+        let (count, reasons) = self.listed();
+        reasons_of(count, reasons)
+    }
+
+    /// The request with its reasons, as a value. Takes no memory.
     pub fn value(&self) -> Request
         ensures { result ≡ request_shown self.now }
     {
@@ -106,7 +151,8 @@ impl<'a> ReserveFrame<'a> {
             class: self.class,
             request: self.request,
             inter: self.inter,
-            wants: wants_of(self.count, self.entries),
+            wants: wants_of(self.count, self.parts),
+            reasons: self.reasons(),
         }
     }
 }
@@ -154,6 +200,39 @@ impl<'a> ReplyFrame<'a> {
         ensures { result ≡ reply_inter (reply_shown self.now) }
     {
         self.inter
+    }
+
+    /// The serial of the grant; none where it is a refusal.
+    pub fn serial(&self) -> Option<u64>
+        ensures { result ≡ reply_serial (reply_shown self.now) }
+    {
+        if self.granted {
+            Some(number_at(self.answer))
+        } else {
+            None
+        }
+    }
+
+    /// The component that a refusal names; none where it is a grant.
+    pub fn comp(&self) -> Option<CompId>
+        ensures { result ≡ reply_comp (reply_shown self.now) }
+    {
+        if self.granted {
+            None
+        } else {
+            Some(comp_at(self.answer))
+        }
+    }
+
+    /// The used number that a refusal names; none where it is a grant.
+    pub fn used(&self) -> Option<Number>
+        ensures { result ≡ reply_used (reply_shown self.now) }
+    {
+        if self.granted {
+            None
+        } else {
+            Some(number_at(&self.answer[2..]))
+        }
     }
 
     /// The reply, with the serial of the grant; or the component and its used number.

@@ -1,15 +1,17 @@
 //! Writing: the frame of a message. It is put together in place, and then copied into memory of its
 //! own length, which can be shared: that alone can want memory.
-ghost use Rattle.std.specs.Prelude.{◌≡◌, ◌≤◌, ◌<◌, ◌+◌, ◌*◌, ◌++◌, length, IfOk};
+ghost use Rattle.std.specs.Prelude.{[], ◌≡◌, ◌≤◌, ◌<◌, ◌+◌, ◌*◌, ◌++◌, length, IfOk};
 ghost use Rattle.arrayvec.specs.ArrayVec.{array_vec_len};
 ghost use Rattle.std.specs.List.{AllByRecursion};
-ghost use Rattle.bip_frame.specs.Frames.{IsEntry, IsFrame, IsGranted, IsHead, IsNumbered};
-ghost use Rattle.bip_frame.specs.Frames.{IsRefused, counted_entries, counted_values, entry};
-ghost use Rattle.bip_frame.specs.Frames.{granted_fields, head_fields, of_notify, of_offer};
-ghost use Rattle.bip_frame.specs.Frames.{of_reply, of_request, refused_fields, role_byte};
+ghost use Rattle.bip_model.specs.Reasons.{IsReasons};
+ghost use Rattle.bip_frame.specs.Frames.{FitsInter, IsEntry, IsFrame, IsGranted, IsHead};
+ghost use Rattle.bip_frame.specs.Frames.{IsNumbered, IsRefused, counted_entries, counted_reasons};
+ghost use Rattle.bip_frame.specs.Frames.{counted_values, entry, granted_fields, head_fields};
+ghost use Rattle.bip_frame.specs.Frames.{of_notify, of_offer, of_reply, of_request, reason_entry};
+ghost use Rattle.bip_frame.specs.Frames.{refused_fields, role_byte};
 
 use arrayvec::ArrayVec;
-use bip_model::{Notify, Offer, Reply, Request, Role, Want};
+use bip_model::{Notify, Offer, Reasons, Reply, Request, Role, Want, Why};
 use bytes::Bytes;
 use std::alloc::{AllocError, Global};
 
@@ -17,6 +19,8 @@ use std::alloc::{AllocError, Global};
 const MOST_OF_OFFER: usize = 46;
 
 const MOST_OF_REQUEST: usize = 366;
+
+const MOST_OF_EXPLAINED: usize = 875;
 
 const MOST_OF_REPLY: usize = 23;
 
@@ -83,11 +87,37 @@ fn put_entries<const N: usize>(out: &mut ArrayVec<u8, N>, wants: &[Want])
     requires few { length wants.now ≤ 32 }
     requires room { array_vec_len out.old + (1 + 11 * length wants.now) ≤ N }
     ensures items { out.new.items ≡ out.old.items ++ counted_entries wants.now }
+    ensures len { array_vec_len out.new ≡ array_vec_len out.old + (1 + 11 * length wants.now) }
     ensures fits { AllByRecursion IsEntry wants.now }
 {
     out.push(wants.len() as u8);
     for want in wants {
         put_entry(out, want);
+    }
+}
+
+fn put_reason<const N: usize>(out: &mut ArrayVec<u8, N>, why: Why)
+    requires { array_vec_len out.old + 4 ≤ N }
+    ensures items { out.new.items ≡ out.old.items ++ reason_entry why }
+    ensures len { array_vec_len out.new ≡ array_vec_len out.old + 4 }
+    ensures fits { FitsInter why }
+{
+    put(out, &why.inter.0.to_be_bytes());
+    put(out, &why.cause.number().to_be_bytes());
+}
+
+/// A count of reasons, and the reasons.
+fn put_reasons<const N: usize>(out: &mut ArrayVec<u8, N>, reasons: &Reasons)
+    requires { array_vec_len out.old + (1 + 4 * length reasons.now) ≤ N }
+    ensures items { out.new.items ≡ out.old.items ++ counted_reasons reasons.now }
+    ensures fits { AllByRecursion FitsInter reasons.now }
+{
+    out.push(reasons.len() as u8);
+    for i in 0..reasons.len() {
+        match reasons.get(i) {
+            Some(why) => put_reason(out, why),
+            None => unreachable!(),
+        }
     }
 }
 
@@ -143,9 +173,10 @@ pub fn write_offer(alloc: Global, offer: &Offer) -> Result<Bytes, AllocError>
     Bytes::copy_from_slice(alloc, out.as_slice())
 }
 
-/// The frame of a request, whose number is at least 1.
-pub fn write_reserve(alloc: Global, request: &Request) -> Result<Bytes, AllocError>
-    requires { 1 ≤ request.now.request }
+/// The frame of a request without reasons.
+fn write_bare(alloc: Global, request: &Request) -> Result<Bytes, AllocError>
+    requires numbered { 1 ≤ request.now.request }
+    requires bare { request.now.reasons ≡ [] }
     ensures { IfOk result (IsFrame (of_request request.now)) }
 {
     let wants = request.wants.as_slice();
@@ -154,6 +185,36 @@ pub fn write_reserve(alloc: Global, request: &Request) -> Result<Bytes, AllocErr
     put_head(&mut out, request.class.0, request.request, request.inter.0);
     put_entries(&mut out, wants);
     Bytes::copy_from_slice(alloc, out.as_slice())
+}
+
+/// The frame of a request with reasons. It stands alone, so that its room isn't made for others.
+#[inline(never)]
+fn write_explained(alloc: Global, request: &Request) -> Result<Bytes, AllocError>
+    requires numbered { 1 ≤ request.now.request }
+    requires explained { 1 ≤ length request.now.reasons }
+    requires reasons { IsReasons request.now.reasons }
+    ensures { IfOk result (IsFrame (of_request request.now)) }
+{
+    let wants = request.wants.as_slice();
+    let mut out = ArrayVec::<u8, MOST_OF_EXPLAINED>::new();
+    out.push(6);
+    put_head(&mut out, request.class.0, request.request, request.inter.0);
+    put_entries(&mut out, wants);
+    put_reasons(&mut out, &request.reasons);
+    Bytes::copy_from_slice(alloc, out.as_slice())
+}
+
+/// The frame of a request, whose number is at least 1. Where there are no reasons, less room is
+/// made for it.
+pub fn write_reserve(alloc: Global, request: &Request) -> Result<Bytes, AllocError>
+    requires numbered { 1 ≤ request.now.request }
+    ensures { IfOk result (IsFrame (of_request request.now)) }
+{
+    if request.reasons.len() == 0 {
+        write_bare(alloc, request)
+    } else {
+        write_explained(alloc, request)
+    }
 }
 
 /// The frame of a reply, whose numbers are at least 1.
