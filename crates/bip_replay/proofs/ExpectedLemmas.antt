@@ -21,7 +21,7 @@ use Rattle.bip_model.proofs.PartyLemmas.{in_looks, moved_role}
 use Rattle.bip_model.proofs.WrittenLemmas.{IsWord, name-word, number_of-decimal, pair-word, plain_spaced, words_spaced}
 use Rattle.bip_model.specs.Naming.{name_in}
 use Rattle.bip_model.specs.Numbering.{by_number}
-use Rattle.bip_model.specs.Parties.{AreParties, IsWanted, is_moving, is_seeing}
+use Rattle.bip_model.specs.Parties.{AreParties, IsWanted, SeeAll, is_moving, is_seeing}
 use Rattle.bip_model.specs.Parts.{IsInteraction, IsSystem, Participant, components_in}
 use Rattle.bip_model.specs.Steps.{IsListLookedAt, moves, participants_of}
 use Rattle.bip_model.specs.Texts.{is_comment, is_plain, spaced, words, words_said}
@@ -233,15 +233,18 @@ module _ (p : Standing) (a : ℕ) (ds : List CompId) (valid : IsSystem p.model) 
       λ at. sym (moves_one n) ∙ (moving expected.wants n).0 at,
       λ moves. (moving expected.wants n).1 (moves_one n ∙ moves),
     );
-    seen = λ n. (
-      λ at. (in_looks p.model a ds listed n).1 (sym (sees_one n) ∙ (seeing expected.wants n).0 at),
-      λ looks. (seeing expected.wants n).1 (sees_one n ∙ (in_looks p.model a ds listed n).0 looks),
-    );
+    seen = λ n at. (in_looks p.model a ds listed n).1 (sym (sees_one n) ∙ (seeing expected.wants n).0 at);
   }
     where
       moves_one : (n : ℕ) → list_any (is_moving n) expected.wants ≡ moves p.model a n
       moves_one n = let any = any_wanted (is_moving n) in grind (arith, moving-moved p.used moved_comps n, moving-seen p.used ds n, moved_by (participants_of p.model a) n)
 
+      sees_one : (n : ℕ) → list_any (is_seeing n) expected.wants ≡ is_one n ds
+      sees_one n = let any = any_wanted (is_seeing n) in grind (arith, seeing-moved p.used moved_comps n, seeing-seen p.used ds n)
+
+  all_seen_too : SeeAll p.model a expected.wants
+  all_seen_too n looks = (seeing expected.wants n).1 (sees_one n ∙ (in_looks p.model a ds listed n).0 looks)
+    where
       sees_one : (n : ℕ) → list_any (is_seeing n) expected.wants ≡ is_one n ds
       sees_one n = let any = any_wanted (is_seeing n) in grind (arith, seeing-moved p.used moved_comps n, seeing-seen p.used ds n)
 
@@ -280,7 +283,7 @@ module _ (p : Standing) (a : ℕ) (ds : List CompId) (valid : IsSystem p.model) 
     }
 
     expects : Expects p line a
-    expects = record { grant = expected; reads = line_reads p.model line expected valid line_is; is = record { inter = refl; numbers = numbers; parties = parties } }
+    expects = record { grant = expected; reads = line_reads p.model line expected valid line_is; is = record { inter = refl; numbers = numbers; parties = parties; all = all_seen_too } }
 
   -- so is a line that is written with them
   module _ (line name : List ℕ) (few : length (participants_of p.model a) + length ds ≤ 32) (is : IsNameOf p.model.interaction_names name a) (written : line ≡ codes "grant" ++ flat_map spaced (name ∷ (map (next_word p) moved_comps ++ behind_see (map (next_word p) ds)))) where

@@ -20,7 +20,7 @@ use Rattle.bip_model.specs.States.{State}
 use Rattle.bip_model.specs.Steps.{MayRun, after}
 use Rattle.bip_model.specs.Parties.{AreParties}
 use Rattle.bip_model.proofs.PartyLemmas.{party_known}
-use Rattle.bip_replay.specs.Runs.{is_wrong, HasNextNumber, IsNext, IsRunFrom}
+use Rattle.bip_replay.specs.Runs.{AreEnough, is_wrong, HasNextNumber, IsNext, IsRunFrom}
 use Rattle.bip_replay.specs.Writing.{IsGrantOf}
 use Rattle.bip_replay.specs.Faults.{IsLowestWrong, KnownAreRight}
 
@@ -72,9 +72,9 @@ all_right m used g valid known has = λ k d within.
 
 -- a grant of an interaction that may run, no want of which is wrong and whose wants are of the
 -- parties, is next
-pub next_from_tests : (m : System) (s : State) (used : ℕ → ℕ) (g : Grant) → IsSystem m → MayRun m s g.inter.0 → find (is_wrong (length m.components) used) g.wants ≡ None → AreParties m g.inter.0 g.wants
+pub next_from_tests : (m : System) (s : State) (used : ℕ → ℕ) (g : Grant) → IsSystem m → MayRun m s g.inter.0 → find (is_wrong (length m.components) used) g.wants ≡ None → AreEnough m s g.inter.0 g.wants
     → IsNext m s used g
-next_from_tests m s used g valid may found has = record { may = may; numbers = all_right m used g valid (none_wrong m used g.wants found) has; parties = has }
+next_from_tests m s used g valid may found has = record { may = may; numbers = all_right m used g valid (none_wrong m used g.wants found) has.parties; parties = has.parties; covered = has.covered }
 
 -- a grant that can be next is of the model, and so is each grant of a run
 next_of_model : (m : System) (s : State) (used : ℕ → ℕ) (g : Grant) → IsSystem m

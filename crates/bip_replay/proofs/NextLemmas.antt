@@ -1,5 +1,5 @@
 -- Where a grant that is expected leads: the used numbers of what it moves.
-use Rattle.std.proofs.Common.{◌≡◌, ℕ, ◌+◌, ◌<◌, Bool, true, false, cond, ◌||◌, eqb, eqb-true, eq-eqb, List, [], ◌∷◌, length, take, set, get_or, refl, sym, arith}
+use Rattle.std.proofs.Common.{◌≡◌, ℕ, ◌+◌, ◌<◌, Bool, true, false, cond, ◌||◌, eqb, eqb-true, eq-eqb, List, [], ◌∷◌, length, take, set, get_or, refl, subst, sym, arith}
 use Rattle.std.specs.Prelude.{All}
 use Rattle.std.specs.List.{list_any}
 use Rattle.std.specs.List.Sorted.{IsStrictlyIncreasing}
@@ -10,16 +10,17 @@ use Rattle.std.proofs.lemmas.List.Elements.{All-contains, All-from_get_or, All-h
 use Rattle.std.proofs.lemmas.List.Folds.{list_any-append, list_any_at, list_any_none}
 use Rattle.bip_model.proofs.ListLemmas.{below_later}
 use Rattle.bip_model.proofs.LookLemmas.{moves_known}
+use Rattle.bip_model.proofs.PartyLemmas.{all_parties_cover}
 use Rattle.bip_model.specs.Numbering.{last_number}
-use Rattle.bip_model.specs.Parties.{IsWanted, is_moving}
+use Rattle.bip_model.specs.Parties.{AreParties, CoverAbove, IsWanted, is_moving}
 use Rattle.bip_model.specs.Parts.{IsSystem, Participant, components_in}
-use Rattle.bip_model.specs.Steps.{moves, participants_of}
+use Rattle.bip_model.specs.Steps.{MayRun, moves, participants_of}
 use Rattle.bip_model.specs.Wants.{moved_in, raised}
 use Rattle.bip_model.specs.declared.grants.Grant.{Grant}
 use Rattle.bip_model.specs.declared.wants.Role.TheVariants.{Moved}
 use Rattle.bip_model.specs.declared.wants.Want.{Want}
 use Rattle.bip_replay.specs.Expected.{HasNextIn, IsExpectedGrant, takes_part}
-use Rattle.bip_replay.specs.Runs.{HasNextNumber, Kept, Standing, standing_of}
+use Rattle.bip_replay.specs.Runs.{HasNextNumber, IsNextAt, Kept, Standing, standing_of}
 use Rattle.bip_replay.proofs.ExpectedLemmas.{moving}
 
 -- of components that rise, one isn't among those before it
@@ -94,3 +95,12 @@ expected_next p a g qs valid long is same k d within =
     let inside : c < length p.used = omega (arith, moves_known p.model a c valid.so_far takes) in
     let next : get_or p.used c p.base < last_number = rw (← at.4.0) (omega (arith, has.next, has.fits)) in
     record { known = inside; next = rw (get_or_default p.used c 0 p.base inside) next }
+
+-- an expected grant of an interaction that may run is next
+pub expected_is_next : (p : Standing) (a : ℕ) (g : Grant) → MayRun p.model p.state a → IsExpectedGrant p a g → IsNextAt p g
+expected_is_next p a g may is = record {
+  may = subst (MayRun p.model p.state) (sym is.inter) may;
+  numbers = is.numbers;
+  parties = subst (λ (b : ℕ). AreParties p.model b g.wants) (sym is.inter) is.parties;
+  covered = subst (λ (b : ℕ). CoverAbove p.model p.state b g.wants) (sym is.inter) (all_parties_cover p.model a g.wants is.parties is.all p.state);
+}

@@ -14,7 +14,7 @@ use Rattle.bip_model.specs.Steps.{IsRun, after, end_of, start_of, MayRun}
 use Rattle.bip_model.specs.Wants.{raised, components_of, moved_in}
 use Rattle.bip_model.proofs.StepLemmas.{enabled_or_not}
 use Rattle.bip_model.specs.Parts.{IsSystem}
-use Rattle.bip_model.proofs.PartyLemmas.{parties_decided}
+use Rattle.bip_model.proofs.PartyLemmas.{cover_decided, parties_decided}
 use Rattle.bip_replay.specs.Runs.{HasNextNumber, IsModelRun, IsNext, IsRunFrom, interactions_of, state_after, used_after, is_wrong, IsNextAt, StandsAfter, Standing, standing_after, standing_on}
 use Rattle.bip_replay.specs.declared.faults.StepFault.{StepFault}
 use Rattle.bip_replay.specs.declared.faults.StepFault.TheVariants.{NotEnabled, Below, Number, Parties}
@@ -115,8 +115,11 @@ next_or_fault m s used g valid rising = elim (enabled_or_not m s g.inter.0) [
     by_wrong may (Some w) e = inr (Number w.comp (expected_after (used w.comp.0)), (may, lowest_wrong m used g.wants w rising e, refl))
     by_wrong may None e =
         elim (parties_decided m g.inter.0 g.wants valid.so_far) [
-          | inl all ↦ inl (next_from_tests m s used g valid may e all)
-          | inr some ↦ inr (Parties, (may, none_wrong m used g.wants e, some))
+          | inl parties ↦ elim (cover_decided m s g.inter.0 g.wants valid.so_far) [
+            | inl covered ↦ inl (next_from_tests m s used g valid may e (record { parties = parties; covered = covered }))
+            | inr bare ↦ inr (Parties, (may, none_wrong m used g.wants e, λ enough. bare enough.covered))
+          ]
+          | inr some ↦ inr (Parties, (may, none_wrong m used g.wants e, λ enough. some enough.parties))
         ]
 
 -- a grant with a fault isn't next
@@ -124,7 +127,7 @@ pub not_next : (m : System) (s : State) (used : ℕ → ℕ) (g : Grant) (fault 
 not_next m s used g NotEnabled why next = why next.may.enabled
 not_next m s used g (Below b) why next = next.may.clear b.0 why.1.above why.1.enabled
 not_next m s used g (Number c expected) why next = let at = why.1.wrong in let has = next.numbers at.0 at.1 at.2 in grind arith
-not_next m s used g Parties why next = why.2 next.parties
+not_next m s used g Parties why next = why.2 (record { parties = next.parties; covered = next.covered })
 
 -- what can be next where grants lead goes on from them
 pub run_on : (m : System) (base : ℕ) (gs : List Grant) (p : Standing) (g : Grant) → StandsAfter m base gs p → IsNextAt p g → IsModelRun m base (gs ++ g ∷ [])

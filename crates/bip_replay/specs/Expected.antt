@@ -8,7 +8,7 @@ use Rattle.std.specs.Prelude.{slice_index, ℕ}
 use Rattle.std.specs.Prelude.{◌+◌, ◌++◌, ◌<◌, ◌==◌, ◌∷◌, ◌≡◌, ◌≤◌}
 use Rattle.bip_model.specs.Naming.{IsName, name_in}
 use Rattle.bip_model.specs.Numbering.{last_number}
-use Rattle.bip_model.specs.Parties.{AreParties}
+use Rattle.bip_model.specs.Parties.{AreParties, SeeAll}
 use Rattle.bip_model.specs.Parts.{IsSystem, Participant}
 use Rattle.bip_model.specs.Steps.{IsListLookedAt, participants_of}
 use Rattle.bip_model.specs.Texts.{spaced, words}
@@ -22,11 +22,13 @@ use Rattle.bip_replay.specs.Writing.{behind_see}
 
 -- What contracts of private functions say.
 
--- a grant is expected of an interaction: it has its parties, each by the number of its next move
+-- a grant is expected of an interaction: it has all its parties, each by the number of its next
+-- move
 pub record IsExpectedGrant (p : Standing) (a : ℕ) (g : Grant) : Type 0 where
   pub inter : g.inter.0 ≡ a
   pub numbers : All (HasNextNumber p.used) g.wants
   pub parties : AreParties p.model a g.wants
+  pub all : SeeAll p.model a g.wants
 
 -- there is such a grant
 abbrev pub HasExpected : Standing → ℕ → Type 0

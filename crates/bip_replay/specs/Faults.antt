@@ -8,8 +8,7 @@ use Rattle.bip_model.specs.Steps.{IsEnabled, IsLowestAbove, MayRun}
 use Rattle.bip_model.specs.declared.grants.Grant.{Grant}
 use Rattle.bip_model.specs.declared.wants.Want.{Want}
 use Rattle.bip_model.specs.declared.parts.System.{System}
-use Rattle.bip_model.specs.Parties.{AreParties}
-use Rattle.bip_replay.specs.Runs.{HasNextNumber, Standing}
+use Rattle.bip_replay.specs.Runs.{AreEnough, HasNextNumber, Standing}
 use Rattle.bip_replay.specs.declared.faults.BookFault.TheVariants as book
 use Rattle.bip_replay.specs.declared.faults.BookFault.{BookFault}
 use Rattle.bip_replay.specs.declared.faults.LineFault.TheVariants as line
@@ -45,7 +44,7 @@ IsFaultOf m s used g (Below b) = IsEnabled m s g.inter.0 × IsLowestAbove m s g.
 IsFaultOf m s used g (Number c expected) =
     MayRun m s g.inter.0 × IsLowestWrong m used g.wants c.0 × (expected ≡ expected_after (used c.0))
 IsFaultOf m s used g Parties =
-    MayRun m s g.inter.0 × KnownAreRight m used g.wants × ¬ AreParties m g.inter.0 g.wants
+    MayRun m s g.inter.0 × KnownAreRight m used g.wants × ¬ AreEnough m s g.inter.0 g.wants
 
 -- why a grant can't come next
 abbrev pub IsFaultAt : Standing → Grant → StepFault → Type 0

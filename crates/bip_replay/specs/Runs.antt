@@ -7,7 +7,7 @@ use Rattle.bip_model.specs.Grants.{used_by}
 use Rattle.bip_model.specs.States.{State, state_of}
 use Rattle.bip_model.specs.Steps.{MayRun, after, end_of, start_of}
 use Rattle.bip_model.specs.Numbering.{last_number}
-use Rattle.bip_model.specs.Parties.{AreParties}
+use Rattle.bip_model.specs.Parties.{AreParties, CoverAbove}
 use Rattle.bip_model.specs.Wants.{is_moved, raised}
 use Rattle.bip_model.specs.declared.grants.Grant.{Grant}
 use Rattle.bip_model.specs.declared.wants.Want.{Want}
@@ -19,11 +19,18 @@ pub record HasNextNumber (used : ℕ → ℕ) (w : Want) : Type 0 where
   pub next : w.number ≡ used w.comp.0 + 1
   pub fits : w.number ≤ last_number
 
+-- wants of an interaction are enough in a state: they are of its parties, and cover what is above
+-- it there
+pub record AreEnough (m : System) (s : State) (a : ℕ) (wants : List Want) : Type 0 where
+  pub parties : AreParties m a wants
+  pub covered : CoverAbove m s a wants
+
 -- a grant may come next in a state, after the used numbers
 pub record IsNext (m : System) (s : State) (used : ℕ → ℕ) (g : Grant) : Type 0 where
   pub may : MayRun m s g.inter.0
   pub numbers : All (HasNextNumber used) g.wants
   pub parties : AreParties m g.inter.0 g.wants
+  pub covered : CoverAbove m s g.inter.0 g.wants
 
 -- grants, each of which may come next where those before it lead
 abbrev pub IsRunFrom : System → State → (ℕ → ℕ) → List Grant → Type 0

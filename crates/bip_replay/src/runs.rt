@@ -1,13 +1,13 @@
 //! A position in a run: the state and the used numbers to which grants lead, without the grants.
-ghost use Rattle.std.specs.Prelude.{◌≡◌, ◌==◌, ◌<◌, ℕ, [], length, find, IsTrue, IfOk, IfErr, OnOk};
-ghost use Rattle.std.specs.Prelude.{OnErr, All, ◌+◌, if◌then◌else◌};
+ghost use Rattle.std.specs.Prelude.{◌≡◌, ◌↔◌, ◌==◌, ◌<◌, ℕ, [], length, find, IsTrue, IfOk};
+ghost use Rattle.std.specs.Prelude.{IfErr, OnOk, OnErr, All, ◌+◌, if◌then◌else◌};
 ghost use Rattle.std.specs.List.Sorted.{IsStrictlyIncreasing};
 ghost use Rattle.bip_model.specs.Numbering.{last_number};
 ghost use Rattle.bip_model.specs.Wants.{components_of, is_moved, raised, used_up};
 ghost use Rattle.bip_model.specs.declared.wants.Want.{Want};
 ghost use Rattle.bip_model.specs.Parts.{Participant, components_in};
 ghost use Rattle.bip_replay.specs.Expected.{HasNextIn, takes_part};
-ghost use Rattle.bip_replay.specs.Runs.{AreMovedWithin, StandsAfter};
+ghost use Rattle.bip_replay.specs.Runs.{AreEnough, AreMovedWithin, StandsAfter};
 ghost use Rattle.bip_replay.specs.Runs.{standing_of, used_in};
 
 use crate::{GrantRef, StepFault};
@@ -100,10 +100,19 @@ impl<'m> Position<'m> {
         if let Some(want) = self.first_wrong(model.components().len(), wants) {
             return Err(StepFault::Number(want.comp, self.expected(want.comp)));
         }
-        if !model.are_parties(inter, wants) {
+        if !self.are_enough(inter, wants) {
             return Err(StepFault::Parties);
         }
         Ok(())
+    }
+
+    /// Whether wants are of an interaction's parties, and cover what is above it.
+    fn are_enough(&self, inter: InterId, wants: &[Want]) -> bool
+        requires { inter.0 < length self.now.model.interactions }
+        ensures { IsTrue result
+            ↔ AreEnough self.now.model (standing_of self.now).state inter.0 wants.now }
+    {
+        self.model.are_parties(inter, wants) && self.model.cover_above(&self.state, inter, wants)
     }
 
     /// Goes on by the grant that is expected of an interaction. Where that may not run, this is

@@ -16,14 +16,14 @@ returns-in-Some-clause-fault c =
       rw (← c.self.view_is) at c.expected.ensures,
     )
 
-pub returns-then-not-are_parties-clause-fault : goal.returns-then-not-are_parties-clause-fault
-returns-then-not-are_parties-clause-fault c =
+pub returns-then-not-are_enough-clause-fault : goal.returns-then-not-are_enough-clause-fault
+returns-then-not-are_enough-clause-fault c =
     let none = sym (rw (← c.self.view_is) at (rw c.wants-wants.ensures.wants at c.in_default.ensures)) in
     let may = rw c.inter-inter.ensures at (rw (← c.self.view_is) at c.in_ok-may_run.ensures.may) in
     rw (← c.self.view_is) (
       may,
       none_wrong c.self.inside.model.now (λ k. slice_index_or c.self.inside.used k c.self.inside.base) c.args.grant.now.wants (rw (← c.components.ensures.components) none),
-      λ has. false≢true ((rw c.wants-wants.ensures.wants at (rw c.inter-inter.ensures at c.if-not-are_parties.ensures)).1 has),
+      λ has. false≢true ((rw c.wants-wants.ensures.wants at (rw c.inter-inter.ensures at (rw (← c.self.view_is) at c.if-not-are_enough.ensures))).1 has),
     )
 
 pub returns-clause-next : goal.returns-clause-next
@@ -31,7 +31,7 @@ returns-clause-next c =
     let none = sym (rw (← c.self.view_is) at (rw c.wants-wants.ensures.wants at c.in_default.ensures)) in
     let may = rw c.inter-inter.ensures at (rw (← c.self.view_is) at c.in_ok-may_run.ensures.may) in
     rw (← c.self.view_is)
-    (next_from_tests _ _ (λ k. slice_index_or c.self.inside.used k c.self.inside.base) c.args.grant.now c.components.ensures.valid may (rw (← c.components.ensures.components) none) ((rw c.wants-wants.ensures.wants at (rw c.inter-inter.ensures at c.if-not-are_parties.ensures)).0 refl))
+    (next_from_tests _ _ (λ k. slice_index_or c.self.inside.used k c.self.inside.base) c.args.grant.now c.components.ensures.valid may (rw (← c.components.ensures.components) none) ((rw c.wants-wants.ensures.wants at (rw c.inter-inter.ensures at (rw (← c.self.view_is) at c.if-not-are_enough.ensures))).0 refl))
 
 pub returns-in_err-may_run-clause-fault : goal.returns-in_err-may_run-clause-fault
 returns-in_err-may_run-clause-fault c =
