@@ -1,28 +1,31 @@
 -- One answer to a try and to a reply; what is past stays past.
-use Rattle.std.proofs.Common.{◌≡◌, ◌⊎◌, ℕ, ◌+◌, ◌<◌, ◌≤◌, cond, max, List, Option, Some, None, inl, inr, refl, sym, ap, ◌∙◌, subst, arith}
+use Rattle.std.proofs.Common.{◌≡◌, ◌⊎◌, ℕ, ◌+◌, ◌<◌, ◌≤◌, cond, max, List, [], Option, Some, None, inl, inr, refl, sym, ap, ◌∙◌, subst, arith}
 use Rattle.std.specs.Prelude.{◌==◌}
 use Rattle.std.proofs.lemmas.Bool.{eq-eqb}
 use Rattle.std.proofs.lemmas.Bool.Decides.{eqb_tells}
 use Rattle.bip_model.specs.Numbering.{IsLowest, put}
-use Rattle.bip_model.specs.Parties.{AreParties}
+use Rattle.bip_model.specs.Parties.{AreExplained, AreParties}
 use Rattle.bip_model.specs.declared.grants.Grant.{Grant}
 use Rattle.bip_model.specs.declared.messages.Notify.{Notify}
 use Rattle.bip_model.specs.declared.messages.Reply.{Reply}
 use Rattle.bip_model.specs.declared.messages.Reply.TheVariants.{Granted, Refused}
 use Rattle.bip_model.specs.declared.messages.Request.{Request}
 use Rattle.bip_model.specs.declared.numbering.InterId.{InterId}
+use Rattle.bip_model.specs.declared.reasons.Why.{Why}
 use Rattle.bip_model.specs.declared.wants.Want.{Want}
 use Rattle.bip_model.proofs.FoundLemmas.{lowest_same}
 use Rattle.bip_model.proofs.WantLemmas.{one_wants_each}
 use Rattle.bip_partition.specs.Plans.{IsReserved}
+use Rattle.bip_observe.proofs.ReasonLemmas.{one_reasons_each}
 use Rattle.bip_observe.proofs.VerdictLemmas.{one_verdict}
+use Rattle.bip_ip.proofs.SufficeLemmas.{asked_suffices}
 use Rattle.bip_observe.specs.Offers.{Observed}
 use Rattle.bip_observe.specs.Verdicts.{offers_of}
 use Rattle.bip_observe.specs.declared.verdicts.Verdict.{Verdict}
 use Rattle.bip_observe.specs.declared.verdicts.Verdict.TheVariants.{Ready}
 use Rattle.bip_observe.specs.declared.offers.Receipt.TheVariants.{Held, Old, Stranger}
 use Rattle.bip_ip.specs.Laws.{AskedFits, AskedStandsInTheWay, IsPast, NextOnlyRises, OneAnswerToAReply, OneAnswerToATry, PastStays, RefusalsTeach, TakenOnce, hears, request_in, takes, tries}
-use Rattle.bip_ip.specs.Nodes.{Awaits, CanBeAsked, ClassNode, IsNextRequest, IsOwn, IsReplyTo, IsTried, StandsInTheWay, inter_in}
+use Rattle.bip_ip.specs.Nodes.{AreWanted, Awaits, CanBeAsked, ClassNode, IsNextRequest, IsOwn, IsReplyTo, IsTried, StandsInTheWay, inter_in}
 use Rattle.bip_ip.specs.declared.nodes.Answered.TheVariants.{Told, Dropped, Stale}
 use Rattle.bip_ip.specs.declared.nodes.OpenRecord.{OpenRecord}
 use Rattle.bip_ip.specs.declared.nodes.Tried.{Tried}
@@ -41,16 +44,18 @@ same_grant a b wants others inter is = ap (λ (n : ℕ). grant_by n wants) inter
 same_local : (g h : Grant) (notifies others : List Notify) → g ≡ h → notifies ≡ others → Local g notifies ≡ Local h others
 same_local g h notifies others grant is = ap (λ (x : Grant). Local x notifies) grant ∙ ap (Local h) is
 
-abbrev request_by : ℕ → ℕ → ℕ → List Want → Request
-request_by class number a wants = record { wants = wants; request = number; class = record { 0 = class }; inter = inter_of a }
+abbrev request_by : ℕ → ℕ → ℕ → List Why → List Want → Request
+request_by class number a reasons wants = record { wants = wants; reasons = reasons; request = number; class = record { 0 = class }; inter = inter_of a }
 
-same_request : (k l n i a b : ℕ) (wants others : List Want) → k ≡ l → n ≡ i → a ≡ b → wants ≡ others → request_by k n a wants ≡ request_by l i b others
-same_request k l n i a b wants others class number inter is = rw (class, number, inter, is) refl
+same_request : (k l n i a b : ℕ) (ys zs : List Why) (wants others : List Want) → k ≡ l → n ≡ i → a ≡ b → ys ≡ zs → wants ≡ others → request_by k n a ys wants ≡ request_by l i b zs others
+same_request k l n i a b ys zs wants others class number inter because is = rw (class, number, inter, because, is) refl
 
 next_request : (v : ClassNode) (a : ℕ) (q r : Request) → IsNextRequest v a q → IsNextRequest v a r → q ≡ r
 next_request v a q r one other =
-    same_request q.class.0 r.class.0 q.request r.request q.inter.0 r.inter.0 q.wants r.wants (one.class ∙ sym other.class) (one.number ∙ sym other.number) (one.inter ∙ sym other.inter)
-    (one_wants_each v.offers.plan.model (offers_of v.offers) a q.wants r.wants one.wants other.wants)
+    let because = one_reasons_each v.offers a q.reasons r.reasons one.reasons other.reasons in
+    let theirs = subst (λ (ys : List Why). AreWanted v a ys r.wants) (sym because) other.wants in
+    same_request q.class.0 r.class.0 q.request r.request q.inter.0 r.inter.0 q.reasons r.reasons q.wants r.wants (one.class ∙ sym other.class) (one.number ∙ sym other.number) (one.inter ∙ sym other.inter) because
+    (one_wants_each v.offers.plan.model (offers_of v.offers) a q.reasons q.wants r.wants one.wants theirs)
 
 foreign_alone : (v : ClassNode) (a : ℕ) (other : Tried) → (¬ IsOwn v a) → IsTried v a other → Foreign ≡ other
 foreign_alone v a Foreign not_own also = refl
@@ -85,7 +90,7 @@ local_alone v a g notifies Foreign tried also = absurd (also tried.0.own)
 local_alone v a g notifies (Pending c) tried also = absurd (tried.0.free c.0 also.1.here)
 local_alone v a g notifies (Not x) tried also = absurd (asked_alone v a x tried.0 also)
 local_alone v a g notifies (Local h others) tried also =
-    same_local g h notifies others (same_grant g.inter.0 h.inter.0 g.wants h.wants (tried.2 ∙ sym also.2) (one_wants_each v.offers.plan.model (offers_of v.offers) a g.wants h.wants tried.3 also.3)) (tried.4 ∙ sym also.4)
+    same_local g h notifies others (same_grant g.inter.0 h.inter.0 g.wants h.wants (tried.2 ∙ sym also.2) (one_wants_each v.offers.plan.model (offers_of v.offers) a [] g.wants h.wants tried.3 also.3)) (tried.4 ∙ sym also.4)
 local_alone v a g notifies Ended tried also = absurd (tried.1 also.1)
 local_alone v a g notifies (Sent r) tried also = absurd (tried.1 also.1)
 
@@ -143,6 +148,7 @@ asked_fits v a q tried =
       reserved = subst (IsReserved v.offers.plan) (sym next.inter) tried.1;
       class = rw next.inter (next.class ∙ sym tried.0.own.class);
       parties = subst (λ (b : ℕ). AreParties v.offers.plan.model b q.wants) (sym next.inter) next.wants.parties;
+      explained = subst (λ (b : ℕ). AreExplained v.offers.plan.model b q.wants q.reasons) (sym next.inter) (asked_suffices v a q tried).explained;
     }
 
 pub asked_stands_in_the_way : AskedStandsInTheWay

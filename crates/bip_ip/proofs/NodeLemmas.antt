@@ -38,7 +38,7 @@ parties_touched p a wants planned parties k d within =
     let there = get_or_default wants k w d within in
     elim (moved_or_seen wants w (k, within, there)) [
       | inl moved ↦ class_touches p planned a w.comp.0 (inl ((parties.moved w.comp.0).0 (k, w, within, there, (refl, moved))))
-      | inr seen ↦ class_touches p planned a w.comp.0 (inr ((parties.seen w.comp.0).0 seen))
+      | inr seen ↦ class_touches p planned a w.comp.0 (inr (parties.seen w.comp.0 seen))
     ]
 
 pub class_touched : (p : Planned) (a class : ℕ) (wants : List Want) → IsPlanned p → AreParties p.model a wants → class_in p.classes a ≡ class → All (λ (w : Want). ClassTouches p class w.comp.0) wants

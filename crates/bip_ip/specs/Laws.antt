@@ -1,5 +1,6 @@
 -- What the definitions mean, in the subject's own words: laws that a reviewer reads.
-use Rattle.std.specs.Prelude.{◌≡◌, ◌⊎◌, ◌==◌, ℕ, ◌<◌, ◌≤◌, true, map, max, Any, Contains, Some}
+use Rattle.std.specs.Prelude.{◌≡◌, ◌⊎◌, ◌==◌, ℕ, ◌<◌, ◌≤◌, [], List, true, map, max, All, Any}
+use Rattle.std.specs.Prelude.{Contains, Some}
 use Rattle.std.specs.Prelude.{count_by, if◌then◌else◌}
 use Rattle.std.specs.List.Sorted.{IsStrictlyIncreasing}
 use Rattle.std.specs.Option.{option_map}
@@ -12,7 +13,11 @@ use Rattle.bip_model.specs.declared.messages.Reply.{Reply}
 use Rattle.bip_model.specs.declared.messages.Reply.TheVariants.{Granted, Refused}
 use Rattle.bip_model.specs.declared.messages.Request.{Request}
 use Rattle.bip_model.specs.declared.parts.System.{System}
+use Rattle.bip_model.specs.declared.reasons.Why.{Why}
 use Rattle.bip_model.specs.declared.wants.Want.{Want}
+use Rattle.bip_model.specs.declared.grants.Grant.{Grant}
+use Rattle.bip_model.specs.Parties.{AreExplained, HasWantOf}
+use Rattle.bip_observe.specs.Verdicts.{OfferCounts, IsReady, IsTrueOf, offers_of}
 use Rattle.bip_partition.specs.Plans.{InConflict, IsFit}
 use Rattle.bip_observe.specs.Laws.{MovedAreOwn, MovedShow}
 use Rattle.bip_observe.specs.Offers.{IsReceipt}
@@ -24,7 +29,7 @@ use Rattle.bip_ip.specs.Nodes.{StandsInTheWay, after_offer, after_try, with_reco
 use Rattle.bip_ip.specs.declared.nodes.Answered.{Answered}
 use Rattle.bip_ip.specs.declared.nodes.OpenRecord.{OpenRecord}
 use Rattle.bip_ip.specs.declared.nodes.Tried.{Tried}
-use Rattle.bip_ip.specs.declared.nodes.Tried.TheVariants.{Sent}
+use Rattle.bip_ip.specs.declared.nodes.Tried.TheVariants.{Local, Sent}
 
 -- what is told goes to components that the interaction moves
 abbrev pub TellsWhatMoves : Type 0
@@ -70,6 +75,25 @@ LeadsToTheStep =
 abbrev pub AskedFits : Type 0
 AskedFits =
     (v : ClassNode) (a : ℕ) (q : Request) → IsTried v a (Sent q) → IsFit v.offers.plan q
+
+-- reasons and wants of a node suffice for an interaction: they explain it, and are true; the offers
+-- of what is wanted count, and by these alone it is ready
+pub record Suffice (v : ClassNode) (a : ℕ) (reasons : List Why) (wants : List Want) : Type 0 where
+  pub explained : AreExplained v.offers.plan.model a wants reasons
+  pub so : All (λ (y : Why).
+      IsTrueOf v.offers.plan.model (offers_of v.offers) y.inter.0 y.cause) reasons
+  pub counted : (c : ℕ) → HasWantOf wants c → OfferCounts v.offers c
+  pub ready : IsReady v.offers.plan.model (offers_of v.offers) (HasWantOf wants) a
+
+-- so do those of what it asks for, and of what it grants itself
+abbrev pub AskedSuffices : Type 0
+AskedSuffices =
+    (v : ClassNode) (a : ℕ) (q : Request) → IsTried v a (Sent q) → Suffice v a q.reasons q.wants
+
+abbrev pub LocalSuffices : Type 0
+LocalSuffices =
+    (v : ClassNode) (a : ℕ) (g : Grant) (notifies : List Notify) → IsTried v a (Local g notifies)
+    → Suffice v a [] g.wants
 
 -- a request that is open stands in the way of its interaction, and of each in conflict with it
 abbrev pub AskedStandsInTheWay : Type 0

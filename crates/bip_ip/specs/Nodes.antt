@@ -1,5 +1,5 @@
 -- Interaction protocol nodes: what the node of a class has, what it answers, and what that leaves.
-use Rattle.std.specs.Prelude.{◌≡◌, ◌≢◌, ◌⊎◌, ℕ, ◌+◌, ◌<◌, ◌≤◌, List, Option, None, Some, length}
+use Rattle.std.specs.Prelude.{◌≡◌, ◌≢◌, ◌⊎◌, ℕ, ◌+◌, ◌<◌, ◌≤◌, [], List, Option, None, Some, length}
 use Rattle.std.specs.Prelude.{slice_index_or, is_some, Any, IsSome}
 use Rattle.bip_model.specs.Numbering.{IsLowest, last_number, put}
 use Rattle.bip_model.specs.Parties.{AreWantsBy}
@@ -11,11 +11,12 @@ use Rattle.bip_model.specs.declared.messages.Offer.{Offer}
 use Rattle.bip_model.specs.declared.messages.Reply.{Reply}
 use Rattle.bip_model.specs.declared.messages.Reply.TheVariants.{Granted, Refused}
 use Rattle.bip_model.specs.declared.messages.Request.{Request}
+use Rattle.bip_model.specs.declared.reasons.Why.{Why}
 use Rattle.bip_model.specs.declared.wants.Want.{Want}
 use Rattle.bip_partition.specs.Plans.{ClassTouches, InConflict, IsFit, IsReserved, Planned}
 use Rattle.bip_observe.specs.Offers.{KeptOffers, Observed, nothing_held, observed, with_held}
 use Rattle.bip_observe.specs.Offers.{with_known}
-use Rattle.bip_observe.specs.Verdicts.{IsVerdict, offers_of}
+use Rattle.bip_observe.specs.Verdicts.{AreReasonsBy, IsVerdict, offers_of}
 use Rattle.bip_observe.specs.declared.offers.Receipt.{Receipt}
 use Rattle.bip_observe.specs.declared.offers.Receipt.TheVariants.{Held, Old, Stranger}
 use Rattle.bip_observe.specs.declared.verdicts.Verdict.TheVariants.{Ready}
@@ -75,9 +76,11 @@ pub record CanBeAsked (v : ClassNode) (a : ℕ) : Type 0 where
   pub free : (b : ℕ) → ¬ StandsInTheWay v a b
   pub ready : IsVerdict v.offers a Ready
 
--- the wants of an interaction by the offers that the node holds, and what its components are told
-abbrev pub AreWanted : ClassNode → ℕ → List Want → Type 0
-AreWanted v a wants = AreWantsBy v.offers.plan.model (offers_of v.offers) a wants
+-- the wants of an interaction by the offers that the node holds, with reasons, and what its
+-- components are told
+abbrev pub AreWanted : ClassNode → ℕ → List Why → List Want → Type 0
+AreWanted v a reasons wants =
+    AreWantsBy v.offers.plan.model (offers_of v.offers) a reasons wants
 
 abbrev pub told_of : ClassNode → ℕ → List Notify
 told_of v a = told_by v.offers.plan.model (offers_of v.offers) a
@@ -87,11 +90,12 @@ pub record IsNextRequest (v : ClassNode) (a : ℕ) (q : Request) : Type 0 where
   pub class : q.class.0 ≡ v.offers.class
   pub number : q.request ≡ v.next
   pub inter : q.inter.0 ≡ a
-  pub wants : AreWanted v a q.wants
+  pub reasons : AreReasonsBy v.offers a q.reasons
+  pub wants : AreWanted v a q.reasons q.wants
 
 -- what a node answers to a try of an interaction, the first that applies: it isn't of its class;
 -- this is the lowest that stands in its way; by its offers it isn't ready; it is local, and granted
--- at once; no request number is left; the request is sent
+-- at once, with wants of what it moves alone; no request number is left; the request is sent
 abbrev pub IsTried : ClassNode → ℕ → Tried → Type 0
 IsTried v a Foreign = ¬ IsOwn v a
 IsTried v a (Pending b) = IsOwn v a × IsLowest (StandsInTheWay v a) b.0
@@ -99,7 +103,8 @@ IsTried v a (Not verdict) =
     IsOwn v a × ((b : ℕ) → ¬ StandsInTheWay v a b) × IsVerdict v.offers a verdict
     × (verdict ≢ Ready)
 IsTried v a (Local g notifies) =
-    CanBeAsked v a × (¬ IsReserved v.offers.plan a) × (g.inter.0 ≡ a) × AreWanted v a g.wants
+    CanBeAsked v a × (¬ IsReserved v.offers.plan a) × (g.inter.0 ≡ a)
+    × AreWanted v a [] g.wants
     × (notifies ≡ told_of v a)
 IsTried v a Ended = CanBeAsked v a × IsReserved v.offers.plan a × (last_number < v.next)
 IsTried v a (Sent q) =

@@ -1,33 +1,73 @@
 //! What a class asks for, and what it tells the components, by the offers that it holds.
-ghost use Rattle.std.specs.Prelude.{◌≡◌, ◌<◌, ◌≤◌, length, map, zip};
+ghost use Rattle.std.specs.Prelude.{◌≡◌, ◌<◌, ◌≤◌, All, length, map, zip};
+ghost use Rattle.std.specs.List.{list_any};
+ghost use Rattle.bip_model.specs.declared.reasons.Why.{Why};
+ghost use Rattle.bip_observe.specs.Laws.{IsSound};
 ghost use Rattle.bip_model.specs.Parties.{AreWantsBy};
 ghost use Rattle.bip_observe.specs.Offers.{observed};
 ghost use Rattle.bip_observe.specs.Verdicts.{AllCount, offers_of};
-ghost use Rattle.bip_ip.specs.Asking.{notify_of, told_by, want_by};
+ghost use Rattle.bip_ip.specs.Asking.{is_wanted, names, notify_of, told_by, want_by};
 
 use bip_model::{
-    CompId, InterId, MOST_PARTICIPANTS, MOST_WANTS, Notifies, Notify, Number, PortId, Role, Values,
-    Want, Wants,
+    Cause, CompId, InterId, MOST_PARTICIPANTS, MOST_WANTS, Model, Notifies, Notify, Number, PortId,
+    Reasons, Role, Values, Want, Wants,
 };
 use bip_observe::Offers;
 
-/// What an interaction wants, by the offers that are held: of each component that it touches the
-/// number of its offer.
-pub(crate) fn wants_by(offers: &Offers<'_>, inter: InterId) -> Wants
+/// What an interaction wants, by the offers that are held, with these reasons: of each component
+/// that it moves, or that a reason names, the number of its offer.
+pub(crate) fn wants_by(offers: &Offers<'_>, inter: InterId, reasons: &Reasons) -> Wants
     requires declared { inter.0 < length offers.now.plan.model.interactions }
     requires counted { AllCount (observed offers.now) inter.0 }
-    ensures { AreWantsBy offers.now.plan.model (offers_of (observed offers.now)) inter.0 result }
+    requires sound { All (IsSound (observed offers.now) inter.0) reasons.now }
+    ensures { AreWantsBy offers.now.plan.model (offers_of (observed offers.now)) inter.0
+        reasons.now result }
 {
     let plan = offers.plan();
     plan.recall();
     let touched = plan.touches(inter);
     let mut wants = [Want::default(); MOST_WANTS];
-    for (place, comp) in touched.iter().enumerate() {
-        wants[place] = want_by(offers, inter, *comp);
+    let mut count = 0;
+    for comp in touched {
+        if is_wanted(plan.model(), inter, reasons, *comp) {
+            wants[count] = want_by(offers, inter, *comp);
+            count += 1;
+        }
     }
-    match Wants::of(&wants[..touched.len()]) {
+    match Wants::of(&wants[..count]) {
         Some(wants) => wants,
         None => unreachable!(),
+    }
+}
+
+/// Whether an interaction moves a component, or reasons name it.
+fn is_wanted(model: &Model, inter: InterId, reasons: &Reasons, comp: CompId) -> bool
+    ensures { result ≡ is_wanted model.now inter.0 reasons.now comp.0 }
+{
+    model.moves(inter, comp) || is_named(model, reasons, comp)
+}
+
+fn is_named(model: &Model, reasons: &Reasons, comp: CompId) -> bool
+    ensures { result
+        ≡ list_any (λ (y : Why). names model.now y.inter.0 y.cause comp.0) reasons.now }
+{
+    for place in 0..reasons.len() {
+        if let Some(why) = reasons.get(place) {
+            if names(model, why.inter, why.cause, comp) {
+                return true;
+            }
+        }
+    }
+    false
+}
+
+/// Whether the cause of an interaction's reason names a component.
+fn names(model: &Model, inter: InterId, cause: Cause, comp: CompId) -> bool
+    ensures { result ≡ names model.now inter.0 cause comp.0 }
+{
+    match cause {
+        Cause::Port(one) => one == comp,
+        Cause::Guard => model.moves(inter, comp),
     }
 }
 

@@ -19,10 +19,10 @@ use crate::asking::{told_by, wants_by};
 use crate::records::Records;
 use bip_frame::{OfferFrame, ReplyFrame};
 use bip_model::{
-    ClassId, Grant, InterId, Notifies, Number, Offer, Reply, Request, Role, Want, lowest_inter,
-    with_inter, without_inter,
+    ClassId, Grant, InterId, Notifies, Number, Offer, Reasons, Reply, Request, Role, Want,
+    lowest_inter, with_inter, without_inter,
 };
-use bip_observe::{Offers, Receipt, Verdict, decide};
+use bip_observe::{Offers, Receipt, Verdict, decide, reasons};
 use bip_partition::Plan;
 use std::alloc::{AllocError, Global};
 use std::marker;
@@ -196,20 +196,26 @@ impl<'p> IpNode<'p> {
         ensures tried { IsTried (node_of self.old) inter.0 result }
         ensures left { node_of self.new ≡ after_try inter.0 result (node_of self.old) }
     {
-        let wants = wants_by(&self.offers, inter);
         let notifies = told_by(&self.offers, inter);
         let plan = self.offers.plan();
         plan.recall();
         if !plan.reserved(inter) {
-            let grant = Grant { inter, wants };
+            let moved = wants_by(&self.offers, inter, &Reasons::none());
+            let grant = Grant {
+                inter,
+                wants: moved,
+            };
             learn(&mut self.offers, grant.wants.as_slice());
             return Tried::Local(grant, notifies);
         }
         let Ok(number) = u64::try_from(self.next) else {
             return Tried::Ended;
         };
+        let because = reasons(plan, &self.offers, inter);
+        let wants = wants_by(&self.offers, inter, &because);
         let request = Request {
             wants,
+            reasons: because,
             request: number,
             class: self.offers.class(),
             inter,

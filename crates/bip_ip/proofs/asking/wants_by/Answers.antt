@@ -1,10 +1,9 @@
-use Rattle.std.proofs.Common.{◌∙◌, subst, sym}
+use Rattle.std.proofs.Common.{◌∙◌, List, subst, sym}
 use Rattle.std.proofs.lemmas.Bool.{false≢true}
-use Rattle.bip_model.specs.Parts.{IsSystem}
 use Rattle.bip_model.specs.Parties.{AreWantsBy}
+use Rattle.bip_model.specs.Parts.{IsSystem}
 use Rattle.bip_model.specs.Wants.{IsWants}
 use Rattle.bip_model.specs.declared.wants.Want.{Want}
-use Rattle.std.proofs.Common.{List}
 use Rattle.bip_partition.specs.Plans.{IsListTouched}
 use Rattle.bip_observe.specs.Offers.{observed}
 use Rattle.bip_observe.specs.Verdicts.{offers_of}
@@ -15,16 +14,18 @@ pub unreachable-requires : goal.unreachable-requires
 unreachable-requires c =
     let v = observed c.args.offers.now in
     let cs = c.touches-touched.result.now in
-    let all = wants_put v.plan.model (offers_of v) c.args.inter.0 cs c.loop-place.wants c.loop-place.place c.loop-place-test.false c.loop-place.auto.place-end c.loop-place.invariant.1 in
+    let reasons = c.args.reasons.now in
+    let all = wants_put v.plan.model (offers_of v) c.args.inter.0 reasons cs c.loop-comp.wants c.loop-comp.comp-index c.loop-comp.count c.loop-comp-test.false c.loop-comp.auto.comp-index-end c.loop-comp.invariant.2 in
     let valid : IsSystem v.plan.model = rw c.plan-plan.ensures.plan at c.recall.ensures.planned.valid in
     let list : IsListTouched v.plan.model c.args.inter.0 cs = rw c.plan-plan.ensures.plan at c.touches-touched.ensures.touches in
-    let are = wants_are v c.args.inter.0 cs valid c.requires.declared c.requires.counted list c.touches-touched.ensures.few in
+    let are = wants_are v c.args.inter.0 reasons cs valid c.requires.declared c.requires.counted c.requires.sound list c.touches-touched.ensures.few in
     false≢true (c.in-None.ensures.exact.1 (subst IsWants (sym all) are))
 
 pub returns : goal.returns
 returns c =
     let v = observed c.args.offers.now in
     let cs = c.touches-touched.result.now in
-    let all = wants_put v.plan.model (offers_of v) c.args.inter.0 cs c.loop-place.wants c.loop-place.place c.loop-place-test.false c.loop-place.auto.place-end c.loop-place.invariant.1 in
+    let reasons = c.args.reasons.now in
+    let all = wants_put v.plan.model (offers_of v) c.args.inter.0 reasons cs c.loop-comp.wants c.loop-comp.comp-index c.loop-comp.count c.loop-comp-test.false c.loop-comp.auto.comp-index-end c.loop-comp.invariant.2 in
     let list : IsListTouched v.plan.model c.args.inter.0 cs = rw c.plan-plan.ensures.plan at c.touches-touched.ensures.touches in
-    subst (λ (ws : List Want). AreWantsBy v.plan.model (offers_of v) c.args.inter.0 ws) (sym (c.in-Some.ensures.wants ∙ all)) (wants_by_offers v.plan.model (offers_of v) c.args.inter.0 cs list)
+    subst (λ (ws : List Want). AreWantsBy v.plan.model (offers_of v) c.args.inter.0 reasons ws) (sym (c.in-Some.ensures.wants ∙ all)) (wants_by_offers v c.args.inter.0 reasons cs c.requires.sound list)
