@@ -52,7 +52,7 @@ have_rows c is q fit = λ k d within.
   where
     by_role : (w : Want) (k : ℕ) → k < length q.wants → get_or q.wants k w ≡ w → (r : Role) → w.role ≡ r → Touches c.plan.model q.inter.0 w.comp.0
     by_role w k within at Moved role = inl ((fit.parties.moved w.comp.0).0 (k, w, within, at, (refl, role)))
-    by_role w k within at Seen role = inr ((fit.parties.seen w.comp.0).0 (k, w, within, at, (refl, role)))
+    by_role w k within at Seen role = inr (fit.parties.seen w.comp.0 (k, w, within, at, (refl, role)))
 
 -- a plan has one list of stations
 pub stations_same : (p : Planned) (xs ys : List InterId) → AreStations p xs → AreStations p ys → xs ≡ ys

@@ -1,5 +1,6 @@
 //! How a bank begins: the table of a plan before any grant, and no open request.
-ghost use Rattle.std.specs.Prelude.{◌≡◌, [], IfOk, map, replicate};
+ghost use Rattle.std.specs.Prelude.{◌≡◌, ◌<◌, [], IfOk, map, replicate};
+ghost use Rattle.bip_model.specs.Numbering.{last_number};
 ghost use Rattle.bip_bank.specs.Opening.{IsListTabled, IsOpening};
 
 use crate::Queue;
@@ -11,6 +12,7 @@ use std::alloc::{AllocError, Global};
 /// The table of a plan at the start: a row of each component that has one, whose floor and used
 /// number are the base.
 pub fn first_table(alloc: Global, plan: &Plan, base: Number) -> Result<Table, AllocError>
+    requires { base < last_number }
     ensures { IfOk result (IsOpening plan.now base) }
 {
     let tabled = list_tabled(alloc, plan)?;

@@ -45,7 +45,7 @@ want_touches m a ws c parties at = by_role at.1.role refl
   where
     by_role : (r : Role) → at.1.role ≡ r → Touches m a c
     by_role Moved role = inl ((parties.moved c).0 (at.0, at.1, at.2, at.3, (at.4, role)))
-    by_role Seen role = inr ((parties.seen c).0 (at.0, at.1, at.2, at.3, (at.4, role)))
+    by_role Seen role = inr (parties.seen c (at.0, at.1, at.2, at.3, (at.4, role)))
 
 -- the used number is at most what is at least the base and each number of a grant
 pub used_least : (n : Net) (gs : List Grant) (c k : ℕ) → n.base ≤ k → ((g : Grant) → Contains gs g → moved_in g.wants c ≤ k) → used_by_all n gs c ≤ k

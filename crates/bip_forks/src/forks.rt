@@ -2,7 +2,8 @@
 ghost use Rattle.std.specs.Prelude.{◌≡◌, ◌<◌, [], IfErr, IfNone, IfOk, IfSome, OnErr, OnOk, length};
 ghost use Rattle.std.specs.Prelude.{ℕ};
 ghost use Rattle.bip_bank.specs.Banks.{CanWantMemory, DoesStep, IsActed, content_of, with_request};
-ghost use Rattle.bip_forks.specs.Kept.{kept_forks, machine_of, station_at};
+ghost use Rattle.bip_model.specs.Numbering.{last_number};
+ghost use Rattle.bip_forks.specs.Kept.{CanLack, kept_forks, machine_of, station_at};
 ghost use Rattle.bip_forks.specs.Laws.{AreNew};
 ghost use Rattle.bip_forks.specs.Machines.{AreForks, IsForkStep, waiting_for};
 ghost use Rattle.bip_forks.specs.Opening.{IsNewForks};
@@ -60,6 +61,7 @@ impl<'p> Forks<'p> {
     /// its stations, its numbers are the base, and its request token is with the higher; nothing is
     /// in flight, and all used numbers are the base.
     pub fn new(alloc: Global, plan: &'p Plan, base: Number) -> Result<Forks<'p>, AllocError>
+        requires { base < last_number }
         ensures content { IfOk result (λ bank. IsNewForks plan.now base
             (content_of (kept_forks bank))) }
         ensures machine { IfOk result (λ bank. AreNew (machine_of bank)) }
@@ -122,6 +124,8 @@ impl<'p> Bank for Forks<'p> {
         ensures acted { IfOk result (λ acted. IsActed acted (content_of (kept_forks self.old))
             (content_of (kept_forks self.new))) }
         ensures memory { IfErr result (λ e. CanWantMemory (content_of (kept_forks self.old)) step) }
+        // It is wanted only where the step applies, and never to deliver.
+        ensures lacks { IfErr result (λ e. CanLack self.old.parts step) }
         ensures err { OnErr result (content_of (kept_forks self.new)
             ≡ content_of (kept_forks self.old)) }
         ensures same { OnErr result (self.new ≡ self.old) }

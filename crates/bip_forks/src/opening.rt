@@ -1,6 +1,7 @@
 //! How forks begin: each station at first, and what it shares.
 ghost use Rattle.std.specs.Prelude.{◌≡◌, ◌↔◌, ◌<◌, ◌≤◌, All, Contains, IfNone, IfOk, IfSome};
 ghost use Rattle.std.specs.Prelude.{IsTrue, length, map};
+ghost use Rattle.bip_model.specs.Numbering.{last_number};
 ghost use Rattle.bip_model.specs.declared.numbering.CompId.{CompId};
 ghost use Rattle.bip_model.specs.declared.numbering.InterId.{InterId};
 ghost use Rattle.bip_forks.specs.Opening.{AreFirstSides, AreFirstStations, BothTouch, IsCommon};
@@ -25,6 +26,7 @@ impl Station {
         number: StationId,
         base: Number,
     ) -> Result<Option<Station>, AllocError>
+        requires { base < last_number }
         ensures some { IfOk result (λ made. IfSome made (IsNewStation plan.now base number.0)) }
         ensures none { IfOk result (λ made. IfNone made (LacksStation plan.now number.0)) }
     {

@@ -1,5 +1,6 @@
 //! The token of a ring.
-ghost use Rattle.std.specs.Prelude.{◌≡◌, IfOk};
+ghost use Rattle.std.specs.Prelude.{◌≡◌, ◌<◌, IfOk};
+ghost use Rattle.bip_model.specs.Numbering.{last_number};
 ghost use Rattle.bip_bank.specs.Opening.{IsOpening};
 ghost use Rattle.bip_table.specs.Reservations.{IsTableAnswer, reservations};
 ghost use Rattle.bip_ring.specs.Tokens.{IsTokenAfter, with_cut};
@@ -21,6 +22,7 @@ impl Token {
     /// The token of a plan's ring at the start: a row of each component that has one, whose floor
     /// and used number are the base.
     pub fn new(alloc: Global, plan: &Plan, base: Number) -> Result<Token, AllocError>
+        requires { base < last_number }
         ensures { IfOk result (λ token. IsOpening plan.now base token.table) }
     {
         let table = first_table(alloc, plan, base)?;
