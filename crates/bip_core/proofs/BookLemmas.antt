@@ -410,6 +410,7 @@ module _ {p : Planned} {base : ℕ} {u : ℕ → ℕ} {w : View} (h : BooksAgree
             home = its.home;
             reserved = its.reserved;
             wants = its.wants;
+            explained = its.explained;
             below = omega (arith, later j, its.below);
           }
     ];

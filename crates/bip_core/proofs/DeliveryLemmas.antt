@@ -330,7 +330,7 @@ module _ {p : Planned} {base : ℕ} {u : ℕ → ℕ} {s : State} {w : View} (h 
 
     -- the component that the refusal names is wanted
     pub was_wanted : Any (λ (v : Want). v.comp.0 ≡ c.0) e.request.wants
-    was_wanted = refusal.wanted
+    was_wanted = let at = refusal.wanted in (at.0, at.1, at.2, at.3, at.4.0)
 
     -- and its used number is all that the class learns
     pub refused : (learnt : ℕ → ℕ) → ((b : ℕ) → w.known k.0 b ≤ learnt b)

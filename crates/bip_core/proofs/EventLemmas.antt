@@ -1,5 +1,11 @@
 -- Each event of a world keeps it in agreement with its trace: what its clause says of the node that
 -- it addresses is one of the steps over views.
+use Rattle.std.specs.Prelude.{All}
+use Rattle.bip_observe.specs.Verdicts.{IsTrueOf}
+use Rattle.bip_ip.proofs.SufficeLemmas.{asked_suffices, local_suffices}
+use Rattle.bip_ip.specs.Laws.{Suffice}
+use Rattle.bip_model.specs.Parties.{AreExplained}
+use Rattle.bip_model.specs.declared.reasons.Why.{Why}
 use Rattle.std.proofs.Common.{◌≡◌, ℕ, ◌+◌, ◌≤◌, max, cond, List, [], ◌∷◌, ◌++◌, Option, Some}
 use Rattle.std.proofs.Common.{refl, sym, ap, ◌∙◌, subst, arith}
 use Rattle.std.specs.Prelude.{◌==◌, IsSomeAnd}
@@ -270,16 +276,35 @@ module _ {p : Planned} (planned : IsPlanned p) {base : ℕ} {w : WorldContent} (
     its_plan : node.offers.plan ≡ p
     its_plan = (nodes.classes k.0 node at).0 ∙ plan
 
-    takes_up : CanBeAsked node a.0 → Takes p before k.0 a.0 (offers_of node.offers)
-    takes_up can =
-        subst (λ (x : Planned). Takes x before k.0 a.0 (offers_of node.offers)) its_plan
-        (takes base w k.0 node at a.0 (nodes.classes k.0 node at).1 can)
+    takes_up : (reasons : List Why) (wants : List Want) → CanBeAsked node a.0
+        → Suffice node a.0 reasons wants
+        → Takes p before k.0 a.0 (offers_of node.offers) wants
+    takes_up reasons wants can enough =
+        subst (λ (x : Planned). Takes x before k.0 a.0 (offers_of node.offers) wants) its_plan
+        (takes base w k.0 node at a.0 reasons wants (nodes.classes k.0 node at).1 can enough)
 
-    wanted_by : {wants : List Want}
-        → AreWantsBy node.offers.plan.model (offers_of node.offers) a.0 wants
-        → AreWantsBy p.model (offers_of node.offers) a.0 wants
-    wanted_by {wants} by =
-        subst (λ (x : Planned). AreWantsBy x.model (offers_of node.offers) a.0 wants) its_plan by
+    wanted_by : {reasons : List Why} {wants : List Want}
+        → AreWantsBy node.offers.plan.model (offers_of node.offers) a.0 reasons wants
+        → AreWantsBy p.model (offers_of node.offers) a.0 reasons wants
+    wanted_by {reasons} {wants} by =
+        subst (λ (x : Planned). AreWantsBy x.model (offers_of node.offers) a.0 reasons wants)
+        its_plan by
+
+    so_by : (reasons : List Why)
+        → All (λ (y : Why). IsTrueOf node.offers.plan.model (offers_of node.offers) y.inter.0
+        y.cause) reasons
+        → All (λ (y : Why). IsTrueOf p.model (offers_of node.offers) y.inter.0 y.cause) reasons
+    so_by reasons so =
+        subst
+        (λ (x : Planned).
+        All (λ (y : Why). IsTrueOf x.model (offers_of node.offers) y.inter.0 y.cause) reasons)
+        its_plan so
+
+    explained_by : (reasons : List Why) (wants : List Want)
+        → AreExplained node.offers.plan.model a.0 wants reasons
+        → AreExplained p.model a.0 wants reasons
+    explained_by reasons wants is =
+        subst (λ (x : Planned). AreExplained x.model a.0 wants reasons) its_plan is
 
     told_is : told_by node.offers.plan.model (offers_of node.offers) a.0
         ≡ told_by p.model (offers_of node.offers) a.0
@@ -291,17 +316,20 @@ module _ {p : Planned} (planned : IsPlanned p) {base : ℕ} {w : WorldContent} (
     tries : (did : Tried) → IsTried node a.0 did → (sent : List Message)
         → AreSent p (Tries did) sent → Keeps p base (tried_by did) sent
     tries (tried.Local g notifies) (can, local, names, by, tells) sent sends =
+        let enough = local_suffices node a.0 g notifies (can, local, names, by, tells) in
         keeps_same refl (sends ∙ ap are_notified (tells ∙ told_is))
         (keeps (tried_by (tried.Local g notifies))
         (ap (λ (x : View). record x { trace = w.trace ++ g ∷ [] })
         (learned_view base w k.0 node at g.wants))
-        (grants planned h (takes_up can) (wanted_by by)
+        (grants planned h (takes_up [] g.wants can enough) (wanted_by by)
         (λ is. local (subst (λ (x : Planned). IsReserved x a.0) (sym its_plan) is)) names))
     tries (tried.Sent q) (can, reserved, room, next) sent sends =
+        let enough = asked_suffices node a.0 q (can, reserved, room, next) in
         keeps_same refl sends
         (keeps (tried_by (tried.Sent q))
         (recorded_view base w k.0 node at a.0 q ∙ ap recording told_is)
-        (asks planned h (takes_up can) (wanted_by next.wants)
+        (asks planned h (takes_up q.reasons q.wants can enough) (wanted_by next.wants)
+        (so_by q.reasons enough.so) (explained_by q.reasons q.wants enough.explained)
         (subst (λ (x : Planned). IsReserved x a.0) its_plan reserved)
         (next.number ∙ sym (next_is base w k.0 node at))
         (next.class ∙ (nodes.classes k.0 node at).1) next.inter))
@@ -336,7 +364,7 @@ module _ {p : Planned} (planned : IsPlanned p) {base : ℕ} {w : WorldContent} (
       keeps_same refl sends
       (keeps (acted_by did later)
       (ap (λ (b : BankContent). view_of base (acted_by did b)) decided.after)
-      (refuses planned h decided.oldest c used v among so.0 decided.decision.1))
+      (refuses planned h decided.oldest c used v among so decided.decision.1))
   acts did later is sent none =
       keeps_same refl none
       (quiet (record w { bank = later })

@@ -162,7 +162,7 @@ told_fits p v a valid plan own can = subst (λ (q : Planned). All (CanBeTold q) 
     sound = subst (λ (x : Planned). IsSystem x.model) (sym plan) valid
 
     counted : All (λ (r : Participant). IsTrue (is_counted v.offers r.0.0)) (participants_of m a)
-    counted k d within = can.ready.0 _ (inl (moves_each m a k d within))
+    counted k d within = can.ready.moved _ (moves_each m a k d within)
 
     same : counts (values_told m o a) ≡ counts_of m.components (participants_of m a)
     same = counts-transferred (transfer_of m a) (values_offered m o a) ∙ counts_held v.offers (participants_of m a) own counted

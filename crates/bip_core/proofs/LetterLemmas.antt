@@ -1,8 +1,8 @@
 -- Letters and the messages that they are; what is sent is accepted by those for whom it is.
-use Rattle.std.proofs.Common.{◌≡◌, ℕ, ◌≤◌, ◌<◌, List, [], ap, get_or, inl, inr, length, map, refl, slice_get, subst, sym}
+use Rattle.std.proofs.Common.{◌≡◌, ℕ, ◌≤◌, ◌<◌, true, List, [], ◌∷◌, ap, get_or, inl, inr, length, map, refl, slice_get, subst, sym}
 use Rattle.std.specs.Prelude.{All, Contains, IsSomeAnd}
 use Rattle.std.proofs.lemmas.List.{get_or_default}
-use Rattle.std.proofs.lemmas.List.Elements.{All-cons, All-map, All-nil}
+use Rattle.std.proofs.lemmas.List.Elements.{All-cons, All-map, All-nil, Contains-get_or}
 use Rattle.std.proofs.lemmas.Option.{slice_get_cases}
 use Rattle.bip_model.specs.Messages.{IsOfferOf}
 use Rattle.bip_model.specs.declared.messages.Notify.{Notify}
@@ -11,6 +11,16 @@ use Rattle.bip_model.specs.declared.messages.Reply.{Reply}
 use Rattle.bip_model.specs.declared.messages.Request.{Request}
 use Rattle.bip_model.specs.declared.numbering.ClassId.{ClassId}
 use Rattle.bip_model.specs.declared.parts.Component.{Component}
+use Rattle.bip_model.specs.Parties.{AreExplained, HasWantOf}
+use Rattle.bip_model.specs.Parts.{IsSystem}
+use Rattle.bip_model.specs.Reasons.{IsNamedBy}
+use Rattle.bip_model.specs.Steps.{moves}
+use Rattle.bip_model.specs.declared.reasons.Cause.{Cause}
+use Rattle.bip_model.specs.declared.reasons.Cause.TheVariants.{Guard, Port}
+use Rattle.bip_model.specs.declared.reasons.Why.{Why}
+use Rattle.bip_model.specs.declared.wants.Want.{Want}
+use Rattle.bip_model.proofs.AboveLemmas.{IsAbove-high}
+use Rattle.bip_model.proofs.LookLemmas.{moves_known}
 use Rattle.bip_model.proofs.PartyLemmas.{party_known}
 use Rattle.bip_partition.proofs.ClassLemmas.{class_known}
 use Rattle.bip_partition.proofs.TableLemmas.{reserved_known}
@@ -26,6 +36,7 @@ use Rattle.bip_frame.specs.Views.{reply_class}
 use Rattle.bip_model.specs.declared.messages.Reply.TheVariants as reply
 use Rattle.bip_frame.specs.Frames.{IsFrame, of_notify, of_offer, of_reply, of_request}
 use Rattle.bip_frame.proofs.ReadingLemmas.{whole_again}
+use Rattle.bip_core.specs.Accepting.{HasCause, HasReason}
 use Rattle.bip_core.specs.Events.{AreSent, SendsWhatFits, class_named}
 use Rattle.bip_core.specs.Letters.{CanBeHandedOn, CanBeOffered, CanBeSubmitted, CanBeTold, IsLetterOf, IsNumberedRequest, address_of, as_spelled, message_at, message_in}
 use Rattle.bip_core.specs.Worlds.{AreOffersOf}
@@ -127,6 +138,20 @@ told_numbered p notifies all = λ k d within. let can = all k d within in (can.s
 all_told : (p : Planned) (notifies : List Notify) → All (CanBeTold p) notifies → All (CanBeHandedOn p) (map (λ n. NotifyComponent n) notifies)
 all_told p notifies all = All-map (CanBeHandedOn p) (λ n. NotifyComponent n) notifies (λ i d within. told_accepted p _ (all i d within))
 
+-- what reasons name is there
+cause_known : (p : Planned) (b : ℕ) (cause : Cause) (wants : List Want) → IsSystem p.model → ((c : ℕ) → IsNamedBy p.model b cause c → (moves p.model b c ≡ true) × HasWantOf wants c) → HasCause p cause
+cause_known p b (Port c) wants valid borne = moves_known p.model b c.0 valid.so_far (borne c.0 refl).0
+cause_known p b Guard wants valid borne = tt
+
+reasons_known : (p : Planned) (a : ℕ) (wants : List Want) (reasons : List Why) → IsSystem p.model → AreExplained p.model a wants reasons → All (HasReason p) reasons
+reasons_known p a wants [] valid are = All-nil (HasReason p)
+reasons_known p a wants (y ∷ ys) valid are = λ k d within.
+    let z = get_or (y ∷ ys) k d in
+    let at = Contains-get_or (y ∷ ys) k d within in (
+      IsAbove-high (length p.model.interactions) p.model.priorities a z.inter.0 valid.so_far.priorities ((are.each z.inter.0).0 (at.0, z, at.1, at.2, refl)),
+      cause_known p z.inter.0 z.cause wants valid (are.borne k d within),
+    )
+
 -- a request
 pub asked_accepted : (p : Planned) (q : Request) → IsPlanned p → CanBeSubmitted p q → CanBeHandedOn p (RequestToBank q)
 asked_accepted p q planned can =
@@ -138,6 +163,7 @@ asked_accepted p q planned can =
           rw can.fit.class (class_known p q.inter.0 planned declared),
           declared,
           λ i d within. party_known p.model q.inter.0 q.wants _ planned.valid can.fit.parties (i, within, get_or_default q.wants i _ d within),
+          reasons_known p q.inter.0 q.wants q.reasons planned.valid can.fit.explained,
         );
       };
       fits = can.fit;

@@ -8,6 +8,7 @@ use Rattle.bip_model.proofs.LawLemmas.{others_stay}
 use Rattle.bip_model.specs.Grants.{used_by}
 use Rattle.bip_model.specs.Messages.{Shows, ShowsState}
 use Rattle.bip_model.specs.Numbering.{put}
+use Rattle.bip_model.specs.Parties.{HasWantOf}
 use Rattle.bip_model.specs.Parts.{IsSystem}
 use Rattle.bip_model.specs.States.{State}
 use Rattle.bip_model.specs.Steps.{after, moves, start_of}
@@ -18,10 +19,11 @@ use Rattle.bip_model.specs.declared.messages.Offer.{Offer}
 use Rattle.bip_model.specs.declared.messages.Request.{Request}
 use Rattle.bip_model.specs.declared.parts.System.{System}
 use Rattle.bip_model.specs.declared.states.LocalState.{LocalState}
+use Rattle.bip_model.specs.declared.reasons.Why.{Why}
 use Rattle.bip_model.specs.declared.wants.Want.{Want}
 use Rattle.bip_bank.specs.Decisions.{grant_of}
 use Rattle.bip_observe.specs.Laws.{AllShow}
-use Rattle.bip_observe.proofs.ShowLemmas.{ready_may_run}
+use Rattle.bip_observe.proofs.ShowLemmas.{covered_there, ready_may_run}
 use Rattle.bip_replay.specs.Runs.{HasNextNumber, IsNext}
 use Rattle.bip_replay.proofs.RunLemmas.{IsRunFrom-push, end_of-push}
 use Rattle.bip_ip.specs.Asking.{told_by}
@@ -48,21 +50,22 @@ shows_still m s t o same shows =
     subst (λ (local : Option LocalState). IsSomeAnd local (Shows m o)) (sym same) shows
 
 -- the offers behind fresh wants show the state
-pub shown : {m : System} {u : ℕ → ℕ} {s : State} {a : ℕ} {wants : List Want} {ns : List Notify}
-    (made : Made m u s a wants ns) → IsFresh u wants → AllShow m made.offers s a
-shown {u = u} {wants = wants} made fresh c touches =
-    let its = want_of made.wants_are c touches in
+pub shown : {m : System} {u : ℕ → ℕ} {s : State} {a : ℕ} {reasons : List Why} {wants : List Want}
+    {ns : List Notify} (made : Made m u s a reasons wants ns) → IsFresh u wants
+    → AllShow m made.offers (HasWantOf wants) s
+shown {u = u} {wants = wants} made fresh c has =
+    let its = want_of made.wants_are c has in
     let unused = All-each (λ (v : Want). u v.comp.0 < v.number) wants fresh its.want its.among in
-    made.fit c touches (omega (arith, unused, its.number, ap u its.comp))
+    made.fit c has (omega (arith, unused, its.number, ap u its.comp))
 
 -- what was made of offers tells what they told
-made_told : {m : System} {u : ℕ → ℕ} {s : State} {a : ℕ} {wants : List Want} {ns : List Notify}
-    (made : Made m u s a wants ns) (n : Notify) → In n ns → In n (told_by m made.offers a)
+made_told : {m : System} {u : ℕ → ℕ} {s : State} {a : ℕ} {reasons : List Why} {wants : List Want}
+    {ns : List Notify} (made : Made m u s a reasons wants ns) (n : Notify) → In n ns → In n (told_by m made.offers a)
 made_told made n at = subst (λ (xs : List Notify). In n xs) made.tells_are at
 
 -- and that moves what they want to be moved
-pub made_tells : {m : System} {u : ℕ → ℕ} {s : State} {a : ℕ} {wants : List Want} {ns : List Notify}
-    → Made m u s a wants ns → (n : Notify) → In n ns → TellsMove m a wants n
+pub made_tells : {m : System} {u : ℕ → ℕ} {s : State} {a : ℕ} {reasons : List Why}
+    {wants : List Want} {ns : List Notify} → Made m u s a reasons wants ns → (n : Notify) → In n ns → TellsMove m a wants n
 made_tells made n at = tells_move made.wants_are n (made_told made n at)
 
 -- a notification has the next number as its component's own, and leads it to this state
@@ -154,7 +157,7 @@ module _ {m : System} {base : ℕ} {u : ℕ → ℕ} {s : State} {w : View}
   -- a record comes, not granted yet
   pub recorded : {pending : ℕ → ℕ → Option OpenRecord} (f : OpenRecord)
       → ((k a : ℕ) (e : OpenRecord) → pending k a ≡ Some e → (f ≡ e) ⊎ (w.pending k a ≡ Some e))
-      → Made m u s f.request.inter.0 f.request.wants f.notifies
+      → Made m u s f.request.inter.0 f.request.reasons f.request.wants f.notifies
       → ¬ In (grant_of f.request) w.trace
       → LocalsAgree m base u s (record w { pending = pending })
   recorded f cases made not_granted = record {
@@ -166,8 +169,10 @@ module _ {m : System} {base : ℕ} {u : ℕ → ℕ} {s : State} {w : View}
     mail = h.mail;
     made = λ k a e is. elim (cases k a e is) [
       | inl new ↦
-          subst (λ (r : OpenRecord). Made m u s r.request.inter.0 r.request.wants r.notifies) new
-          made
+          subst
+          (λ (r : OpenRecord).
+          Made m u s r.request.inter.0 r.request.reasons r.request.wants r.notifies)
+          new made
       | inr old ↦ h.made k a e old
     ];
     owed = λ k a e n o. elim (cases k a e o.is) [
@@ -231,10 +236,11 @@ module _ {m : System} {base : ℕ} {u : ℕ → ℕ} {s : State} {w : View}
 
   module _ (valid : IsSystem m) (numbers : NumbersAgree m u w) where
     -- what fresh wants tell leads each component from where it is to where the joint step does
-    pub fresh_leads : {a : ℕ} {wants : List Want} {ns : List Notify} → Made m u s a wants ns
+    pub fresh_leads : {a : ℕ} {reasons : List Why} {wants : List Want} {ns : List Notify}
+        → Made m u s a reasons wants ns
         → IsFresh u wants → ((v : Want) → In v wants → v.number ≤ w.number v.comp.0)
         → (n : Notify) → In n ns → LeadsNext m u (after m s a) w n
-    fresh_leads {a} {wants} {ns} made fresh own n at =
+    fresh_leads {a} {reasons} {wants} {ns} made fresh own n at =
         let its = (made_tells made n at).has in
         let each = All-each (λ (v : Want). u v.comp.0 < v.number) wants fresh in
         let unused = each its.want its.among in
@@ -254,8 +260,9 @@ module _ {m : System} {base : ℕ} {u : ℕ → ℕ} {s : State} {w : View}
         }
 
     -- a fresh grant joins the trace, of a request or of a decision on held offers
-    module _ {g : Grant} {told : List Notify} (its : IsFreshGrant m u w.number g)
-        (used_is : used_by (λ c. base) w.trace ≡ u) (made : Made m u s g.inter.0 g.wants told) where
+    module _ {g : Grant} {reasons : List Why} {told : List Notify}
+        (its : IsFreshGrant m u w.number g) (used_is : used_by (λ c. base) w.trace ≡ u)
+        (made : Made m u s g.inter.0 reasons g.wants told) where
       abbrev pub next_state : State
       next_state = after m s g.inter.0
 
@@ -272,9 +279,14 @@ module _ {m : System} {base : ℕ} {u : ℕ → ℕ} {s : State} {w : View}
 
       next : IsNext m s u g
       next = record {
-        may = ready_may_run m made.offers s g.inter.0 made.ready (shown made its.fresh);
+        may =
+            ready_may_run m made.offers (HasWantOf g.wants) s g.inter.0 made.ready
+            (shown made its.fresh);
         numbers = each-All (HasNextNumber u) g.wants next_number;
         parties = its.parties;
+        covered = λ b above.
+            covered_there m made.offers g.wants s b made.ready.own (shown made its.fresh)
+            (made.ready.clear b above);
       }
 
       -- an offer whose number isn't used yet is of a component that rests
@@ -306,25 +318,27 @@ module _ {m : System} {base : ℕ} {u : ℕ → ℕ} {s : State} {w : View}
       mail_after (ReplyToClass r) awaited before = tt
 
       made_after : (e : OpenRecord) → RecordNumbers m w.number e
-          → Made m u s e.request.inter.0 e.request.wants e.notifies
-          → Made m (raised u g.wants) next_state e.request.inter.0 e.request.wants e.notifies
+          → Made m u s e.request.inter.0 e.request.reasons e.request.wants e.notifies
+          → Made m (raised u g.wants) next_state e.request.inter.0 e.request.reasons
+          e.request.wants e.notifies
       made_after e kept by = record {
         offers = by.offers;
+        so = by.so;
         ready = by.ready;
         wants_are = by.wants_are;
         tells_are = by.tells_are;
-        fit = λ c touches unused.
-            let wants = want_of by.wants_are c touches in
+        fit = λ c has unused.
+            let wants = want_of by.wants_are c has in
             let within = kept.wants wants.want wants.among in
             let number_there = ap w.number wants.comp in
             let number = wants.number in
-            let own : (by.offers c).comp.0 ≡ c = by.ready.own c touches in
+            let own : (by.offers c).comp.0 ≡ c = by.ready.own c has in
             elim (grant_cases numbers its c) [
               | inl moves ↦ absurd (omega (arith, moves.used))
               | inr rests ↦
                   shows_still m s next_state (by.offers c)
                   (ap next_state own ∙ (still c rests ∙ ap s (sym own)))
-                  (by.fit c touches (omega (arith, rests.used)))
+                  (by.fit c has (omega (arith, rests.used)))
             ];
       }
 

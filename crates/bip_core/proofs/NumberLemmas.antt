@@ -212,7 +212,7 @@ module _ {m : System} {u : ℕ → ℕ} {w : View} (h : NumbersAgree m u w) wher
     pub grant_cases : (c : ℕ) → MovesOn m u w.number g c ⊎ Rests m u g c
     grant_cases c = elim (cases_Bool (moves m g.inter.0 c)) [
       | inl on ↦
-          let (v, at, comp) = wanted its.parties c (inl on) in
+          let (v, at, comp) = wanted its.parties c on in
           let next = (wants_next v c at comp).1 in
           inl (record { moved = on; next = next; used = omega (arith, next, moved c on) })
       | inr off ↦

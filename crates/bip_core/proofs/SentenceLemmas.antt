@@ -1,11 +1,12 @@
 -- What agreement says, sentence by sentence: each of the six parts follows from what is kept of
 -- used numbers, numbers and local states.
+use Rattle.bip_core.proofs.WantLemmas.{offered_number}
 use Rattle.std.proofs.Common.{◌≡◌, ℕ, ◌+◌, ◌≤◌, ◌==◌, List, Option, None, Some, true, false}
 use Rattle.std.proofs.Common.{refl, sym, ap, ap₂, ◌∙◌, subst, inl, inr}
 use Rattle.std.specs.Prelude.{IsSomeAnd}
 use Rattle.std.proofs.Common.{arith}
 use Rattle.std.proofs.lemmas.Bool.{cases_Bool, cases_eq, eq-eqb, eqb-true, true≢false}
-use Rattle.bip_model.specs.Parties.{AreParties}
+use Rattle.bip_model.specs.Parties.{AreExplained, AreParties, HasWantOf}
 use Rattle.bip_model.proofs.HistoryLemmas.{moves_once}
 use Rattle.bip_model.specs.Messages.{Shows}
 use Rattle.bip_model.specs.States.{State}
@@ -168,9 +169,10 @@ module _ {p : Planned} {base : ℕ} {u : ℕ → ℕ} {s : State} {w : View}
     fits : RecordFits p w.next q.class.0 q.inter.0 has.entry
     fits = h.books.records q.class.0 q.inter.0 has.entry has.is
 
-    made : Made p.model u s q.inter.0 q.wants has.entry.notifies
+    made : Made p.model u s q.inter.0 q.reasons q.wants has.entry.notifies
     made =
-        subst (λ (x : Request). Made p.model u s x.inter.0 x.wants has.entry.notifies) has.same
+        subst
+        (λ (x : Request). Made p.model u s x.inter.0 x.reasons x.wants has.entry.notifies) has.same
         (h.locals.made q.class.0 q.inter.0 has.entry has.is)
 
     told : (c : ℕ) → moves p.model q.inter.0 c ≡ true
@@ -205,12 +207,25 @@ module _ {p : Planned} {base : ℕ} {u : ℕ → ℕ} {s : State} {w : View}
         class = sym fits.home;
         parties =
             subst (λ (x : Request). AreParties p.model q.inter.0 x.wants) has.same fits.wants;
+        explained =
+            subst (λ (x : Request). AreExplained p.model q.inter.0 x.wants x.reasons) has.same
+            fits.explained;
       };
       has = has;
       told = told;
       only = only;
       own = own;
-      may = λ fresh. ready_may_run p.model made.offers s q.inter.0 made.ready (shown made fresh);
+      so = (
+        made.offers,
+        record {
+          numbers = offered_number made.wants_are;
+          so = made.so;
+          show = made.fit;
+        },
+      );
+      may = λ fresh.
+          ready_may_run p.model made.offers (HasWantOf q.wants) s q.inter.0 made.ready
+          (shown made fresh);
       numbers = λ fresh n at. (leads_next fresh n at).own;
       leads = λ fresh n at. (leads_next fresh n at).leads;
     }

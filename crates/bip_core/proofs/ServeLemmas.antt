@@ -103,9 +103,10 @@ module _ {p : Planned} (planned : IsPlanned p) {base : ℕ} {u : ℕ → ℕ} {s
       own = own;
     }
 
-    made : Made p.model u s q.inter.0 q.wants has.entry.notifies
+    made : Made p.model u s q.inter.0 q.reasons q.wants has.entry.notifies
     made =
-        subst (λ (x : Request). Made p.model u s x.inter.0 x.wants has.entry.notifies) has.same
+        subst
+        (λ (x : Request). Made p.model u s x.inter.0 x.reasons x.wants has.entry.notifies) has.same
         (h.locals.made q.class.0 q.inter.0 has.entry has.is)
 
     joins : Joins p u taken_up (grant_of q) w.known serving.used serving.grants
@@ -159,23 +160,26 @@ module _ {p : Planned} (planned : IsPlanned p) {base : ℕ} {u : ℕ → ℕ} {s
         }
 
   -- it refuses it, by the used number of a component that it wants
-  pub refuses : (c : CompId) (used : ℕ) (v : Want) → In v q.wants → v.comp.0 ≡ c.0
-      → used ≡ w.used c.0
+  pub refuses : (c : CompId) (used : ℕ) (v : Want) → In v q.wants
+      → (v.comp.0 ≡ c.0) × (v.number ≤ w.used c.0) → used ≡ w.used c.0
       → AgreeAt p base u s
       (record taken_up {
         mail = w.mail ++ ReplyToClass (Refused q.class q.request q.inter c used) ∷ [];
       })
-  refuses c used v among comp is =
+  refuses c used v among used_up is =
       sends_about closed q.inter.0 (ReplyToClass (Refused q.class q.request q.inter c used))
       (λ a. refl) (λ d. refl) nothing (replied, tt, tt)
     where
       row : IsTabled p c.0
-      row = tabled c.0 (subst (Touches p.model q.inter.0) comp (touched parties v among))
+      row = tabled c.0 (subst (Touches p.model q.inter.0) used_up.0 (touched parties v among))
 
-      wanted : Any (λ (x : Want). x.comp.0 ≡ c.0) has.entry.request.wants
+      IsTooLow : Want → Type 0
+      IsTooLow x = (x.comp.0 ≡ c.0) × (x.number ≤ used)
+
+      wanted : Any IsTooLow has.entry.request.wants
       wanted =
-          subst (λ (x : Request). Any (λ (y : Want). y.comp.0 ≡ c.0) x.wants) (sym has.same)
-          (one-Any (λ (x : Want). x.comp.0 ≡ c.0) q.wants v among comp)
+          subst (λ (x : Request). Any IsTooLow x.wants) (sym has.same)
+          (one-Any IsTooLow q.wants v among (used_up.0, omega (arith, used_up.1, is)))
 
       replied : HasReplied w.pending q.class.0 q.request q.inter.0 (IsDenied u w.trace c.0 used)
       replied = record {

@@ -1,7 +1,7 @@
 -- What is told can be taken: by offers that show a state, each notification is one by which its
 -- component can move there.
 use Rattle.std.proofs.Common.{◌≡◌, ◌∙◌, ◌<◌, ℕ, List, [], true, false, None, Option, Some}
-use Rattle.std.proofs.Common.{ap, eqb, get_or, inl, length, map, refl, slice_get, subst, sym, arith}
+use Rattle.std.proofs.Common.{ap, eqb, get_or, length, map, refl, slice_get, subst, sym, arith}
 use Rattle.std.specs.Prelude.{Contains, IsSomeAnd, IsTrue}
 use Rattle.std.specs.Option.{option_map_or}
 use Rattle.std.proofs.lemmas.Bool.{and_parts, eqb-true, false≢true}
@@ -19,7 +19,7 @@ use Rattle.bip_model.specs.declared.parts.System.{System}
 use Rattle.bip_model.specs.declared.states.LocalState.{LocalState}
 use Rattle.bip_model.proofs.ExpressionLemmas.{counts-transferred}
 use Rattle.bip_partition.specs.Plans.{Planned}
-use Rattle.bip_observe.specs.Laws.{AllShow}
+use Rattle.bip_observe.specs.Laws.{AllShow, IsInSet}
 use Rattle.bip_observe.specs.Verdicts.{IsReady}
 use Rattle.bip_observe.proofs.ShowLemmas.{ready_may_run}
 use Rattle.bip_component.specs.Components.{CanMoveBy, Node}
@@ -51,12 +51,12 @@ can_from (Some component) local port values on each =
     (on, each ∙ eqb-true (length local.values) (length component.variables) both.0)
 
 -- what is told by offers that show a state can be taken there
-pub told_taken : (m : System) (o : ℕ → Offer) (s : State) (a : ℕ) → IsReady m o a
-    → AllShow m o s a → (n : Notify) → Contains (told_by m o a) n → CanBeTaken m n (s n.comp.0)
-told_taken m o s a ready show n at =
+pub told_taken : (m : System) (o : ℕ → Offer) (of : ℕ → Type 0) (s : State) (a : ℕ)
+    → IsReady m o of a → AllShow m o of s → (n : Notify) → Contains (told_by m o a) n → CanBeTaken m n (s n.comp.0)
+told_taken m o of s a ready show n at =
     by_place (s n.comp.0) refl
-    (subst (λ (c : ℕ). IsSomeAnd (s c) (Shows m (o n.comp.0))) (ready.own n.comp.0 (inl moved))
-    (show n.comp.0 (inl moved)))
+    (subst (λ (c : ℕ). IsSomeAnd (s c) (Shows m (o n.comp.0))) (ready.own n.comp.0 (ready.moved n.comp.0 moved))
+    (show n.comp.0 (ready.moved n.comp.0 moved)))
   where
     q : Participant
     q = get_or (participants_of m a) at.0 (n.comp, n.port)
@@ -71,7 +71,7 @@ told_taken m o s a ready show n at =
         option_map_or (λ local. offers_at component local n.port) place false)
         (slice_get m.components n.comp.0) false ≡ true
     port_on place is =
-        let all = (ready_may_run m o s a ready show).enabled.offered_all in
+        let all = (ready_may_run m o of s a ready show).enabled.offered_all in
         let here : offered m s (n.comp, n.port) ≡ true =
         subst (λ (x : Notify). offered m s (x.comp, x.port) ≡ true) told.is
         (all at.0 (n.comp, n.port) told.within) in
@@ -117,7 +117,7 @@ can_move_by p node n plan comp number unspent taken = record {
 }
 
 pub told_can_be_taken : ToldCanBeTaken
-told_can_be_taken p o s a ready show n at node awaiting =
+told_can_be_taken p o set s a ready show n at node awaiting =
     let there : s n.comp.0 ≡ Some node.local = ap s awaiting.comp ∙ awaiting.there in
     can_move_by p node n awaiting.plan awaiting.comp awaiting.number awaiting.unspent
-    (subst (CanBeTaken p.model n) there (told_taken p.model o s a ready show n at))
+    (subst (CanBeTaken p.model n) there (told_taken p.model o (IsInSet set) s a ready show n at))

@@ -1,11 +1,14 @@
 -- Each try of a class keeps a world in agreement with its trace: a local interaction is granted at
 -- once, a reserved one is asked for.
+use Rattle.std.proofs.lemmas.List.Elements.{All-nil}
+use Rattle.std.specs.Prelude.{All}
+use Rattle.bip_model.specs.declared.reasons.Why.{Why}
 use Rattle.std.proofs.Common.{◌≡◌, ℕ, ◌+◌, ◌<◌, ◌≤◌, ◌⊎◌, List, [], ◌∷◌, ◌++◌, length, Some, None}
 use Rattle.std.proofs.Common.{refl, sym, ap, ◌∙◌, subst, inl, inr, arith}
 use Rattle.std.proofs.lemmas.Bool.{false_from_ne_true}
 use Rattle.std.proofs.lemmas.Option.{none-some}
 use Rattle.bip_model.specs.Numbering.{put}
-use Rattle.bip_model.specs.Parties.{AreWantsBy}
+use Rattle.bip_model.specs.Parties.{AreExplained, AreWantsBy, HasWantOf}
 use Rattle.bip_model.specs.Partitions.{class_in}
 use Rattle.bip_model.specs.States.{State}
 use Rattle.bip_model.specs.Steps.{after}
@@ -19,7 +22,7 @@ use Rattle.bip_partition.specs.Laws.{IsPlanned}
 use Rattle.bip_partition.specs.Plans.{IsReserved, IsTabled, Planned, Touches}
 use Rattle.bip_partition.proofs.LawLemmas.{each_moves, local_none, one_class_without_row}
 use Rattle.bip_bank.specs.Decisions.{grant_of}
-use Rattle.bip_observe.specs.Verdicts.{IsReady}
+use Rattle.bip_observe.specs.Verdicts.{IsReady, IsTrueOf}
 use Rattle.bip_ip.specs.Asking.{told_by}
 use Rattle.bip_ip.specs.declared.nodes.OpenRecord.{OpenRecord}
 use Rattle.bip_core.specs.Events.{are_notified}
@@ -41,16 +44,18 @@ use Rattle.bip_core.proofs.NumberLemmas.{IsFreshGrant, owed_in, quiet}
 use Rattle.bip_core.proofs.PutLemmas.{all_put, at_same, put_at_cases, put_at_here, put_here}
 use Rattle.bip_core.proofs.ToldLemmas.{told_once, tells_move}
 use Rattle.bip_core.proofs.UsedLemmas.{learning, learns_more, learns_within}
-use Rattle.bip_core.proofs.WantLemmas.{moved_as_offered, offered_number, touched, untouched_so}
+use Rattle.bip_core.proofs.WantLemmas.{has_want, moved_as_offered, offered_number}
+use Rattle.bip_core.proofs.WantLemmas.{touched, untouched_so}
 
--- a class takes an interaction up: it has no record of it, and its held offers that count make it
--- ready
-pub record Takes (p : Planned) (w : View) (k a : ℕ) (o : ℕ → Offer) : Type 0 where
+-- a class takes an interaction up with wants: it has no record of it, and of what is wanted its held
+-- offers count, and make it ready
+pub record Takes (p : Planned) (w : View) (k a : ℕ) (o : ℕ → Offer) (wants : List Want)
+    : Type 0 where
   pub inter : a < length p.model.interactions
   pub home : class_in p.classes a ≡ k
   pub free : w.pending k a ≡ None
-  pub ready : IsReady p.model o a
-  pub held : (c : ℕ) → Touches p.model a c
+  pub ready : IsReady p.model o (HasWantOf wants) a
+  pub held : (c : ℕ) → HasWantOf wants c
       → (w.held k c ≡ Some (o c)) × (w.known k c < (o c).number)
 
 -- what its grant leaves: what it moved is known, and its components are told
@@ -74,28 +79,33 @@ asking_for p w k a o q =
 module _ {p : Planned} (planned : IsPlanned p) {base : ℕ} {u : ℕ → ℕ} {s : State} {w : View}
     (h : AgreeAt p base u s w) where
   -- what a class decides on its held offers
-  module _ {k a : ℕ} {o : ℕ → Offer} (takes : Takes p w k a o) {wants : List Want}
-      (by : AreWantsBy p.model o a wants) where
+  module _ {k a : ℕ} {o : ℕ → Offer} {reasons : List Why} {wants : List Want}
+      (takes : Takes p w k a o wants) (by : AreWantsBy p.model o a reasons wants)
+      (so : All (λ (y : Why). IsTrueOf p.model o y.inter.0 y.cause) reasons) where
     decided_within : (v : Want) → In v wants → v.number ≤ w.number v.comp.0
     decided_within v at =
         let c = v.comp.0 in
-        let held = (takes.held c (touched by.parties v at)).0 in
+        let held = (takes.held c (has_want wants v at)).0 in
         omega (arith, offered_number by v at, (h.numbers.held k c (o c) held).1)
 
-    decided_made : Made p.model u s a wants (told_by p.model o a)
+    decided_made : Made p.model u s a reasons wants (told_by p.model o a)
     decided_made = record {
       offers = o;
+      so = so;
       ready = takes.ready;
       wants_are = by;
       tells_are = refl;
-      fit = λ c touches unused.
-          let own = ap u (takes.ready.own c touches) in
-          h.locals.held k c (o c) (takes.held c touches).0 (omega arith);
+      fit = λ c has unused.
+          let own = ap u (takes.ready.own c has) in
+          h.locals.held k c (o c) (takes.held c has).0 (omega arith);
     }
 
   -- a class grants a local interaction
-  module _ {k : ℕ} {o : ℕ → Offer} {g : Grant} (takes : Takes p w k g.inter.0 o)
-      (by : AreWantsBy p.model o g.inter.0 g.wants) (local : ¬ IsReserved p g.inter.0) where
+  module _ {k : ℕ} {o : ℕ → Offer} {g : Grant} (takes : Takes p w k g.inter.0 o g.wants)
+      (by : AreWantsBy p.model o g.inter.0 [] g.wants) (local : ¬ IsReserved p g.inter.0) where
+    none_so : All (λ (y : Why). IsTrueOf p.model o y.inter.0 y.cause) []
+    none_so = All-nil (λ (y : Why). IsTrueOf p.model o y.inter.0 y.cause)
+
     abbrev pub granting : View
     granting = record w { trace = w.trace ++ g ∷ []; known = learning w.known k g.wants }
 
@@ -112,13 +122,13 @@ module _ {p : Planned} (planned : IsPlanned p) {base : ℕ} {u : ℕ → ℕ} {s
         let touches = touched by.parties v at in
         let untabled = local_none p g.inter.0 c local touches in
         let used = known_alone g.inter.0 c touches untabled takes.home in
-        omega (arith, used, (takes.held c touches).1, offered_number by v at)
+        omega (arith, used, (takes.held c (has_want g.wants v at)).1, offered_number by v at)
 
     its : IsFreshGrant p.model u w.number g
     its = record {
       fresh = each-All (λ (v : Want). u v.comp.0 < v.number) g.wants fresh_each;
       parties = by.parties;
-      own = decided_within takes by;
+      own = decided_within takes by none_so;
     }
 
     alone_after : (a c : ℕ) → Touches p.model a c → ¬ IsTabled p c
@@ -173,14 +183,14 @@ module _ {p : Planned} (planned : IsPlanned p) {base : ℕ} {u : ℕ → ℕ} {s
       locals =
           locals.elsewhere
           (locals.granted h.locals planned.valid h.numbers its h.books.used_is
-          (decided_made takes by));
+          (decided_made takes by none_so));
     }
 
     leads_next : (n : Notify) → In n (told_by p.model o g.inter.0)
         → LeadsNext p.model u (after p.model s g.inter.0) w n
     leads_next =
-        fresh_leads h.locals planned.valid h.numbers (decided_made takes by) its.fresh
-        (decided_within takes by)
+        fresh_leads h.locals planned.valid h.numbers (decided_made takes by none_so) its.fresh
+        (decided_within takes by none_so)
 
     may_tell : (n : Notify) → In n (told_by p.model o g.inter.0)
         → MayTell p (raised u g.wants) (after p.model s g.inter.0) granting n
@@ -222,19 +232,21 @@ module _ {p : Planned} (planned : IsPlanned p) {base : ℕ} {u : ℕ → ℕ} {s
         (told_once p.model planned.valid o g.inter.0) no_other
 
   -- and its components are told; the grant names the interaction
-  pub grants : {k a : ℕ} {o : ℕ → Offer} {g : Grant} → Takes p w k a o
-      → AreWantsBy p.model o a g.wants → ¬ IsReserved p a → g.inter.0 ≡ a
+  pub grants : {k a : ℕ} {o : ℕ → Offer} {g : Grant} → Takes p w k a o g.wants
+      → AreWantsBy p.model o a [] g.wants → ¬ IsReserved p a → g.inter.0 ≡ a
       → AgreeAt p base (raised u g.wants) (after p.model s g.inter.0) (granting_to p w k a o g)
   grants {k} {a} {o} {g} takes by local names =
       subst
-      (λ (b : ℕ). Takes p w k b o → AreWantsBy p.model o b g.wants → ¬ IsReserved p b
+      (λ (b : ℕ). Takes p w k b o g.wants → AreWantsBy p.model o b [] g.wants → ¬ IsReserved p b
       → AgreeAt p base (raised u g.wants) (after p.model s g.inter.0) (granting_to p w k b o g))
       names grants_its_own takes by local
 
   -- a class asks for a reserved interaction
-  module _ {o : ℕ → Offer} {q : Request} (takes : Takes p w q.class.0 q.inter.0 o)
-      (by : AreWantsBy p.model o q.inter.0 q.wants) (is_reserved : IsReserved p q.inter.0)
-      (number : q.request ≡ w.next q.class.0) where
+  module _ {o : ℕ → Offer} {q : Request} (takes : Takes p w q.class.0 q.inter.0 o q.wants)
+      (by : AreWantsBy p.model o q.inter.0 q.reasons q.wants)
+      (so : All (λ (y : Why). IsTrueOf p.model o y.inter.0 y.cause) q.reasons)
+      (explained : AreExplained p.model q.inter.0 q.wants q.reasons)
+      (is_reserved : IsReserved p q.inter.0) (number : q.request ≡ w.next q.class.0) where
     abbrev pub entry : OpenRecord
     entry = record { request = q; notifies = told_by p.model o q.inter.0 }
 
@@ -254,7 +266,7 @@ module _ {p : Planned} (planned : IsPlanned p) {base : ℕ} {u : ℕ → ℕ} {s
               none-some waits.0 (sym takes.free ∙ (sym there ∙ waits.1))
           | inr knows ↦
               let there = ap (λ (j : ℕ). w.known j c) takes.home in
-              let counts = (takes.held c (inl on)).1 in
+              let counts = (takes.held c (takes.ready.moved c on)).1 in
               omega (arith, knows c, there, counts, moved_as_offered by c on)
         ]
 
@@ -271,12 +283,13 @@ module _ {p : Planned} (planned : IsPlanned p) {base : ℕ} {u : ℕ → ℕ} {s
       home = takes.home;
       reserved = is_reserved;
       wants = by.parties;
+      explained = explained;
       below = omega (arith, number, put_here w.next q.class.0 (w.next q.class.0 + 1));
     }
 
     entry_numbers : RecordNumbers p.model w.number entry
     entry_numbers = record {
-      wants = decided_within takes by;
+      wants = decided_within takes by so;
       tells = λ n at. (tells_move by n at).moves;
       same = λ n at.
           let its = (tells_move by n at).has in
@@ -295,7 +308,7 @@ module _ {p : Planned} (planned : IsPlanned p) {base : ℕ} {u : ℕ → ℕ} {s
           (numbers.recorded h.numbers entry cases entry_numbers not_granted);
       locals =
           locals.elsewhere
-          (locals.recorded h.locals entry cases (decided_made takes by) not_granted);
+          (locals.recorded h.locals entry cases (decided_made takes by so) not_granted);
     }
       where
         cases : (j b : ℕ) (e : OpenRecord) → recording.pending j b ≡ Some e
@@ -319,14 +332,18 @@ module _ {p : Planned} (planned : IsPlanned p) {base : ℕ} {u : ℕ → ℕ} {s
         (nothing_about h.books q.inter.0 unrecorded) (has, tt, tt)
 
   -- the request names the class and the interaction
-  pub asks : {k a : ℕ} {o : ℕ → Offer} {q : Request} → Takes p w k a o
-      → AreWantsBy p.model o a q.wants → IsReserved p a → q.request ≡ w.next k
+  pub asks : {k a : ℕ} {o : ℕ → Offer} {q : Request} → Takes p w k a o q.wants
+      → AreWantsBy p.model o a q.reasons q.wants
+      → All (λ (y : Why). IsTrueOf p.model o y.inter.0 y.cause) q.reasons
+      → AreExplained p.model a q.wants q.reasons → IsReserved p a → q.request ≡ w.next k
       → q.class.0 ≡ k → q.inter.0 ≡ a → AgreeAt p base u s (asking_for p w k a o q)
-  asks {k} {a} {o} {q} takes by is_reserved number class inter =
+  asks {k} {a} {o} {q} takes by so explained is_reserved number class inter =
       subst (asks_at k) inter (subst (λ (j : ℕ). asks_at j q.inter.0) class asks_its_own) takes by
-      is_reserved number
+      so explained is_reserved number
     where
       asks_at : ℕ → ℕ → Type 0
       asks_at j b =
-          Takes p w j b o → AreWantsBy p.model o b q.wants → IsReserved p b
+          Takes p w j b o q.wants → AreWantsBy p.model o b q.reasons q.wants
+          → All (λ (y : Why). IsTrueOf p.model o y.inter.0 y.cause) q.reasons
+          → AreExplained p.model b q.wants q.reasons → IsReserved p b
           → q.request ≡ w.next j → AgreeAt p base u s (asking_for p w j b o q)

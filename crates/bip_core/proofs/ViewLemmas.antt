@@ -1,5 +1,7 @@
 -- From a world to its view: what another node of a class or of a component changes in it. Each
 -- change of a node that some event leaves is one change of the view.
+use Rattle.bip_ip.specs.Laws.{Suffice}
+use Rattle.bip_model.specs.declared.reasons.Why.{Why}
 use Rattle.std.proofs.Common.{◌≡◌, ℕ, ◌+◌, ◌<◌, List, Bool, true, Option, Some, None, refl, sym, ap}
 use Rattle.std.proofs.Common.{◌∙◌, subst, inl}
 use Rattle.std.specs.Prelude.{IsSome}
@@ -155,17 +157,18 @@ module _ (base : ℕ) (w : WorldContent) (k : ℕ) (node : ClassNode)
       (ap (λ (n : ℕ). put old.next k (n + 1)) (sym next_is))
 
   -- an interaction that it can ask for is one that it takes up
-  pub takes : (a : ℕ) → node.offers.class ≡ k → CanBeAsked node a
-      → Takes node.offers.plan old k a (offers_of node.offers)
-  takes a class can = record {
+  pub takes : (a : ℕ) (reasons : List Why) (wants : List Want) → node.offers.class ≡ k
+      → CanBeAsked node a → Suffice node a reasons wants
+      → Takes node.offers.plan old k a (offers_of node.offers) wants
+  takes a reasons wants class can enough = record {
     inter = can.own.declared;
     home = can.own.class ∙ class;
     free =
         ap (λ (f : ℕ → Option OpenRecord). f a) pending_is
         ∙ none (node.pending a) (λ some. can.free a (some, inl refl));
-    ready = can.ready.1;
-    held = λ c touches.
-        let held = (counted_is_held node.offers c).0 (can.ready.0 c touches) in
+    ready = enough.ready;
+    held = λ c has.
+        let held = (counted_is_held node.offers c).0 (enough.counted c has) in
         let number = (offers_of node.offers c).number in (
           ap (λ (f : ℕ → Option Offer). f c) held_is ∙ held.0,
           subst (λ (f : ℕ → ℕ). f c < number) (sym known_is) held.1,

@@ -3,13 +3,14 @@
 use Rattle.std.proofs.Common.{◌≡◌, ℕ, List, [], ◌∷◌, Bool, true, false, refl, sym, ap, ◌∙◌, inl}
 use Rattle.std.proofs.Common.{inr, arith}
 use Rattle.std.proofs.lemmas.Bool.{false_from_ne_true}
-use Rattle.bip_model.specs.Parties.{AreParties, AreWantsBy}
+use Rattle.bip_model.specs.Parties.{AreParties, AreWantsBy, HasWantOf}
 use Rattle.bip_model.specs.Steps.{moves}
 use Rattle.bip_model.specs.Wants.{is_moved, moved_in}
 use Rattle.bip_model.specs.declared.messages.Offer.{Offer}
 use Rattle.bip_model.specs.declared.parts.System.{System}
+use Rattle.bip_model.specs.declared.reasons.Why.{Why}
 use Rattle.bip_model.specs.declared.wants.Want.{Want}
-use Rattle.bip_model.proofs.PartyLemmas.{parties_are_wanted, parties_have_roles}
+use Rattle.bip_model.proofs.PartyLemmas.{moving_is_wanted, parties_have_roles}
 use Rattle.bip_partition.specs.Plans.{Touches}
 use Rattle.bip_core.specs.Lists.{In}
 use Rattle.bip_core.proofs.ListLemmas.{All-each, Any-one, in-Contains}
@@ -20,6 +21,12 @@ pub record HasWant (wants : List Want) (c n : ℕ) : Type 0 where
   pub among : In want wants
   pub comp : want.comp.0 ≡ c
   pub number : want.number ≡ n
+
+-- one of wants is one of its component
+pub has_want : (wants : List Want) (w : Want) → In w wants → HasWantOf wants w.comp.0
+has_want wants w at =
+    let there = in-Contains wants w at in
+    (there.0, w, there.1, there.2, refl)
 
 -- a first want that moves a component with a number
 moved-first : (w : Want) (ws : List Want) (c n : ℕ) → w.comp.0 ≡ c → w.number ≡ n
@@ -61,10 +68,10 @@ module _ {m : System} {a : ℕ} {wants : List Want} (parties : AreParties m a wa
   pub touched : (w : Want) → In w wants → Touches m a w.comp.0
   touched w at = (parties_have_roles m a wants parties w (in-Contains wants w at)).party
 
-  -- and each component that it touches is wanted
-  pub wanted : (c : ℕ) → Touches m a c → (w : Want) × In w wants × (w.comp.0 ≡ c)
-  wanted c touches =
-      Any-one (λ (w : Want). w.comp.0 ≡ c) wants (parties_are_wanted m a wants parties c touches)
+  -- and each component that it moves is wanted
+  pub wanted : (c : ℕ) → moves m a c ≡ true → (w : Want) × In w wants × (w.comp.0 ≡ c)
+  wanted c on =
+      Any-one (λ (w : Want). w.comp.0 ≡ c) wants (moving_is_wanted m a wants parties c on)
 
   role : (c : ℕ) (moved : Bool) → moves m a c ≡ moved → (w : Want) → In w wants → w.comp.0 ≡ c
       → is_moved w.role ≡ moved
@@ -76,7 +83,7 @@ module _ {m : System} {a : ℕ} {wants : List Want} (parties : AreParties m a wa
   pub moved_so : (c n : ℕ) → moves m a c ≡ true
       → ((w : Want) → In w wants → w.comp.0 ≡ c → w.number ≡ n) → moved_in wants c ≡ n
   moved_so c n on numbers =
-      let (w, at, comp) = wanted c (inl on) in
+      let (w, at, comp) = wanted c on in
       moved_with wants c n w at comp numbers (role c true on)
 
   -- and nothing else is moved
@@ -89,8 +96,8 @@ module _ {m : System} {a : ℕ} {wants : List Want} (parties : AreParties m a wa
       unmoved_so c (false_from_ne_true (moves m a c) (λ on. untouched (inl on)))
 
 -- by offers, the numbers are those of the offers
-module _ {m : System} {o : ℕ → Offer} {a : ℕ} {wants : List Want}
-    (by : AreWantsBy m o a wants) where
+module _ {m : System} {o : ℕ → Offer} {a : ℕ} {reasons : List Why} {wants : List Want}
+    (by : AreWantsBy m o a reasons wants) where
   -- each want has the number of its offer
   pub offered_number : (w : Want) → In w wants → w.number ≡ (o w.comp.0).number
   offered_number = All-each (λ (w : Want). w.number ≡ (o w.comp.0).number) wants by.numbers
@@ -98,10 +105,10 @@ module _ {m : System} {o : ℕ → Offer} {a : ℕ} {wants : List Want}
   offered_at : (c : ℕ) (w : Want) → In w wants → w.comp.0 ≡ c → w.number ≡ (o c).number
   offered_at c w at comp = offered_number w at ∙ ap (λ (d : ℕ). (o d).number) comp
 
-  -- each component that is touched has such a want
-  pub want_of : (c : ℕ) → Touches m a c → HasWant wants c (o c).number
-  want_of c touches =
-      let (w, at, comp) = wanted by.parties c touches in
+  -- each component that is wanted has such a want
+  pub want_of : (c : ℕ) → HasWantOf wants c → HasWant wants c (o c).number
+  want_of c has =
+      let (w, at, comp) = Any-one (λ (w : Want). w.comp.0 ≡ c) wants has in
       record { want = w; among = at; comp = comp; number = offered_at c w at comp }
 
   -- and what is moved is moved with that number

@@ -5,6 +5,9 @@ use Rattle.bip_model.specs.Messages.{IsOfferOf}
 use Rattle.bip_model.specs.declared.messages.Notify.{Notify}
 use Rattle.bip_model.specs.declared.messages.Reply.TheVariants.{Granted, Refused}
 use Rattle.bip_model.specs.declared.parts.Component.{Component}
+use Rattle.bip_model.specs.declared.reasons.Cause.{Cause}
+use Rattle.bip_model.specs.declared.reasons.Cause.TheVariants.{Port, Guard}
+use Rattle.bip_model.specs.declared.reasons.Why.{Why}
 use Rattle.bip_model.specs.declared.wants.Want.{Want}
 use Rattle.bip_partition.specs.Plans.{IsFit, Planned}
 use Rattle.bip_frame.specs.Faults.{IsFirstFault, text_of_frame}
@@ -29,6 +32,14 @@ HasInter p a = a < length p.model.interactions
 abbrev pub HasWanted : Planned → List Want → Type 0
 HasWanted p wants = All (λ (w : Want). HasComp p w.comp.0) wants
 
+-- it has what a reason names: its interaction, and the component of a port
+abbrev pub HasCause : Planned → Cause → Type 0
+HasCause p (Port c) = HasComp p c.0
+HasCause p Guard = ⊤
+
+abbrev pub HasReason : Planned → Why → Type 0
+HasReason p y = HasInter p y.inter.0 × HasCause p y.cause
+
 -- it has an addressee; the third layer is always there
 abbrev pub HasAddress : Planned → Address → Type 0
 HasAddress p (Comp c) = HasComp p c.0
@@ -39,7 +50,7 @@ HasAddress p Layer = ⊤
 abbrev pub HasNames : Planned → Message → Type 0
 HasNames p (of_offer o) = HasComp p o.comp.0
 HasNames p (of_request r) =
-    HasClass p r.class.0 × HasInter p r.inter.0 × HasWanted p r.wants
+    HasClass p r.class.0 × HasInter p r.inter.0 × HasWanted p r.wants × All (HasReason p) r.reasons
 HasNames p (of_reply (Granted k request a serial)) = HasClass p k.0 × HasInter p a.0
 HasNames p (of_reply (Refused k request a c used)) =
     HasClass p k.0 × HasInter p a.0 × HasComp p c.0

@@ -2,7 +2,7 @@
 use Rattle.std.specs.Prelude.{◌≡◌, ◌⊎◌, ℕ, ⊤, ◌+◌, ◌<◌, ◌≤◌, ◌==◌, Bool, false, List, [], ◌∷◌}
 use Rattle.std.specs.Prelude.{length, Any, Option, Some}
 use Rattle.bip_model.specs.Grants.{IsHistory, used_by}
-use Rattle.bip_model.specs.Parties.{AreParties}
+use Rattle.bip_model.specs.Parties.{AreExplained, AreParties}
 use Rattle.bip_model.specs.Partitions.{class_in}
 use Rattle.bip_model.specs.Wants.{moved_in}
 use Rattle.bip_model.specs.declared.grants.Grant.{Grant}
@@ -56,7 +56,7 @@ pub record HasReplied (pending : ℕ → ℕ → Option OpenRecord) (class numbe
 pub record IsDenied (u : ℕ → ℕ) (trace : List Grant) (c used : ℕ) (e : OpenRecord) : Type 0 where
   pub used_up : used ≤ u c
   pub not_granted : ¬ In (grant_of e.request) trace
-  pub wanted : Any (λ (w : Want). w.comp.0 ≡ c) e.request.wants
+  pub wanted : Any (λ (w : Want). (w.comp.0 ≡ c) × (w.number ≤ used)) e.request.wants
 
 -- a reply has its record, and grants it just where it is granted
 abbrev pub ReplyFits : (ℕ → ℕ) → List Grant → (ℕ → ℕ → Option OpenRecord) → Reply → Type 0
@@ -74,13 +74,14 @@ MailFits u trace pending (NotifyComponent n) =
 MailFits u trace pending (OfferTo k o) = ⊤
 
 -- a record that a class keeps of an interaction is of a reserved one of its own, for its parties,
--- with a number before the class's next one
+-- with reasons, and with a number before the class's next one
 pub record RecordFits (p : Planned) (next : ℕ → ℕ) (k a : ℕ) (e : OpenRecord) : Type 0 where
   pub class : e.request.class.0 ≡ k
   pub number : e.request.inter.0 ≡ a
   pub home : class_in p.classes a ≡ k
   pub reserved : IsReserved p a
   pub wants : AreParties p.model a e.request.wants
+  pub explained : AreExplained p.model a e.request.wants e.request.reasons
   pub below : e.request.request < next k
 
 -- the record of a grant waits for its reply, or its class knows what the grant moved

@@ -9,7 +9,7 @@ use Rattle.bip_model.specs.declared.messages.Notify.{Notify}
 use Rattle.bip_model.specs.declared.messages.Offer.{Offer}
 use Rattle.bip_model.specs.declared.numbering.ClassId.{ClassId}
 use Rattle.bip_partition.specs.Plans.{ClassTouches, Planned}
-use Rattle.bip_observe.specs.Laws.{AllShow}
+use Rattle.bip_observe.specs.Laws.{AllShow, IsInSet}
 use Rattle.bip_observe.specs.Verdicts.{IsReady}
 use Rattle.bip_component.specs.Components.{CanMoveBy, IsNode, IsOffered, Node}
 use Rattle.bip_ip.specs.Asking.{told_by}
@@ -101,9 +101,10 @@ pub record IsAwaiting (p : Planned) (s : State) (n : Notify) (node : Node) : Typ
 -- where the offers of a ready interaction show a state, each component that is told can move by it
 abbrev pub ToldCanBeTaken : Type 0
 ToldCanBeTaken =
-    (p : Planned) (o : ℕ → Offer) (s : State) (a : ℕ) → IsReady p.model o a
-    → AllShow p.model o s a → (n : Notify) → Contains (told_by p.model o a) n
-    → (node : Node) → IsAwaiting p s n node → CanMoveBy node n
+    (p : Planned) (o : ℕ → Offer) (set : ℕ → Bool) (s : State) (a : ℕ)
+    → IsReady p.model o (IsInSet set) a → AllShow p.model o (IsInSet set) s
+    → (n : Notify) → Contains (told_by p.model o a) n → (node : Node) → IsAwaiting p s n node
+    → CanMoveBy node n
 
 -- a message is the first offer of a component, to a class that touches it
 pub record IsFirstMail (w : WorldContent) (m : Message) : Type 0 where

@@ -1,14 +1,14 @@
 -- Local states: how the components' agree with the state to which the trace leads.
-use Rattle.std.specs.Prelude.{◌≡◌, ℕ, ⊤, ◌+◌, ◌<◌, List, true, Some}
+use Rattle.std.specs.Prelude.{◌≡◌, ℕ, ⊤, ◌+◌, ◌<◌, All, List, true, Some}
 use Rattle.bip_model.specs.Messages.{ShowsState}
-use Rattle.bip_model.specs.Parties.{AreWantsBy}
+use Rattle.bip_model.specs.Parties.{AreWantsBy, HasWantOf}
 use Rattle.bip_model.specs.States.{State}
 use Rattle.bip_model.specs.declared.messages.Notify.{Notify}
 use Rattle.bip_model.specs.declared.messages.Offer.{Offer}
 use Rattle.bip_model.specs.declared.parts.System.{System}
+use Rattle.bip_model.specs.declared.reasons.Why.{Why}
 use Rattle.bip_model.specs.declared.wants.Want.{Want}
-use Rattle.bip_partition.specs.Plans.{Touches}
-use Rattle.bip_observe.specs.Verdicts.{IsReady}
+use Rattle.bip_observe.specs.Verdicts.{IsReady, IsTrueOf}
 use Rattle.bip_replay.specs.Runs.{IsModelRun, state_after}
 use Rattle.bip_ip.specs.Asking.{told_by}
 use Rattle.bip_ip.specs.declared.nodes.OpenRecord.{OpenRecord}
@@ -19,15 +19,17 @@ use Rattle.bip_core.specs.Lists.{In}
 use Rattle.bip_core.specs.Numbers.{IsOwed}
 use Rattle.bip_core.specs.Views.{TakesTo, View}
 
--- wants and notifications were made of offers by which the interaction is ready, each as it was
--- sent; those whose numbers aren't used yet show the state to which the trace leads
-pub record Made (m : System) (u : ℕ → ℕ) (s : State) (a : ℕ) (wants : List Want)
-    (notifies : List Notify) : Type 0 where
+-- wants, reasons and notifications were made of offers, each as it was sent: the reasons are true
+-- of them, and by those of the wanted components alone the interaction is ready; those of these
+-- whose numbers aren't used yet show the state to which the trace leads
+pub record Made (m : System) (u : ℕ → ℕ) (s : State) (a : ℕ) (reasons : List Why)
+    (wants : List Want) (notifies : List Notify) : Type 0 where
   pub offers : ℕ → Offer
-  pub ready : IsReady m offers a
-  pub wants_are : AreWantsBy m offers a wants
+  pub so : All (λ (y : Why). IsTrueOf m offers y.inter.0 y.cause) reasons
+  pub wants_are : AreWantsBy m offers a reasons wants
+  pub ready : IsReady m offers (HasWantOf wants) a
   pub tells_are : notifies ≡ told_by m offers a
-  pub fit : (c : ℕ) → Touches m a c → u c < (offers c).number → ShowsState m s (offers c)
+  pub fit : (c : ℕ) → HasWantOf wants c → u c < (offers c).number → ShowsState m s (offers c)
 
 -- each notification in flight can be taken, and leads its component to where the trace does; and
 -- each offer whose number isn't used yet shows that
@@ -51,4 +53,4 @@ pub record LocalsAgree (m : System) (base : ℕ) (u : ℕ → ℕ) (s : State) (
   pub owed : (k a : ℕ) (e : OpenRecord) (n : Notify) → IsOwed w k a e n
       → TakesTo m n (w.state n.comp.0) (s n.comp.0)
   pub made : (k a : ℕ) (e : OpenRecord) → w.pending k a ≡ Some e
-      → Made m u s e.request.inter.0 e.request.wants e.notifies
+      → Made m u s e.request.inter.0 e.request.reasons e.request.wants e.notifies

@@ -1,9 +1,10 @@
 -- How a world agrees with its trace, in six parts. Throughout, u has the used numbers of the trace
 -- above the base, and s is the state to which the trace leads from the model's start.
-use Rattle.std.specs.Prelude.{◌≡◌, ℕ, ◌+◌, ◌<◌, ◌≤◌, ◌⊎◌, false, length, true, Some}
+use Rattle.std.specs.Prelude.{◌≡◌, ℕ, ◌+◌, ◌<◌, ◌≤◌, ◌⊎◌, All, false, length, true, Some}
 use Rattle.bip_model.specs.Grants.{MovesOnceEach}
 use Rattle.bip_model.specs.Messages.{ShowsState}
 use Rattle.bip_model.specs.Numbering.{last_number}
+use Rattle.bip_model.specs.Parties.{HasWantOf}
 use Rattle.bip_model.specs.Partitions.{class_in}
 use Rattle.bip_model.specs.States.{State}
 use Rattle.bip_model.specs.Steps.{MayRun, after, moves}
@@ -15,9 +16,11 @@ use Rattle.bip_model.specs.declared.messages.Reply.{Reply}
 use Rattle.bip_model.specs.declared.messages.Request.{Request}
 use Rattle.bip_model.specs.declared.numbering.ClassId.{ClassId}
 use Rattle.bip_model.specs.declared.parts.System.{System}
+use Rattle.bip_model.specs.declared.reasons.Why.{Why}
 use Rattle.bip_model.specs.declared.wants.Want.{Want}
 use Rattle.bip_partition.specs.Laws.{IsPlanned}
 use Rattle.bip_partition.specs.Plans.{IsFit, IsTabled, Planned, Touches}
+use Rattle.bip_observe.specs.Verdicts.{IsTrueOf}
 use Rattle.bip_replay.specs.Runs.{IsModelRun}
 use Rattle.bip_component.specs.Components.{CanMoveBy, Node}
 use Rattle.bip_ip.specs.declared.nodes.OpenRecord.{OpenRecord}
@@ -105,10 +108,18 @@ pub record UsedAgree (p : Planned) (u : ℕ → ℕ) (w : View) : Type 0 where
   pub no_greater : (k c : ℕ) → w.known k c ≤ u c
   pub own : (g : Grant) → In g w.trace → IsKnownOrPending p w.known w.pending g
 
+-- offers behind a request: it names their numbers, and its reasons are true of them; of those that
+-- it names each whose number isn't used yet shows the state to which the trace leads
+pub record AreItsOffers (u : ℕ → ℕ) (s : State) (m : System) (q : Request) (offers : ℕ → Offer)
+    : Type 0 where
+  pub numbers : (x : Want) → In x q.wants → x.number ≡ (offers x.comp.0).number
+  pub so : All (λ (y : Why). IsTrueOf m offers y.inter.0 y.cause) q.reasons
+  pub show : (c : ℕ) → HasWantOf q.wants c → u c < (offers c).number → ShowsState m s (offers c)
+
 -- 5. a request, in flight or open, fits the plan and has a record, which tells each component that
--- its interaction moves, and no other; none of its numbers is above its component's own; and where
--- it is fresh, its interaction may run now, and what its record tells can be taken, and leads to
--- where the joint step does
+-- its interaction moves, and no other; none of its numbers is above its component's own; its
+-- reasons are true of the offers that it names; and where it is fresh, its interaction may run now,
+-- and what its record tells can be taken, and leads to where the joint step does
 pub record RequestAgrees (p : Planned) (u : ℕ → ℕ) (s : State) (w : View) (q : Request)
     : Type 0 where
   pub fit : IsFit p q
@@ -117,6 +128,7 @@ pub record RequestAgrees (p : Planned) (u : ℕ → ℕ) (s : State) (w : View) 
       → (n : Notify) × In n has.entry.notifies × (n.comp.0 ≡ c)
   pub only : (n : Notify) → In n has.entry.notifies → moves p.model q.inter.0 n.comp.0 ≡ true
   pub own : (x : Want) → In x q.wants → x.number ≤ w.number x.comp.0
+  pub so : (offers : ℕ → Offer) × AreItsOffers u s p.model q offers
   pub may : IsFresh u q.wants → MayRun p.model s q.inter.0
   pub numbers : IsFresh u q.wants → (n : Notify) → In n has.entry.notifies
       → n.number ≡ w.number n.comp.0

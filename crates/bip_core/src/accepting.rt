@@ -1,6 +1,6 @@
 //! What addressees accept: frames that name only what the plan has, and fit whom they are for.
 ghost use Rattle.std.specs.Prelude.{◌≡◌, ◌↔◌, ◌<◌, ℕ, IfErr, IfOk, IsOkAnd, IsErrOf, IsTrue};
-ghost use Rattle.std.specs.Prelude.{Some, length, slice_get, true};
+ghost use Rattle.std.specs.Prelude.{All, IfSome, Some, length, slice_get, true};
 ghost use Rattle.std.specs.Option.{option_map};
 ghost use Rattle.bip_model.specs.Messages.{IsOfferOf};
 ghost use Rattle.bip_model.specs.Sets.{has};
@@ -9,12 +9,13 @@ ghost use Rattle.bip_frame.specs.Views.{IsLent, message_shown, notify_shown, off
 ghost use Rattle.bip_frame.specs.Views.{reply_shown, request_shown};
 ghost use Rattle.bip_frame.specs.Frames.{of_notify, of_offer, of_reply, of_request};
 ghost use Rattle.bip_core.specs.Accepting.{HasAddress, HasClass, HasComp, HasInter, HasWanted};
+ghost use Rattle.bip_core.specs.Accepting.{HasCause, HasReason};
 ghost use Rattle.bip_core.specs.Accepting.{IsAccepted, IsDropped, IsJudged, IsNotifyOf};
 ghost use Rattle.bip_core.specs.Accepting.{number_of_drop, text_of_drop};
 ghost use Rattle.bip_core.specs.declared.accepting.DropFault.{DropFault};
 
-use bip_frame::{Frame, FrameFault, NotifyFrame, OfferFrame, read};
-use bip_model::{ClassId, CompId, Component, InterId, Reply, Request, Want};
+use bip_frame::{Frame, FrameFault, NotifyFrame, OfferFrame, ReserveFrame, read};
+use bip_model::{Cause, ClassId, CompId, Component, InterId, Reasons, Reply, Request, Want, Why};
 use bip_partition::Plan;
 use std::fmt;
 use thiserror::Error;
@@ -103,7 +104,7 @@ fn judge(plan: &Plan, to: Address, frame: &Frame<'_>) -> Result<(), DropFault>
     }
     match frame {
         Frame::Offer(offer) => judge_offer(plan, to, offer),
-        Frame::Reserve(request) => judge_request(plan, to, &request.value()),
+        Frame::Reserve(request) => judge_reserve(plan, to, request),
         Frame::Reply(reply) => judge_reply(plan, to, &reply.reply()),
         Frame::Notify(notify) => judge_notify(plan, to, notify),
     }
@@ -122,6 +123,15 @@ fn judge_offer(plan: &Plan, to: Address, offer: &OfferFrame<'_>) -> Result<(), D
     }
 }
 
+/// It stands alone, so that room for a request isn't made for what comes more often.
+#[inline(never)]
+fn judge_reserve(plan: &Plan, to: Address, request: &ReserveFrame<'_>) -> Result<(), DropFault>
+    requires { HasAddress plan.now to }
+    ensures { IsJudged plan.now to (of_request (request_shown request.now)) result }
+{
+    judge_request(plan, to, &request.value())
+}
+
 fn judge_request(plan: &Plan, to: Address, request: &Request) -> Result<(), DropFault>
     requires { HasAddress plan.now to }
     ensures { IsJudged plan.now to (of_request request.now) result }
@@ -129,6 +139,7 @@ fn judge_request(plan: &Plan, to: Address, request: &Request) -> Result<(), Drop
     if !has_class(plan, request.class)
         || !has_inter(plan, request.inter)
         || !has_wanted(plan, request.wants.as_slice())
+        || !has_reasons(plan, &request.reasons)
     {
         return Err(DropFault::Unknown);
     }
@@ -220,6 +231,36 @@ fn has_wanted(plan: &Plan, wants: &[Want]) -> bool
 {
     let count = plan.model().components().len();
     wants.iter().all(|want| (want.comp.0 as usize) < count)
+}
+
+/// Whether the plan has all interactions and components that reasons name.
+fn has_reasons(plan: &Plan, reasons: &Reasons) -> bool
+    ensures { IsTrue result ↔ All (HasReason plan.now) reasons.now }
+{
+    for place in 0..reasons.len() {
+        if !has_reason(plan, reasons.get(place)) {
+            return false;
+        }
+    }
+    true
+}
+
+fn has_reason(plan: &Plan, reason: Option<Why>) -> bool
+    ensures { IsTrue result ↔ IfSome reason (HasReason plan.now) }
+{
+    match reason {
+        Some(why) => has_inter(plan, why.inter) && has_cause(plan, why.cause),
+        None => true,
+    }
+}
+
+fn has_cause(plan: &Plan, cause: Cause) -> bool
+    ensures { IsTrue result ↔ HasCause plan.now cause }
+{
+    match cause {
+        Cause::Port(comp) => has_comp(plan, comp),
+        Cause::Guard => true,
+    }
 }
 
 /// Whether an offer has a value for each variable of a component, and is on for none but its ports.

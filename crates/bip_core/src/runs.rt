@@ -5,6 +5,7 @@ ghost use Rattle.bip_model.specs.declared.grants.Grant.{Grant};
 ghost use Rattle.bip_model.specs.Grants.{MovesOnceEach};
 ghost use Rattle.bip_replay.specs.Runs.{IsModelRun};
 ghost use Rattle.bip_core.specs.Agreement.{Agrees};
+ghost use Rattle.bip_core.specs.Laws.{KeepsThePlan};
 ghost use Rattle.bip_core.specs.Runs.{AddsUp, AreSteps, IsEventCounted, IsRunOfEvents};
 ghost use Rattle.bip_core.specs.Runs.{report_counted, report_of, report_with};
 ghost use Rattle.bip_core.specs.Worlds.{world_of};
@@ -125,6 +126,7 @@ pub fn run_steps<'p, B: bip_bank::Bank>(world: &mut World<'p, B>, events: &[Even
     ensures run { IsRunOfEvents events.now (world_of world.old) (world_of world.new) result }
     ensures grown { (grants : List Grant) × (world.new.trace ≡ world.old.trace ++ grants)
         × (result.grants ≡ length grants) }
+    ensures same { KeepsThePlan (world_of world.old) (world_of world.new) }
     ensures agrees { Agrees (world_of world.new) }
     ensures ran { IsModelRun world.new.plan.model (world_of world.new).bank.base world.new.trace }
     ensures once { MovesOnceEach world.new.trace }

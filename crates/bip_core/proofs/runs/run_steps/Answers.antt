@@ -3,6 +3,7 @@ use Rattle.std.proofs.lemmas.List.{length-take-le, take_more}
 use Rattle.bip_core.specs.Worlds.{world_of}
 use Rattle.bip_core.specs.declared.events.Event.TheVariants.{Mail}
 use Rattle.bip_core.specs.declared.runs.Report.{Report}
+use Rattle.bip_core.proofs.KeepLemmas.{worlds_keep_their_plan}
 use Rattle.bip_core.proofs.RunLemmas.{events_counted, run_more, steps_grow}
 use Rattle.bip_core.proofs.runs.run_steps.Goals as goal
 
@@ -29,3 +30,8 @@ returns-clause-grown g c =
     let run = c.loop-event.invariant.0 in
     let grown = steps_grow _ run.dids (world_of c.args.world.now) (world_of c.loop-event.world) run.steps in
     (grown.0, grown.1, ap (λ (r : Report). r.grants) run.sums ∙ grown.2)
+
+pub returns-clause-same : goal.returns-clause-same
+returns-clause-same g c =
+    let run = c.loop-event.invariant.0 in
+    worlds_keep_their_plan (world_of c.args.world.now) (world_of c.loop-event.world) _ run.dids run.steps
