@@ -15,7 +15,7 @@ module _ {M : Type 0} where
   abbrev puts_of : List (End M) → List (List M)
   puts_of ends = map (λ (v : End M). v.put) ends
 
-  abbrev items_of : List (ℕ × M) → List M
+  abbrev pub items_of : List (ℕ × M) → List M
   items_of log = map (λ (e : ℕ × M). e.1) log
 
   by_case : (b c : Bool) (y x : M) (l r : List M) → r ≡ (if c then l ++ x ∷ [] else l) →

@@ -1,5 +1,6 @@
 pub mod Books
 pub mod Keepers
+pub mod Laws
 pub mod Mailboxes
 pub mod Merges
 pub mod Merging

@@ -81,8 +81,16 @@ impl<'h, 'm> ForkStation<'h, 'm> {
     fn share<R: Wait>(&mut self, rt: &R, mut station: Settled<Station>) -> bool {
         let mut has_sent = false;
         for (other, outlet) in self.neighbours.iter_mut() {
-            if share_with(rt, &mut station, *other, outlet) {
-                has_sent = true;
+            match share_with(rt, &mut station, *other, outlet) {
+                Shared::Nothing => {}
+                Shared::Fork => {
+                    self.desk.count_pass();
+                    has_sent = true;
+                }
+                Shared::Ask => {
+                    self.desk.count_ask();
+                    has_sent = true;
+                }
             }
         }
         self.station = Some(station);
@@ -90,27 +98,35 @@ impl<'h, 'm> ForkStation<'h, 'm> {
     }
 }
 
+/// What a station sent to a neighbour.
+#[derive(Clone, Copy)]
+enum Shared {
+    Nothing,
+    Fork,
+    Ask,
+}
+
 /// Sends a neighbour the fork, where a station may, or else asks for it, where it may. What can't
-/// be put stays with the station. Says whether anything was sent.
+/// be put stays with the station.
 fn share_with<R: Wait>(
     rt: &R,
     station: &mut Settled<Station>,
     other: StationId,
     outlet: &mut Outlet<'_, ToStation>,
-) -> bool {
-    let message = match station.pass(other) {
-        Some(fork) => ToStation::Fork(fork),
+) -> Shared {
+    let (message, shared) = match station.pass(other) {
+        Some(fork) => (ToStation::Fork(fork), Shared::Fork),
         None => match station.ask(other) {
-            Some(token) => ToStation::Ask(token),
-            None => return false,
+            Some(token) => (ToStation::Ask(token), Shared::Ask),
+            None => return Shared::Nothing,
         },
     };
     match outlet.send(rt, message) {
         Some(ToStation::Fork(fork)) => station.lay_back(fork),
         Some(ToStation::Ask(token)) => station.take_ask(token),
-        _ => return true,
+        _ => return shared,
     }
-    false
+    Shared::Nothing
 }
 
 /// The inboxes of all stations that share forks: each has a writer for each neighbour, and for the

@@ -64,11 +64,14 @@ pub struct HostReport {
     pub lost: u64,
 }
 
-/// How much a host did it with: how many threads ran, and how many turns they made together.
+/// How much a host did it with: how many threads ran, how many turns they made together, how many
+/// tokens and forks stations sent, and how many request tokens; none with one table.
 #[derive(Clone, Copy, Debug, Default, PartialEq, Eq)]
 pub struct HostFigures {
     pub threads: u64,
     pub turns: u64,
+    pub passes: u64,
+    pub asks: u64,
 }
 
 /// What all threads did, and whether one couldn't be started, or wanted memory.
@@ -86,6 +89,8 @@ impl Totals {
     fn add(&mut self, end: NodeEnd) {
         self.figures.threads = self.figures.threads.saturating_add(1);
         self.figures.turns = self.figures.turns.saturating_add(end.turns);
+        self.figures.passes = self.figures.passes.saturating_add(end.passes);
+        self.figures.asks = self.figures.asks.saturating_add(end.asks);
         self.told = self.told.saturating_add(end.told);
         self.lost = self.lost.saturating_add(end.lost);
         self.wanted_memory = self.wanted_memory || end.wanted_memory;

@@ -15,6 +15,10 @@ pub(crate) struct NodeEnd {
     pub(crate) told: u64,
     /// How many messages it lost for want of memory.
     pub(crate) lost: u64,
+    /// How many tokens and forks it sent.
+    pub(crate) passes: u64,
+    /// How many request tokens it sent.
+    pub(crate) asks: u64,
     /// Whether its table wanted memory.
     pub(crate) wanted_memory: bool,
 }

@@ -44,6 +44,7 @@ impl<M: Drop> Inbox<M> {
 
     /// Puts a message last, by one of the inbox's writers: that one has put it then, after all that
     /// it put before. Without memory the message comes back, and the writer has put nothing more.
+    /// What is taken of it `inbox_laws` says.
     pub fn put<R: Wait>(&self, rt: &R, writer: &mut Writer<M>, message: M) -> Result<(), M>
         requires { IsWriterOf self.now writer.old }
         ensures of { IsWriterOf self.now writer.new }
@@ -56,7 +57,8 @@ impl<M: Drop> Inbox<M> {
     }
 
     /// Takes the first message, by the inbox's reader: that one has got it then, after all that it
-    /// got before. Where there is none, it has got nothing more.
+    /// got before. Where there is none, it has got nothing more. What it gets was put, by
+    /// `inbox_laws`.
     pub fn take<R: Wait>(&self, rt: &R, reader: &mut Reader<M>) -> Option<M>
         requires { IsReaderOf self.now reader.old }
         ensures of { IsReaderOf self.now reader.new }

@@ -86,7 +86,10 @@ impl<'h, 'm> RingStation<'h, 'm> {
                 self.token = Some(token);
                 StationTurn::Nothing
             }
-            _ => StationTurn::Done,
+            _ => {
+                self.desk.count_pass();
+                StationTurn::Done
+            }
         }
     }
 }

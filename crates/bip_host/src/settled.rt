@@ -1,6 +1,8 @@
 //! What decides for a station, and when it may be handed on.
-ghost use Rattle.std.specs.Prelude.{◌≡◌, IfOk};
-ghost use Rattle.bip_host.specs.Settled.{IsDecidedOn, IsAnswerOfTurn};
+ghost use Rattle.std.specs.Prelude.{◌≡◌, IfOk, Ok};
+ghost use Rattle.bip_host.specs.Settled.{IsAnswerOfTurn, IsAsServed, IsDecidedOn, IsOfDecision};
+ghost use Rattle.bip_table.specs.Reservations.{IsTableAnswer};
+ghost use Rattle.bip_table.specs.declared.reservations.Decision.{Decision};
 
 use crate::books::{Entry, Mover};
 use bip_bank::StationId;
@@ -51,7 +53,8 @@ pub(crate) enum Decided<T> {
 impl<T> Decided<T> {
     /// What comes of this decision on a request.
     fn of(decider: T, request: &Request, decision: Decision) -> Decided<T>
-        ensures { IsDecidedOn request.now result }
+        ensures on { IsDecidedOn request.now result }
+        ensures so { IsOfDecision decision result }
     {
         let inter = request.inter;
         let mover = Mover::of(&request.wants);
@@ -80,7 +83,11 @@ impl Settled<Token> {
 
     /// Decides on a request. Where nothing is decided, the token goes with it.
     pub(crate) fn decide(self, request: &Request) -> Result<Decided<Token>, TableFault>
-        ensures { IfOk result (IsDecidedOn request.now) }
+        ensures on { IfOk result (IsDecidedOn request.now) }
+        // It is what the token's table answers.
+        ensures so { IfOk result (λ decided. (decision : Decision)
+            × IsTableAnswer self.decider.table request.now.wants (Ok decision)
+            × IsOfDecision decision decided) }
     {
         let Settled { mut decider } = self;
         let decision = decider.decide(request)?;
@@ -141,7 +148,9 @@ impl Settled<Station> {
     /// Decides on the oldest open request, where the station has all its forks. Where memory is
     /// wanted, the station goes with it.
     pub(crate) fn serve(self) -> Result<Served, AllocError>
-        ensures { IfOk result IsAnswerOfTurn }
+        ensures on { IfOk result IsAnswerOfTurn }
+        // It is what the station decides on its oldest open request.
+        ensures so { IfOk result (IsAsServed self.decider) }
     {
         let Settled { mut decider } = self;
         match decider.serve()? {

@@ -79,6 +79,16 @@ impl<'h, 'm> Desk<'h, 'm> {
         self.end.lost = self.end.lost.saturating_add(1);
     }
 
+    /// Counts a token or a fork that is sent.
+    pub(crate) fn count_pass(&mut self) {
+        self.end.passes = self.end.passes.saturating_add(1);
+    }
+
+    /// Counts a request token that is sent.
+    pub(crate) fn count_ask(&mut self) {
+        self.end.asks = self.end.asks.saturating_add(1);
+    }
+
     /// Notes that memory was wanted.
     pub(crate) fn lack(&mut self) {
         self.end.wanted_memory = true;
