@@ -12,7 +12,14 @@ use Rattle.bip_words.specs.declared.knowledge.Note.{Note}
 
 -- asks for nothing
 abbrev pub no_request : Request
-no_request = record { wants = []; request = 0; class = record { 0 = 0 }; inter = record { 0 = 0 } }
+no_request =
+    record {
+      wants = [];
+      reasons = [];
+      request = 0;
+      class = record { 0 = 0 };
+      inter = record { 0 = 0 };
+    }
 
 -- the grant of a request
 abbrev pub asked_by : Request → Grant
