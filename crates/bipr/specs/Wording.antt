@@ -110,12 +110,18 @@ host_end_text hosted =
 abbrev pub seconds_text : ℕ → List ℕ
 seconds_text milliseconds =
     decimal (milliseconds / 1000) ++ (codes "." ++ (decimal (milliseconds / 100 % 10)
-    ++ (decimal (milliseconds / 10 % 10)
-    ++ (decimal (milliseconds % 10) ++ line_feed ∷ []))))
+    ++ (decimal (milliseconds / 10 % 10) ++ decimal (milliseconds % 10))))
+
+-- how many tokens and forks stations sent, and how many request tokens
+abbrev pub sharing_text : Hosted → List ℕ
+sharing_text hosted =
+    codes " passes " ++ (decimal hosted.figures.passes
+    ++ (codes " asks " ++ (decimal hosted.figures.asks ++ line_feed ∷ [])))
 
 abbrev pub stats_text : Hosted → List ℕ
 stats_text hosted =
-    host_work_text hosted ++ (host_end_text hosted ++ seconds_text hosted.milliseconds)
+    host_work_text hosted
+    ++ (host_end_text hosted ++ (seconds_text hosted.milliseconds ++ sharing_text hosted))
 
 -- a host's book refused a grant
 abbrev pub host_refusal : List ℕ

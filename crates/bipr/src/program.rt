@@ -35,7 +35,8 @@ Its lines, each name declared before it is used:
     port NAME
     trans PORT FROM TO [when GUARD] [do UPDATE]
     interaction NAME COMPONENT.PORT .. [when GUARD] [do TRANSFER]
-    priority LOW < HIGH       where HIGH may run, LOW may not
+    priority LOW < HIGH       where HIGH is enabled, LOW may not run; this goes on from
+                              pair to pair
     class NAME INTERACTION .. a node that asks for these interactions
 
 Blanks stand between all words: a guard is `n < 3 and m != 0`, an update `n := n + 1 ; m := 0`.
@@ -46,7 +47,7 @@ A trace is a text of grants, each an interaction with its components, and of eac
 number of its move, from 1:
 
     grant x A:1
-    grant low A:2 see B:1     B is looked at: an interaction above `low` moves it
+    grant low A:2 see B:1     B shows that an interaction above `low` can't run
 
 The verdict is `run N` where the trace's N grants are a run of the model from its start;
 else `line N: ..`, the first line that can't be next, and why:
@@ -55,7 +56,8 @@ else `line N: ..`, the first line that can't be next, and why:
     x below y        y has the higher priority, and is enabled
     A expected N     N is the number of A's next move; 0: A moves no more
     x parties        x doesn't move just the components of the line, or doesn't look at
-                     just those behind `see`
+                     one behind `see`; or nothing that is named shows that one above x
+                     can't run: a component whose port is off, or all that it moves
 
 Comments (lines that begin with #), blank lines and tabs are allowed. A text is refused by
 its first line at fault:
@@ -189,7 +191,8 @@ trace may be short, or empty. Of the model of `bipr --help`,
 
 writes `grant x A:1`, and on standard error how many threads made how many turns together,
 the grants, of how many the components were told, how many messages were lost for want of
-memory, and how many seconds it took. These figures are counted, and promise nothing.";
+memory, how many seconds it took, how many tokens and forks stations sent, and how many
+request tokens. These figures are counted, and promise nothing.";
 
 /// What names an option may have: the resolvers, and how threads share a table.
 #[derive(Clone, Copy)]

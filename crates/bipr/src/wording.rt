@@ -5,7 +5,7 @@ ghost use Rattle.bipr.specs.Wording.{chart_refusal};
 ghost use Rattle.bipr.specs.Wording.{counts_text, interaction_on, model_refusal, plan_refusal};
 ghost use Rattle.bipr.specs.Wording.{decisions_text, losses_text, report_text, run_text};
 ghost use Rattle.bipr.specs.Wording.{progress_text, schedule_refusal, seed_verdict, seeds_text};
-ghost use Rattle.bipr.specs.Wording.{host_work_text, host_end_text};
+ghost use Rattle.bipr.specs.Wording.{host_work_text, host_end_text, sharing_text};
 ghost use Rattle.bipr.specs.Wording.{pace_text, reached_text, seconds_text, stats_text, step_text};
 ghost use Rattle.bipr.specs.Wording.{timed_text, trace_refusal, verdict_text};
 
@@ -130,13 +130,15 @@ fn losses_text(alloc: Global, report: &Report) -> Result<String, AllocError>
     format!(in alloc; " idle {idle} skipped {skipped} lost {lost}\n")
 }
 
-/// `threads H turns N grants G told T lost L seconds S`, where S has three places behind the point.
+/// `threads H turns N grants G told T lost L seconds S passes P asks A`, where S has three places
+/// behind the point.
 pub fn stats_text(alloc: Global, hosted: &Hosted) -> Result<Vec<u8>, AllocError>
     ensures { IfOk result (λ text. text.items ≡ stats_text hosted.now) }
 {
     let mut text = host_work_text(alloc, hosted)?.into_bytes();
     text.extend_from_slice(host_end_text(alloc, hosted)?.as_bytes())?;
     text.extend_from_slice(seconds_text(alloc, hosted.milliseconds)?.as_bytes())?;
+    text.extend_from_slice(sharing_text(alloc, hosted)?.as_bytes())?;
     Ok(text)
 }
 
@@ -162,7 +164,14 @@ fn seconds_text(alloc: Global, milliseconds: u64) -> Result<String, AllocError>
     let tenth = milliseconds / 100 % 10;
     let hundredth = milliseconds / 10 % 10;
     let thousandth = milliseconds % 10;
-    format!(in alloc; "{seconds}.{tenth}{hundredth}{thousandth}\n")
+    format!(in alloc; "{seconds}.{tenth}{hundredth}{thousandth}")
+}
+
+fn sharing_text(alloc: Global, hosted: &Hosted) -> Result<String, AllocError>
+    ensures { IfOk result (λ text. text.bytes.items ≡ sharing_text hosted.now) }
+{
+    let (passes, asks) = (hosted.figures.passes, hosted.figures.asks);
+    format!(in alloc; " passes {passes} asks {asks}\n")
 }
 
 /// `seeds K runs K`.
