@@ -7,7 +7,7 @@ use super::over_plan;
 use super::tabling::{Wanted, want};
 use super::worked::COMPETE;
 use bip_ip::{Answered, IpNode, Tried};
-use bip_model::{ClassId, CompId, InterId, Notify, Number, Reply, Want};
+use bip_model::{Cause, ClassId, CompId, InterId, Notify, Number, Reasons, Reply, Want, Why};
 use bip_observe::{Receipt, Verdict};
 use bip_partition::Plan;
 use std::alloc::Global;
@@ -30,6 +30,26 @@ const EXCHANGE: &str = "bip 1\n\
     interaction z B.s\n\
     priority x < y\nclass P x y\nclass Q z\n";
 
+/// One that is reserved: A moves by x; above it B and D move by y, for which B has no transition;
+/// D moves alone in another class.
+const IDLE: &str = "bip 1\n\
+    component A\nloc a0\nloc a1\nport s\ntrans s a0 a1\nend\n\
+    component B\nloc b0\nport s\nend\n\
+    component D\nloc d0\nport s\ntrans s d0 d0\nend\n\
+    interaction x A.s\ninteraction y B.s D.s\ninteraction z D.s\n\
+    priority x < y\nclass P x y\nclass Q z\n";
+
+/// Two above the first, each with a port of D.
+const BOTH_ABOVE: &str = "bip 1\n\
+    component A\nloc on\nport s\ntrans s on on\nend\n\
+    component B\nvar n 4\nloc on\nport s\ntrans s on on\nend\n\
+    component D\nvar n 4\nloc on\nport s\ntrans s on on\nend\n\
+    interaction x A.s\ninteraction y B.s D.s when B.n < D.n\ninteraction z A.s D.s\n\
+    priority x < y\npriority x < z\nclass P x y z\n";
+
+/// A reason: an interaction above, with the component whose port is off, or none for its guard.
+type Reasoned = (u16, Option<u16>);
+
 /// What a node answers to a try.
 #[derive(Drop)]
 enum Answer {
@@ -38,7 +58,7 @@ enum Answer {
     Not(Verdict),
     Local(&'static [Wanted], &'static [Told]),
     Ended,
-    Sent(u64, &'static [Wanted]),
+    Sent(u64, &'static [Wanted], &'static [Reasoned]),
 }
 
 /// What it answers to a reply.
@@ -70,6 +90,21 @@ fn are_wants(wants: &[Want], expected: &[Wanted]) -> bool {
             .all(|(one, other)| *one == want(other))
 }
 
+fn is_reason(why: Why, (inter, comp): &Reasoned) -> bool {
+    let cause = match comp {
+        Some(number) => Cause::Port(CompId(*number)),
+        None => Cause::Guard,
+    };
+    why.inter.0 == *inter && why.cause == cause
+}
+
+fn are_reasons(reasons: &Reasons, expected: &[Reasoned]) -> bool {
+    reasons.len() == expected.len()
+        && expected.iter().enumerate().all(|(place, one)| reasons
+            .get(place)
+            .is_some_and(|why| is_reason(why, one)))
+}
+
 fn is_told(notify: &Notify, (comp, number, port, values): &Told) -> bool {
     notify.comp.0 == *comp
         && notify.number == *number
@@ -97,11 +132,12 @@ fn is_answer(class: ClassId, inter: InterId, tried: &Tried, answer: &Answer) -> 
                 && are_told(notifies.as_slice(), told)
         }
         (Tried::Ended, Answer::Ended) => true,
-        (Tried::Sent(request), Answer::Sent(number, wants)) => {
+        (Tried::Sent(request), Answer::Sent(number, wants, reasons)) => {
             request.class == class
                 && request.inter == inter
                 && request.request == *number
                 && are_wants(request.wants.as_slice(), wants)
+                && are_reasons(&request.reasons, reasons)
         }
         _ => false,
     }
@@ -166,7 +202,7 @@ fn a_refused_request_is_dropped_once(rt: HostRuntime) {
         Hears((CompId(2), 1, 1, &[0])),
         Tries(0, Not(Verdict::NotReady(CompId(0)))),
         Hears((CompId(0), 1, 1, &[])),
-        Tries(0, Sent(1, &[(0, 1, true), (2, 1, true)])),
+        Tries(0, Sent(1, &[(0, 1, true), (2, 1, true)], &[])),
         Tries(0, Pending(0)),
         Refuses((0, 1, 0), (2, 1), Drops),
         Refuses((0, 1, 0), (2, 1), Ignores),
@@ -194,7 +230,14 @@ fn a_granted_request_tells_once_and_is_known(rt: HostRuntime) {
         Hears((CompId(1), 2, 1, &[])),
         Hears((CompId(2), 1, 1, &[1])),
         Tries(1, Not(Verdict::GuardFalse)),
-        Tries(0, Sent(5, &[(0, 1, true), (1, 2, false), (2, 1, true)])),
+        Tries(
+            0,
+            Sent(
+                5,
+                &[(0, 1, true), (1, 2, false), (2, 1, true)],
+                &[(1, None)],
+            ),
+        ),
         Hears((CompId(0), 2, 0, &[9])),
         Tries(1, Pending(0)),
         Grants(1, 5, 0, Ignores),
@@ -205,12 +248,48 @@ fn a_granted_request_tells_once_and_is_known(rt: HostRuntime) {
         Tries(0, Not(Verdict::NotReady(CompId(2)))),
         Hears((CompId(2), 2, 1, &[4])),
         Tries(0, Not(Verdict::PortOff(CompId(0)))),
-        Tries(1, Sent(6, &[(1, 2, true), (2, 2, true)])),
+        Tries(1, Sent(6, &[(1, 2, true), (2, 2, true)], &[])),
         Tries(0, Pending(1)),
         Refuses((0, 6, 1), (9, 8), Drops),
-        Tries(1, Sent(7, &[(1, 2, true), (2, 2, true)])),
+        Tries(1, Sent(7, &[(1, 2, true), (2, 2, true)], &[])),
     ];
     over_plan(&rt, rt.alloc(), EXCHANGE, (5, STEPS), takes);
+}
+
+#[test]
+fn one_port_that_is_off_is_reason_enough(rt: HostRuntime) {
+    const STEPS: &[Step] = &[
+        Hears((CompId(0), 1, 1, &[])),
+        Tries(0, Not(Verdict::NotReady(CompId(1)))),
+        Hears((CompId(2), 1, 1, &[])),
+        Tries(0, Not(Verdict::NotReady(CompId(1)))),
+        Hears((CompId(1), 1, 0, &[])),
+        Tries(0, Sent(1, &[(0, 1, true), (1, 1, false)], &[(1, Some(1))])),
+    ];
+    over_plan(&rt, rt.alloc(), IDLE, (1, STEPS), takes);
+}
+
+#[test]
+fn two_above_may_have_one_reason_or_each_its_own(rt: HostRuntime) {
+    const STEPS: &[Step] = &[
+        Hears((CompId(0), 1, 1, &[])),
+        Hears((CompId(1), 3, 1, &[4])),
+        Tries(0, Not(Verdict::NotReady(CompId(2)))),
+        Hears((CompId(2), 2, 1, &[4])),
+        Tries(0, Not(Verdict::Below(InterId(2)))),
+        Hears((CompId(2), 3, 1, &[5])),
+        Tries(0, Not(Verdict::Below(InterId(1)))),
+        Hears((CompId(2), 4, 0, &[5])),
+        Tries(
+            0,
+            Sent(
+                1,
+                &[(0, 1, true), (2, 4, false)],
+                &[(1, Some(2)), (2, Some(2))],
+            ),
+        ),
+    ];
+    over_plan(&rt, rt.alloc(), BOTH_ABOVE, (1, STEPS), takes);
 }
 
 #[test]
@@ -218,7 +297,10 @@ fn the_last_request_number_is_used_once(rt: HostRuntime) {
     const STEPS: &[Step] = &[
         Hears((CompId(0), 1, 1, &[])),
         Hears((CompId(2), 1, 1, &[0])),
-        Tries(0, Sent(18446744073709551615, &[(0, 1, true), (2, 1, true)])),
+        Tries(
+            0,
+            Sent(18446744073709551615, &[(0, 1, true), (2, 1, true)], &[]),
+        ),
         Refuses((0, 18446744073709551615, 0), (1, 1), Drops),
         Tries(0, Ended),
     ];

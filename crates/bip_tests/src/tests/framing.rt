@@ -1,12 +1,12 @@
 //! Worked frames; each of them cut, with more behind, and with each byte set to each value, against
 //! a slow reading.
-ghost use Rattle.std.specs.Prelude.{◌↔◌, IsTrue};
+ghost use Rattle.std.specs.Prelude.{◌≡◌, ◌↔◌, IsTrue};
 ghost use Rattle.bip_frame.specs.Frames.{IsNumbered};
 
 use super::moved;
 use super::slow_frames::fault_by_table;
 use bip_frame::{Frame, read, write_notify, write_offer, write_reply, write_reserve};
-use bip_model::{ClassId, CompId, InterId, Reply, Request, Role, Want, Wants};
+use bip_model::{Cause, ClassId, CompId, InterId, Reasons, Reply, Request, Role, Want, Wants, Why};
 use bytes::Bytes;
 use std::alloc::Global;
 use std::process::Abort;
@@ -20,6 +20,11 @@ pub(super) const FIRST_OFFER: &str = "010002000000000000000100010100000000";
 pub(super) const REQUEST: &str = "0200000000000000000001000002\
     00000100000000000000010002010000000000000001";
 
+/// Class 0 asks to move component 0 beside component 1, since the port of component 1 for
+/// interaction 1 is off.
+pub(super) const EXPLAINED: &str = "0600000000000000000001000002\
+    000001000000000000000100010000000000000000010100010001";
+
 pub(super) const GRANTED: &str = "030000000000000000000100000000000000000000";
 
 pub(super) const REFUSED: &str = "0400010000000000000001000100020000000000000001";
@@ -27,15 +32,19 @@ pub(super) const REFUSED: &str = "0400010000000000000001000100020000000000000001
 pub(super) const NOTIFY: &str = "0500020000000000000001000100000000";
 
 /// Bytes, and the number of their first fault: 0 where they are a frame.
-pub(super) const WORKED: [(&str, u8); 16] = [
+pub(super) const WORKED: [(&str, u8); 22] = [
     (OFFER, 0),
     (FIRST_OFFER, 0),
     (REQUEST, 0),
+    (EXPLAINED, 0),
     (GRANTED, 0),
     (REFUSED, 0),
     (NOTIFY, 0),
-    ("06", 1),
+    ("07", 1),
     ("", 2),
+    ("06", 2),
+    ("06000000000000000000010000010000000000000000000001", 2),
+    ("0600000000000000000001000001000000000000000000000100", 3),
     ("0200000000000000000001000000", 3),
     ("0100020000000000000001000109", 3),
     ("02000000000000000000010000010000020000000000000001", 4),
@@ -43,7 +52,15 @@ pub(super) const WORKED: [(&str, u8); 16] = [
         "020000000000000000000100000200020100000000000000010001010000000000000001",
         5,
     ),
+    (
+        "0600000000000000000001000001000001000000000000000102000100010001ffff",
+        5,
+    ),
     ("02000000000000000000010000010000000000000000000001", 6),
+    (
+        "0600000000000000000001000001000000000000000000000101000100010000",
+        6,
+    ),
     ("010002000000000000000000010100000005", 7),
     ("0500020000000000000001100100000000", 8),
     ("01000200000000000000010001010000000500", 9),
@@ -219,15 +236,45 @@ fn a_notification_shows_its_parts(rt: HostRuntime) {
 }
 
 #[test]
-fn the_longest_frame_is_read_back(rt: HostRuntime) {
-    let list = (0..32).map(|comp| moved(comp, 7)).collect(rt.alloc());
-    let list: Vec<Want> = list.expect(&rt, "memory");
-    let request = Request {
-        wants: Wants::of(&list).expect(&rt, "wants"),
+fn a_request_shows_its_reasons(rt: HostRuntime) {
+    let bytes = bytes_of(&rt, rt.alloc(), EXPLAINED);
+    assert_eq!(rt; bytes.len(), 41);
+    let Ok(Frame::Reserve(frame)) = read(&bytes) else {
+        return assert!(rt; false);
+    };
+    assert_eq!(rt; (frame.len(), frame.reason_count()), (2, 1));
+    let why = Why {
+        inter: InterId(1),
+        cause: Cause::Port(CompId(1)),
+    };
+    assert_eq!(rt; (frame.reason(0), frame.reason(1)), (Some(why), None));
+    assert_eq!(rt; frame.value().reasons.get(0), Some(why));
+    let bare = bytes_of(&rt, rt.alloc(), REQUEST);
+    let Ok(Frame::Reserve(frame)) = read(&bare) else {
+        return assert!(rt; false);
+    };
+    assert_eq!(rt; (frame.reason_count(), frame.reason(0)), (0, None));
+    assert!(rt; frame.reasons().is_empty());
+}
+
+/// Class 0 asks as its request 1 for interaction 0, which moves 32 components.
+fn long_request(rt: &impl Abort, alloc: Global, reasons: Reasons) -> Request
+    ensures { result.request ≡ 1 }
+{
+    let list = (0..32).map(|comp| moved(comp, 7)).collect(alloc);
+    let list: Vec<Want> = list.expect(rt, "memory");
+    Request {
+        wants: Wants::of(&list).expect(rt, "wants"),
+        reasons,
         request: 1,
         class: ClassId(0),
         inter: InterId(0),
-    };
+    }
+}
+
+#[test]
+fn the_longest_frame_without_reasons_is_read_back(rt: HostRuntime) {
+    let request = long_request(&rt, rt.alloc(), Reasons::none());
     let bytes = write_reserve(rt.alloc(), &request).expect(&rt, "memory");
     assert_eq!(rt; bytes.len(), 366);
     is_told(&rt, rt.alloc(), bytes.as_slice());
@@ -238,4 +285,29 @@ fn the_longest_frame_is_read_back(rt: HostRuntime) {
         .entry(31)
         .map(|entry| (entry.comp().0, entry.number()));
     assert_eq!(rt; last, Some((31, 7)));
+}
+
+#[test]
+fn the_longest_frame_is_read_back(rt: HostRuntime) {
+    let list = (1..128).map(|inter| guarded(inter)).collect(rt.alloc());
+    let list: Vec<Why> = list.expect(&rt, "memory");
+    let reasons = Reasons::of(&list).expect(&rt, "reasons");
+    let request = long_request(&rt, rt.alloc(), reasons);
+    let bytes = write_reserve(rt.alloc(), &request).expect(&rt, "memory");
+    assert_eq!(rt; bytes.len(), 875);
+    is_told(&rt, rt.alloc(), bytes.as_slice());
+    let Ok(Frame::Reserve(frame)) = read(bytes.as_slice()) else {
+        return assert!(rt; false);
+    };
+    assert_eq!(rt; (frame.len(), frame.reason_count()), (32, 127));
+    assert_eq!(rt; frame.reason(126), Some(guarded(127)));
+    assert_eq!(rt; frame.value().reasons.get(126), Some(guarded(127)));
+}
+
+/// The guard of an interaction is false.
+fn guarded(inter: u16) -> Why {
+    Why {
+        inter: InterId(inter),
+        cause: Cause::Guard,
+    }
 }

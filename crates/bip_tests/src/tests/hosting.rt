@@ -24,6 +24,15 @@ const APART: &str = "bip 1\n\
     component B\nloc b0\nloc b1\nport s\ntrans s b0 b1\nend\n\
     interaction x A.s\ninteraction y B.s\nclass P x\nclass Q y\n";
 
+/// The same, where each looks at a third component, which can't move: both are reserved, and not in
+/// conflict.
+const WATCHING: &str = "bip 1\n\
+    component A\nloc a0\nloc a1\nport s\ntrans s a0 a1\nend\n\
+    component B\nloc b0\nloc b1\nport s\ntrans s b0 b1\nend\n\
+    component C\nloc c0\nport k\nend\n\
+    interaction x A.s\ninteraction y B.s\ninteraction z C.k\n\
+    priority x < z\npriority y < z\nclass P x z\nclass Q y\n";
+
 /// How often a gate looks for what it waits for.
 const LOOKS: u32 = 100_000;
 
@@ -83,17 +92,17 @@ fn host<G: Gate + Sync, R: Threads + Wait + Abort + Sync>(
     run_host(rt, alloc, &plan, kind, Tables::Locked, TURNS, gate).expect(rt, "a report")
 }
 
-#[test]
-fn two_classes_meet(rt: HostRuntime) -> Result<(), Fail> {
+/// Lets both classes of a model make their one grant, with each kind of third layer: they meet.
+fn meet<R: Threads + Wait + Abort + Sync>(rt: &R, alloc: Global, text: &str) -> Result<(), Fail> {
     for kind in KINDS {
         let gate = Meeting {
             raised: [AtomicU64::new(0), AtomicU64::new(0)],
             met: AtomicU64::new(0),
         };
-        let report = host(&rt, rt.alloc(), APART, kind, &gate);
+        let report = host(rt, alloc, text, kind, &gate);
         assert_eq!(rt; gate.met.load(Ordering::SeqCst), 2);
         assert_eq!(rt; (report.told, report.lost), (2, 0));
-        let mut names = Vec::new(rt.alloc());
+        let mut names = Vec::new(alloc);
         for grant in report.grants.iter() {
             names.push(grant.inter.0)?;
         }
@@ -101,6 +110,16 @@ fn two_classes_meet(rt: HostRuntime) -> Result<(), Fail> {
         assert_eq!(rt; names.as_slice(), [0, 1].as_slice());
     }
     Ok(())
+}
+
+#[test]
+fn two_classes_meet(rt: HostRuntime) -> Result<(), Fail> {
+    meet(&rt, rt.alloc(), APART)
+}
+
+#[test]
+fn two_classes_meet_behind_stations(rt: HostRuntime) -> Result<(), Fail> {
+    meet(&rt, rt.alloc(), WATCHING)
 }
 
 /// The first class asks once the second's grant is told.

@@ -2,6 +2,7 @@ use bip_bank::bank_laws;
 use bip_component::component_laws;
 use bip_draw::picture_laws;
 use bip_frame::frame_laws;
+use bip_host::inbox_laws;
 use bip_ip::{node_laws, notify_laws};
 use bip_model::{
     builder_laws, expression_laws, history_laws, partition_laws, priority_laws, step_laws,
@@ -38,4 +39,5 @@ fn laws_can_be_called(_rt: HostRuntime) {
     notify_laws();
     node_laws();
     frame_laws();
+    inbox_laws::<u64>();
 }

@@ -4,7 +4,7 @@ ghost use Rattle.std.specs.Prelude.{◌≡◌, []};
 
 use super::tabling::have;
 use super::{moved, seen};
-use bip_model::{ClassId, CompId, Grant, InterId, Number, Request, Want, Wants};
+use bip_model::{ClassId, CompId, Grant, InterId, Number, Reasons, Request, Want, Wants};
 use bip_table::{CloseFault, Decision, Keep, Pass, Table, TableFault, TableLock};
 use std::alloc::Global;
 use std::marker::Brand;
@@ -24,9 +24,15 @@ pub(crate) const FOUR: &[(CompId, Number)] = &[
 
 /// A request for an interaction with these wants; none where they can't be the wants of one.
 pub(crate) fn request(inter: u16, wants: &[Want]) -> Option<Request> {
+    numbered(1, inter, wants)
+}
+
+/// The same with a number.
+fn numbered(request: u64, inter: u16, wants: &[Want]) -> Option<Request> {
     Some(Request {
         wants: Wants::of(wants)?,
-        request: 1,
+        reasons: Reasons::none(),
+        request,
         class: ClassId(inter),
         inter: InterId(inter),
     })
@@ -55,18 +61,20 @@ fn ask<L: Ledger, W: Wait>(
 #[derive(Drop)]
 struct Two {
     decided: (Option<Decision>, Option<Decision>),
+    again: Option<Decision>,
     told: (Told, Told),
     table: Table,
 }
 
-/// Lets a thread ask for the first of two, and then another one for the second; closes with the
-/// first one's pass alone, which is refused, and then with both.
+/// Lets a thread ask for the first of two, and then another one for the second; asks once more with
+/// that one's pass; closes with the first one's pass alone, which is refused, and then with both.
 fn ask_in_turn<L: Ledger + Send + Sync, T: Threads + Wait + Sync>(
     rt: &T,
     alloc: Global,
     blank: Blank,
     table: Table,
     asked: (Request, Request),
+    last: Request,
 ) -> Option<Two>
     requires name { blank.name ≡ L.name }
     requires parts { (blank.parts ≡ L.parts) × (blank.parts ≡ 2) }
@@ -77,6 +85,7 @@ fn ask_in_turn<L: Ledger + Send + Sync, T: Threads + Wait + Sync>(
     let ((x, y), shared) = (asked, &lock);
     let ((one, first), ()) = thread::join(rt, move || ask(rt, shared, one, x), || ());
     let ((two, second), ()) = thread::join(rt, move || ask(rt, shared, two, y), || ());
+    let (two, again) = ask(rt, shared, two, last);
     let told = (told(&one), told(&two));
     passes.push(one).ok()?;
     let Err(CloseFault::PassesMissing(lock, mut passes)) = lock.close(passes) else {
@@ -88,6 +97,7 @@ fn ask_in_turn<L: Ledger + Send + Sync, T: Threads + Wait + Sync>(
     };
     Some(Two {
         decided: (first, second),
+        again,
         told,
         table,
     })
@@ -99,11 +109,14 @@ fn two_callers_want_one_row(rt: HostRuntime) -> Result<(), Fail> {
     let Some(x) = request(5, &[moved(0, 1), moved(2, 1), seen(3, 1)]) else {
         panic!(rt; "x can be asked for")
     };
-    let Some(y) = request(6, &[moved(1, 1), moved(2, 1)]) else {
-        panic!(rt; "y can be asked for")
+    let (Some(y), Some(z)) = (
+        request(6, &[moved(1, 1), moved(2, 1)]),
+        request(6, &[moved(1, 1), seen(2, 1)]),
+    ) else {
+        panic!(rt; "they can be asked for")
     };
     let blank = Blank::new(2);
-    let Some(two) = ask_in_turn::<Brand, _>(&rt, rt.alloc(), blank, table, (x, y)) else {
+    let Some(two) = ask_in_turn::<Brand, _>(&rt, rt.alloc(), blank, table, (x, y), z) else {
         panic!(rt; "it closes with both passes")
     };
     let refused = Decision::Refused {
@@ -111,6 +124,7 @@ fn two_callers_want_one_row(rt: HostRuntime) -> Result<(), Fail> {
         used: 1,
     };
     assert_eq!(rt; two.decided, (Some(Decision::Granted(0)), Some(refused)));
+    assert_eq!(rt; two.again, Some(refused));
     assert_eq!(rt; two.told.0, [(1, 1), (0, 0), (1, 1), (0, 0)]);
     assert_eq!(rt; two.told.1, [(0, 0), (0, 0), (0, 1), (0, 0)]);
     assert!(rt; have(two.table.rows(), &[1, 0, 1, 0]));
@@ -152,7 +166,7 @@ fn movers<L: Ledger>(alloc: Global, passes: Vec<Pass<L>>) -> Option<Vec<Mover<L>
 /// Asks a hundred times to move the component, with the numbers from 1 on.
 fn move_own<L: Ledger, W: Wait>(rt: &W, lock: &TableLock<L>, mut mover: Mover<L>) -> Mover<L> {
     for number in 1..101 {
-        let Some(request) = request(mover.comp, &[moved(mover.comp, number)]) else {
+        let Some(request) = numbered(number, mover.comp, &[moved(mover.comp, number)]) else {
             break;
         };
         if let Ok(Decision::Granted(serial)) = lock.reserve(rt, &mut mover.pass, request) {
@@ -343,7 +357,19 @@ fn a_grant_that_is_not_kept_stays(rt: HostRuntime) -> Result<(), Fail> {
     assert_eq!(rt; kept.keeper.handed, 2);
     assert_eq!(rt; kept.keeper.last, InterId(6));
     assert_eq!(rt; kept.told, [(1, 1), (1, 1), (2, 2), (0, 0)]);
-    assert_eq!(rt; kept.table.journal().len(), 2);
+    let [first, second] = kept.table.journal() else {
+        panic!(rt; "there are two grants")
+    };
+    assert!(rt; first.inter == InterId(5) && second.inter == InterId(6));
+    assert_eq!(rt;
+        first.wants.as_slice(),
+        [moved(0, 1), moved(2, 1)].as_slice()
+    );
+    assert_eq!(rt;
+        second.wants.as_slice(),
+        [moved(1, 1), moved(2, 2)].as_slice()
+    );
     assert!(rt; have(kept.table.rows(), &[1, 1, 2, 0]));
+    assert!(rt; have(kept.table.floor(), &[0, 0, 0, 0]));
     Ok(())
 }

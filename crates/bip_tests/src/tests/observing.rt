@@ -90,7 +90,7 @@ fn a_verdict_tells_the_first_cause_and_the_lowest(rt: HostRuntime) {
         Gets((R, 1, 1, &[7]), Receipt::Held),
         Decides(X, Verdict::NotReady(A)),
         Gets((A, 1, 0, &[]), Receipt::Held),
-        Decides(X, Verdict::NotReady(B)),
+        Decides(X, Verdict::PortOff(A)),
         Gets((B, 1, 3, &[]), Receipt::Held),
         Decides(X, Verdict::PortOff(A)),
         Gets((R, 2, 0, &[7]), Receipt::Held),

@@ -1,6 +1,6 @@
 use super::worked::{CHAIN, CLIMB};
 use super::{over_plan, read};
-use bip_model::{ClassId, CompId, InterId, Request, Role, Want, Wants};
+use bip_model::{Cause, ClassId, CompId, InterId, Reasons, Request, Role, Want, Wants, Why};
 use bip_partition::{Plan, PlanFault, first_touching_too_many};
 use std::alloc::Global;
 use std::process::Abort;
@@ -101,16 +101,44 @@ const MOVED_R: Want = Want {
     role: Role::Moved,
 };
 
-/// A request, and whether it fits.
-type Asked = (ClassId, InterId, &'static [Want], bool);
+/// Reasons: that a port is off for y, or for x, and that the guard of y is false.
+const OF_A: Why = Why {
+    inter: Y,
+    cause: Cause::Port(A),
+};
 
-fn fits(rt: &impl Abort, plan: &Plan, (class, inter, wants, wanted): &Asked) {
+const OF_B: Why = Why {
+    inter: Y,
+    cause: Cause::Port(B),
+};
+
+const OF_R: Why = Why {
+    inter: Y,
+    cause: Cause::Port(R),
+};
+
+const OF_GUARD: Why = Why {
+    inter: Y,
+    cause: Cause::Guard,
+};
+
+const OF_X: Why = Why {
+    inter: X,
+    cause: Cause::Port(R),
+};
+
+/// A request, and whether it fits.
+type Asked = (ClassId, InterId, &'static [Want], &'static [Why], bool);
+
+fn fits(rt: &impl Abort, plan: &Plan, (class, inter, wants, whys, wanted): &Asked) {
     let wants = Wants::of(wants).expect(rt, "wants");
+    let reasons = Reasons::of(whys).expect(rt, "reasons");
     let request = Request {
         class: *class,
         request: 1,
         inter: *inter,
         wants,
+        reasons,
     };
     assert!(rt; plan.fits(&request) == *wanted);
 }
@@ -124,22 +152,42 @@ fn fit(rt: &impl Abort, _alloc: Global, plan: &Plan, asked: &[Asked]) {
 #[test]
 fn a_request_wants_what_its_interaction_moves_and_looks_at(rt: HostRuntime) {
     const ASKED: &[Asked] = &[
-        (P, X, &[MOVED_A, SEEN_B, MOVED_R], true),
-        (Q, X, &[MOVED_A, SEEN_B, MOVED_R], false),
-        (P, X, &[MOVED_A, MOVED_B, MOVED_R], false),
-        (P, X, &[MOVED_A, MOVED_R], false),
-        (Q, Y, &[MOVED_B, MOVED_R], true),
-        (Q, Y, &[SEEN_B, MOVED_R], false),
-        (Q, Y, &[MOVED_A, MOVED_B, MOVED_R], false),
-        (Q, InterId(2), &[MOVED_B, MOVED_R], false),
-        (ClassId(2), Y, &[MOVED_B, MOVED_R], false),
+        (P, X, &[MOVED_A, SEEN_B, MOVED_R], &[], true),
+        (Q, X, &[MOVED_A, SEEN_B, MOVED_R], &[], false),
+        (P, X, &[MOVED_A, MOVED_B, MOVED_R], &[], false),
+        (P, X, &[MOVED_A, MOVED_R], &[], false),
+        (Q, Y, &[MOVED_B, MOVED_R], &[], true),
+        (Q, Y, &[SEEN_B, MOVED_R], &[], false),
+        (Q, Y, &[MOVED_A, MOVED_B, MOVED_R], &[], false),
+        (Q, InterId(2), &[MOVED_B, MOVED_R], &[], false),
+        (ClassId(2), Y, &[MOVED_B, MOVED_R], &[], false),
+    ];
+    over_plan(&rt, rt.alloc(), LOOKING, ASKED, fit);
+}
+
+#[test]
+fn a_request_gives_a_reason_for_what_is_above(rt: HostRuntime) {
+    const ASKED: &[Asked] = &[
+        (P, X, &[MOVED_A, MOVED_R], &[OF_R], true),
+        (P, X, &[MOVED_A, SEEN_B, MOVED_R], &[OF_R], true),
+        (P, X, &[MOVED_A, SEEN_B, MOVED_R], &[OF_B], true),
+        (P, X, &[MOVED_A, SEEN_B, MOVED_R], &[OF_GUARD], true),
+        (P, X, &[MOVED_A, MOVED_R], &[OF_B], false),
+        (P, X, &[MOVED_A, MOVED_R], &[OF_GUARD], false),
+        (P, X, &[MOVED_A, SEEN_B, MOVED_R], &[OF_A], false),
+        (P, X, &[MOVED_A, SEEN_B, MOVED_R], &[OF_X], false),
+        (P, X, &[MOVED_A, SEEN_B, MOVED_R], &[OF_X, OF_B], false),
+        (Q, Y, &[MOVED_B, MOVED_R], &[OF_R], false),
     ];
     over_plan(&rt, rt.alloc(), LOOKING, ASKED, fit);
 }
 
 #[test]
 fn no_request_for_a_local_interaction_fits(rt: HostRuntime) {
-    const ASKED: &[Asked] = &[(P, X, &[MOVED_A], false), (Q, Y, &[MOVED_B], false)];
+    const ASKED: &[Asked] = &[
+        (P, X, &[MOVED_A], &[], false),
+        (Q, Y, &[MOVED_B], &[], false),
+    ];
     over_plan(&rt, rt.alloc(), APART, ASKED, fit);
 }
 

@@ -3,7 +3,7 @@ ghost use Rattle.std.specs.Prelude.{◌≡◌, ◌<◌, ◌^◌, All};
 ghost use Rattle.bip_model.specs.declared.wants.Want.{Want};
 ghost use Rattle.bip_words.specs.Tables.{IsSeatOf};
 
-use bip_model::{ClassId, CompId, InterId, Number, Request, Role, Want, Wants};
+use bip_model::{ClassId, CompId, InterId, Number, Reasons, Request, Role, Want, Wants};
 use bip_words::{Attempt, Closed, Seat, WordTable};
 use std::alloc::Global;
 use std::process::Abort;
@@ -44,6 +44,7 @@ fn attempt(table: &WordTable, seat: &mut Seat, wants: &[Want]) -> Option<Attempt
     let wants = Wants::of(wants)?;
     let request = Request {
         wants,
+        reasons: Reasons::none(),
         request: 1,
         class: ClassId(0),
         inter: InterId(0),

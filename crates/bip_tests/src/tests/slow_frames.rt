@@ -1,7 +1,8 @@
 //! A slow reading of frames by the table of kinds (docs/FRAMES.md): what fault bytes have.
-use self::Field::{Eight, Entries, Numbered, Port, Two, Values};
+use self::Field::{Eight, Entries, Explained, Numbered, Port, Two, Values};
 
-/// A field of a frame: so many bytes, a number of at least 1, or what its name says.
+/// A field of a frame: so many bytes, a number of at least 1, entries with reasons behind them, or
+/// what its name says.
 #[derive(Clone, Copy)]
 enum Field {
     Two,
@@ -10,16 +11,18 @@ enum Field {
     Port,
     Values,
     Entries,
+    Explained,
 }
 
 /// The fields behind the byte of each kind, from kind 1 on: offer, request, granted, refused,
-/// notification.
-const KINDS: [&[Field]; 5] = [
+/// notification, request with reasons.
+const KINDS: [&[Field]; 6] = [
     &[Two, Numbered, Two, Values],
     &[Two, Numbered, Two, Entries],
     &[Two, Numbered, Two, Eight],
     &[Two, Numbered, Two, Two, Numbered],
     &[Two, Numbered, Port, Values],
+    &[Two, Numbered, Two, Explained],
 ];
 
 // The numbers of faults.
@@ -80,11 +83,15 @@ fn behind(field: Field, bytes: &[u8]) -> Result<&[u8], u8> {
             [count @ 0..=8, rest @ ..] => skip(rest, 4 * *count as usize),
             [_, ..] => Err(COUNT),
         },
-        Entries => match bytes {
-            [] => Err(SHORT),
-            [count @ 1..=32, rest @ ..] => behind_entries(*count, rest),
-            [_, ..] => Err(COUNT),
-        },
+        Entries => {
+            let (moved, rest) = behind_entries(bytes)?;
+            if moved { Ok(rest) } else { Err(NO_MOVER) }
+        }
+        Explained => {
+            let (moved, reasons) = behind_entries(bytes)?;
+            let rest = behind_reasons(reasons)?;
+            if moved { Ok(rest) } else { Err(NO_MOVER) }
+        }
     }
 }
 
@@ -101,18 +108,40 @@ fn skip(bytes: &[u8], count: usize) -> Result<&[u8], u8> {
     bytes.get(count..).ok_or(SHORT)
 }
 
-fn behind_entries(count: u8, bytes: &[u8]) -> Result<&[u8], u8> {
-    let mut rest = bytes;
+/// A count of at least 1 and at most so many, and what stands behind it.
+fn counted(bytes: &[u8], most: u8) -> Result<(u8, &[u8]), u8> {
+    match bytes {
+        [] => Err(SHORT),
+        [0, ..] => Err(COUNT),
+        [count, rest @ ..] => {
+            if most < *count {
+                return Err(COUNT);
+            }
+            Ok((*count, rest))
+        }
+    }
+}
+
+/// Two bytes above the last two, and what stands behind them.
+fn above(last: Option<(u8, u8)>, bytes: &[u8]) -> Result<((u8, u8), &[u8]), u8> {
+    let [high, low, rest @ ..] = bytes else {
+        return Err(SHORT);
+    };
+    let number = (*high, *low);
+    if last.is_some_and(|last| number <= last) {
+        return Err(ORDER);
+    }
+    Ok((number, rest))
+}
+
+/// Whether an entry moves its component, and what stands behind all entries.
+fn behind_entries(bytes: &[u8]) -> Result<(bool, &[u8]), u8> {
+    let (count, entries) = counted(bytes, 32)?;
+    let mut rest = entries;
     let mut last: Option<(u8, u8)> = None;
     let mut moved = false;
     for _ in 0..count {
-        let [high, low, role @ ..] = rest else {
-            return Err(SHORT);
-        };
-        let comp = (*high, *low);
-        if last.is_some_and(|last| comp <= last) {
-            return Err(ORDER);
-        }
+        let (comp, role) = above(last, rest)?;
         last = Some(comp);
         rest = match role {
             [] => return Err(SHORT),
@@ -124,5 +153,17 @@ fn behind_entries(count: u8, bytes: &[u8]) -> Result<&[u8], u8> {
             [_, ..] => return Err(ROLE),
         };
     }
-    if moved { Ok(rest) } else { Err(NO_MOVER) }
+    Ok((moved, rest))
+}
+
+fn behind_reasons(bytes: &[u8]) -> Result<&[u8], u8> {
+    let (count, reasons) = counted(bytes, 127)?;
+    let mut rest = reasons;
+    let mut last: Option<(u8, u8)> = None;
+    for _ in 0..count {
+        let (inter, cause) = above(last, rest)?;
+        last = Some(inter);
+        rest = skip(cause, 2)?;
+    }
+    Ok(rest)
 }

@@ -2,7 +2,7 @@ ghost use Rattle.std.specs.Prelude.{◌≡◌};
 
 use self::Step::{Asks, Shows};
 use super::{moved, seen};
-use bip_model::{ClassId, CompId, Grant, InterId, Number, Request, Want, Wants};
+use bip_model::{ClassId, CompId, Grant, InterId, Number, Reasons, Request, Want, Wants};
 use bip_table::{Decision, Row, RowLender, Table};
 use std::alloc::Global;
 use std::process::Abort;
@@ -39,6 +39,7 @@ pub(super) fn request(
     let wants: Vec<Want> = wanted.iter().map(want).collect(alloc).expect(rt, "memory");
     Request {
         wants: Wants::of(&wants).expect(rt, "wants"),
+        reasons: Reasons::none(),
         request: 1,
         class: ClassId(class),
         inter: InterId(inter),

@@ -222,7 +222,7 @@ fn priorities_climb(rt: HostRuntime) {
             used: &[(THIRD, 1)],
             says: &[
                 (ONE, Verdict::NotReady(THIRD)),
-                (TWO, Verdict::NotReady(THIRD)),
+                (TWO, Verdict::PortOff(SECOND)),
                 (THREE, Verdict::NotReady(THIRD)),
             ],
         },
