@@ -9,7 +9,9 @@ KINDS = {
     "wide": "256 transitions of each component, of which the last four are used",
     "data": "variables, guards, updates and transfers",
     "priorities": "priorities, so grants see components",
+    "fewer": "priorities, grants see what reasons name",
 }
+WITH_PRIORITIES = ("priorities", "fewer")
 MEBIBYTE = 1024 * 1024
 # of so many interactions, the first are granted by chance, and the others stand above them
 PLAIN, ABOVE = 96, 32
@@ -76,7 +78,7 @@ def transitions(shape):
         return
     yield from ("trans tick low high", "trans tick high low")
     yield from ("trans tock low low", "trans tock high high")
-    if shape.kind == "priorities":
+    if shape.kind in WITH_PRIORITIES:
         yield "trans pull high low"
 
 
@@ -86,7 +88,7 @@ def component(name, shape):
     if shape.kind == "data":
         yield from ("var phase 0", "var total 0", "var seen 7")
     yield from ("loc low", "loc high", "port tick", "port tock")
-    if shape.kind == "priorities":
+    if shape.kind in WITH_PRIORITIES:
         yield "port pull"
     if shape.transitions > 4:
         yield from (f"loc {place}" for place in rest_of(shape))
@@ -115,7 +117,7 @@ def model(interactions, shape):
         yield from component(f"node{comp}", shape)
     for number, (comps, port) in enumerate(interactions):
         yield interaction(number, comps, port, shape)
-    if shape.kind == "priorities":
+    if shape.kind in WITH_PRIORITIES:
         for number in range(len(interactions)):
             yield from (f"priority step{number} < step{high}" for high in above(number)[:1])
     for number in range(0, len(interactions), 4):
@@ -132,40 +134,47 @@ def draw(count):
 
 
 def granted(interactions, shape):
-    """The interactions of a run, in turn. With priorities, one that stands above the drawn one and
-    is enabled comes before it."""
-    if shape.kind != "priorities":
-        yield from draw(len(interactions))
+    """The interactions of a run, in turn, each with the components that it sees. With priorities,
+    one that stands above the drawn one and is enabled comes before it."""
+    if shape.kind not in WITH_PRIORITIES:
+        yield from ((number, []) for number in draw(len(interactions)))
+    seen_by = named_by if shape.kind == "fewer" else looked_at
     is_high = [False] * shape.components
     for number in draw(PLAIN):
         for high in reversed(above(number)):
             comps = interactions[high][0]
             if all(is_high[comp] for comp in comps):
-                yield high
+                yield high, seen_by(high, interactions, is_high)
                 for comp in comps:
                     is_high[comp] = False
-        yield number
+        yield number, seen_by(number, interactions, is_high)
         comps, port = interactions[number]
         for comp in comps:
             is_high[comp] ^= port == "tick"
 
 
-def seen_by(number, interactions, shape):
+def looked_at(number, interactions, _):
     """The components that an interaction looks at."""
-    if shape.kind != "priorities":
-        return []
     moved = {comp for high in above(number) for comp in interactions[high][0]}
     return sorted(moved - {*interactions[number][0]})
+
+
+def named_by(number, interactions, is_high):
+    """The components that the reasons for an interaction name: of each one above it the lowest that
+    isn't high of those that it moves, else the lowest. Those that it moves aren't seen."""
+    own = interactions[number][0]
+    off = [[c for c in interactions[high][0] if not is_high[c]] for high in above(number)]
+    named = {next((c for c in comps if c in own), comps[0]) for comps in off}
+    return sorted(named - {*own})
 
 
 def trace(interactions, shape):
     """The lines of a run."""
     used = [0] * shape.components
-    looks = [seen_by(number, interactions, shape) for number in range(len(interactions))]
     left = shape.size
-    for number in granted(interactions, shape):
+    for number, comps_seen in granted(interactions, shape):
         comps = interactions[number][0]
-        seen = [f"node{comp}:{used[comp] + 1}" for comp in looks[number]]
+        seen = [f"node{comp}:{used[comp] + 1}" for comp in comps_seen]
         for comp in comps:
             used[comp] += 1
         wants = [f"node{comp}:{used[comp]}" for comp in comps]
@@ -181,7 +190,7 @@ def trace(interactions, shape):
 
 def write(shape, to_model, to_trace):
     """Writes the model and the trace of a shape, and returns how many bytes both have."""
-    has_priorities = shape.kind == "priorities"
+    has_priorities = shape.kind in WITH_PRIORITIES
     interactions = with_priorities(shape) if has_priorities else list(participants(shape))
     size = 0
     for path, lines in ((to_model, model), (to_trace, trace)):

@@ -98,6 +98,13 @@ def philosophers(count):
     return "\n".join(lines) + "\n"
 
 
+def polite(count):
+    """The same, but each gives back only while the one two seats on can't take. Of the three
+    components that this needs, one shows that it can't."""
+    pairs = [f"priority give{number} < take{(number + 2) % count}" for number in range(count)]
+    return philosophers(count) + "\n".join(pairs) + "\n"
+
+
 def ring(count):
     """Each component steps with the next one; at most 32 classes."""
     lines = ["bip 1"]

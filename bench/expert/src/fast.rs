@@ -145,14 +145,15 @@ impl<'m, 't> Fast<'m, 't> {
     #[inline(always)]
     unsafe fn usual(&mut self, text: *const u8) -> Option<usize> {
         unsafe {
-            let (number, end) = self.grant(text)?;
-            self.go(number).then(|| end.offset_from_unsigned(text))
+            let (number, seen, end) = self.grant(text)?;
+            self.go(number, seen).then(|| end.offset_from_unsigned(text))
         }
     }
 
-    /// The interaction of a usual line with the right wants, and what stands behind it.
+    /// The interaction of a usual line with the right wants, those that it sees, and what stands
+    /// behind it. It may see fewer than the interaction looks at.
     #[inline(always)]
-    unsafe fn grant(&self, text: *const u8) -> Option<(usize, *const u8)> {
+    unsafe fn grant(&self, text: *const u8) -> Option<(usize, u64, *const u8)> {
         unsafe {
             let head = text.cast::<u64>().read_unaligned();
             if head & 0xffff_ffff_ffff != u64::from_le_bytes(*b"grant \0\0") {
@@ -178,8 +179,8 @@ impl<'m, 't> Fast<'m, 't> {
                 sets[role] |= 1 << comp;
                 at = at.add(len + 1 + digits);
             }
-            let is_right = wrong == 0 && sets == [step.moved, step.seen] && *at == b'\n';
-            is_right.then_some((number, at.add(1)))
+            wrong |= (sets[0] ^ step.moved) | (sets[1] & !step.seen);
+            (wrong == 0 && *at == b'\n').then_some((number, sets[1], at.add(1)))
         }
     }
 
@@ -194,22 +195,33 @@ impl<'m, 't> Fast<'m, 't> {
     }
 
     #[inline(always)]
-    fn is_enabled(&self, step: &Step) -> bool {
+    fn is_offered(&self, part: (u8, u8)) -> bool {
+        let Move { target, clauses } = self.leaving(part);
         let values = self.position.values.as_flattened();
-        let offered = |part: &(u8, u8)| {
-            let Move { target, clauses } = self.leaving(*part);
-            let holds = || self.sums.holds(&self.clauses[clauses as usize], values);
-            target != NOWHERE && (clauses == 0 || holds())
-        };
-        step.parts().iter().all(offered) && self.sums.holds(&step.clauses, values)
+        let holds = || self.sums.holds(&self.clauses[clauses as usize], values);
+        target != NOWHERE && (clauses == 0 || holds())
     }
 
-    /// Goes on by an interaction, if it may run.
     #[inline(always)]
-    fn go(&mut self, number: usize) -> bool {
+    fn is_enabled(&self, step: &Step) -> bool {
+        let values = self.position.values.as_flattened();
+        step.parts().iter().all(|part| self.is_offered(*part))
+            && self.sums.holds(&step.clauses, values)
+    }
+
+    /// Whether a component of these that takes part doesn't offer its port, or all that take part
+    /// are of these.
+    fn is_covered(&self, step: &Step, wanted: u64) -> bool {
+        let is_off = |part: &(u8, u8)| wanted >> part.0 & 1 == 1 && !self.is_offered(*part);
+        step.moved & !wanted == 0 || step.parts().iter().any(is_off)
+    }
+
+    /// Goes on by an interaction that sees these components, if it may run and they are enough.
+    #[inline(always)]
+    fn go(&mut self, number: usize, seen: u64) -> bool {
         let step = unsafe { self.steps.get_unchecked(number) };
         if !step.is_plain {
-            return self.go_by_clauses(number);
+            return self.go_by_clauses(number, seen);
         }
         let mut targets = [0; 8];
         let mut is_offered = true;
@@ -226,10 +238,15 @@ impl<'m, 't> Fast<'m, 't> {
         is_offered
     }
 
-    fn go_by_clauses(&mut self, number: usize) -> bool {
+    fn go_by_clauses(&mut self, number: usize, seen: u64) -> bool {
         let step = &self.steps[number];
-        let is_below = || step.above.iter().any(|high| self.is_enabled(&self.steps[*high]));
-        if !self.is_enabled(step) || is_below() {
+        let mut above = step.above.iter().map(|high| &self.steps[*high]);
+        if !self.is_enabled(step) || above.clone().any(|high| self.is_enabled(high)) {
+            return false;
+        }
+        // what is seen in full covers all
+        let wanted = step.moved | seen;
+        if seen != step.seen && !above.all(|high| self.is_covered(high, wanted)) {
             return false;
         }
         self.sums.transfer(&step.clauses, self.position.values.as_flattened_mut());

@@ -141,6 +141,10 @@ pub struct Interaction {
     pub above: Vec<u16>,
     /// The components that it moves or looks at, each with whether it is moved.
     pub touched: Vec<(u16, bool)>,
+    /// Those that it moves, one bit each.
+    pub moved: u64,
+    /// Those that it only looks at, one bit each.
+    pub looked: u64,
     /// Those in conflict with it, one bit each.
     pub conflicts: u128,
     pub reserved: bool,
@@ -359,6 +363,8 @@ impl Model {
             let inter = &mut self.interactions[number];
             inter.conflicts = (0..count).filter(meets).fold(0, |set, other| set | 1 << other);
             inter.reserved = touched[number] & self.tabled != 0;
+            inter.moved = moved[number];
+            inter.looked = touched[number] & !moved[number];
             inter.touched = (0..self.components.len() as u16)
                 .filter(|comp| touched[number] >> comp & 1 == 1)
                 .map(|comp| (comp, moved[number] >> comp & 1 == 1))

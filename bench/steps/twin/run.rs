@@ -1,6 +1,6 @@
 //! Whether grants are a run of a model, with exact numbers.
 
-use crate::model::{Model, Values};
+use crate::model::{Interaction, Model, Values};
 use crate::world::{Grant, Want};
 
 /// Where a run stands: the state of each component, and its used number.
@@ -42,13 +42,33 @@ impl<'m> Position<'m> {
         self.used[want.comp as usize].checked_add(1) == Some(want.number)
     }
 
+    /// Whether wants move what an interaction moves, see nothing but what it looks at, and cover
+    /// each one above it.
+    fn are_parties(&self, it: &Interaction, wants: &[Want]) -> bool {
+        let set = |moved| {
+            let those = wants.iter().filter(|want| want.moved == moved);
+            those.fold(0, |set: u64, want| set | 1 << want.comp)
+        };
+        let (moved, seen) = (set(true), set(false));
+        moved == it.moved
+            && seen & !it.looked == 0
+            && it.above.iter().all(|high| self.is_covered(*high, moved | seen))
+    }
+
+    /// Whether a participant that is wanted doesn't offer its port, or all are wanted.
+    fn is_covered(&self, high: u16, wanted: u64) -> bool {
+        let it = &self.model.interactions[high as usize];
+        let is_off = |part: &(u16, u8)| wanted >> part.0 & 1 == 1 && !self.is_offered(part);
+        it.moved & !wanted == 0 || it.parts.iter().any(is_off)
+    }
+
     /// Goes on by a grant, if it can be next.
     pub fn step(&mut self, grant: &Grant) -> bool {
         let it = &self.model.interactions[grant.inter as usize];
         let may = self.is_enabled(grant.inter)
             && !it.above.iter().any(|high| self.is_enabled(*high))
             && grant.wants.iter().all(|want| self.is_next(want))
-            && grant.wants.iter().map(|it| (it.comp, it.moved)).eq(it.touched.iter().copied());
+            && self.are_parties(it, &grant.wants);
         if may {
             self.fire(grant);
         }

@@ -1,7 +1,7 @@
 //! The world: component nodes, class nodes, a bank, and the messages in flight.
 
 use crate::bank::{Acted, Bank, Step};
-use crate::model::{Model, Values};
+use crate::model::{Interaction, Model, Values};
 use std::collections::VecDeque;
 #[cfg(not(threads))]
 use std::rc::Rc;
@@ -35,8 +35,31 @@ pub struct Notify {
     port: u8,
 }
 
+/// Why an interaction isn't enabled: a participant's port is off, or its guard is false.
+pub enum Cause {
+    Port(u16),
+    Guard,
+}
+
+pub struct Reason {
+    inter: u16,
+    cause: Cause,
+}
+
+impl Reason {
+    /// The components that it names, one bit each.
+    fn named(&self, model: &Model) -> u64 {
+        match self.cause {
+            Cause::Port(comp) => 1 << comp,
+            Cause::Guard => model.interactions[self.inter as usize].moved,
+        }
+    }
+}
+
 pub struct Request {
     pub wants: Rc<[Want]>,
+    #[allow(dead_code)]
+    pub reasons: Vec<Reason>,
     pub number: u64,
     pub class: u16,
     pub inter: u16,
@@ -183,9 +206,15 @@ impl ClassNode {
         (held.number > self.known[comp as usize]).then_some(held)
     }
 
-    fn port_on(&self, part: &(u16, u8)) -> bool {
-        let held = self.held[part.0 as usize].as_ref();
-        held.is_some_and(|held| held.ports >> part.1 & 1 == 1)
+    /// Whether a port is off by an offer that counts.
+    fn is_off(&self, part: &(u16, u8)) -> bool {
+        self.counted(part.0).is_some_and(|held| held.ports >> part.1 & 1 == 0)
+    }
+
+    /// The lowest participant without an offer that counts.
+    fn missing(&self, parts: &[(u16, u8)]) -> Option<u16> {
+        let part = parts.iter().find(|part| self.counted(part.0).is_none())?;
+        Some(part.0)
     }
 
     fn values(&self, parts: &[(u16, u8)]) -> [Values; 8] {
@@ -204,38 +233,63 @@ impl ClassNode {
         inter.guard.is_empty() || inter.guard.holds(&self.values(parts)[..parts.len()])
     }
 
-    fn enabled(&self, model: &Model, inter: u16) -> bool {
+    /// Whether the offers that count show that an interaction isn't enabled.
+    fn exclude(&self, model: &Model, inter: u16) -> bool {
         let parts = &model.interactions[inter as usize].parts;
-        parts.iter().all(|part| self.port_on(part)) && self.guard_holds(model, inter)
+        parts.iter().any(|part| self.is_off(part))
+            || self.missing(parts).is_none() && !self.guard_holds(model, inter)
     }
 
     fn decide(&self, model: &Model, inter: u16) -> Verdict {
         let said = &model.interactions[inter as usize];
-        if let Some(it) = said.touched.iter().find(|it| self.counted(it.0).is_none()) {
-            return Verdict::NotReady(it.0);
+        if let Some(comp) = self.missing(&said.parts) {
+            return Verdict::NotReady(comp);
         }
-        if let Some(part) = said.parts.iter().find(|part| !self.port_on(part)) {
+        if let Some(part) = said.parts.iter().find(|part| self.is_off(part)) {
             return Verdict::PortOff(part.0);
         }
         if !self.guard_holds(model, inter) {
             return Verdict::GuardFalse;
         }
-        match said.above.iter().find(|high| self.enabled(model, **high)) {
-            Some(high) => Verdict::Below(*high),
-            None => Verdict::Ready,
+        let Some(high) = said.above.iter().find(|high| !self.exclude(model, **high)) else {
+            return Verdict::Ready;
+        };
+        match self.missing(&model.interactions[*high as usize].parts) {
+            Some(comp) => Verdict::NotReady(comp),
+            None => Verdict::Below(*high),
         }
+    }
+
+    /// Why each interaction above one that is ready isn't enabled.
+    fn reasons(&self, model: &Model, inter: u16) -> Vec<Reason> {
+        let said = &model.interactions[inter as usize];
+        let reason = |high: &u16| Reason { inter: *high, cause: self.cause(model, said, *high) };
+        said.above.iter().map(reason).collect()
+    }
+
+    /// Names the lowest port that is off of what is moved, else the lowest one.
+    fn cause(&self, model: &Model, said: &Interaction, high: u16) -> Cause {
+        let parts = model.interactions[high as usize].parts.iter();
+        let mut off = parts.filter(|part| self.is_off(part)).map(|part| part.0);
+        let moved = off.clone().find(|comp| said.moved >> comp & 1 == 1);
+        moved.or_else(|| off.next()).map_or(Cause::Guard, Cause::Port)
     }
 
     fn number(&self, comp: u16) -> u64 {
         self.held[comp as usize].as_ref().map_or(0, |held| held.number)
     }
 
-    fn wants(&self, model: &Model, inter: u16) -> Rc<[Want]> {
-        let touched = &model.interactions[inter as usize].touched;
-        touched
-            .iter()
-            .map(|&(comp, moved)| Want { number: self.number(comp), comp, moved })
-            .collect()
+    /// The components that an interaction moves, and those that reasons name.
+    fn wants(&self, model: &Model, inter: u16, reasons: &[Reason]) -> Rc<[Want]> {
+        let said = &model.interactions[inter as usize];
+        let want = |&(comp, moved): &(u16, bool)| Want { number: self.number(comp), comp, moved };
+        // without reasons nothing is above, and nothing is looked at
+        if reasons.is_empty() {
+            return said.touched.iter().map(want).collect();
+        }
+        let wanted = reasons.iter().fold(said.moved, |set, it| set | it.named(model));
+        let those = said.touched.iter().filter(|(comp, _)| wanted >> comp & 1 == 1);
+        those.map(want).collect()
     }
 
     fn notifies(&self, model: &Model, inter: u16) -> Vec<Notify> {
@@ -276,9 +330,9 @@ impl ClassNode {
         let Verdict::Ready = self.decide(model, inter) else {
             return Tried::Not;
         };
-        let wants = self.wants(model, inter);
         let notifies = self.notifies(model, inter);
         if !said.reserved {
+            let wants = self.wants(model, inter, &[]);
             self.learn(model, &wants);
             return Tried::Local(wants, notifies);
         }
@@ -287,9 +341,11 @@ impl ClassNode {
         };
         self.next = number.checked_add(1);
         self.open |= 1 << inter;
+        let reasons = self.reasons(model, inter);
+        let wants = self.wants(model, inter, &reasons);
         let record = Record { number, wants: Rc::clone(&wants), notifies };
         self.records[inter as usize] = Some(record);
-        Tried::Sent(Request { wants, number, class: self.class, inter })
+        Tried::Sent(Request { wants, reasons, number, class: self.class, inter })
     }
 
     /// What the grant of an open request tells.
@@ -413,7 +469,7 @@ impl<'m, B: Bank> World<'m, B> {
             Acted::Moved => return Some(()),
             Acted::Answered(request, decision) => (request, decision),
         };
-        let Request { wants, number, class, inter } = request;
+        let Request { wants, number, class, inter, .. } = request;
         match decision {
             Decision::Granted(_) => {
                 report.grants += 1;

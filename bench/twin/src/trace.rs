@@ -74,17 +74,38 @@ impl<'m, 't> Position<'m, 't> {
         self.model.components[comp].transition(self.locations[comp], port)
     }
 
+    /// Whether a component offers a port.
+    fn is_offered(&self, part: (usize, usize)) -> bool {
+        self.transition(part).is_some_and(|it| it.clauses.holds(&self.values))
+    }
+
     fn is_enabled(&self, interaction: &Interaction) -> bool {
-        let offered = |part: &(usize, usize)| {
-            self.transition(*part).is_some_and(|it| it.clauses.holds(&self.values))
-        };
-        interaction.participants.iter().all(offered) && interaction.clauses.holds(&self.values)
+        interaction.participants.iter().all(|part| self.is_offered(*part))
+            && interaction.clauses.holds(&self.values)
     }
 
     /// The lowest enabled interaction above another one.
     fn blocking(&self, interaction: &Interaction) -> Option<usize> {
         let is_enabled = |high: &usize| self.is_enabled(&self.model.interactions[*high]);
         interaction.above.iter().copied().find(is_enabled)
+    }
+
+    /// Whether wants move what an interaction moves, see nothing but what it looks at, and cover
+    /// each one above it.
+    fn are_parties(&self, interaction: &Interaction, wants: &[Want]) -> bool {
+        let moved = wants.iter().filter(|want| want.moved).map(|want| want.comp);
+        let mut seen = wants.iter().filter(|want| !want.moved);
+        moved.eq(interaction.participants.iter().map(|it| it.0))
+            && seen.all(|want| interaction.looks.contains(&want.comp))
+            && interaction.above.iter().all(|high| self.is_covered(*high, wants))
+    }
+
+    /// Whether a participant that is wanted doesn't offer its port, or all are wanted.
+    fn is_covered(&self, high: usize, wants: &[Want]) -> bool {
+        let parts = &self.model.interactions[high].participants;
+        let is_wanted = |part: &(usize, usize)| wants.iter().any(|want| want.comp == part.0);
+        parts.iter().any(|part| is_wanted(part) && !self.is_offered(*part))
+            || parts.iter().all(is_wanted)
     }
 
     /// Why a grant can't be next.
@@ -102,15 +123,7 @@ impl<'m, 't> Position<'m, 't> {
                 return Err(format!("{name} expected {}", expected.unwrap_or(0)));
             }
         }
-        let moved = wants.iter().filter(|want| want.moved).map(|want| want.comp);
-        let seen = wants.iter().filter(|want| !want.moved).map(|want| want.comp);
-        if moved.eq(interaction.participants.iter().map(|it| it.0))
-            && seen.eq(interaction.looks.iter().copied())
-        {
-            Ok(())
-        } else {
-            Err(format!("{name} parties"))
-        }
+        if self.are_parties(interaction, wants) { Ok(()) } else { Err(format!("{name} parties")) }
     }
 
     fn go(&mut self, interaction: &Interaction) {
