@@ -5,6 +5,7 @@ pub mod GrantLemmas
 pub mod HindranceLemmas
 pub mod LimitLemmas
 pub mod LineLemmas
+pub mod PartyLemmas
 pub mod PlacedLemmas
 pub mod SaidLemmas
 pub mod SayLemmas

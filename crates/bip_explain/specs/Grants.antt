@@ -1,29 +1,21 @@
--- What is wrong with what a line's grant names, and how it is told.
-use Rattle.std.specs.Prelude.{◌≡◌, ℕ, ◌-◌, ◌<◌, ◌==◌, Bool, false, true, List, [], ◌∷◌, ◌++◌, codes}
-use Rattle.std.specs.Prelude.{Ok, length}
-use Rattle.std.specs.Prelude.{All, Option, None, Some, if◌then◌else◌, position, ⊤}
+-- What a line's grant names, and a number of it that is wrong.
+use Rattle.std.specs.Prelude.{◌≡◌, ℕ, ◌-◌, ◌==◌, Bool, false, List, [], ◌∷◌, ◌++◌, codes}
+use Rattle.std.specs.Prelude.{All, Option, None, Some, if◌then◌else◌, position}
 use Rattle.std.specs.Fmt.{decimal}
 use Rattle.std.specs.List.{slice_get}
 use Rattle.std.specs.Option.{option_map_or}
 use Rattle.bip_model.specs.Naming.{same_text}
-use Rattle.bip_model.specs.Steps.{IsLookedAt, moves}
 use Rattle.bip_model.specs.Texts.{words}
-use Rattle.bip_model.specs.declared.grants.Grant.{Grant}
 use Rattle.bip_model.specs.declared.parts.System.{System}
 use Rattle.bip_model.specs.declared.numbering.CompId.{CompId}
 use Rattle.bip_replay.specs.Laws.{times_moved}
-use Rattle.bip_replay.specs.Lines.{grant_on}
 use Rattle.bip_replay.specs.Replays.{IsFirstFault}
-use Rattle.bip_replay.specs.declared.faults.BookFault.{BookFault}
 use Rattle.bip_replay.specs.declared.faults.ReplayFault.TheVariants.{NotARun}
-use Rattle.bip_replay.specs.declared.faults.BookFault.TheVariants.{Number, Parties}
+use Rattle.bip_replay.specs.declared.faults.BookFault.TheVariants.{Number}
 use Rattle.bip_explain.specs.Explanations.{marked, placed_parts}
 use Rattle.bip_explain.specs.Placed.{IsPlacedOn, first_two, said_words}
 use Rattle.bip_explain.specs.Words.{IsWant, named_in}
-use Rattle.bip_explain.specs.declared.grants.GrantReason.{GrantReason}
-use Rattle.bip_explain.specs.declared.grants.GrantReason.TheVariants.{Next, Party, Unexplained}
-use Rattle.bip_explain.specs.declared.grants.Named.{Named}
-use Rattle.bip_explain.specs.declared.grants.Named.TheVariants.{Moved, Seen, Absent}
+use Rattle.bip_explain.specs.declared.grants.WrongNumber.{WrongNumber}
 use Rattle.bip_explain.specs.declared.placed.Placed.{Placed}
 
 -- a word names this component of the model
@@ -53,55 +45,13 @@ IsGrantOn model line inter =
     (keyword : List ℕ) × (word : List ℕ) × (first_two (said_words line) ≡ Some (keyword, word))
     × (position (same_text word) model.interaction_names ≡ Some inter)
 
--- how a grant of an interaction names a component
-abbrev pub IsNamedSo : System → ℕ → ℕ → Named → Type 0
-IsNamedSo model inter comp Moved = moves model inter comp ≡ true
-IsNamedSo model inter comp Seen = IsLookedAt model inter comp
-IsNamedSo model inter comp Absent =
-    (moves model inter comp ≡ false) × ¬ IsLookedAt model inter comp
-
--- how components are named behind a word
-abbrev pub role_behind : List ℕ → Named → Named
-role_behind word named = if same_text word (codes "see") then Seen else named
-
--- how words name a component, by the first of them that does, if those in front of it are named so
-abbrev pub named_by : System → ℕ → Named → List (List ℕ) → Named
-named_by model comp named [] = Absent
-named_by model comp named (word ∷ rest) =
-    if names_comp model comp word then role_behind word named
-    else named_by model comp (role_behind word named) rest
-
--- how a line names it: moved in front of `see`, and seen behind it
-abbrev pub named_by_line : System → List ℕ → ℕ → Named
-named_by_line model line comp = named_by model comp Moved (words line)
-
--- a line of a grant names each component of the model as a grant of its interaction should
-abbrev pub AreNamedSo : System → List ℕ → Type 0
-AreNamedSo model line =
-    (g : Grant) → grant_on model line ≡ Ok (Some g) → (comp : ℕ) → comp < length model.components
-    → IsNamedSo model g.inter.0 comp (named_by_line model line comp)
-
--- a reason is true of a line and a model: the word that is told names the component, and stands at
--- its column, or else no word names it; the line grants the interaction, which moves, looks at or
--- leaves the component, as the line doesn't say; and none is found where each component is named as
--- it should be
-abbrev pub IsGrantReason : System → List ℕ → GrantReason → Type 0
-IsGrantReason model line (Next placed comp expected) =
-    IsWantTold model line comp.0 placed
-IsGrantReason model line (Party placed inter comp named) =
-    IsWantTold model line comp.0 placed
-    × IsGrantOn model line inter.0 × IsNamedSo model inter.0 comp.0 named
-    × ¬ (named_by_line model line comp.0 ≡ named)
-IsGrantReason model line Unexplained = AreNamedSo model line
-
--- a reason is one of this fault: the component, with the number of its next move, is the fault's;
--- that none is found may be told of parties
-abbrev pub IsOfFault : BookFault → GrantReason → Type 0
-IsOfFault (Number comp number) (Next placed other expected) =
-    (other ≡ comp) × (expected ≡ number)
-IsOfFault Parties (Party placed inter comp named) = ⊤
-IsOfFault Parties Unexplained = ⊤
-IsOfFault fault reason = ⊥
+-- what is told of a number: the fault's component, with the number of its next move, and the word
+-- of the line that names it
+pub record IsWrongNumber (model : System) (line : List ℕ) (c : CompId) (next : ℕ)
+    (wrong : WrongNumber) : Type 0 where
+  pub placed : IsWantTold model line wrong.comp.0 wrong.placed
+  pub comp : wrong.comp ≡ c
+  pub expected : wrong.expected ≡ next
 
 -- where this is the trace's fault, the component has moved so often in the lines before, as is told
 abbrev pub IsCountOf : System → ℕ → List ℕ → ℕ → CompId → ℕ → Type 0
@@ -132,21 +82,7 @@ next_parts base expected =
     else codes ", moves before this line: " ∷ decimal ((expected - base) - 1)
     ∷ codes "; its next one has number " ∷ decimal expected ∷ []
 
-abbrev pub named_text : Named → List ℕ
-named_text Moved = codes " moves "
-named_text Seen = codes " looks at "
-named_text Absent = codes " neither moves nor looks at "
-
-abbrev pub seen_text : Named → List ℕ
-seen_text Moved = []
-seen_text Seen = codes ", which is wanted behind `see`"
-seen_text Absent = []
-
--- how a reason is told
-abbrev pub grant_parts : System → ℕ → GrantReason → List (List ℕ)
-grant_parts model base (Next placed comp expected) =
-    front_parts placed ++ component_parts model comp.0 ++ next_parts base expected
-grant_parts model base (Party placed inter comp named) =
-    front_parts placed ++ name_parts model.interaction_names inter.0
-    ++ (named_text named ∷ component_parts model comp.0) ++ seen_text named ∷ []
-grant_parts model base Unexplained = codes "no reason is found" ∷ []
+-- how a wrong number is told
+abbrev pub number_parts : System → ℕ → WrongNumber → List (List ℕ)
+number_parts model base wrong =
+    front_parts wrong.placed ++ component_parts model wrong.comp.0 ++ next_parts base wrong.expected

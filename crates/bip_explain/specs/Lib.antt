@@ -8,6 +8,7 @@ pub mod Hindrances
 pub mod Hints
 pub mod Limits
 pub mod Models
+pub mod Parties
 pub mod Placed
 pub mod Plans
 pub mod Schedules

@@ -8,19 +8,18 @@ use Rattle.bip_replay.specs.declared.faults.BookFault.TheVariants.{Parties, Memo
 use Rattle.bip_replay.specs.declared.faults.StepFault.{StepFault}
 use Rattle.bip_replay.specs.declared.faults.StepFault.TheVariants as step
 use Rattle.bip_explain.specs.Explanations.{Telling, Tells, is_open, with_part}
-use Rattle.bip_explain.specs.Grants.{IsCountOf, IsGrantReason, IsOfFault, component_parts}
-use Rattle.bip_explain.specs.Grants.{grant_parts, name_parts}
+use Rattle.bip_explain.specs.Grants.{IsCountOf, IsWrongNumber, component_parts, name_parts}
+use Rattle.bip_explain.specs.Grants.{number_parts}
 use Rattle.bip_explain.specs.Hindrances.{TellsHindrance}
+use Rattle.bip_explain.specs.Parties.{TellsParties}
 use Rattle.bip_model.specs.Texts.{line_at}
 
 -- what is told is a reason that is true of the line, and of the state before it
 abbrev pub TellsStep : System → ℕ → List ℕ → ℕ → BookFault → Telling → Telling → Type 0
 TellsStep model base text number (Number comp next) old new =
-    Tells ⊥ (λ r. IsGrantReason model (line_at text number) r × IsOfFault (Number comp next) r
-    × IsCountOf model base text number comp next) (grant_parts model base) old new
-TellsStep model base text number Parties old new =
-    Tells ⊥ (λ r. IsGrantReason model (line_at text number) r × IsOfFault Parties r)
-    (grant_parts model base) old new
+    Tells ⊥ (λ wrong. IsWrongNumber model (line_at text number) comp next wrong
+    × IsCountOf model base text number comp next) (number_parts model base) old new
+TellsStep model base text number Parties old new = TellsParties model base text number old new
 TellsStep model base text number Memory old new =
     is_open old ≡ true → new ≡ with_part (codes "the run takes more memory than there is") old
 TellsStep model base text number NotEnabled old new =

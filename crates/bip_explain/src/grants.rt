@@ -1,64 +1,40 @@
-//! Numbers and parties of a line's grant that are wrong.
-ghost use Rattle.std.specs.Prelude.{◌≡◌, ◌<◌, IfNone, IfSome, None, Ok, Some, length};
+//! What a line's grant names, and a number of it that is wrong.
+ghost use Rattle.std.specs.Prelude.{◌≡◌, ◌<◌, IfSome, None, Ok, Some, length};
 ghost use Rattle.std.specs.Option.{option_map};
 ghost use Rattle.bip_explain.specs.Explanations.{with_parts};
-ghost use Rattle.bip_explain.specs.Grants.{IsGrantOn, IsGrantReason, IsNamedSo, IsOfFault};
-ghost use Rattle.bip_explain.specs.Grants.{IsWantTold, component_parts, front_parts, grant_parts};
-ghost use Rattle.bip_explain.specs.Grants.{AreNamedSo, name_parts, named_by_line, named_text};
-ghost use Rattle.bip_explain.specs.Grants.{names_comp, next_parts, role_behind, seen_text};
+ghost use Rattle.bip_explain.specs.Grants.{IsGrantOn, IsWantTold, component_parts, front_parts};
+ghost use Rattle.bip_explain.specs.Grants.{name_parts, names_comp, next_parts, number_parts};
 ghost use Rattle.bip_model.specs.declared.grants.Grant.{Grant};
 ghost use Rattle.bip_replay.specs.Lines.{grant_on};
-ghost use Rattle.bip_replay.specs.declared.faults.BookFault.TheVariants.{Parties};
 
 use crate::Explanation;
 use crate::placed::{Placed, PlacedWords, two_words};
 use crate::words::want_of;
-use bip_model::{CompId, InterId, Model, Name, Number, is_text};
+use bip_model::{CompId, InterId, Model, Name, Number};
 
-/// What is wrong with what a line's grant names.
+/// A number of a line's grant that is wrong: the component's next move has this one; the word that
+/// names the component, if one does.
 #[derive(Clone, Copy)]
-pub(crate) enum GrantReason<'t> {
-    /// A component's next move has this number; the word that names the component, if one does.
-    Next(Option<Placed<'t>>, CompId, Number),
-    /// How a grant of the interaction names the component; the word that names it, if one does.
-    Party(Option<Placed<'t>>, InterId, CompId, Named),
-    /// None is found.
-    Unexplained,
+pub(crate) struct WrongNumber<'t> {
+    pub placed: Option<Placed<'t>>,
+    pub comp: CompId,
+    pub expected: Number,
 }
 
-/// How a line names a component.
-#[derive(Clone, Copy, PartialEq, Eq)]
-pub(crate) enum Named {
-    Moved,
-    Seen,
-    Absent,
-}
-
-impl GrantReason<'_> {
-    /// Says what is wrong, of a model whose numbers are counted on from a base.
+impl WrongNumber<'_> {
+    /// Says which number is wanted, of a model whose numbers are counted on from a base.
     pub(crate) fn say(self, explanation: &mut Explanation, model: &Model, base: Number)
         ensures { explanation.new
-            ≡ with_parts (grant_parts model.now base self.entry) explanation.old }
+            ≡ with_parts (number_parts model.now base self.entry) explanation.old }
     {
-        match self {
-            GrantReason::Next(placed, comp, expected) => {
-                say_front(explanation, placed);
-                say_component(explanation, model, comp);
-                say_next(explanation, base, expected);
-            }
-            GrantReason::Party(placed, inter, comp, named) => {
-                say_front(explanation, placed);
-                say_name(explanation, model.interaction_names(), inter.0 as usize);
-                explanation.say(named.words());
-                say_component(explanation, model, comp);
-                explanation.say(named.place());
-            }
-            GrantReason::Unexplained => explanation.say(b"no reason is found"),
-        }
+        say_front(explanation, self.placed);
+        say_component(explanation, model, self.comp);
+        say_next(explanation, base, self.expected);
     }
 }
 
-fn say_front(explanation: &mut Explanation, placed: Option<Placed<'_>>)
+/// Says a word in front of what is said of it, if there is one.
+pub(crate) fn say_front(explanation: &mut Explanation, placed: Option<Placed<'_>>)
     ensures { explanation.new ≡ with_parts (front_parts placed.entry) explanation.old }
 {
     if let Some(placed) = placed {
@@ -98,38 +74,6 @@ pub(crate) fn say_name(explanation: &mut Explanation, names: &[Name], number: us
     }
 }
 
-impl Named {
-    // How components are named behind a word.
-    fn behind(self, word: &[u8]) -> Named
-        ensures { result ≡ role_behind word.now self }
-    {
-        if is_text(word, b"see") {
-            Named::Seen
-        } else {
-            self
-        }
-    }
-
-    fn words(self) -> &'static [u8]
-        ensures { result.now ≡ named_text self }
-    {
-        match self {
-            Named::Moved => b" moves ",
-            Named::Seen => b" looks at ",
-            Named::Absent => b" neither moves nor looks at ",
-        }
-    }
-
-    fn place(self) -> &'static [u8]
-        ensures { result.now ≡ seen_text self }
-    {
-        match self {
-            Named::Seen => b", which is wanted behind `see`",
-            Named::Moved | Named::Absent => b"",
-        }
-    }
-}
-
 /// The interaction that the line of a grant names.
 pub(crate) fn interaction_on(model: &Model, line: &[u8]) -> Option<InterId>
     ensures on { IfSome result (λ inter. IsGrantOn model.now line.now inter.0) }
@@ -166,47 +110,4 @@ fn names_comp(model: &Model, comp: CompId, word: &[u8]) -> bool
             Some(other) => other.0 == comp.0,
         },
     }
-}
-
-/// The first component of the model that a line's grant doesn't name as it should.
-pub(crate) fn find_party<'t>(model: &Model, line: &'t [u8]) -> Option<GrantReason<'t>>
-    ensures some { IfSome result (λ reason.
-        IsGrantReason model.now line.now reason × IsOfFault Parties reason) }
-    ensures none { IfNone result (AreNamedSo model.now line.now) }
-{
-    let inter = interaction_on(model, line)?;
-    for number in 0..model.components().len() as u16 {
-        let comp = CompId(number);
-        let wanted = wanted_of(model, inter, comp);
-        if named_by_line(model, line, comp) != wanted {
-            return Some(GrantReason::Party(want_on(model, line, comp), inter, comp, wanted));
-        }
-    }
-    None
-}
-
-fn wanted_of(model: &Model, inter: InterId, comp: CompId) -> Named
-    ensures { IsNamedSo model.now inter.0 comp.0 result }
-{
-    if model.moves(inter, comp) {
-        Named::Moved
-    } else if model.is_looked_at(inter, comp) {
-        Named::Seen
-    } else {
-        Named::Absent
-    }
-}
-
-// How a line names a component.
-fn named_by_line(model: &Model, line: &[u8], comp: CompId) -> Named
-    ensures { result ≡ named_by_line model.now line.now comp.0 }
-{
-    let mut named = Named::Moved;
-    for placed in PlacedWords::of(line) {
-        named = named.behind(placed.word);
-        if names_comp(model, comp, placed.word) {
-            return named;
-        }
-    }
-    Named::Absent
 }

@@ -300,8 +300,13 @@ pub(crate) fn find_hindered(
     }
 }
 
-// The state to which the grants of the lines before one lead, if they are a run.
-fn state_before(alloc: Global, model: &Model, text: &[u8], line: u64) -> Result<State, AllocError>
+/// The state to which the grants of the lines before one lead, if they are a run.
+pub(crate) fn state_before(
+    alloc: Global,
+    model: &Model,
+    text: &[u8],
+    line: u64,
+) -> Result<State, AllocError>
     ensures of_model { IfOk result (λ state. IsStateOf model.now (state_of state)) }
     ensures before { IfOk result (λ state. (base : ℕ)
         → IsStateBefore model.now base text.now line (state_of state)) }
@@ -386,8 +391,13 @@ fn find_port(
     None
 }
 
-// Why a component doesn't offer a port in a state.
-fn find_unoffered(model: &Model, state: &State, comp: CompId, port: PortId) -> Option<Unoffered>
+/// Why a component doesn't offer a port in a state.
+pub(crate) fn find_unoffered(
+    model: &Model,
+    state: &State,
+    comp: CompId,
+    port: PortId,
+) -> Option<Unoffered>
     requires component { comp.0 < length model.now.components }
     requires state { IsStateOf model.now (state_of state.now) }
     ensures some { IfSome result (λ why.

@@ -12,6 +12,7 @@ mod hindrances;
 mod hints;
 mod limits;
 mod models;
+mod parties;
 mod placed;
 mod plans;
 mod schedules;

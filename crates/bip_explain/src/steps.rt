@@ -2,20 +2,22 @@
 ghost use Rattle.std.specs.Prelude.{◌≡◌, ℕ, true};
 ghost use Rattle.bip_explain.specs.Explanations.{StaysClosed, is_open, with_parts};
 ghost use Rattle.bip_explain.specs.Hindrances.{IsOfState, TellsHindrance};
+ghost use Rattle.bip_explain.specs.Parties.{TellsParties};
 ghost use Rattle.bip_explain.specs.Steps.{TellsStep, fault_parts, seed_parts};
 
 use crate::Explanation;
-use crate::grants::{GrantReason, find_party, say_component, say_name, want_on};
+use crate::grants::{WrongNumber, say_component, say_name, want_on};
 use crate::hindrances::find_hindered;
+use crate::parties::find_party;
 use bip_model::{Model, Number, line_at};
 use bip_replay::{BookFault, StepFault};
 use std::alloc::Global;
 
 /// Says why the grant of a line can't be next behind those of the lines before it: the participant
 /// that offers no port, with where it is, or the comparison of the guard that doesn't hold; what is
-/// enabled above; the number that is wrong; the component that is missing or too many
-/// (docs/ANSWERS.md, "Explanations"). Nothing is said where
-/// none is wanted, or something is said already.
+/// enabled above; the number that is wrong; the component that is missing or too many; what has to
+/// be seen, to show that an interaction above can't run (docs/ANSWERS.md, "Explanations"). Nothing
+/// is said where none is wanted, or something is said already.
 pub fn explain_step(
     alloc: Global,
     explanation: &mut Explanation,
@@ -40,15 +42,14 @@ pub fn explain_step(
             explain_hindered(alloc, explanation, model, text, number, fault);
         }
         BookFault::Number(comp, expected) => {
-            let placed = want_on(model, line_at(text, number), *comp);
-            GrantReason::Next(placed, *comp, *expected).say(explanation, model, base);
+            let wrong = WrongNumber {
+                placed: want_on(model, line_at(text, number), *comp),
+                comp: *comp,
+                expected: *expected,
+            };
+            wrong.say(explanation, model, base);
         }
-        BookFault::Parties => {
-            match find_party(model, line_at(text, number)) {
-                Some(reason) => reason.say(explanation, model, base),
-                None => GrantReason::Unexplained.say(explanation, model, base),
-            }
-        }
+        BookFault::Parties => explain_parties(alloc, explanation, model, text, number),
         BookFault::Memory => explanation.say(b"the run takes more memory than there is"),
     }
 }
@@ -69,6 +70,25 @@ fn explain_hindered(
 {
     match find_hindered(alloc, model, text, number, fault) {
         Ok(Some(hindered)) => hindered.say(explanation, model),
+        Ok(None) => {}
+        Err(_) => explanation.say(b"no memory is left to say more"),
+    }
+}
+
+// Says why the wants of a line's grant aren't enough in the state before the line.
+fn explain_parties(
+    alloc: Global,
+    explanation: &mut Explanation,
+    model: &Model,
+    text: &[u8],
+    number: u64,
+)
+    requires { is_open explanation.old ≡ true }
+    ensures { (base : ℕ) → TellsParties model.now base text.now number
+        explanation.old explanation.new }
+{
+    match find_party(alloc, model, text, number) {
+        Ok(Some(reason)) => reason.say(explanation, model),
         Ok(None) => {}
         Err(_) => explanation.say(b"no memory is left to say more"),
     }
