@@ -71,10 +71,10 @@ pub record AreOthers (wants : List Want) (comps : List CompId) : Type 0 where
 -- what wants lack that would cover an interaction in a state: one of those whose ports aren't
 -- offered, of which they have none; or, where each port is offered and the guard doesn't hold, all
 -- the others
-abbrev pub IsLack : System → State → List Want → ℕ → Lack → Type 0
-IsLack m s wants b (Off comps) =
+abbrev pub IsCoverLack : System → State → List Want → ℕ → Lack → Type 0
+IsCoverLack m s wants b (Off comps) =
     (comps.items ≡ off_among m s (participants_of m b)) × AreOthers wants comps.items
-IsLack m s wants b (Unseen comps) =
+IsCoverLack m s wants b (Unseen comps) =
     (list_all (offered m s) (participants_of m b) ≡ true)
     × (holds (guard_of m b) (values_of m s b) ≡ false)
     × (comps.items ≡ unseen_among wants (participants_of m b)) × AreOthers wants comps.items
@@ -87,7 +87,7 @@ pub record IsUncoveredAt (m : System) (base : ℕ) (text : List ℕ) (number : �
   pub before : IsStateBefore m base text number state
   pub parties : AreParties m g.inter.0 g.wants
   pub lowest : IsLowestUncovered m state g.inter.0 g.wants b
-  pub lack : IsLack m state g.wants b what
+  pub lack : IsCoverLack m state g.wants b what
 
 -- a reason is true of a line's grant: the first component that it doesn't have as it should, with
 -- what its interaction does with that, and the word of the line that names it; or else the first
@@ -122,11 +122,11 @@ names_parts m front between [] = []
 names_parts m front between (c ∷ cs) =
     front ∷ name_parts m.component_names c.0 ++ names_parts m between between cs
 
-abbrev pub lack_parts : System → ℕ → Lack → List (List ℕ)
-lack_parts m b (Off comps) =
+abbrev pub cover_lack_parts : System → ℕ → Lack → List (List ℕ)
+cover_lack_parts m b (Off comps) =
     codes "nothing shows that " ∷ name_parts m.interaction_names b
     ++ names_parts m (codes " is not enabled: see ") (codes " or ") comps.items
-lack_parts m b (Unseen comps) =
+cover_lack_parts m b (Unseen comps) =
     name_parts m.interaction_names b
     ++ names_parts m (codes "'s guard is false: see ") (codes " and ") comps.items
 
@@ -135,7 +135,7 @@ abbrev pub party_parts : System → PartyReason → List (List ℕ)
 party_parts m (Misnamed placed inter comp named) =
     front_parts placed ++ name_parts m.interaction_names inter.0
     ++ (named_text named ∷ component_parts m comp.0) ++ seen_text named ∷ []
-party_parts m (Uncovered above lack) = lack_parts m above.0 lack
+party_parts m (Uncovered above lack) = cover_lack_parts m above.0 lack
 
 abbrev pub parties_parts : System → Option PartyReason → List (List ℕ)
 parties_parts m None = codes "no memory is left to say more" ∷ []

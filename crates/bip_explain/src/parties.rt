@@ -5,9 +5,9 @@ ghost use Rattle.std.specs.Prelude.{length};
 ghost use Rattle.std.specs.List.{list_any};
 ghost use Rattle.bip_explain.specs.Explanations.{with_parts};
 ghost use Rattle.bip_explain.specs.Hindrances.{MayKeepStep};
-ghost use Rattle.bip_explain.specs.Parties.{IsLack, IsLowestMisnamed, IsLowestUncovered};
+ghost use Rattle.bip_explain.specs.Parties.{IsCoverLack, IsLowestMisnamed, IsLowestUncovered};
 ghost use Rattle.bip_explain.specs.Parties.{IsNamedRight, IsNamedSo, IsPartyTold, is_right};
-ghost use Rattle.bip_explain.specs.Parties.{lack_parts, named_text, names_parts, off_among};
+ghost use Rattle.bip_explain.specs.Parties.{cover_lack_parts, named_text, names_parts, off_among};
 ghost use Rattle.bip_explain.specs.Parties.{parties_parts, seen_text, unseen_among};
 ghost use Rattle.bip_model.specs.Parties.{Cover, CoverAbove, IsWanted, has_want_of};
 ghost use Rattle.bip_model.specs.Parties.{is_moving, is_seeing};
@@ -102,7 +102,7 @@ impl Named {
 impl Lack {
     fn say(&self, explanation: &mut Explanation, model: &Model, above: InterId)
         ensures { explanation.new
-            ≡ with_parts (lack_parts model.now above.0 self.now) explanation.old }
+            ≡ with_parts (cover_lack_parts model.now above.0 self.now) explanation.old }
     {
         let names = model.interaction_names();
         match self {
@@ -263,7 +263,7 @@ fn find_uncovered(
         → ¬ IsEnabled model.now (state_of state.now) b }
     ensures some { IfSome result (λ found.
         IsLowestUncovered model.now (state_of state.now) inter.0 wants.now found.0.0
-        × IsLack model.now (state_of state.now) wants.now found.0.0 found.1) }
+        × IsCoverLack model.now (state_of state.now) wants.now found.0.0 found.1) }
     ensures none { IfNone result
         (CoverAbove model.now (state_of state.now) inter.0 wants.now) }
 {
@@ -282,7 +282,7 @@ fn find_lack(model: &Model, state: &State, inter: InterId, wants: &[Want]) -> Op
     requires disabled { ¬ IsEnabled model.now (state_of state.now) inter.0 }
     ensures some { IfSome result (λ lack.
         (¬ Cover model.now (state_of state.now) wants.now inter.0)
-        × IsLack model.now (state_of state.now) wants.now inter.0 lack) }
+        × IsCoverLack model.now (state_of state.now) wants.now inter.0 lack) }
     ensures none { IfNone result (Cover model.now (state_of state.now) wants.now inter.0) }
 {
     let participants = model.participants(inter);

@@ -192,7 +192,8 @@ AreNext p (suc n) low (x ∷ xs) = IsNextPart p low x × AreNext p n (p.number x
 abbrev pub PartsFault : {A : Type 0} → Parts A → ℕ → ℕ → Faults
 PartsFault p zero low bytes fault = ⊥
 PartsFault p (suc n) low bytes fault =
-    FirstIn (p.Fault low) (IsNextPart p low) p.spell (λ x. PartsFault p n (p.number x + 1)) bytes fault
+    FirstIn (p.Fault low) (IsNextPart p low) p.spell (λ x. PartsFault p n (p.number x + 1)) bytes
+    fault
 
 abbrev pub CountFault : ℕ → Faults
 CountFault most =

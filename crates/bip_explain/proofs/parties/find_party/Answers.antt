@@ -2,7 +2,7 @@ use Rattle.std.proofs.Common.{◌≡◌, ℕ, ◌<◌, Some, Ok, length}
 use Rattle.bip_model.specs.Parties.{CoverAbove}
 use Rattle.bip_model.specs.States.{state_of}
 use Rattle.bip_model.specs.Texts.{line_at}
-use Rattle.bip_explain.specs.Parties.{IsLack, IsLowestUncovered, IsNamedRight}
+use Rattle.bip_explain.specs.Parties.{IsCoverLack, IsLowestUncovered, IsNamedRight}
 use Rattle.bip_explain.proofs.HindranceLemmas.{first_fault}
 use Rattle.bip_replay.specs.Lines.{grant_on}
 use Rattle.bip_replay.specs.declared.faults.BookFault.TheVariants.{Parties}
@@ -45,7 +45,7 @@ returns-clause-some c = λ base.
     let reads : grant_on m (line_at c.args.text.now c.args.number) ≡ Ok (Some g) = rw (← c.line_at-line.ensures) (rw c.in-Some.is at c.in_ok-grant.ensures.some) in
     let right : (d : ℕ) → d < length m.components → IsNamedRight m g.inter.0 g.wants d = rw (← c.as_slice-wants.ensures.wants) c.in_default-find_misnamed.ensures.none in
     let lowest : IsLowestUncovered m s g.inter.0 g.wants found.above.0 = rw (← c.as_slice-wants.ensures.wants) found.ensures.some.0 in
-    let lack : IsLack m s g.wants found.above.0 found.lack = rw (← c.as_slice-wants.ensures.wants) found.ensures.some.1 in (
+    let lack : IsCoverLack m s g.wants found.above.0 found.lack = rw (← c.as_slice-wants.ensures.wants) found.ensures.some.1 in (
       g,
       reads,
       record {
