@@ -10,7 +10,6 @@ ghost use Rattle.bip_explain.specs.Parties.{IsNamedRight, IsNamedSo, IsPartyTold
 ghost use Rattle.bip_explain.specs.Parties.{cover_lack_parts, named_text, names_parts, off_among};
 ghost use Rattle.bip_explain.specs.Parties.{parties_parts, seen_text, unseen_among};
 ghost use Rattle.bip_model.specs.Parties.{Cover, CoverAbove, IsWanted, has_want_of};
-ghost use Rattle.bip_model.specs.Parties.{is_moving, is_seeing};
 ghost use Rattle.bip_model.specs.Parts.{IsPortIn};
 ghost use Rattle.bip_model.specs.Priorities.{IsAbove};
 ghost use Rattle.bip_model.specs.States.{IsStateOf, state_of};
@@ -26,8 +25,8 @@ use crate::hindrances::{find_unoffered, state_before};
 use crate::placed::Placed;
 use arrayvec::ArrayVec;
 use bip_model::{
-    CompId, Grant, InterId, MOST_PARTICIPANTS, Model, PortId, Role, State, Want, has_want_of,
-    is_plain, line_at,
+    CompId, Grant, InterId, MOST_PARTICIPANTS, Model, PortId, State, Want, has_want_of, is_moving,
+    is_plain, is_seeing, line_at,
 };
 use bip_replay::{TraceFault, read_trace};
 use std::alloc::{AllocError, Global};
@@ -232,22 +231,6 @@ fn is_right(named: Named, is_moved: bool, is_seen: bool) -> bool
         Named::Seen => !is_moved,
         Named::Absent => !is_moved && !is_seen,
     }
-}
-
-fn is_moving(wants: &[Want], comp: CompId) -> bool
-    ensures { result ≡ list_any (is_moving comp.0) wants.now }
-{
-    wants
-        .iter()
-        .any(|want| want.comp == comp && want.role == Role::Moved)
-}
-
-fn is_seeing(wants: &[Want], comp: CompId) -> bool
-    ensures { result ≡ list_any (is_seeing comp.0) wants.now }
-{
-    wants
-        .iter()
-        .any(|want| want.comp == comp && want.role != Role::Moved)
 }
 
 // The first interaction above one that wants don't cover in a state, and what they lack for it.

@@ -46,7 +46,7 @@ pub use messages::{MOST_NOTIFIES, Notifies, Notify, Offer, Reply, Request};
 pub use models::Model;
 pub use naming::{MOST_NAME_BYTES, Name, Names, is_text};
 pub use numbering::{ClassId, CompId, InterId, LocId, Number, PortId, VarId};
-pub use parties::has_want_of;
+pub use parties::{has_want_of, is_moving, is_seeing, want_each};
 pub use partitions::{Classes, MOST_CLASSES, Partition};
 pub use parts::{
     Component, Interaction, MOST_CLAUSES, MOST_COMPONENTS, MOST_INTERACTIONS, MOST_PARTICIPANTS,

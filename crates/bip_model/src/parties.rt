@@ -77,7 +77,8 @@ impl Model {
     }
 }
 
-fn want_each(wants: &[Want], participants: &[(CompId, PortId)]) -> bool
+/// Whether wants have one of each of these participants.
+pub fn want_each(wants: &[Want], participants: &[(CompId, PortId)]) -> bool
     ensures { result
         ≡ list_all (λ (q : Participant). has_want_of wants.now q.0.0) participants.now }
 {
@@ -134,7 +135,8 @@ fn see_all(wants: &[Want], looks: &[CompId]) -> bool
     looks.iter().all(|comp| is_seeing(wants, *comp))
 }
 
-fn is_moving(wants: &[Want], comp: CompId) -> bool
+/// Whether wants have one that moves a component.
+pub fn is_moving(wants: &[Want], comp: CompId) -> bool
     ensures { result ≡ list_any (is_moving comp.0) wants.now }
 {
     wants
@@ -142,7 +144,8 @@ fn is_moving(wants: &[Want], comp: CompId) -> bool
         .any(|want| want.comp == comp && want.role == Role::Moved)
 }
 
-fn is_seeing(wants: &[Want], comp: CompId) -> bool
+/// Whether wants have one that sees a component.
+pub fn is_seeing(wants: &[Want], comp: CompId) -> bool
     ensures { result ≡ list_any (is_seeing comp.0) wants.now }
 {
     wants

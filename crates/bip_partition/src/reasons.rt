@@ -2,9 +2,9 @@
 ghost use Rattle.std.specs.Prelude.{◌≡◌, ◌↔◌, ◌<◌, length, IsTrue};
 ghost use Rattle.bip_model.specs.Parties.{AreExplained};
 ghost use Rattle.bip_model.specs.Reasons.{IsReasons};
-ghost use Rattle.bip_partition.specs.Reasons.{AreInTurn, IsReasonFor, is_cause_borne, want_each};
+ghost use Rattle.bip_partition.specs.Reasons.{AreInTurn, IsReasonFor, is_cause_borne};
 
-use bip_model::{Cause, InterId, Model, Reasons, Want, Why, has_want_of};
+use bip_model::{Cause, InterId, Model, Reasons, Want, Why, has_want_of, want_each};
 
 /// Whether wants with reasons say enough for an interaction: without reasons, that the wants see
 /// all that it looks at; else, that there is a reason for each interaction above it and for no
@@ -57,19 +57,9 @@ fn is_borne(model: &Model, wants: &[Want], inter: InterId, cause: Cause) -> bool
 {
     match cause {
         Cause::Port(comp) => model.moves(inter, comp) && has_want_of(wants, comp),
-        Cause::Guard => want_each(model, wants, inter),
+        Cause::Guard => {
+            model.interactions().len() <= inter.0 as usize
+                || want_each(wants, model.participants(inter))
+        }
     }
-}
-
-/// Whether each participant of an interaction is wanted; so it is where the model has none.
-fn want_each(model: &Model, wants: &[Want], inter: InterId) -> bool
-    ensures { result ≡ want_each model.now wants.now inter.0 }
-{
-    if model.interactions().len() <= inter.0 as usize {
-        return true;
-    }
-    model
-        .participants(inter)
-        .iter()
-        .all(|participant| has_want_of(wants, participant.0))
 }
