@@ -1,30 +1,24 @@
 -- That reasons and wants of a node suffice: by the offers of what is wanted alone, what it asks for
 -- or grants is ready.
-use Rattle.std.proofs.Common.{◌≡◌, ◌⊎◌, ℕ, ◌<◌, Bool, true, false, List, [], ◌∷◌, length, get_or, inl, inr, refl, sym, ◌∙◌, subst, arith}
+use Rattle.std.proofs.Common.{◌≡◌, ◌⊎◌, ℕ, true, List, [], get_or, inl, inr, subst, arith}
 use Rattle.std.specs.Prelude.{All, Contains}
-use Rattle.std.proofs.lemmas.Bool.{cases_Bool, false≢true}
+use Rattle.std.proofs.lemmas.Bool.{cases_Bool}
 use Rattle.std.proofs.lemmas.List.Elements.{All-contains, All-nil, Contains-get_or}
-use Rattle.bip_model.specs.Parties.{AreParties, AreReasonsFor, AreWantsBy, HasWantOf, IsBorne, IsWanted, SeeAll}
+use Rattle.bip_model.specs.Parties.{AreReasonsFor, AreWantsBy, HasWantOf, IsWanted}
 use Rattle.bip_model.specs.Parts.{Participant}
-use Rattle.bip_model.specs.Priorities.{IsAbove}
-use Rattle.bip_model.specs.Reasons.{AreNaming, IsNamedBy}
+use Rattle.bip_model.specs.Reasons.{AreNaming}
 use Rattle.bip_model.specs.Steps.{IsLookedAt, moves, participants_of}
-use Rattle.bip_model.specs.declared.grants.Grant.{Grant}
-use Rattle.bip_model.specs.declared.messages.Notify.{Notify}
 use Rattle.bip_model.specs.declared.messages.Offer.{Offer}
-use Rattle.bip_model.specs.declared.messages.Request.{Request}
 use Rattle.bip_model.specs.declared.parts.System.{System}
 use Rattle.bip_model.specs.declared.reasons.Why.{Why}
-use Rattle.bip_model.specs.declared.wants.Role.{Role}
-use Rattle.bip_model.specs.declared.wants.Role.TheVariants.{Moved, Seen}
+use Rattle.bip_model.specs.declared.wants.Role.TheVariants.{Seen}
 use Rattle.bip_model.specs.declared.wants.Want.{Want}
 use Rattle.bip_model.proofs.PartyLemmas.{moving_is_wanted, moved_or_seen, touches_above}
-use Rattle.bip_partition.specs.Plans.{IsReserved}
 use Rattle.bip_partition.proofs.LawLemmas.{local_alone}
 use Rattle.bip_partition.proofs.ReasonLemmas.{for_explains}
 use Rattle.bip_observe.specs.Laws.{IsSound}
 use Rattle.bip_observe.specs.Offers.{Observed}
-use Rattle.bip_observe.specs.Verdicts.{AreReasonsBy, OfferCounts, Exclude, IsReady, IsTrueOf, offers_of, port_on}
+use Rattle.bip_observe.specs.Verdicts.{AreReasonsBy, OfferCounts, Exclude, IsTrueOf, offers_of}
 use Rattle.bip_observe.proofs.ReasonLemmas.{reasons_sound, reasons_suffice}
 use Rattle.bip_observe.proofs.ShowLemmas.{moves_each}
 use Rattle.bip_ip.specs.Laws.{AskedSuffices, LocalSuffices, Suffice}

@@ -18,11 +18,10 @@ pub fn notify_laws()
     ensures leads { LeadsToTheStep }
 {}
 
-/// A try and a reply have one answer each; what is asked for fits the plan, its
-/// reasons are true, and the offers that it names suffice; it stands in the way
-/// of what is in conflict with it; a record tells once, and a reply to it is stale then, whatever
-/// the node does; a refusal teaches the used number that it names; request numbers only rise
-/// (docs/PROTOCOL.md, "Protocol nodes").
+/// A try and a reply have one answer each; what is asked for fits the plan, its reasons are true,
+/// and the offers that it names suffice; it stands in the way of what is in conflict with it; a
+/// record tells once, and a reply to it is stale then, whatever the node does; a refusal teaches
+/// the used number that it names; request numbers only rise (docs/PROTOCOL.md, "Protocol nodes").
 pub fn node_laws()
     ensures try_one { OneAnswerToATry }
     ensures reply_one { OneAnswerToAReply }

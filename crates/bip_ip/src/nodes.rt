@@ -8,6 +8,7 @@ ghost use Rattle.bip_model.specs.Wants.{components_of};
 ghost use Rattle.bip_model.specs.declared.wants.Want.{Want};
 ghost use Rattle.bip_partition.specs.Plans.{ClassTouches, InConflict};
 ghost use Rattle.bip_observe.specs.Offers.{IsReceipt, observed};
+ghost use Rattle.bip_observe.specs.Verdicts.{IsLackingAbove};
 ghost use Rattle.bip_frame.specs.Views.{offer_shown, reply_shown};
 ghost use Rattle.bip_ip.specs.Nodes.{Awaits, CanBeAsked, IsAnswered, IsItsRecord, IsLeftByReply};
 ghost use Rattle.bip_ip.specs.Nodes.{IsOwn, IsReplyTo, IsTried, StandsInTheWay, after_offer};
@@ -22,7 +23,7 @@ use bip_model::{
     ClassId, Grant, InterId, Notifies, Number, Offer, Reasons, Reply, Request, Role, Want,
     lowest_inter, with_inter, without_inter,
 };
-use bip_observe::{Offers, Receipt, Verdict, decide, reasons};
+use bip_observe::{Offers, Receipt, Verdict, decide, lacking_above, reasons};
 use bip_partition::Plan;
 use std::alloc::{AllocError, Global};
 use std::marker;
@@ -187,6 +188,20 @@ impl<'p> IpNode<'p> {
             Verdict::Ready => None,
             verdict => Some(WhyNot::Not(verdict)),
         }
+    }
+
+    /// The interaction above one of the class for whose sake that one isn't ready, by the offers
+    /// that the node holds: a component of it has none that counts (docs/PROTOCOL.md, "Verdicts").
+    /// None where it is ready, or isn't for another reason, and where it isn't of the class.
+    pub fn lacking_above(&self, inter: InterId) -> Option<InterId>
+        ensures own { IsOwn (node_of self.now) inter.0
+            → IsLackingAbove (observed self.now.offers) inter.0 result }
+        ensures other { (¬ IsOwn (node_of self.now) inter.0) → result ≡ None }
+    {
+        if self.is_own(inter) {
+            return lacking_above(self.offers.plan(), &self.offers, inter);
+        }
+        None
     }
 
     /// Grants an interaction that can be asked for and is local, and asks for one that is reserved,

@@ -29,7 +29,7 @@ use Rattle.bip_observe.specs.declared.verdicts.Verdict.TheVariants.{Ready, NotRe
 
 -- ---- each excludes the others
 
-missing_counts : (v : Observed) (a c : ℕ) → IsLowest (IsMissing v a) c → AllCount v a → ⊥
+pub missing_counts : (v : Observed) (a c : ℕ) → IsLowest (IsMissing v a) c → AllCount v a → ⊥
 missing_counts v a c missing all = absurd (false≢true (sym missing.here.1 ∙ all c missing.here.0))
 
 -- a port that is off isn't on

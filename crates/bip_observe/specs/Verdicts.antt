@@ -116,6 +116,12 @@ IsVerdict v a (Below b) =
     × AllCount v b.0
 IsVerdict v a Ready = IsReady v.plan.model (offers_of v) (OfferCounts v) a
 
+-- the interaction above another for whose sake the verdict on that one is NotReady, if it is for
+-- the sake of one
+abbrev pub IsLackingAbove : Observed → ℕ → Option InterId → Type 0
+IsLackingAbove v a (Some b) = (c : ℕ) × (lacks : LacksAbove v a c) × (lacks.inter ≡ b.0)
+IsLackingAbove v a None = (c : ℕ) → ¬ LacksAbove v a c
+
 -- whether an offer counts by which a participant's port is off
 abbrev pub is_known_off : Observed → Participant → Bool
 is_known_off v q = is_counted v q.0.0 && not (port_on (offers_of v) q)

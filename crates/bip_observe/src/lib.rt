@@ -9,4 +9,4 @@ mod verdicts;
 pub use because::reasons;
 pub use laws::{offer_laws, verdict_laws};
 pub use offers::{Offers, Receipt};
-pub use verdicts::{Verdict, decide};
+pub use verdicts::{Verdict, decide, lacking_above};

@@ -8,7 +8,8 @@ ghost use Rattle.bip_model.specs.declared.numbering.CompId.{CompId};
 ghost use Rattle.bip_model.specs.declared.numbering.InterId.{InterId};
 ghost use Rattle.bip_model.specs.declared.parts.TheConstants.{MOST_PARTICIPANTS};
 ghost use Rattle.bip_observe.specs.Offers.{observed};
-ghost use Rattle.bip_observe.specs.Verdicts.{CanBeJudged, IsVerdict, excludes, first_missing};
+ghost use Rattle.bip_observe.specs.Verdicts.{CanBeJudged, IsLackingAbove, IsVerdict, excludes};
+ghost use Rattle.bip_observe.specs.Verdicts.{first_missing};
 ghost use Rattle.bip_observe.specs.Verdicts.{guard_holds, is_counted, is_known_off, offers_of};
 ghost use Rattle.bip_observe.specs.Verdicts.{port_on};
 
@@ -60,6 +61,24 @@ pub fn decide(plan: &Plan, offers: &Offers<'_>, inter: InterId) -> Verdict
         Some(comp) => Verdict::NotReady(comp),
         None => Verdict::Below(higher),
     }
+}
+
+/// The interaction above another for whose sake that one isn't ready: the first above it that the
+/// offers don't exclude, where a component of it has no offer that counts. None where the verdict
+/// isn't NotReady, or is so for what the interaction itself moves (docs/PROTOCOL.md, "Verdicts").
+pub fn lacking_above(plan: &Plan, offers: &Offers<'_>, inter: InterId) -> Option<InterId>
+    requires of_plan { offers.now.plan ≡ plan.now }
+    requires declared { inter.0 < length plan.now.model.interactions }
+    ensures { IsLackingAbove (observed offers.now) inter.0 result }
+{
+    let model = plan.model();
+    let Verdict::NotReady(comp) = decide(plan, offers, inter) else {
+        return None;
+    };
+    if model.moves(inter, comp) {
+        return None;
+    }
+    offers.first_open(model.above(inter))
 }
 
 impl<'p> Offers<'p> {
