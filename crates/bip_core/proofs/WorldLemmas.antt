@@ -1,6 +1,7 @@
 -- What is kept of a world, as the world, and what its nodes leave.
 use Rattle.std.proofs.Common.{◌≡◌, ◌⊎◌, ℕ, suc, take, drop, ◌<◌, ◌≤◌, List, [], ◌∷◌, ◌++◌, length, set, get_or, Some, None, Option, true, false, inl, inr, refl, sym, ap, ◌∙◌, subst, slice_get, arith}
-use Rattle.std.specs.Prelude.{All, Err, IfErr, IfSome, Ok, Result}
+use Rattle.std.specs.Prelude.{All, Err, IfErr, IfSome, Ok, Result, vec_capacity}
+use Rattle.std.specs.Global.{Vec}
 use Rattle.std.specs.Option.{option_map}
 use Rattle.std.proofs.Math.Path.{fun_ext}
 use Rattle.std.proofs.lemmas.Bool.{cases_lt, false≢true, true≢false}
@@ -48,7 +49,7 @@ use Rattle.bip_core.specs.Traces.{trace_by}
 use Rattle.bip_partition.specs.Laws.{IsPlanned}
 use Rattle.bip_model.specs.declared.numbering.ClassId.{ClassId}
 use Rattle.bip_observe.specs.Offers.{IsReceipt, observed}
-use Rattle.bip_core.specs.Events.{AreSent, CanBeSkipped, IsCounted, IsDelivered, IsDone, IsHandedOn, IsSending, IsTakenIn, IsTraced, SendsWhatFits, StepCanBeSkipped, TakesOut, grant_acted, grant_in, grant_tried, is_serving, effect_of, trace_with, class_named}
+use Rattle.bip_core.specs.Events.{AreSent, CanBeSkipped, IsCounted, IsFullFor, IsDelivered, IsDone, IsHandedOn, IsSending, IsTakenIn, IsTraced, SendsWhatFits, StepCanBeSkipped, TakesOut, grant_acted, grant_in, grant_tried, is_serving, effect_of, trace_with, class_named}
 use Rattle.bip_core.specs.declared.events.Event.{Event}
 use Rattle.bip_core.specs.declared.events.Event.TheVariants.{Bank, Mail, Try}
 use Rattle.bip_core.specs.declared.events.What.TheVariants.{Acts, Hears, Learns, Moves, Nothing, Submits, Tries}
@@ -60,24 +61,38 @@ use Rattle.bip_core.specs.declared.outcomes.Outcome.{Outcome}
 use Rattle.bip_core.proofs.SendLemmas.{put_fit, sends_nothing}
 
 -- what is kept of a world, by its parts, of which one is its own list of grants
-abbrev pub kept_by : Planned → List Node → List KeptNode → List Message → List Grant → KeptBank → KeptWorld
-kept_by p components classes mail own bank = record { plan = p; components = components; classes = classes; mail = mail; trace = trace_by own (content_of bank).grants; bank = bank }
+abbrev pub kept_by : Planned → List Node → List KeptNode → List Message → Vec Grant → KeptBank → KeptWorld
+kept_by p components classes mail own bank = record { plan = p; components = components; classes = classes; mail = mail; trace = trace_by own.items (content_of bank).grants; bank = bank; room = vec_capacity own }
 
 -- with another bank of the same content the world is the same
-pub same_bank : (p : Planned) (components : List Node) (classes : List KeptNode) (mail : List Message) (own : List Grant) (bank b : KeptBank) → content_of b ≡ content_of bank → world_of (kept_by p components classes mail own b) ≡ world_of (kept_by p components classes mail own bank)
+pub same_bank : (p : Planned) (components : List Node) (classes : List KeptNode) (mail : List Message) (own : Vec Grant) (bank b : KeptBank) → content_of b ≡ content_of bank → world_of (kept_by p components classes mail own b) ≡ world_of (kept_by p components classes mail own bank)
 same_bank p components classes mail own bank b is =
-    ap (λ (x : BankContent). record (world_of (kept_by p components classes mail own bank)) { trace = trace_by own x.grants; bank = x }) is
+    ap (λ (x : BankContent). record (world_of (kept_by p components classes mail own bank)) { trace = trace_by own.items x.grants; bank = x }) is
 
 -- and with one more open request the trace is
-pub asked_bank : (p : Planned) (components : List Node) (classes : List KeptNode) (mail : List Message) (own : List Grant) (bank b : KeptBank) (q : Request) → content_of b ≡ with_request q (content_of bank)
+pub asked_bank : (p : Planned) (components : List Node) (classes : List KeptNode) (mail : List Message) (own : Vec Grant) (bank b : KeptBank) (q : Request) → content_of b ≡ with_request q (content_of bank)
     → world_of (kept_by p components classes mail own b) ≡ record (world_of (kept_by p components classes mail own bank)) { bank = with_request q (content_of bank) }
 asked_bank p components classes mail own bank b q is =
-    ap (λ (x : BankContent). record (world_of (kept_by p components classes mail own bank)) { trace = trace_by own x.grants; bank = x }) is
+    ap (λ (x : BankContent). record (world_of (kept_by p components classes mail own bank)) { trace = trace_by own.items x.grants; bank = x }) is
 
 -- with a bank of the same grants
 pub traced_kept : (w : KeptWorld) (own : List Grant) (b : KeptBank) → b.grants ≡ w.bank.grants → w.trace ≡ trace_by own w.bank.grants → IsKeptWorld (record w { bank = b }) → IsKeptWorld (record w { trace = trace_by own b.grants; bank = b })
 traced_kept w own b same is kept =
     subst (λ (trace : List Grant). IsKeptWorld (record w { trace = trace; bank = b })) (is ∙ ap (trace_by own) (sym same)) kept
+
+-- with another room
+pub room_kept : (w : KeptWorld) (room : ℕ) → IsKeptWorld w → IsKeptWorld (record w { room = room })
+room_kept w room kept = record {
+  each_component = kept.each_component;
+  each_class = kept.each_class;
+  components = kept.components;
+  classes = kept.classes;
+  fits = kept.fits;
+  bank = kept.bank;
+  mail = kept.mail;
+  waiting = kept.waiting;
+  grants = kept.grants;
+}
 
 -- a list with another element at a place, as a function of places
 pub slice_get-set : {X : Type 0} (xs : List X) (n : ℕ) (x : X) → n < length xs → (λ k. slice_get (set xs n x) k) ≡ put (λ k. slice_get xs k) n (Some x)
@@ -462,6 +477,13 @@ serving_skipped w (Serve s) serves more = inr more
 serving_skipped w (Deliver k) serves more = absurd (false≢true serves)
 serving_skipped w (Pass s t) serves more = absurd (false≢true serves)
 serving_skipped w (Ask s t) serves more = absurd (false≢true serves)
+
+-- and where the world has no room
+pub serving_full : (w : KeptWorld) (step : BankStep) → is_serving step ≡ true → w.room ≤ length w.trace → IsFullFor w (Bank step)
+serving_full w (Serve s) serves full = inr full
+serving_full w (Deliver k) serves full = tt
+serving_full w (Pass s t) serves full = tt
+serving_full w (Ask s t) serves full = tt
 
 pub wanting_skipped : (w : WorldContent) (step : BankStep) → CanWantMemory w.bank step → StepCanBeSkipped w step
 wanting_skipped w (Serve s) wants = inl wants

@@ -20,13 +20,15 @@ use Rattle.bip_ip.specs.declared.nodes.Answered.TheVariants as answered
 use Rattle.bip_ip.specs.declared.nodes.Tried.{Tried}
 use Rattle.bip_ip.specs.declared.nodes.Tried.TheVariants as tried
 use Rattle.bip_observe.specs.Offers.{IsReceipt}
-use Rattle.bip_bank.specs.Banks.{BankContent, CanWantMemory, DoesStep, IsActed, with_request}
+use Rattle.bip_bank.specs.Banks.{BankContent, CanWantMemory, DoesStep, IsActed, content_of}
+use Rattle.bip_bank.specs.Banks.{with_request}
 use Rattle.bip_bank.specs.declared.banks.Acted.{Acted}
 use Rattle.bip_bank.specs.declared.banks.Acted.TheVariants as acted
 use Rattle.bip_bank.specs.declared.banks.BankStep.TheVariants.{Serve}
 use Rattle.bip_bank.specs.declared.banks.BankStep.{BankStep}
 use Rattle.bip_core.specs.Letters.{CanBeOffered, CanBeReplied, CanBeSubmitted, CanBeTold}
-use Rattle.bip_core.specs.Worlds.{AreOffersOf, WorldContent, with_class_node, with_component_node}
+use Rattle.bip_core.specs.Worlds.{AreOffersOf, KeptWorld, WorldContent, with_class_node}
+use Rattle.bip_core.specs.Worlds.{with_component_node}
 use Rattle.bip_core.specs.declared.events.Did.{Did}
 use Rattle.bip_core.specs.declared.events.Event.{Event}
 use Rattle.bip_core.specs.declared.events.Event.TheVariants.{Mail, Try, Bank}
@@ -170,6 +172,14 @@ CanBeSkipped w (Try k a) =
     (node : ClassNode) × (w.classes k.0 ≡ Some node) × CanBeAsked node a.0
     × ¬ IsReserved w.plan a.0
 CanBeSkipped w (Bank step) = StepCanBeSkipped w step
+
+-- where want of memory skips an event that can give a grant: the world itself has no room for one
+-- more, or it is the bank that can want it
+abbrev pub IsFullFor : KeptWorld → Event → Type 0
+IsFullFor w (Try k a) = w.room ≤ length w.trace
+IsFullFor w (Bank (Serve s)) =
+    CanWantMemory (content_of w.bank) (Serve s) ⊎ (w.room ≤ length w.trace)
+IsFullFor w event = ⊤
 
 -- What contracts of private functions say.
 

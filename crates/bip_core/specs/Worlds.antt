@@ -5,13 +5,15 @@ use Rattle.bip_model.specs.Numbering.{put}
 use Rattle.bip_model.specs.declared.grants.Grant.{Grant}
 use Rattle.bip_model.specs.declared.messages.Offer.{Offer}
 use Rattle.bip_model.specs.declared.numbering.ClassId.{ClassId}
+use Rattle.bip_model.specs.declared.numbering.InterId.{InterId}
 use Rattle.bip_model.specs.declared.parts.System.{System}
 use Rattle.bip_model.specs.declared.wants.Want.{Want}
 use Rattle.bip_partition.specs.Plans.{IsListTouching, Planned}
 use Rattle.bip_component.specs.Components.{Node}
-use Rattle.bip_ip.specs.Nodes.{ClassNode, KeptNode, node_of}
+use Rattle.bip_ip.specs.Nodes.{ClassNode, IsOwn, KeptNode, node_of}
 use Rattle.bip_ip.specs.declared.nodes.OpenRecord.{OpenRecord}
 use Rattle.bip_observe.specs.Offers.{AreOwn}
+use Rattle.bip_observe.specs.Verdicts.{IsLackingAbove}
 use Rattle.bip_bank.specs.Banks.{BankContent, KeptBank, content_of}
 use Rattle.bip_core.specs.declared.messages.Message.{Message}
 use Rattle.bip_core.specs.declared.messages.Message.TheVariants.{OfferTo}
@@ -27,7 +29,7 @@ pub record WorldContent : Type 0 where
   pub trace : List Grant
   pub bank : BankContent
 
--- what is kept of it, node by node
+-- what is kept of it, node by node, and for how many grants, in all, the world itself has room
 pub record KeptWorld : Type 0 where
   pub plan : Planned
   pub components : List Node
@@ -35,6 +37,7 @@ pub record KeptWorld : Type 0 where
   pub mail : List Message
   pub trace : List Grant
   pub bank : KeptBank
+  pub room : ℕ
 
 -- the world by what is kept
 abbrev pub world_of : KeptWorld → WorldContent
@@ -54,6 +57,16 @@ with_component_node c node w = record w { components = put w.components c (Some 
 
 abbrev pub with_class_node : ℕ → ClassNode → WorldContent → WorldContent
 with_class_node k node w = record w { classes = put w.classes k (Some node) }
+
+-- the interaction above another for whose sake that one isn't ready in its class, if it is for the
+-- sake of one: by the offers that the class holds
+abbrev pub IsLackingIn : WorldContent → ℕ → ℕ → Option InterId → Type 0
+IsLackingIn w k a b =
+    (node : ClassNode) → w.classes k ≡ Some node → IsOwn node a → IsLackingAbove node.offers a b
+
+-- no class of this number has the interaction
+abbrev pub IsNoneOf : WorldContent → ℕ → ℕ → Type 0
+IsNoneOf w k a = (node : ClassNode) → w.classes k ≡ Some node → ¬ IsOwn node a
 
 -- the messages that offer to each class that touches the offer's component, by class
 pub record AreOffersOf (p : Planned) (offer : Offer) (messages : List Message) : Type 0 where

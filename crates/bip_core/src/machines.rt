@@ -8,13 +8,14 @@ ghost use Rattle.bip_model.specs.Parts.{IsSystem};
 ghost use Rattle.bip_partition.specs.Plans.{IsFit, IsReserved};
 ghost use Rattle.bip_bank.specs.Banks.{content_of, with_request};
 ghost use Rattle.bip_ip.specs.Nodes.{CanBeAsked, KeptNode, node_of};
-ghost use Rattle.bip_core.specs.Events.{CanBeSkipped, IsCounted, IsTakenIn, TakesOut};
+ghost use Rattle.bip_core.specs.Events.{CanBeSkipped, IsCounted, IsFullFor, IsTakenIn, TakesOut};
 ghost use Rattle.bip_core.specs.Letters.{CanBeHandedOn, IsLetterOf, IsNumberedRequest};
 ghost use Rattle.bip_core.specs.Letters.{address_of};
 ghost use Rattle.bip_core.specs.declared.accepting.Address.TheVariants.{Layer};
 ghost use Rattle.bip_frame.specs.Views.{notify_shown, offer_shown, reply_class, reply_shown};
 ghost use Rattle.bip_core.specs.Starting.{IsNewWorld, IsUnasked};
-ghost use Rattle.bip_core.specs.Worlds.{IsKeptWorld, IsKnownGrant, world_of};
+ghost use Rattle.bip_core.specs.Worlds.{IsKeptWorld, IsKnownGrant, IsLackingIn, IsNoneOf};
+ghost use Rattle.bip_core.specs.Worlds.{world_of};
 ghost use Rattle.bip_core.specs.declared.events.Event.TheVariants.{Bank, Mail, Try};
 ghost use Rattle.bip_core.specs.declared.events.What.TheVariants.{Submits};
 ghost use Rattle.bip_core.specs.declared.messages.Message.{Message};
@@ -53,6 +54,7 @@ pub(crate) struct Machine<'p, B: bip_bank::Bank> {
 }
 
 impl<'p, B: bip_bank::Bank> marker::Model for Machine<'p, B> {
+    ghost use Rattle.std.specs.Prelude.{vec_capacity};
     ghost use Rattle.bip_bank.specs.Banks.{content_of};
     ghost use Rattle.bip_core.specs.Traces.{trace_by};
     ghost use Rattle.bip_core.specs.Worlds.{IsKeptWorld, KeptWorld};
@@ -66,6 +68,7 @@ impl<'p, B: bip_bank::Bank> marker::Model for Machine<'p, B> {
       mail = m.mail;
       trace = trace_by m.own.items (content_of (B.kept m.bank)).grants;
       bank = B.kept m.bank;
+      room = vec_capacity m.own;
     } };
 
     ghost invariant = { λ m. IsKeptWorld (record {
@@ -75,6 +78,7 @@ impl<'p, B: bip_bank::Bank> marker::Model for Machine<'p, B> {
       mail = m.mail;
       trace = trace_by m.own.items (content_of (B.kept m.bank)).grants;
       bank = B.kept m.bank;
+      room = vec_capacity m.own;
     }) };
 }
 
@@ -169,6 +173,17 @@ impl<'p, B: bip_bank::Bank> Machine<'p, B> {
         &self.bank
     }
 
+    /// The interaction above one for whose sake that one isn't ready in its class, if it is so.
+    pub fn lacking_above(&self, class: ClassId, inter: InterId) -> Option<InterId>
+        ensures above { IsLackingIn (world_of self.now) class.0 inter.0 result }
+        ensures none { IsNoneOf (world_of self.now) class.0 inter.0 → result ≡ None }
+    {
+        if class.0 as usize >= self.classes.len() {
+            return None;
+        }
+        self.classes[class.0 as usize].lacking_above(inter)
+    }
+
     /// Hands an offer on to a class.
     fn hear<W: Witness>(
         &mut self,
@@ -224,6 +239,7 @@ impl<'p, B: bip_bank::Bank> Machine<'p, B> {
         ensures counted { IfOk result (λ outcome. IsCounted (λ what. W.saw what witness.new)
             (world_of self.old) (Try class inter) outcome (world_of self.new)) }
         ensures skipped { IfErr result (λ e. CanBeSkipped (world_of self.old) (Try class inter)) }
+        ensures full { IfErr result (λ e. IsFullFor self.old (Try class inter)) }
         ensures err { OnErr result (self.new ≡ self.old) }
     {
         if class.0 as usize >= self.classes.len() {
@@ -254,6 +270,7 @@ impl<'p, B: bip_bank::Bank> Machine<'p, B> {
         ensures counted { IfOk result (λ outcome. IsCounted (λ what. W.saw what witness.new)
             (world_of self.old) (Try class inter) outcome (world_of self.new)) }
         ensures skipped { IfErr result (λ e. CanBeSkipped (world_of self.old) (Try class inter)) }
+        ensures full { IfErr result (λ e. IsFullFor self.old (Try class inter)) }
         ensures err { OnErr result (self.new ≡ self.old) }
     {
         self.plan.recall();
@@ -272,6 +289,7 @@ impl<'p, B: bip_bank::Bank> Machine<'p, B> {
         ensures counted { IfOk result (λ outcome. IsCounted (λ what. W.saw what witness.new)
             (world_of self.old) (Bank step) outcome (world_of self.new)) }
         ensures skipped { IfErr result (λ e. CanBeSkipped (world_of self.old) (Bank step)) }
+        ensures full { IfErr result (λ e. IsFullFor self.old (Bank step)) }
         ensures err { OnErr result (world_of self.new ≡ world_of self.old) }
     {
         self.plan.recall();
@@ -407,6 +425,7 @@ impl<'p, B: bip_bank::Bank> Machine<'p, B> {
         ensures counted { IfOk result (λ outcome. IsCounted (λ what. W.saw what witness.new)
             (world_of self.old) event outcome (world_of self.new)) }
         ensures skipped { IfErr result (λ e. CanBeSkipped (world_of self.old) event) }
+        ensures full { IfErr result (λ e. IsFullFor self.old event) }
         ensures err { OnErr result (world_of self.new ≡ world_of self.old) }
     {
         match event {

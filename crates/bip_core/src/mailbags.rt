@@ -2,7 +2,9 @@
 ghost use Rattle.std.specs.Prelude.{◌≡◌, ◌<◌, ◌≤◌, ◌∷◌, ◌++◌, [], IfErr, OnErr, OnOk, Some};
 ghost use Rattle.std.specs.Prelude.{length, slice_get, vec_capacity, vec_len};
 ghost use Rattle.std.specs.List.{remove};
-ghost use Rattle.bip_core.specs.Mailbags.{IsPlaceIn, in_chunks, in_groups, of_chunk, of_group};
+ghost use Rattle.bip_core.specs.Mailbags.{IsLastFull, IsPlaceIn, in_chunks, in_groups, of_chunk};
+ghost use Rattle.bip_core.specs.Mailbags.{of_group};
+ghost use Rattle.bip_core.specs.declared.mailbags.TheConstants.{CHUNK, GROUP};
 
 use crate::letters::Letter;
 use std::alloc::{AllocError, AllocFailed, Global};
@@ -212,6 +214,7 @@ fn ready_last_chunk(chunks: &mut Vec<Vec<Letter>>) -> Result<(), AllocError>
     ensures same { in_chunks chunks.new.items ≡ in_chunks chunks.old.items }
     ensures some { OnOk result (0 < length chunks.new.items) }
     ensures full { IfErr result (λ e. vec_capacity chunks.old ≤ vec_len chunks.old) }
+    ensures page { IfErr result (λ e. IsLastFull of_chunk CHUNK chunks.old.items) }
 {
     if let Some(chunk) = chunks.last()
         && chunk.len() < CHUNK
@@ -228,6 +231,7 @@ fn ready_last_group(groups: &mut Vec<Group>) -> Result<(), AllocError>
     ensures same { in_groups groups.new.items ≡ in_groups groups.old.items }
     ensures some { OnOk result (0 < length groups.new.items) }
     ensures full { IfErr result (λ e. vec_capacity groups.old ≤ vec_len groups.old) }
+    ensures page { IfErr result (λ e. IsLastFull of_group GROUP groups.old.items) }
 {
     if let Some(group) = groups.last()
         && group.len() < GROUP

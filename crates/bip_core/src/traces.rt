@@ -1,5 +1,6 @@
 //! The trace of a world: the bank's list of grants, as long as none is local.
-ghost use Rattle.std.specs.Prelude.{◌≡◌, ◌<◌, ◌≤◌, ◌⊎◌, IfErr, None, OnOk, false, length, true};
+ghost use Rattle.std.specs.Prelude.{◌≡◌, ◌<◌, ◌≤◌, ◌⊎◌, IfErr, None, OnErr, OnOk};
+ghost use Rattle.std.specs.Prelude.{false, length, true};
 ghost use Rattle.std.specs.Prelude.{vec_capacity, vec_len};
 ghost use Rattle.bip_partition.specs.Plans.{IsReserved};
 ghost use Rattle.bip_core.specs.Events.{grant_acted, grant_tried, is_serving, trace_with};
@@ -37,6 +38,7 @@ pub(crate) fn make_room(
     ensures local { IfErr result (λ e. ¬ IsReserved plan.now inter.0) }
     ensures full { IfErr result (λ e. vec_capacity own.old
         ≤ length (trace_by own.old.items granted.now)) }
+    ensures stays { OnErr result (vec_capacity own.new ≡ vec_capacity own.old) }
 {
     if plan.reserved(inter) {
         return Ok(());

@@ -1,20 +1,21 @@
 //! The world: a machine of nodes, messages and a bank.
-ghost use Rattle.std.specs.Prelude.{◌≡◌, ◌<◌, ◌≤◌, All, IfErr, IfNone, IfOk, IfSome, OnErr, Some};
-ghost use Rattle.std.specs.Prelude.{length, slice_get, ⊤};
+ghost use Rattle.std.specs.Prelude.{◌≡◌, ◌<◌, ◌≤◌, All, IfErr, IfNone, IfOk, IfSome, None};
+ghost use Rattle.std.specs.Prelude.{OnErr, Some, length, slice_get, ⊤};
 ghost use Rattle.bip_model.specs.Numbering.{last_number};
 ghost use Rattle.bip_model.specs.Grants.{MovesOnceEach};
 ghost use Rattle.bip_replay.specs.Runs.{IsModelRun};
 ghost use Rattle.bip_bank.specs.Banks.{content_of};
 ghost use Rattle.bip_core.specs.Agreement.{Agrees};
-ghost use Rattle.bip_core.specs.Events.{CanBeSkipped, IsCounted, IsStep};
+ghost use Rattle.bip_core.specs.Events.{CanBeSkipped, IsCounted, IsFullFor, IsStep};
 ghost use Rattle.bip_core.specs.Letters.{CanBeHandedOn, IsLetterOf};
 ghost use Rattle.bip_core.specs.Starting.{IsNewWorld, IsUnasked};
-ghost use Rattle.bip_core.specs.Worlds.{IsKeptWorld, IsKnownGrant, world_of};
+ghost use Rattle.bip_core.specs.Worlds.{IsKeptWorld, IsKnownGrant, IsLackingIn, IsNoneOf};
+ghost use Rattle.bip_core.specs.Worlds.{world_of};
 
 use crate::machines::Machine;
 use crate::outcomes::{NoOne, Outcome};
 use crate::{Address, Did, Event, Message, What};
-use bip_model::{Grant, Number};
+use bip_model::{ClassId, Grant, InterId, Number};
 use bip_partition::Plan;
 use std::alloc::{AllocError, Global};
 use std::marker;
@@ -64,12 +65,14 @@ impl<'p, B: bip_bank::Bank> World<'p, B> {
 
     /// Does one event: the node that it addresses acts, and its grant joins the trace; what it
     /// sends is put last. Want of memory skips a submission, a try that asks for a local
-    /// interaction or a step of the bank, and then the world stays as it was; of what any event
-    /// sends, messages can be lost.
+    /// interaction or a step of the bank, and then the world stays as it was; where the world
+    /// itself has room for one grant more it skips no try, and a step that serves a station only
+    /// where the bank can want it. Of what any event sends, messages can be lost.
     pub fn step(&mut self, event: Event) -> Result<Did, AllocError>
         ensures step { IfOk result (λ did. IsStep (world_of self.old) event did
             (world_of self.new)) }
         ensures skipped { IfErr result (λ e. CanBeSkipped (world_of self.old) event) }
+        ensures full { IfErr result (λ e. IsFullFor self.old event) }
         ensures err { OnErr result (world_of self.new ≡ world_of self.old) }
         ensures agrees { Agrees (world_of self.new) }
     {
@@ -85,6 +88,7 @@ impl<'p, B: bip_bank::Bank> World<'p, B> {
         ensures counted { IfOk result (λ seen. IsCounted (λ what. seen.0 ≡ what)
             (world_of self.old) event seen.1 (world_of self.new)) }
         ensures skipped { IfErr result (λ e. CanBeSkipped (world_of self.old) event) }
+        ensures full { IfErr result (λ e. IsFullFor self.old event) }
         ensures err { OnErr result (world_of self.new ≡ world_of self.old) }
         ensures agrees { Agrees (world_of self.new) }
     {
@@ -98,6 +102,7 @@ impl<'p, B: bip_bank::Bank> World<'p, B> {
         ensures counted { IfOk result (λ outcome. IsCounted (λ what. ⊤) (world_of self.old) event
             outcome (world_of self.new)) }
         ensures skipped { IfErr result (λ e. CanBeSkipped (world_of self.old) event) }
+        ensures full { IfErr result (λ e. IsFullFor self.old event) }
         ensures err { OnErr result (world_of self.new ≡ world_of self.old) }
     {
         self.machine.step(event, &mut NoOne)
@@ -160,6 +165,17 @@ impl<'p, B: bip_bank::Bank> World<'p, B> {
         ensures { result ≡ slice_get self.now.mail place }
     {
         self.machine.message(place)
+    }
+
+    /// The interaction above another for whose sake that one isn't ready in its class, by the
+    /// offers that the class holds: a component of it has none that counts (docs/PROTOCOL.md,
+    /// "Verdicts"). None where it is ready, or isn't for another reason; where the interaction
+    /// isn't of the class; and where there is no such class.
+    pub fn lacking_above(&self, class: ClassId, inter: InterId) -> Option<InterId>
+        ensures above { IsLackingIn (world_of self.now) class.0 inter.0 result }
+        ensures none { IsNoneOf (world_of self.now) class.0 inter.0 → result ≡ None }
+    {
+        self.machine.lacking_above(class, inter)
     }
 
     /// The bank, which no event hands out.

@@ -10,7 +10,7 @@ use Rattle.bip_core.proofs.machines.Machine.hear.Goals as goal
 
 pub invariant_of-self : goal.invariant_of-self
 invariant_of-self g c =
-    let w = kept_by c.self.inside.plan.now c.self.inside.components.items c.self.inside.classes.items c.self.inside.mail c.self.inside.own.items (g.B.Bank.kept c.self.inside.bank) in
+    let w = kept_by c.self.inside.plan.now c.self.inside.components.items c.self.inside.classes.items c.self.inside.mail c.self.inside.own (g.B.Bank.kept c.self.inside.bank) in
     let old = c.index_mut.result.now in
     let offer = offer_shown c.args.offer.now in
     let within : c.args.class.0 < length w.classes = search rules in
@@ -22,7 +22,7 @@ invariant_of-self g c =
 
 pub returns : goal.returns
 returns g c =
-    let w = kept_by c.self.inside.plan.now c.self.inside.components.items c.self.inside.classes.items c.self.inside.mail c.self.inside.own.items (g.B.Bank.kept c.self.inside.bank) in
+    let w = kept_by c.self.inside.plan.now c.self.inside.components.items c.self.inside.classes.items c.self.inside.mail c.self.inside.own (g.B.Bank.kept c.self.inside.bank) in
     let old = c.index_mut.result.now in
     let within : c.args.class.0 < length w.classes = search rules in
     let is = read_here w.classes c.args.class.0 old within c.index_mut.ensures.value in

@@ -12,7 +12,7 @@ use Rattle.bip_core.proofs.machines.Machine.learn.Goals as goal
 
 pub send_told-outcome-requires : goal.send_told-outcome-requires
 send_told-outcome-requires g c =
-    let w = kept_by c.self.inside.plan.now c.self.inside.components.items c.self.inside.classes.items c.self.inside.mail c.self.inside.own.items (g.B.Bank.kept c.self.inside.bank) in
+    let w = kept_by c.self.inside.plan.now c.self.inside.components.items c.self.inside.classes.items c.self.inside.mail c.self.inside.own (g.B.Bank.kept c.self.inside.bank) in
     let old = c.index_mut.result.now in
     let within : c.class-class.result.0 < length w.classes = search rules in
     let is = read_here w.classes c.class-class.result.0 old within c.index_mut.ensures.value in
@@ -20,7 +20,7 @@ send_told-outcome-requires g c =
 
 pub invariant_of-self : goal.invariant_of-self
 invariant_of-self g c =
-    let w = kept_by c.self.inside.plan.now c.self.inside.components.items c.self.inside.classes.items c.self.inside.mail c.self.inside.own.items (g.B.Bank.kept c.self.inside.bank) in
+    let w = kept_by c.self.inside.plan.now c.self.inside.components.items c.self.inside.classes.items c.self.inside.mail c.self.inside.own (g.B.Bank.kept c.self.inside.bank) in
     let old = c.index_mut.result.now in
     let r = reply_shown c.args.reply.now in
     let did = c.on_reply_frame-did.result in
@@ -36,7 +36,7 @@ invariant_of-self g c =
 
 pub returns : goal.returns
 returns g c =
-    let w = kept_by c.self.inside.plan.now c.self.inside.components.items c.self.inside.classes.items c.self.inside.mail c.self.inside.own.items (g.B.Bank.kept c.self.inside.bank) in
+    let w = kept_by c.self.inside.plan.now c.self.inside.components.items c.self.inside.classes.items c.self.inside.mail c.self.inside.own (g.B.Bank.kept c.self.inside.bank) in
     let old = c.index_mut.result.now in
     let r = reply_shown c.args.reply.now in
     let within : c.class-class.result.0 < length w.classes = search rules in

@@ -9,7 +9,7 @@ use Rattle.bip_core.proofs.machines.Machine.move_by.Goals as goal
 
 pub send_moved-outcome-requires : goal.send_moved-outcome-requires
 send_moved-outcome-requires g c =
-    let w = kept_by c.self.inside.plan.now c.self.inside.components.items c.self.inside.classes.items c.self.inside.mail c.self.inside.own.items (g.B.Bank.kept c.self.inside.bank) in
+    let w = kept_by c.self.inside.plan.now c.self.inside.components.items c.self.inside.classes.items c.self.inside.mail c.self.inside.own (g.B.Bank.kept c.self.inside.bank) in
     let old = c.index_mut.result.now in
     let n = notify_shown c.args.notify.now in
     let later = c.on_notify_frame-did.new.self in
@@ -20,7 +20,7 @@ send_moved-outcome-requires g c =
 
 pub invariant_of-self : goal.invariant_of-self
 invariant_of-self g c =
-    let w = kept_by c.self.inside.plan.now c.self.inside.components.items c.self.inside.classes.items c.self.inside.mail c.self.inside.own.items (g.B.Bank.kept c.self.inside.bank) in
+    let w = kept_by c.self.inside.plan.now c.self.inside.components.items c.self.inside.classes.items c.self.inside.mail c.self.inside.own (g.B.Bank.kept c.self.inside.bank) in
     let old = c.index_mut.result.now in
     let n = notify_shown c.args.notify.now in
     let did = c.on_notify_frame-did.result in
@@ -34,7 +34,7 @@ invariant_of-self g c =
 
 pub returns : goal.returns
 returns g c =
-    let w = kept_by c.self.inside.plan.now c.self.inside.components.items c.self.inside.classes.items c.self.inside.mail c.self.inside.own.items (g.B.Bank.kept c.self.inside.bank) in
+    let w = kept_by c.self.inside.plan.now c.self.inside.components.items c.self.inside.classes.items c.self.inside.mail c.self.inside.own (g.B.Bank.kept c.self.inside.bank) in
     let old = c.index_mut.result.now in
     let n = notify_shown c.args.notify.now in
     let later = c.on_notify_frame-did.new.self in
