@@ -1,5 +1,6 @@
 -- Lines that are written piece by piece.
 use Rattle.std.proofs.Common.{◌≡◌, ◌∙◌, ◌+◌, ◌++◌, ◌∷◌, ◌<◌, ℕ, List, Option, Some, Result, Ok, Err, [], ap, codes, drop, length, slice_get, subst, sym}
+use Rattle.std.specs.List.{flat_map}
 use Rattle.std.specs.Prelude.{IfErr}
 use Rattle.std.proofs.lemmas.List.{append_assoc, drop_more}
 use Rattle.std.proofs.lemmas.Option.{get_or_from_slice_get}
@@ -9,10 +10,13 @@ use Rattle.bip_core.specs.declared.events.Did.{Did}
 use Rattle.bip_core.specs.declared.events.Event.{Event}
 use Rattle.bip_core.specs.declared.messages.Message.{Message}
 use Rattle.bip_model.specs.Texts.{line_feed}
+use Rattle.bip_model.specs.declared.parts.System.{System}
+use Rattle.bip_model.specs.declared.reasons.Why.{Why}
 use Rattle.bip_model.specs.declared.numbering.InterId.{InterId}
 use Rattle.bip_partition.specs.Plans.{AreStations, Planned}
-use Rattle.bip_tell.specs.Lines.{IsToldEvent, count_left, done_text, handed_on, line_head, put_text, told_line}
+use Rattle.bip_tell.specs.Lines.{IsLackedBy, IsToldEvent, count_left, done_text, handed_on, line_head, put_text, told_line}
 use Rattle.bip_tell.specs.Messages.{message_text}
+use Rattle.bip_tell.specs.Reasons.{told_reason}
 use Rattle.bip_tell.specs.Words.{counted}
 
 -- one message more is written
@@ -34,27 +38,43 @@ put_one p place m mail start t a b c within found behind number message before =
     ∙ (append_assoc t (codes ",") (counted place ++ (message_text p m ++ more))
     ∙ (sym (ap (λ (x : List Message). t ++ put_text p place x) here) ∙ before))))
 
+-- one reason more is written
+pub reason_one : (m : System) (place : ℕ) (y : Why) (reasons : List Why) (start t c : List ℕ)
+    → place < length reasons → slice_get reasons place ≡ Some y → c ≡ t ++ told_reason m y
+    → t ++ flat_map (told_reason m) (drop place reasons) ≡ start
+    → c ++ flat_map (told_reason m) (drop (place + 1) reasons) ≡ start
+reason_one m place y reasons start t c within found written before =
+    let rest = drop (place + 1) reasons in
+    let here : drop place reasons ≡ y ∷ rest =
+    drop_more reasons place y within ∙ ap (λ (x : Why). x ∷ rest) (get_or_from_slice_get reasons place y y found) in
+    let more = flat_map (told_reason m) rest in
+    ap (λ (x : List ℕ). x ++ more) written
+    ∙ (append_assoc t (told_reason m y) more
+    ∙ (sym (ap (λ (x : List Why). t ++ flat_map (told_reason m) x) here) ∙ before))
+
 -- the head of a line, what was done, and a line feed
-pub event_told : (p : Planned) (w v : WorldContent) (number left : ℕ) (event : Event) (did : Option Did) (stations : List InterId) (t a b c : List ℕ)
-    → p ≡ w.plan → AreSteps (event ∷ []) (did ∷ []) w v → AreStations p stations
+pub event_told : (p : Planned) (w v : WorldContent) (number left : ℕ) (event : Event) (above : Option InterId) (did : Option Did) (stations : List InterId) (t a b c : List ℕ)
+    → p ≡ w.plan → AreSteps (event ∷ []) (did ∷ []) w v → AreStations p stations → IsLackedBy w event above
     → a ≡ t ++ line_head p stations number event (handed_on event w.mail)
     → left ≡ count_left (handed_on event w.mail) (length w.mail)
-    → b ≡ a ++ done_text p left did v.mail → c ≡ b ++ line_feed ∷ []
+    → b ≡ a ++ done_text p above left did v.mail → c ≡ b ++ line_feed ∷ []
     → (line : List ℕ) × IsToldEvent number event did w v line × (c ≡ t ++ line)
-event_told p w v number left event did stations t a b c same steps are begun count done ended =
+event_told p w v number left event above did stations t a b c same steps are lacks begun count done ended =
     let handed = handed_on event w.mail in
     let head = line_head p stations number event handed in
-    let tail = done_text p (count_left handed (length w.mail)) did v.mail in
-    let line = told_line p stations number event did w.mail v.mail in (
+    let tail = done_text p above (count_left handed (length w.mail)) did v.mail in
+    let line = told_line p stations number event above did w.mail v.mail in (
       line,
       record {
         steps = steps;
         stations = stations;
         are = subst (λ (q : Planned). AreStations q stations) same are;
-        told = ap (λ (q : Planned). told_line q stations number event did w.mail v.mail) same;
+        above = above;
+        lacks = lacks;
+        told = ap (λ (q : Planned). told_line q stations number event above did w.mail v.mail) same;
       },
       ended
-          ∙ (ap (λ (x : List ℕ). x ++ line_feed ∷ []) (done ∙ (ap (λ (n : ℕ). a ++ done_text p n did v.mail) count ∙ ap (λ (x : List ℕ). x ++ tail) begun))
+          ∙ (ap (λ (x : List ℕ). x ++ line_feed ∷ []) (done ∙ (ap (λ (n : ℕ). a ++ done_text p above n did v.mail) count ∙ ap (λ (x : List ℕ). x ++ tail) begun))
           ∙ (append_assoc (t ++ head) tail (line_feed ∷ []) ∙ append_assoc t head (tail ++ line_feed ∷ []))),
     )
 

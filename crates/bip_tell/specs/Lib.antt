@@ -1,4 +1,5 @@
 pub mod Answers
 pub mod Lines
 pub mod Messages
+pub mod Reasons
 pub mod Words

@@ -4,9 +4,9 @@ use Rattle.std.specs.Option.{option_map_or}
 use Rattle.std.specs.Prelude.{List, None, Option, Some, [], codes, drop, length}
 use Rattle.std.specs.Prelude.{slice_get, zero, suc, ℕ, ◌+◌, ◌++◌, ◌-◌, ◌∷◌, ◌≡◌}
 use Rattle.bip_core.specs.Runs.{AreSteps, report_with}
-use Rattle.bip_core.specs.Worlds.{WorldContent}
+use Rattle.bip_core.specs.Worlds.{IsLackingIn, WorldContent}
 use Rattle.bip_core.specs.declared.events.Did.{Did}
-use Rattle.bip_core.specs.declared.events.Event.TheVariants.{Mail}
+use Rattle.bip_core.specs.declared.events.Event.TheVariants.{Mail, Try}
 use Rattle.bip_core.specs.declared.events.Event.{Event}
 use Rattle.bip_core.specs.declared.messages.Message.{Message}
 use Rattle.bip_core.specs.declared.runs.Report.{Report}
@@ -42,12 +42,18 @@ abbrev pub lost_text : ℕ → List ℕ
 lost_text zero = []
 lost_text (suc n) = codes ", lost" ++ counted (suc n)
 
+-- the interaction above the one that an event tries, for whose sake that one isn't ready, if it is
+-- so: by the offers that the class holds
+abbrev pub IsLackedBy : WorldContent → Event → Option InterId → Type 0
+IsLackedBy w (Try k a) above = IsLackingIn w k.0 a.0 above
+IsLackedBy w event above = above ≡ None
+
 -- what an event did, behind which so many messages were left in flight: the answer, what was put
 -- behind these, and how many were lost; or that it was skipped for want of memory
-abbrev pub done_text : Planned → ℕ → Option Did → List Message → List ℕ
-done_text p left None mail = codes " skipped"
-done_text p left (Some did) mail =
-    what_text p.model did.what ++ (put_text p left (drop left mail) ++ lost_text did.lost)
+abbrev pub done_text : Planned → Option InterId → ℕ → Option Did → List Message → List ℕ
+done_text p above left None mail = codes " skipped"
+done_text p above left (Some did) mail =
+    what_text p.model above did.what ++ (put_text p left (drop left mail) ++ lost_text did.lost)
 
 -- the number of an event, its words, and the message that it hands on
 abbrev pub line_head : Planned → List InterId → ℕ → Event → Option Message → List ℕ
@@ -55,13 +61,15 @@ line_head p stations number event handed =
     decimal number ++ (codes " " ++ (event_line p stations event
     ++ (codes ":" ++ handed_text p handed)))
 
--- the line of an event, by what was in flight before and after
+-- the line of an event, by what lacks an offer above what it tries, and what was in flight before
+-- and after
 abbrev pub told_line :
-    Planned → List InterId → ℕ → Event → Option Did → List Message → List Message → List ℕ
-told_line p stations number event did before after =
+    Planned → List InterId → ℕ → Event → Option InterId → Option Did → List Message → List Message
+    → List ℕ
+told_line p stations number event above did before after =
     let handed = handed_on event before in
     line_head p stations number event handed
-    ++ (done_text p (count_left handed (length before)) did after ++ line_feed ∷ [])
+    ++ (done_text p above (count_left handed (length before)) did after ++ line_feed ∷ [])
 
 -- an event leads from one world to another or is skipped, and this is its line
 pub record IsToldEvent (number : ℕ) (event : Event) (did : Option Did) (w v : WorldContent)
@@ -69,7 +77,9 @@ pub record IsToldEvent (number : ℕ) (event : Event) (did : Option Did) (w v : 
   pub steps : AreSteps (event ∷ []) (did ∷ []) w v
   pub stations : List InterId
   pub are : AreStations w.plan stations
-  pub told : line ≡ told_line w.plan stations number event did w.mail v.mail
+  pub above : Option InterId
+  pub lacks : IsLackedBy w event above
+  pub told : line ≡ told_line w.plan stations number event above did w.mail v.mail
 
 -- an event isn't told for want of memory: nothing was done yet, or it is done or skipped, and is
 -- counted

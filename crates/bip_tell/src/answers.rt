@@ -1,20 +1,28 @@
 //! Answers of nodes to events, told.
 ghost use Rattle.std.specs.Prelude.{◌≡◌, ◌++◌, OnOk};
-ghost use Rattle.bip_tell.specs.Answers.{acted_text, decision_text, learned_text, notified_text};
-ghost use Rattle.bip_tell.specs.Answers.{receipt_text, tried_text, why_not_text, what_text};
+ghost use Rattle.bip_tell.specs.Answers.{above_text, acted_text, decision_text, learned_text};
+ghost use Rattle.bip_tell.specs.Answers.{notified_text, receipt_text, tried_text, what_text};
+ghost use Rattle.bip_tell.specs.Answers.{why_not_text};
 
+use crate::reasons::write_reasons;
 use crate::words::{write_comp, write_count, write_inter, write_wants};
 use bip_bank::{Acted, Decision};
 use bip_component::Notified;
 use bip_core::What;
 use bip_ip::{Answered, Tried};
-use bip_model::{Model, Want};
+use bip_model::{InterId, Model, Want};
 use bip_observe::{Receipt, Verdict};
 use std::alloc::AllocError;
 
-/// Writes the answer of the node that an event addressed.
-pub(crate) fn write_what(text: &mut Vec<u8>, model: &Model, what: &What) -> Result<(), AllocError>
-    ensures { OnOk result (text.new.items ≡ text.old.items ++ what_text model.now what.now) }
+/// Writes the answer of the node that an event addressed. What it tried isn't ready for the sake of
+/// this interaction above it, if of one.
+pub(crate) fn write_what(
+    text: &mut Vec<u8>,
+    model: &Model,
+    above: Option<InterId>,
+    what: &What,
+) -> Result<(), AllocError>
+    ensures { OnOk result (text.new.items ≡ text.old.items ++ what_text model.now above what.now) }
 {
     match what {
         What::Nothing => text.extend_from_slice(b" nothing there"),
@@ -22,7 +30,7 @@ pub(crate) fn write_what(text: &mut Vec<u8>, model: &Model, what: &What) -> Resu
         What::Submits => text.extend_from_slice(b" submitted"),
         What::Learns(answer) => text.extend_from_slice(learned_text(answer)),
         What::Moves(answer) => text.extend_from_slice(notified_text(answer)),
-        What::Tries(answer) => write_tried(text, model, answer),
+        What::Tries(answer) => write_tried(text, model, above, answer),
         What::Acts(answer) => write_acted(text, model, answer),
     }
 }
@@ -57,13 +65,19 @@ fn notified_text(answer: &Notified) -> &'static [u8]
     }
 }
 
-fn write_tried(text: &mut Vec<u8>, model: &Model, answer: &Tried) -> Result<(), AllocError>
-    ensures { OnOk result (text.new.items ≡ text.old.items ++ tried_text model.now answer.now) }
+fn write_tried(
+    text: &mut Vec<u8>,
+    model: &Model,
+    above: Option<InterId>,
+    answer: &Tried,
+) -> Result<(), AllocError>
+    ensures { OnOk result
+        (text.new.items ≡ text.old.items ++ tried_text model.now above answer.now) }
 {
     match answer {
         Tried::Foreign => text.extend_from_slice(b" foreign"),
         Tried::Pending(other) => write_inter(text, b" pending", model, *other),
-        Tried::Not(why) => write_verdict(text, model, *why),
+        Tried::Not(why) => write_verdict(text, model, above, *why),
         Tried::Local(grant, _) => {
             text.extend_from_slice(b" granted")?;
             write_wants(text, model, grant.wants.as_slice())
@@ -72,22 +86,43 @@ fn write_tried(text: &mut Vec<u8>, model: &Model, answer: &Tried) -> Result<(), 
         Tried::Sent(request) => {
             text.extend_from_slice(b" sent")?;
             write_count(text, request.request)?;
-            write_wants(text, model, request.wants.as_slice())
+            write_wants(text, model, request.wants.as_slice())?;
+            write_reasons(text, model, &request.reasons)
         }
     }
 }
 
 /// Writes why an interaction isn't ready, and for which component or interaction.
-fn write_verdict(text: &mut Vec<u8>, model: &Model, verdict: Verdict) -> Result<(), AllocError>
-    ensures { OnOk result (text.new.items ≡ text.old.items ++ why_not_text model.now verdict) }
+fn write_verdict(
+    text: &mut Vec<u8>,
+    model: &Model,
+    above: Option<InterId>,
+    verdict: Verdict,
+) -> Result<(), AllocError>
+    ensures { OnOk result
+        (text.new.items ≡ text.old.items ++ why_not_text model.now above verdict) }
 {
     match verdict {
         Verdict::Ready => text.extend_from_slice(b" ready"),
-        Verdict::NotReady(comp) => write_comp(text, b" not ready for", model, comp),
+        Verdict::NotReady(comp) => {
+            write_comp(text, b" not ready for", model, comp)?;
+            write_above(text, model, above)
+        }
         Verdict::PortOff(comp) => write_comp(text, b" port off at", model, comp),
         Verdict::GuardFalse => text.extend_from_slice(b" guard false"),
         Verdict::Below(other) => write_inter(text, b" below", model, other),
     }
+}
+
+/// Writes for the sake of which interaction above one isn't ready, if it is so for the sake of one.
+fn write_above(text: &mut Vec<u8>, model: &Model, above: Option<InterId>) -> Result<(), AllocError>
+    ensures { OnOk result (text.new.items ≡ text.old.items ++ above_text model.now above) }
+{
+    let Some(inter) = above else {
+        return Ok(());
+    };
+    write_inter(text, b" of", model, inter)?;
+    text.extend_from_slice(b" above")
 }
 
 fn write_acted(text: &mut Vec<u8>, model: &Model, answer: &Acted) -> Result<(), AllocError>

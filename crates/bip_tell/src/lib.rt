@@ -5,6 +5,7 @@
 mod answers;
 mod lines;
 mod messages;
+mod reasons;
 mod words;
 
 pub use lines::tell_event;
