@@ -1,11 +1,17 @@
 -- Why grants aren't known to be a run.
 use Rattle.std.proofs.Common.{◌≡◌, ◌<◌, suc, Bool, List, [], ◌∷◌, ◌++◌, None, Some, ap, arith, drop, get_or, length, map, refl, subst, sym, take}
 use Rattle.std.proofs.lemmas.Grind.{common_steps}
-use Rattle.std.specs.Prelude.{IsTrue}
+use Rattle.std.specs.Prelude.{Err, IfOk, IsTrue, Ok, Result}
 use Rattle.bip_host.specs.Books.{SharedContent, blames_grant}
-use Rattle.bip_host.specs.Reports.{IsWhyNoRun, IsWhyNone, no_memory, no_run, of_book, refused}
+use Rattle.bip_host.specs.Reports.{AreFiguresOf, AreTotalsOf, IsReportOf, IsThreadCount, IsWhyNoRun}
+use Rattle.bip_host.specs.Reports.{IsWhyNone, no_memory, no_run, of_book, refused}
 use Rattle.bip_host.specs.declared.faults.HostFault.TheVariants as host
 use Rattle.bip_host.specs.declared.faults.HostFault.{HostFault}
+use Rattle.bip_host.specs.declared.hosts.Asked.{Asked}
+use Rattle.bip_host.specs.declared.hosts.HostFigures.{HostFigures}
+use Rattle.bip_host.specs.declared.hosts.HostReport.{HostReport}
+use Rattle.bip_host.specs.declared.hosts.Totals.{Totals}
+use Rattle.bip_partition.specs.Plans.{Planned}
 use Rattle.bip_model.specs.declared.grants.Grant.{Grant}
 use Rattle.bip_model.specs.declared.parts.System.{System}
 use Rattle.bip_replay.specs.Laws.{BeginningsAreRuns}
@@ -77,3 +83,17 @@ no_run_told m b lacks short (host.NotARun fault) gs same none is =
     no_run fault none (λ run. is.1 (subst (IsModelRun m 0) (sym same) run))
 no_run_told m b lacks short host.Memory gs same none is = no_memory none
 no_run_told m b lacks short host.Thread gs same none is = absurd is
+
+-- the figures of a report are of what was asked for
+pub figures_of : (p : Planned) (asked : Asked) (t : Totals) (b : SharedContent)
+    (r : Result (HostReport × HostFigures) HostFault) → AreTotalsOf asked t
+    → IsThreadCount p asked.kind asked.threads → IfOk r (λ done. IsReportOf b t done.0 done.1)
+    → IfOk r (λ done. AreFiguresOf p asked.kind asked.turns done.1)
+figures_of p asked t b (Ok done) of count told =
+    subst (AreFiguresOf p asked.kind asked.turns) (sym told.figures)
+    (record {
+      kind = of.kind;
+      threads = subst (IsThreadCount p asked.kind) (sym (of.threads told.with_threads)) count;
+      turns = of.turns;
+    })
+figures_of p asked t b (Err why) of count told = tt

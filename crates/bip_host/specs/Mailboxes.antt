@@ -1,7 +1,8 @@
 -- Inboxes and their ends.
-use Rattle.std.specs.Prelude.{All, List, [], ◌∷◌, ⊤}
+use Rattle.std.specs.Prelude.{◌≡◌, ℕ, All, List, Some, [], ◌∷◌, slice_get, ⊤}
 use Rattle.bip_host.specs.Posting.{IsReaderOf, IsWriterOf}
 use Rattle.bip_host.specs.declared.inboxes.Inbox.{Inbox}
+use Rattle.bip_host.specs.declared.inboxes.Writer.{Writer}
 use Rattle.bip_host.specs.declared.mailboxes.LooseEnds.{LooseEnds}
 
 module _ {M : Type 0} where
@@ -15,3 +16,9 @@ module _ {M : Type 0} where
   AreEndsOfEach [] (e ∷ es) = ⊥
   AreEndsOfEach (i ∷ is) [] = ⊥
   AreEndsOfEach (i ∷ is) (e ∷ es) = AreEndsOf i e × AreEndsOfEach is es
+
+  -- writers of these inboxes, those at a place of the inbox there
+  abbrev pub AreWritersAt : {V : Type 0} → (V → List (Writer M)) → List (Inbox M) → List V → Type 0
+  AreWritersAt {V} those inboxes writers =
+      (k : ℕ) (ws : V) → slice_get writers k ≡ Some ws
+      → (i : Inbox M) → slice_get inboxes k ≡ Some i → All (IsWriterOf i) (those ws)

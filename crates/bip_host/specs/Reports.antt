@@ -1,5 +1,12 @@
 -- What a host reports, and why it gives no report.
-use Rattle.std.specs.Prelude.{Bool, IsTrue, List, None, Some, false, true, ⊤, ◌≡◌}
+use Rattle.std.specs.Prelude.{◌≡◌, ℕ, ◌+◌, ◌*◌, ◌≤◌, ◌||◌, Bool, IsTrue, List, None, Some, false}
+use Rattle.std.specs.Prelude.{true, ⊤, length}
+use Rattle.bip_host.specs.Starting.{IsStationCount}
+use Rattle.bip_partition.specs.Plans.{Planned}
+use Rattle.bip_host.specs.Counts.{sum_of}
+use Rattle.bip_host.specs.declared.actors.NodeEnd.{NodeEnd}
+use Rattle.bip_host.specs.declared.hosts.Asked.{Asked}
+use Rattle.bip_host.specs.declared.hosts.Kind.{Kind}
 use Rattle.bip_model.specs.declared.grants.Grant.{Grant}
 use Rattle.bip_model.specs.declared.parts.System.{System}
 use Rattle.bip_host.specs.Books.{SharedContent, blames_grant}
@@ -12,6 +19,55 @@ use Rattle.bip_replay.specs.Runs.{IsModelRun}
 use Rattle.bip_replay.specs.declared.faults.BookFault.TheVariants.{Below, Memory, NotEnabled}
 use Rattle.bip_replay.specs.declared.faults.BookFault.TheVariants.{Number, Parties}
 use Rattle.bip_replay.specs.declared.faults.BookFault.{BookFault}
+
+-- how many threads a host of a plan and a kind has: one for each component, for each class, and
+-- for each station
+abbrev pub IsThreadCount : Planned → Kind → ℕ → Type 0
+IsThreadCount p k n =
+    (stations : ℕ) × IsStationCount p k stations
+    × (n ≡ length p.model.components + length p.classes.members + stations)
+
+-- of no thread so far
+abbrev pub no_totals : Kind → Totals
+no_totals k =
+    record {
+      figures = record { kind = k; threads = 0; turns = 0; passes = 0; asks = 0 };
+      told = 0;
+      lost = 0;
+      wanted_memory = false;
+      is_short = false;
+    }
+
+-- with what one more thread left
+abbrev pub with_end : NodeEnd → Totals → Totals
+with_end e t =
+    record {
+      figures =
+          record t.figures {
+            threads = t.figures.threads + 1;
+            turns = sum_of t.figures.turns e.turns;
+            passes = sum_of t.figures.passes e.counts.passes;
+            asks = sum_of t.figures.asks e.counts.asks;
+          };
+      told = sum_of t.told e.counts.told;
+      lost = sum_of t.lost e.counts.lost;
+      wanted_memory = t.wanted_memory || e.counts.wanted_memory;
+      is_short = t.is_short;
+    }
+
+-- the totals of threads, of the kind that was asked for, each of which made at most as many turns;
+-- they fall short where there weren't as many threads
+pub record AreTotalsOf (asked : Asked) (t : Totals) : Type 0 where
+  pub kind : t.figures.kind ≡ asked.kind
+  pub turns : t.figures.turns ≤ t.figures.threads * asked.turns
+  pub threads : t.is_short ≡ false → t.figures.threads ≡ asked.threads
+
+-- the figures of a host: it had this kind of third layer, as many threads as that asks for, and
+-- each of them made at most so many turns
+pub record AreFiguresOf (p : Planned) (k : Kind) (limit : ℕ) (f : HostFigures) : Type 0 where
+  pub kind : f.kind ≡ k
+  pub threads : IsThreadCount p k f.threads
+  pub turns : f.turns ≤ f.threads * limit
 
 -- a host's fault is one: what is told as refused isn't want of memory
 abbrev pub IsHostFault : HostFault → Type 0

@@ -6,6 +6,7 @@ ghost use Rattle.bip_host.specs.Keepers.{IsEntryOf};
 ghost use Rattle.bip_host.specs.Movers.{CanTell, mover_in};
 ghost use Rattle.bip_host.specs.Reports.{IsWhyNoRun};
 ghost use Rattle.bip_host.specs.declared.faults.HostFault.TheVariants.{NotARun};
+ghost use Rattle.bip_model.specs.Messages.{IsNotifies};
 ghost use Rattle.bip_replay.specs.Runs.{IsModelRun};
 ghost use Rattle.bip_replay.specs.declared.faults.BookFault.{BookFault};
 
@@ -41,21 +42,23 @@ impl Mover {
 /// That a grant of an interaction, with this mover, was appended to the locked book. Nothing else
 /// makes one, so what asks for an entry is done for grants alone that stand in the book.
 #[derive(Drop)]
-pub(crate) struct Entry {
+pub struct Entry {
     inter: InterId,
     mover: Option<Mover>,
 }
 
 impl Entry {
-    pub(crate) fn inter(&self) -> InterId
+    /// The interaction of the grant.
+    pub fn inter(&self) -> InterId
         ensures { result ≡ self.now.inter }
     {
         self.inter
     }
 
     /// Whether notifications can be those of the grant: the first is for its mover.
-    pub(crate) fn can_tell(&self, notifies: &Notifies) -> bool
-        ensures { IsTrue result ↔ CanTell self.now notifies.now }
+    pub fn can_tell(&self, notifies: &Notifies) -> bool
+        ensures can { IsTrue result ↔ CanTell self.now notifies.now }
+        ensures valid { IsNotifies notifies.now }
     {
         match (self.mover, notifies.as_slice().first()) {
             (Some(mover), Some(first)) => {
@@ -69,7 +72,7 @@ impl Entry {
 /// The book of all grants, with the fault of the first that couldn't be next, and whether memory
 /// was wanted for one. Contracts see all three.
 #[derive(Drop)]
-pub(crate) struct SharedBook<'m> {
+pub struct SharedBook<'m> {
     book: Book<'m>,
     refused: Option<BookFault>,
     wanted_memory: bool,
@@ -91,7 +94,8 @@ impl<'m> marker::Model for SharedBook<'m> {
 }
 
 impl<'m> SharedBook<'m> {
-    pub(crate) fn of(book: Book<'m>) -> SharedBook<'m>
+    /// A book that threads share, of which nothing was refused so far.
+    pub fn of(book: Book<'m>) -> SharedBook<'m>
         ensures { result ≡ record { book = book.entry; refused = None; wanted_memory = false } }
     {
         SharedBook {
@@ -103,7 +107,7 @@ impl<'m> SharedBook<'m> {
 
     /// Appends a grant where it can be next. Else the book stays as it was, and its fault is kept
     /// where it is the first, or that memory was wanted.
-    pub(crate) fn append(&mut self, grant: Grant) -> Option<Entry>
+    pub fn append(&mut self, grant: Grant) -> Option<Entry>
         ensures entry { IfSome result (IsEntryOf grant) }
         ensures some { OnSome result (self.new ≡ record self.old {
           book = record self.old.book { grants = self.old.book.grants ++ grant ∷ [] };
@@ -128,14 +132,14 @@ impl<'m> SharedBook<'m> {
     }
 
     /// Whether memory was wanted for a grant.
-    pub(crate) fn wanted_memory(&self) -> bool
+    pub fn wanted_memory(&self) -> bool
         ensures { result ≡ self.now.wanted_memory }
     {
         self.wanted_memory
     }
 
     /// The grants of the book; or the fault of the first that couldn't be next.
-    pub(crate) fn into_grants(self) -> Result<Vec<Grant>, HostFault>
+    pub fn into_grants(self) -> Result<Vec<Grant>, HostFault>
         ensures ok { IfOk result (λ grants. (grants.items ≡ self.entry.book.grants)
             × (self.entry.refused ≡ None)) }
         ensures refused { IfErr result (λ why. (fault : BookFault) × (why ≡ NotARun fault)

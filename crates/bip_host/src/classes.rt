@@ -1,162 +1,195 @@
-//! The thread of a class.
-ghost use Rattle.std.specs.Prelude.{◌≡◌};
+//! The actor of a class.
+ghost use Rattle.std.specs.Prelude.{◌≡◌, ◌+◌, ◌-◌, ◌<◌, ◌≤◌, IfOk, length};
+ghost use Rattle.bip_host.specs.Actors.{IsAwaited};
+ghost use Rattle.bip_host.specs.Classes.{ClassAwaits, IsFirstClassActor, IsOnDecision, IsOnEntry};
+ghost use Rattle.bip_host.specs.Classes.{IsOnGrant, left_of_class, rank_class, tries_left};
+ghost use Rattle.bip_host.specs.Classes.{IsOnRefusal, IsOnTold, IsRest, IsTrial, IsTrialOf};
+ghost use Rattle.bip_host.specs.Classes.{place_next, stage_of_try, step_of_try};
 
+use crate::actors::{Actor, Step, Turn};
 use crate::books::Entry;
-use crate::ends::{Intake, Outlet};
-use crate::gates::{Gate, Point};
-use crate::keepers::BookKeeper;
-use crate::layers::ThirdLayer;
+use crate::counts::{Counts, Posted};
+use crate::gates::Point;
 use crate::messages::ToClass;
-use crate::nodes::NodeEnd;
-use crate::rests::Rest;
 use bip_ip::{Answered, IpNode, Tried};
-use bip_model::{ClassId, CompId, Grant, InterId, Notifies, Notify, Reply, Request};
+use bip_model::{ClassId, CompId, Grant, InterId, Notifies, Notify, Number, Reply, Request};
+use bip_partition::Plan;
 use bip_table::TableFault;
-use std::sync::Wait;
-use std::sync::ledger::Ledger;
+use std::alloc::{AllocError, Global};
+use std::mem;
 
-/// A class's node with the ends that it holds: its own inbox, and one of each component that it
-/// touches; of whom it asks for reserved interactions, and its keeper.
+/// What the actor of a class wants.
 #[derive(Drop)]
-pub(crate) struct ClassThread<'h, 'p, 'm, L: Ledger> {
-    pub(crate) node: IpNode<'p>,
-    pub(crate) class: ClassId,
-    pub(crate) inters: &'p [InterId],
+pub enum ClassAct {
+    /// That this grant is appended to the book.
+    Append(Grant),
+    /// That the third layer is asked for this.
+    Ask(Request),
+    /// That the gate is passed.
+    Pass(Point),
+    /// That a notification is put for its component.
+    Tell(Notify),
+}
+
+/// What the actor of a class hears of its act.
+#[derive(Drop)]
+pub enum ClassAnswer {
+    /// The grant stands in the book, or can't be next there.
+    Appended(Option<Entry>),
+    /// What the table answers to the request.
+    Decided(Result<Reserved, TableFault>),
+    /// The request is on its way to the station of its interaction, or lost.
+    Handed(Posted),
+    /// The gate is passed.
+    Passed,
+    /// The notification is put, or lost.
+    Told(Posted),
+}
+
+/// What a table decides on a class's request.
+#[derive(Drop)]
+pub enum Reserved {
+    /// It is granted with this serial, and the grant stands in the book.
+    Granted(Entry, u64),
+    /// It is refused, since this component's number isn't above the used one.
+    Refused { comp: CompId, used: Number },
+}
+
+/// What a class's actor waits for.
+#[derive(Drop)]
+pub(crate) enum Stage {
+    /// Nothing.
+    Resting,
+    /// That a local grant is appended, whose components are told this.
+    Appending(Notifies),
+    /// That the gate is passed before this is asked for.
+    Asking(Request),
+    /// What comes of the request with this number for this interaction.
+    Asked(InterId, u64),
+    /// That the gate is passed before this is told of the grant of the entry.
+    Entered(Entry, Notifies),
+    /// That the notification at this place is put, of those of the entry's grant.
+    Telling(Entry, Notifies, usize),
+}
+
+/// The actor of a class: it takes what components offer, tries its interactions in order of number,
+/// one in each turn, beginning again after the last, and tells of grants (docs/HOST.md, "Actors").
+#[derive(Drop)]
+pub struct ClassActor<'p> {
+    node: IpNode<'p>,
+    class: ClassId,
+    members: &'p [InterId],
     /// The place of the interaction that is tried next; past the last it is the first.
-    pub(crate) next: usize,
-    pub(crate) intake: Intake<'h, ToClass>,
-    pub(crate) outlets: Vec<(CompId, Outlet<'h, Notify>)>,
-    pub(crate) layer: ThirdLayer<'h, L>,
-    pub(crate) keeper: BookKeeper<'h, 'm>,
-    pub(crate) end: NodeEnd,
+    next: usize,
+    stage: Stage,
+    /// What its turn comes to so far, and whether an interaction was tried in it.
+    turn: Turn,
+    has_tried: bool,
+    counts: Counts,
 }
 
-/// What a turn comes to.
-#[derive(Clone, Copy, PartialEq, Eq)]
-enum Turn {
-    Done,
-    Nothing,
-    /// The node ends.
-    Over,
-}
+impl<'p> ClassActor<'p> {
+    /// The actor of a class of a plan, whose node is new, and whose requests begin with number 1.
+    pub fn new(alloc: Global, plan: &'p Plan, class: ClassId) -> Result<ClassActor<'p>, AllocError>
+        requires { class.0 < length plan.now.classes.members }
+        ensures { IfOk result (IsFirstClassActor plan.now class.0) }
+    {
+        Ok(ClassActor {
+            node: IpNode::new(alloc, plan, class, 0, 1)?,
+            class,
+            members: plan.classes().members(class),
+            next: 0,
+            stage: Stage::Resting,
+            turn: Turn::Nothing,
+            has_tried: false,
+            counts: Counts::default(),
+        })
+    }
 
-impl<'h, 'p, 'm, L: Ledger> ClassThread<'h, 'p, 'm, L> {
-    /// Makes so many turns, or fewer where the node ends before (docs/HOST.md, "Turns").
-    pub(crate) fn run<R: Wait, G: Gate>(mut self, rt: &R, gate: &G, turns: u32) -> NodeEnd {
-        let mut rest = Rest::new();
-        for _ in 0..turns {
-            self.end.turns = self.end.turns.saturating_add(1);
-            match self.turn(rt, gate) {
-                Turn::Done => {}
-                Turn::Nothing => rest.give_way(),
-                Turn::Over => break,
+    /// Tries the next interaction, in order of number.
+    fn try_next(&mut self) -> Step<ClassAct>
+        ensures trial { IsTrial self.old result self.new }
+        ensures awaits { IsAwaited (λ act. ClassAwaits self.new.class self.new.stage act) result }
+        ensures left { left_of_class self.new ≤ 11 + rank_class self.old.stage }
+    {
+        self.has_tried = true;
+        let place = self.place_next();
+        match self.members.get(place) {
+            Some(inter) => {
+                self.next = place + 1;
+                self.try_one(*inter)
             }
-        }
-        self.end
-    }
-
-    /// Takes at most one message, and tries the next interaction.
-    fn turn<R: Wait, G: Gate>(&mut self, rt: &R, gate: &G) -> Turn {
-        let received = match self.intake.receive(rt) {
-            Some(message) => self.hear(rt, gate, message),
-            None => Turn::Nothing,
-        };
-        if received == Turn::Over {
-            return Turn::Over;
-        }
-        let Some(inter) = self.next_inter() else {
-            return received;
-        };
-        match self.node.try_interaction(inter) {
-            Tried::Local(grant, notifies) => self.grant_local(rt, gate, grant, notifies),
-            Tried::Sent(request) => self.ask(rt, gate, request),
-            Tried::Ended => Turn::Over,
-            Tried::Foreign => received,
-            Tried::Pending(_) => received,
-            Tried::Not(_) => received,
+            None => Step::Over(self.turn),
         }
     }
 
-    /// Hears a component's offer, or the answer of a station.
-    fn hear<R: Wait, G: Gate>(&mut self, rt: &R, gate: &G, message: ToClass) -> Turn {
-        match message {
-            ToClass::Offer(offer) => {
-                let _ = self.node.on_offer(offer);
-                Turn::Done
-            }
-            ToClass::Granted {
-                entry,
-                request,
-                serial,
-            } => self.hear_grant(rt, gate, entry, request, serial),
-            ToClass::Refused(reply) => self.hear_refusal(&reply),
-        }
-    }
-
-    /// The interaction that is tried next, in order of number.
-    fn next_inter(&mut self) -> Option<InterId> {
-        let place = if self.next < self.inters.len() {
+    /// The place of the interaction that is tried next: the first one after the last.
+    fn place_next(&self) -> usize
+        ensures { result ≡ place_next self.now }
+    {
+        if self.next < self.members.len() {
             self.next
         } else {
             0
-        };
-        let inter = self.inters.get(place).copied();
-        self.next = place.saturating_add(1);
-        inter
-    }
-
-    /// Appends a local grant to the book, and tells it. The node ends where the book doesn't take
-    /// it.
-    fn grant_local<R: Wait, G: Gate>(
-        &mut self,
-        rt: &R,
-        gate: &G,
-        grant: Grant,
-        notifies: Notifies,
-    ) -> Turn {
-        match self.keeper.append(rt, grant) {
-            Some(entry) => self.tell(rt, gate, entry, notifies),
-            None => Turn::Over,
         }
     }
 
-    /// Asks for a reserved interaction: the locked table, whose answer is heard at once, or the
-    /// interaction's station, whose answer comes as a message.
-    fn ask<R: Wait, G: Gate>(&mut self, rt: &R, gate: &G, request: Request) -> Turn {
-        gate.pass(rt, Point::Asked(self.class, request.inter));
-        match &mut self.layer {
-            ThirdLayer::Table(desk) => match desk.ask(rt, request, &mut self.keeper) {
-                Ok(answer) => self.hear(rt, gate, answer),
-                Err(fault) => self.end_at(&fault),
-            },
-            ThirdLayer::Stations(desk) => {
-                if desk.send(rt, request) {
-                    self.end.lost = self.end.lost.saturating_add(1);
-                }
-                Turn::Done
+    /// Tries an interaction, and wants what its answer asks for.
+    fn try_one(&mut self, inter: InterId) -> Step<ClassAct>
+        ensures trial { IsTrialOf inter self.old result self.new }
+        ensures awaits { IsAwaited (λ act. ClassAwaits self.new.class self.new.stage act) result }
+        ensures left { left_of_class self.new
+            ≤ 11 + rank_class self.old.stage + tries_left self.old.has_tried }
+    {
+        let did = self.node.try_interaction(inter);
+        self.on_tried(did)
+    }
+
+    /// What a try's answer asks for.
+    fn on_tried(&mut self, did: Tried) -> Step<ClassAct>
+        ensures step { result ≡ step_of_try self.old did }
+        ensures actor { self.new ≡ record self.old { stage = stage_of_try did self.old.stage } }
+        ensures awaits { IsAwaited (λ act. ClassAwaits self.new.class self.new.stage act) result }
+        ensures left { left_of_class self.new
+            ≤ 11 + rank_class self.old.stage + tries_left self.old.has_tried }
+    {
+        match did {
+            Tried::Local(grant, notifies) => {
+                self.stage = Stage::Appending(notifies);
+                Step::Act(ClassAct::Append(grant))
             }
+            Tried::Sent(request) => {
+                let point = Point::Asked(self.class, request.inter);
+                self.stage = Stage::Asking(request);
+                Step::Act(ClassAct::Pass(point))
+            }
+            Tried::Ended => Step::Over(Turn::Ends),
+            Tried::Foreign => Step::Over(self.turn),
+            Tried::Pending(_) => Step::Over(self.turn),
+            Tried::Not(_) => Step::Over(self.turn),
         }
     }
 
-    /// Ends the node, since the table has no answer: the book doesn't take the grant, memory is
-    /// wanted for it, or no serial is left.
-    fn end_at(&mut self, fault: &TableFault) -> Turn {
-        if matches!(fault, TableFault::Memory) {
-            self.end.wanted_memory = true;
+    /// What is left of a turn: a try, where there was none yet.
+    fn rest(&mut self) -> Step<ClassAct>
+        ensures rest { IsRest self.old result self.new }
+        ensures awaits { IsAwaited (λ act. ClassAwaits self.new.class self.new.stage act) result }
+        ensures left { left_of_class self.new
+            ≤ rank_class self.old.stage + tries_left self.old.has_tried }
+    {
+        if self.has_tried {
+            return Step::Over(Turn::Done);
         }
-        Turn::Over
+        self.try_next()
     }
 
-    /// Hears that the request with this number was granted, and tells it, since it stands in the
-    /// book.
-    fn hear_grant<R: Wait, G: Gate>(
-        &mut self,
-        rt: &R,
-        gate: &G,
-        entry: Entry,
-        request: u64,
-        serial: u64,
-    ) -> Turn {
+    /// Hears that the request with this number is granted with this serial.
+    fn hear_grant(&mut self, entry: Entry, request: u64, serial: u64) -> Step<ClassAct>
+        ensures grant { IsOnGrant entry request serial self.old result self.new }
+        ensures awaits { IsAwaited (λ act. ClassAwaits self.new.class self.new.stage act) result }
+        ensures left { left_of_class self.new
+            ≤ 9 + rank_class self.old.stage + tries_left self.old.has_tried }
+    {
         let reply = Reply::Granted {
             class: self.class,
             request,
@@ -164,47 +197,171 @@ impl<'h, 'p, 'm, L: Ledger> ClassThread<'h, 'p, 'm, L> {
             serial,
         };
         match self.node.on_reply(&reply) {
-            Answered::Told(notifies) => self.tell(rt, gate, entry, notifies),
-            Answered::Dropped => Turn::Done,
-            Answered::Stale => Turn::Done,
+            Answered::Told(notifies) => self.enter(entry, notifies),
+            Answered::Dropped => self.rest(),
+            Answered::Stale => self.rest(),
         }
     }
 
-    /// Hears that a request was refused, which drops it.
-    fn hear_refusal(&mut self, reply: &Reply) -> Turn {
-        let _ = self.node.on_reply(reply);
-        Turn::Done
+    /// Hears that a request is refused.
+    fn hear_refusal(&mut self, reply: Reply) -> Step<ClassAct>
+        ensures refusal { IsOnRefusal reply self.old result self.new }
+        ensures awaits { IsAwaited (λ act. ClassAwaits self.new.class self.new.stage act) result }
+        ensures left { left_of_class self.new
+            ≤ 9 + rank_class self.old.stage + tries_left self.old.has_tried }
+    {
+        let _did = self.node.on_reply(&reply);
+        self.rest()
     }
 
-    /// Sends the notifications of a grant that stands in the book. The node ends where they are
-    /// another one's.
-    fn tell<R: Wait, G: Gate>(
+    /// Hears what the table answers to the request with this number.
+    fn hear_decision(
         &mut self,
-        rt: &R,
-        gate: &G,
-        entry: Entry,
-        notifies: Notifies,
-    ) -> Turn {
-        if !entry.can_tell(&notifies) {
-            return Turn::Over;
-        }
-        gate.pass(rt, Point::Told(self.class, entry.inter()));
-        self.end.told = self.end.told.saturating_add(1);
-        for notify in notifies.as_slice() {
-            if self.send(rt, notify) {
-                self.end.lost = self.end.lost.saturating_add(1);
+        inter: InterId,
+        request: u64,
+        decided: Result<Reserved, TableFault>,
+    ) -> Step<ClassAct>
+        ensures decision { IsOnDecision inter request decided self.old result self.new }
+        ensures awaits { IsAwaited (λ act. ClassAwaits self.new.class self.new.stage act) result }
+        ensures left { left_of_class self.new
+            ≤ 9 + rank_class self.old.stage + tries_left self.old.has_tried }
+    {
+        match decided {
+            Ok(Reserved::Granted(entry, serial)) => self.hear_grant(entry, request, serial),
+            Ok(Reserved::Refused { comp, used }) => self.hear_refusal(Reply::Refused {
+                class: self.class,
+                request,
+                inter,
+                comp,
+                used,
+            }),
+            Err(TableFault::Memory) => {
+                self.counts.lack();
+                Step::Over(Turn::Ends)
             }
+            Err(_) => Step::Over(Turn::Ends),
         }
-        Turn::Done
     }
 
-    /// Sends a notification to its component, and says whether it is lost.
-    fn send<R: Wait>(&mut self, rt: &R, notify: &Notify) -> bool {
-        for (comp, outlet) in self.outlets.iter_mut() {
-            if *comp == notify.comp {
-                return outlet.send(rt, *notify).is_some();
-            }
+    /// Wants to pass the gate before a grant is told that stands in the book. It ends where the
+    /// notifications are those of another one.
+    fn enter(&mut self, entry: Entry, notifies: Notifies) -> Step<ClassAct>
+        ensures entry { IsOnEntry entry notifies self.old result self.new }
+        ensures awaits { IsAwaited (λ act. ClassAwaits self.new.class self.new.stage act) result }
+        ensures left { left_of_class self.new
+            ≤ 9 + rank_class self.old.stage + tries_left self.old.has_tried }
+    {
+        if !entry.can_tell(&notifies) {
+            return Step::Over(Turn::Ends);
         }
-        true
+        let point = Point::Told(self.class, entry.inter());
+        self.turn = Turn::Done;
+        self.stage = Stage::Entered(entry, notifies);
+        Step::Act(ClassAct::Pass(point))
+    }
+
+    /// Wants that the notification at this place is put, of those of the entry's grant.
+    fn tell(&mut self, entry: Entry, notifies: Notifies, place: usize) -> Step<ClassAct>
+        ensures told { IsOnTold entry notifies place self.old result self.new }
+        ensures awaits { IsAwaited (λ act. ClassAwaits self.new.class self.new.stage act) result }
+        ensures left { left_of_class self.new ≤ length notifies - place
+            + rank_class self.old.stage + tries_left self.old.has_tried }
+    {
+        match notifies.as_slice().get(place).copied() {
+            Some(notify) => {
+                self.stage = Stage::Telling(entry, notifies, place);
+                Step::Act(ClassAct::Tell(notify))
+            }
+            None => self.rest(),
+        }
+    }
+}
+
+impl<'p> Actor for ClassActor<'p> {
+    ghost use Rattle.bip_host.specs.Actors.{IsAwaited};
+    ghost use Rattle.bip_host.specs.Classes.{ClassAwaits, ClassFits, ClassGoesOn, ClassHears};
+    ghost use Rattle.bip_host.specs.Classes.{ClassStarts, left_of_class};
+
+    type Heard = ToClass;
+
+    type Act = ClassAct;
+
+    type Answer = ClassAnswer;
+
+    ghost fits = { ClassFits };
+
+    ghost awaits = { λ a act. ClassAwaits a.class a.stage act };
+
+    ghost left = { left_of_class };
+
+    ghost starts = { ClassStarts };
+
+    ghost hears = { ClassHears };
+
+    ghost goes_on = { ClassGoesOn };
+
+    fn start(&mut self) -> Step<ClassAct> {
+        Step::Over(Turn::Nothing)
+    }
+
+    /// Takes a message, and tries the next interaction: behind a grant once that is told.
+    fn hear(&mut self, heard: Option<ToClass>) -> Step<ClassAct>
+        ensures step { ClassHears self.old heard result self.new }
+        ensures awaits { IsAwaited (λ act. ClassAwaits self.new.class self.new.stage act) result }
+    {
+        self.has_tried = false;
+        self.turn = if heard.is_some() {
+            Turn::Done
+        } else {
+            Turn::Nothing
+        };
+        match heard {
+            None => self.try_next(),
+            Some(ToClass::Offer(offer)) => {
+                let _got = self.node.on_offer(offer);
+                self.try_next()
+            }
+            Some(
+                ToClass::Granted {
+                    entry,
+                    request,
+                    serial,
+                },
+            ) => self.hear_grant(entry, request, serial),
+            Some(ToClass::Refused(reply)) => self.hear_refusal(reply),
+        }
+    }
+
+    fn go_on(&mut self, answer: ClassAnswer) -> Step<ClassAct> {
+        match (mem::replace(&mut self.stage, Stage::Resting), answer) {
+            (Stage::Appending(notifies), ClassAnswer::Appended(Some(entry))) => {
+                self.enter(entry, notifies)
+            }
+            (Stage::Appending(_notifies), ClassAnswer::Appended(None)) => Step::Over(Turn::Ends),
+            (Stage::Asking(request), ClassAnswer::Passed) => {
+                self.stage = Stage::Asked(request.inter, request.request);
+                Step::Act(ClassAct::Ask(request))
+            }
+            (Stage::Asked(inter, request), ClassAnswer::Decided(decided)) => {
+                self.hear_decision(inter, request, decided)
+            }
+            (Stage::Asked(..), ClassAnswer::Handed(posted)) => {
+                self.counts.post(posted);
+                Step::Over(Turn::Done)
+            }
+            (Stage::Entered(entry, notifies), ClassAnswer::Passed) => {
+                self.counts.tell();
+                self.tell(entry, notifies, 0)
+            }
+            (Stage::Telling(entry, notifies, place), ClassAnswer::Told(posted)) => {
+                self.counts.post(posted);
+                self.tell(entry, notifies, place + 1)
+            }
+            _ => unreachable!(),
+        }
+    }
+
+    fn counts(&self) -> Counts {
+        self.counts
     }
 }

@@ -1,57 +1,124 @@
-//! The thread of a component.
-use crate::ends::{Intake, Outlet};
-use crate::messages::ToClass;
-use crate::nodes::NodeEnd;
-use crate::rests::Rest;
-use bip_component::{Notified, SrComponent};
-use bip_model::{Notify, Offer};
-use std::sync::Wait;
+//! The actor of a component.
+ghost use Rattle.std.specs.Prelude.{◌≡◌, ◌<◌, length};
+ghost use Rattle.bip_host.specs.Components.{IsFirstComponentActor, offering_next};
 
-/// A component's node with the ends that it holds: its own inbox, and one of each class that
-/// touches it.
-#[derive(Drop)]
-pub(crate) struct ComponentThread<'h, 'p> {
-    pub(crate) node: SrComponent<'p>,
-    pub(crate) intake: Intake<'h, Notify>,
-    pub(crate) outlets: Vec<Outlet<'h, ToClass>>,
-    pub(crate) lost: u64,
+use crate::actors::{Actor, Step, Turn};
+use crate::counts::{Counts, Posted};
+use bip_component::{Notified, SrComponent};
+use bip_model::{ClassId, CompId, Notify, Offer};
+use bip_partition::Plan;
+
+/// What the actor of a component wants: that its offer is put for a class.
+#[derive(Clone, Copy, Debug)]
+pub struct Offering {
+    pub class: ClassId,
+    pub offer: Offer,
 }
 
-impl<'h, 'p> ComponentThread<'h, 'p> {
-    /// Sends the first offer, and makes so many turns (docs/HOST.md, "Turns").
-    pub(crate) fn run<R: Wait>(mut self, rt: &R, turns: u32) -> NodeEnd {
-        if let Some(offer) = self.node.offer() {
-            self.offer_to_all(rt, &offer);
-        }
-        let mut rest = Rest::new();
-        for _ in 0..turns {
-            if !self.turn(rt) {
-                rest.give_way();
-            }
-        }
-        NodeEnd {
-            turns: u64::from(turns),
-            lost: self.lost,
-            ..NodeEnd::default()
+/// The actor of a component: it offers its next move to each class that touches it, in order of
+/// number (docs/HOST.md, "Actors").
+#[derive(Drop)]
+pub struct ComponentActor<'p> {
+    node: SrComponent<'p>,
+    classes: &'p [ClassId],
+    /// What it offers, and for how many classes that was put.
+    offer: Option<Offer>,
+    offered: usize,
+    counts: Counts,
+}
+
+impl<'p> ComponentActor<'p> {
+    /// The actor of a component of a plan, which has offered nothing.
+    pub fn new(plan: &'p Plan, comp: CompId) -> ComponentActor<'p>
+        requires { comp.0 < length plan.now.model.components }
+        ensures { IsFirstComponentActor plan.now comp.0 result }
+    {
+        ComponentActor {
+            node: SrComponent::start(plan, comp, 0),
+            classes: plan.classes_of(comp),
+            offer: None,
+            offered: 0,
+            counts: Counts::default(),
         }
     }
 
-    /// Takes at most one notification. Says whether there was one.
-    fn turn<R: Wait>(&mut self, rt: &R) -> bool {
-        let Some(notify) = self.intake.receive(rt) else {
-            return false;
+    /// Offers the next move, from the first class on.
+    fn offer_to_all(&mut self, offer: Option<Offer>) -> Step<Offering>
+        ensures step { result ≡ offering_next self.new }
+        ensures actor { self.new ≡ record self.old { offer = offer; offered = 0 } }
+    {
+        self.offer = offer;
+        self.offered = 0;
+        self.next_offering()
+    }
+
+    fn next_offering(&self) -> Step<Offering>
+        ensures { result ≡ offering_next self.now }
+    {
+        match (self.offer, self.classes.get(self.offered)) {
+            (Some(offer), Some(class)) => Step::Act(Offering {
+                class: *class,
+                offer,
+            }),
+            _ => Step::Over(Turn::Done),
+        }
+    }
+}
+
+impl<'p> Actor for ComponentActor<'p> {
+    ghost use Rattle.std.specs.Prelude.{◌≡◌, ◌-◌, length};
+    ghost use Rattle.bip_host.specs.Actors.{IsAwaited};
+    ghost use Rattle.bip_host.specs.Components.{ComponentFits, ComponentGoesOn, ComponentHears};
+    ghost use Rattle.bip_host.specs.Components.{ComponentStarts, offering_next};
+    ghost use Rattle.bip_host.specs.declared.actors.Step.TheVariants.{Act};
+
+    type Heard = Notify;
+
+    type Act = Offering;
+
+    type Answer = Posted;
+
+    ghost fits = { ComponentFits };
+
+    ghost awaits = { λ a act. offering_next a ≡ Act act };
+
+    ghost left = { λ a. length a.classes.now - a.offered };
+
+    ghost starts = { ComponentStarts };
+
+    ghost hears = { ComponentHears };
+
+    ghost goes_on = { ComponentGoesOn };
+
+    /// Makes its first offer.
+    fn start(&mut self) -> Step<Offering> {
+        let offer = self.node.offer();
+        self.offer_to_all(offer)
+    }
+
+    /// Takes a notification; where it moves by that, it makes its next offer.
+    fn hear(&mut self, heard: Option<Notify>) -> Step<Offering>
+        ensures step { ComponentHears self.old heard result self.new }
+        ensures awaits { IsAwaited (λ act. offering_next self.new ≡ Act act) result }
+    {
+        let Some(notify) = heard else {
+            return Step::Over(Turn::Nothing);
         };
-        if let Notified::Moved(offer) = self.node.on_notify(&notify) {
-            self.offer_to_all(rt, &offer);
+        match self.node.on_notify(&notify) {
+            Notified::Moved(offer) => self.offer_to_all(Some(offer)),
+            Notified::Spent => Step::Over(Turn::Done),
+            Notified::Stale => Step::Over(Turn::Done),
         }
-        true
     }
 
-    fn offer_to_all<R: Wait>(&mut self, rt: &R, offer: &Offer) {
-        for outlet in self.outlets.iter_mut() {
-            if outlet.send(rt, ToClass::Offer(*offer)).is_some() {
-                self.lost = self.lost.saturating_add(1);
-            }
-        }
+    /// Counts an offer that is lost, and goes on to the next class.
+    fn go_on(&mut self, answer: Posted) -> Step<Offering> {
+        self.counts.post(answer);
+        self.offered += 1;
+        self.next_offering()
+    }
+
+    fn counts(&self) -> Counts {
+        self.counts
     }
 }

@@ -1,30 +1,35 @@
 //! The ends of inboxes, each with its inbox.
-ghost use Rattle.std.specs.Prelude.{◌≡◌, ◌<◌, All, IfOk};
-ghost use Rattle.bip_host.specs.Mailboxes.{AreEndsOfEach};
-ghost use Rattle.bip_host.specs.Posting.{IsReaderOf, IsWriterOf};
+ghost use Rattle.std.specs.Prelude.{◌≡◌, ◌++◌, ◌∷◌, [], IfSome, MatchOption, slice_get};
+ghost use Rattle.bip_host.specs.Mailboxes.{AreWritersAt};
+ghost use Rattle.bip_host.specs.Posting.{IsReaderOf, IsWriterOf, got_by, put_by};
 
 use crate::inboxes::{Inbox, Reader, Writer};
-use crate::mailboxes::{LooseEnds, Mailbox};
-use std::alloc::{AllocError, Global};
 use std::sync::Wait;
 
 /// A writer with its inbox.
 #[derive(Drop)]
 pub(crate) struct Outlet<'h, M> {
-    inbox: &'h Inbox<M>,
+    pub(crate) inbox: &'h Inbox<M>,
     writer: Writer<M>,
     ghost fits: { IsWriterOf inbox.now writer },
 }
 
 impl<'h, M: Drop> Outlet<'h, M> {
-    fn of(inbox: &'h Inbox<M>, writer: Writer<M>) -> Outlet<'h, M>
+    pub(crate) fn of(inbox: &'h Inbox<M>, writer: Writer<M>) -> Outlet<'h, M>
         requires { IsWriterOf inbox.now writer }
+        ensures { (result.inbox.now ≡ inbox.now) × (result.writer ≡ writer) }
     {
         Outlet { inbox, writer }
     }
 
-    /// Sends a message. It comes back where there is no memory for it.
-    pub(crate) fn send<R: Wait>(&mut self, rt: &R, message: M) -> Option<M> {
+    /// Sends a message: its writer has put it last. Without memory it comes back, and the writer
+    /// has put nothing more.
+    pub(crate) fn send<R: Wait>(&mut self, rt: &R, message: M) -> Option<M>
+        ensures inbox { self.new.inbox.now ≡ self.old.inbox.now }
+        ensures put { MatchOption result
+            (put_by self.new.writer ≡ put_by self.old.writer ++ message ∷ [])
+            (λ back. (back ≡ message) × (put_by self.new.writer ≡ put_by self.old.writer)) }
+    {
         let Outlet { inbox, writer } = self;
         inbox.put(rt, writer, message).err()
     }
@@ -33,93 +38,63 @@ impl<'h, M: Drop> Outlet<'h, M> {
 /// A reader with its inbox.
 #[derive(Drop)]
 pub(crate) struct Intake<'h, M> {
-    inbox: &'h Inbox<M>,
+    pub(crate) inbox: &'h Inbox<M>,
     reader: Reader<M>,
     ghost fits: { IsReaderOf inbox.now reader },
 }
 
 impl<'h, M: Drop> Intake<'h, M> {
-    fn of(inbox: &'h Inbox<M>, reader: Reader<M>) -> Intake<'h, M>
+    pub(crate) fn of(inbox: &'h Inbox<M>, reader: Reader<M>) -> Intake<'h, M>
         requires { IsReaderOf inbox.now reader }
+        ensures { (result.inbox.now ≡ inbox.now) × (result.reader ≡ reader) }
     {
         Intake { inbox, reader }
     }
 
-    /// The next message, if there is one.
-    pub(crate) fn receive<R: Wait>(&mut self, rt: &R) -> Option<M> {
+    /// The next message, if there is one: its reader has got it.
+    pub(crate) fn receive<R: Wait>(&mut self, rt: &R) -> Option<M>
+        ensures { MatchOption result (got_by self.new.reader ≡ got_by self.old.reader)
+            (λ message. got_by self.new.reader ≡ got_by self.old.reader ++ message ∷ []) }
+    {
         let Intake { inbox, reader } = self;
         inbox.take(rt, reader)
     }
 }
 
-/// The writers of several inboxes that aren't handed out yet, by inbox.
+/// Several inboxes, with those of their writers that aren't handed out yet, by inbox.
 #[derive(Drop)]
 pub(crate) struct Outlets<'h, M> {
-    by_inbox: Vec<Vec<Outlet<'h, M>>>,
+    inboxes: &'h [Inbox<M>],
+    writers: Vec<Vec<Writer<M>>>,
+    ghost fits: { AreWritersAt (λ ws. ws.items) inboxes.now writers.items },
 }
 
 impl<'h, M: Drop> Outlets<'h, M> {
+    /// These writers of inboxes, those at a place of the inbox there.
+    pub(crate) fn of(inboxes: &'h [Inbox<M>], writers: Vec<Vec<Writer<M>>>) -> Outlets<'h, M>
+        requires { AreWritersAt (λ ws. ws.items) inboxes.now writers.items }
+        ensures { result.inboxes.now ≡ inboxes.now }
+    {
+        Outlets { inboxes, writers }
+    }
+
+    /// The inboxes.
+    pub(crate) fn inboxes(&self) -> &'h [Inbox<M>]
+        ensures { result.now ≡ self.now.inboxes.now }
+    {
+        self.inboxes
+    }
+
     /// One more outlet of the inbox at a place, if there is one.
-    pub(crate) fn take(&mut self, place: usize) -> Option<Outlet<'h, M>> {
-        if place >= self.by_inbox.len() {
+    pub(crate) fn take(&mut self, place: usize) -> Option<Outlet<'h, M>>
+        ensures of { IfSome result (λ outlet.
+            slice_get self.old.inboxes.now place ≡ Some outlet.inbox.now) }
+        ensures inboxes { self.new.inboxes.now ≡ self.old.inboxes.now }
+    {
+        if place >= self.inboxes.len() || place >= self.writers.len() {
             return None;
         }
-        self.by_inbox[place].pop()
+        let writer = self.writers[place].pop()?;
+        Some(Outlet::of(&self.inboxes[place], writer))
     }
-}
-
-/// Parts inboxes from their ends, each of which stands at its inbox's place.
-pub(crate) fn part_all<M: Drop>(
-    alloc: Global,
-    mailboxes: Vec<Mailbox<M>>,
-) -> Result<(Vec<Inbox<M>>, Vec<LooseEnds<M>>), AllocError>
-    ensures { IfOk result (λ parts. AreEndsOfEach parts.0.items parts.1.items) }
-{
-    let mut inboxes = Vec::with_capacity(alloc, mailboxes.len())?;
-    let mut ends = Vec::with_capacity(alloc, mailboxes.len())?;
-    for mailbox in mailboxes {
-        let Mailbox {
-            inbox,
-            writers,
-            reader,
-        } = mailbox;
-        inboxes.push(inbox)?;
-        ends.push(LooseEnds { writers, reader })?;
-    }
-    Ok((inboxes, ends))
-}
-
-/// Joins ends to their inboxes, each to the one at its place.
-pub(crate) fn join_all<'h, M: Drop>(
-    alloc: Global,
-    inboxes: &'h [Inbox<M>],
-    ends: Vec<LooseEnds<M>>,
-) -> Result<(Vec<Intake<'h, M>>, Outlets<'h, M>), AllocError>
-    requires { AreEndsOfEach inboxes.now ends.items }
-{
-    let mut intakes = Vec::with_capacity(alloc, inboxes.len())?;
-    let mut by_inbox = Vec::with_capacity(alloc, inboxes.len())?;
-    let mut place: usize = 0;
-    for loose in ends {
-        let LooseEnds { writers, reader } = loose;
-        let inbox = &inboxes[place];
-        intakes.push(Intake::of(inbox, reader))?;
-        by_inbox.push(join_writers(alloc, inbox, writers)?)?;
-        place += 1;
-    }
-    Ok((intakes, Outlets { by_inbox }))
-}
-
-fn join_writers<'h, M: Drop>(
-    alloc: Global,
-    inbox: &'h Inbox<M>,
-    writers: Vec<Writer<M>>,
-) -> Result<Vec<Outlet<'h, M>>, AllocError>
-    requires { All (IsWriterOf inbox.now) writers.items }
-{
-    let mut outlets = Vec::with_capacity(alloc, writers.len())?;
-    for writer in writers {
-        outlets.push(Outlet::of(inbox, writer))?;
-    }
-    Ok(outlets)
 }

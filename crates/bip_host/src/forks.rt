@@ -1,216 +1,287 @@
-//! Stations that share forks.
-use crate::books::SharedBook;
-use crate::ends::{Intake, Outlet, Outlets};
-use crate::keepers::BookKeeper;
-use crate::mailboxes::Mailbox;
+//! The actor of a station that shares forks.
+ghost use Rattle.std.specs.Prelude.{◌≡◌, ◌+◌, ◌-◌, ◌<◌, ◌≤◌, IfNone, IfSome, length};
+ghost use Rattle.bip_host.specs.Actors.{IsAwaited};
+ghost use Rattle.bip_host.specs.Forks.{ForkAwaits, ForkHearsOf, ForkServes, ForkTakes};
+ghost use Rattle.bip_host.specs.Forks.{IsFirstForkActor};
+ghost use Rattle.bip_host.specs.Forks.{IsNextShared, IsSharing, IsSharingOn, SharesNone};
+ghost use Rattle.bip_host.specs.Forks.{rank_fork, shared_by, with_shared};
+ghost use Rattle.bip_host.specs.Settled.{IsShareable};
+
+use crate::actors::{Actor, Step, Turn};
+use crate::counts::Counts;
 use crate::messages::{ToClass, ToStation};
 use crate::settled::{Served, Settled};
-use crate::starting::decided_at;
-use crate::stations::{Desk, StationThread, StationTurn};
+use crate::stations::{Deciding, StationAct, StationAnswer, on_decided};
 use bip_bank::StationId;
 use bip_forks::Station;
-use bip_partition::Plan;
-use std::alloc::{AllocError, Global};
-use std::sync::{Mutex, Wait};
+use std::mem;
 
-/// A station that shares forks, with the ends that it holds: its own inbox, and one of each
-/// neighbour, with which it shares a fork. Between turns it has what decides.
+/// What the actor of a station with forks waits for.
 #[derive(Drop)]
-pub(crate) struct ForkStation<'h, 'm> {
-    pub(crate) desk: Desk<'h, 'm>,
-    intake: Intake<'h, ToStation>,
-    neighbours: Vec<(StationId, Outlet<'h, ToStation>)>,
-    station: Option<Settled<Station>>,
+pub(crate) enum ForkStage {
+    /// Nothing.
+    Resting,
+    /// What comes of a decision.
+    Deciding(Deciding<Station>),
+    /// That something is put for the neighbour at this place.
+    Sharing(Settled<Station>, usize, Shared),
 }
 
-impl<'h, 'm> ForkStation<'h, 'm> {
-    /// Takes at most one message; decides on the oldest open request, where it has all its forks;
-    /// then sends each fork that it may, and else asks for it, where it may.
-    pub(crate) fn turn<R: Wait>(&mut self, rt: &R) -> StationTurn {
-        let Some(mut station) = self.station.take() else {
-            return StationTurn::Over;
-        };
-        let has_heard = self.hear(rt, &mut station);
-        match station.serve() {
-            Ok(Served::Nothing(station)) => {
-                let has_sent = self.share(rt, station);
-                if has_heard || has_sent {
-                    StationTurn::Done
-                } else {
-                    StationTurn::Nothing
-                }
-            }
-            Ok(Served::Answered(decided, request)) => {
-                match self.desk.answer(rt, request, decided) {
-                    Some(station) => {
-                        self.share(rt, station);
-                        StationTurn::Done
-                    }
-                    None => StationTurn::Over,
-                }
-            }
-            Err(_) => {
-                self.desk.lack();
-                StationTurn::Over
-            }
+/// What a station sends a neighbour.
+#[derive(Clone, Copy, Debug, PartialEq, Eq)]
+pub(crate) enum Shared {
+    Fork,
+    Ask,
+}
+
+/// The actor of a station that shares forks, with its neighbours in order of number: it decides on
+/// its oldest open request where it has all its forks; then it sends each neighbour the fork that
+/// they share, where it may, and else asks for it, where it may (docs/HOST.md, "Actors").
+#[derive(Drop)]
+pub struct ForkActor {
+    neighbours: Vec<StationId>,
+    /// What decides, between turns.
+    station: Option<Settled<Station>>,
+    stage: ForkStage,
+    /// What its turn comes to so far.
+    turn: Turn,
+    counts: Counts,
+}
+
+impl ForkActor {
+    /// The actor of a station, which has these neighbours.
+    pub fn new(neighbours: Vec<StationId>, station: Option<Settled<Station>>) -> ForkActor
+        ensures { IsFirstForkActor neighbours.items station result }
+    {
+        ForkActor {
+            neighbours,
+            station,
+            stage: ForkStage::Resting,
+            turn: Turn::Nothing,
+            counts: Counts::default(),
         }
     }
 
-    /// Takes at most one message, and says whether there was one. A request for which there is no
-    /// memory is lost.
-    fn hear<R: Wait>(&mut self, rt: &R, station: &mut Settled<Station>) -> bool {
-        let Some(message) = self.intake.receive(rt) else {
-            return false;
-        };
+    /// Takes a message. A request for which there is no memory is lost.
+    fn take(&mut self, station: &mut Settled<Station>, message: ToStation)
+        ensures { ForkTakes message self.old station.old.decider self.new station.new.decider }
+    {
         match message {
             ToStation::Asked(request) => {
-                if station.submit(request) {
-                    self.desk.lose();
-                }
+                let posted = station.submit(request);
+                self.counts.post(posted);
             }
             ToStation::Ask(token) => station.take_ask(token),
             ToStation::Fork(fork) => station.take_fork(fork),
             // that goes round in a ring alone
             ToStation::Token(_token) => {}
         }
-        true
     }
 
-    /// Sends each fork that the station may, and else asks for it, where it may. Says whether it
-    /// sent anything.
-    fn share<R: Wait>(&mut self, rt: &R, mut station: Settled<Station>) -> bool {
-        let mut has_sent = false;
-        for (other, outlet) in self.neighbours.iter_mut() {
-            match share_with(rt, &mut station, *other, outlet) {
-                Shared::Nothing => {}
-                Shared::Fork => {
-                    self.desk.count_pass();
-                    has_sent = true;
-                }
-                Shared::Ask => {
-                    self.desk.count_ask();
-                    has_sent = true;
-                }
+    /// Takes a message, and decides.
+    fn hear_message(
+        &mut self,
+        mut station: Settled<Station>,
+        message: ToStation,
+    ) -> Step<StationAct>
+        ensures step { ForkHearsOf message station.decider self.old result self.new }
+        ensures awaits { IsAwaited (λ act.
+            ForkAwaits self.new.neighbours.items self.new.stage act) result }
+    {
+        self.take(&mut station, message);
+        self.serve(station)
+    }
+
+    /// Goes on to the next neighbour, once this was put for the one at this place; what couldn't be
+    /// put stays here.
+    fn go_on_sharing(
+        &mut self,
+        mut station: Settled<Station>,
+        place: usize,
+        shared: Shared,
+        back: Option<ToStation>,
+    ) -> Step<StationAct>
+        requires shareable { IfSome back IsShareable }
+        requires place { place < length self.old.neighbours.items }
+        ensures step { IsSharingOn shared back station.decider place self.old result self.new }
+        ensures awaits { IsAwaited (λ act.
+            ForkAwaits self.new.neighbours.items self.new.stage act) result }
+        ensures left { rank_fork (length self.new.neighbours.items) self.new.stage
+            ≤ length self.old.neighbours.items - (place + 1)
+            + rank_fork (length self.old.neighbours.items) self.old.stage }
+    {
+        match back {
+            None => {
+                self.count(shared);
+                self.turn = Turn::Done;
+                self.share(station, place + 1)
             }
-        }
-        self.station = Some(station);
-        has_sent
-    }
-}
-
-/// What a station sent to a neighbour.
-#[derive(Clone, Copy)]
-enum Shared {
-    Nothing,
-    Fork,
-    Ask,
-}
-
-/// Sends a neighbour the fork, where a station may, or else asks for it, where it may. What can't
-/// be put stays with the station.
-fn share_with<R: Wait>(
-    rt: &R,
-    station: &mut Settled<Station>,
-    other: StationId,
-    outlet: &mut Outlet<'_, ToStation>,
-) -> Shared {
-    let (message, shared) = match station.pass(other) {
-        Some(fork) => (ToStation::Fork(fork), Shared::Fork),
-        None => match station.ask(other) {
-            Some(token) => (ToStation::Ask(token), Shared::Ask),
-            None => return Shared::Nothing,
-        },
-    };
-    match outlet.send(rt, message) {
-        Some(ToStation::Fork(fork)) => station.lay_back(fork),
-        Some(ToStation::Ask(token)) => station.take_ask(token),
-        _ => return shared,
-    }
-    Shared::Nothing
-}
-
-/// The inboxes of all stations that share forks: each has a writer for each neighbour, and for the
-/// class of its interaction.
-pub(crate) fn fork_mailboxes(
-    alloc: Global,
-    plan: &Plan,
-) -> Result<Vec<Mailbox<ToStation>>, AllocError> {
-    let mut mailboxes = Vec::new(alloc);
-    for place in 0..plan.stations().len() {
-        let count = count_neighbours(plan, place).saturating_add(1);
-        mailboxes.push(Mailbox::new(alloc, count)?)?;
-    }
-    Ok(mailboxes)
-}
-
-/// The number of the station at a place: there are no more than 128.
-fn number_of(place: usize) -> StationId {
-    StationId(u16::try_from(place).unwrap_or(u16::MAX))
-}
-
-/// How many neighbours the station at a place has.
-fn count_neighbours(plan: &Plan, place: usize) -> usize {
-    let mut count: usize = 0;
-    for other in 0..plan.stations().len() {
-        if are_neighbours(plan, place, other) {
-            count = count.saturating_add(1);
-        }
-    }
-    count
-}
-
-/// Whether two stations share a fork: they are two, and their interactions are in conflict.
-fn are_neighbours(plan: &Plan, place: usize, other: usize) -> bool {
-    let stations = plan.stations();
-    let (Some(inter), Some(another)) = (stations.get(place), stations.get(other)) else {
-        return false;
-    };
-    place != other && plan.conflict(*inter, *another)
-}
-
-/// The threads of all stations that share forks, each with its own inbox. They stand by station.
-pub(crate) fn start_forks<'h, 'm>(
-    alloc: Global,
-    plan: &Plan,
-    book: &'h Mutex<SharedBook<'m>>,
-    intakes: Vec<Intake<'h, ToStation>>,
-    stations: &mut Outlets<'h, ToStation>,
-    classes: &mut Outlets<'h, ToClass>,
-) -> Result<Vec<StationThread<'h, 'm>>, AllocError> {
-    let mut threads = Vec::with_capacity(alloc, intakes.len())?;
-    let mut place: usize = 0;
-    for intake in intakes {
-        let Some((_inter, class)) = decided_at(plan, place) else {
-            return Ok(threads);
-        };
-        let Some(class) = classes.take(class.0 as usize) else {
-            return Ok(threads);
-        };
-        threads.push(StationThread::Forks(ForkStation {
-            desk: Desk::of(class, BookKeeper::of(book)),
-            intake,
-            neighbours: neighbours(alloc, plan, place, stations)?,
-            station: Settled::<Station>::first(alloc, plan, number_of(place))?,
-        }))?;
-        place = place.saturating_add(1);
-    }
-    Ok(threads)
-}
-
-/// An outlet to each neighbour of the station at a place, by number.
-fn neighbours<'h>(
-    alloc: Global,
-    plan: &Plan,
-    place: usize,
-    stations: &mut Outlets<'h, ToStation>,
-) -> Result<Vec<(StationId, Outlet<'h, ToStation>)>, AllocError> {
-    let mut neighbours = Vec::new(alloc);
-    for other in 0..plan.stations().len() {
-        if are_neighbours(plan, place, other) {
-            if let Some(outlet) = stations.take(other) {
-                neighbours.push((number_of(other), outlet))?;
+            Some(back) => {
+                station.take_back(back);
+                self.share(station, place + 1)
             }
         }
     }
-    Ok(neighbours)
+
+    /// Counts what is sent.
+    fn count(&mut self, shared: Shared)
+        ensures { self.new ≡ record self.old { counts = with_shared shared self.old.counts } }
+    {
+        match shared {
+            Shared::Fork => self.counts.pass(),
+            Shared::Ask => self.counts.ask(),
+        }
+    }
+
+    /// Decides on the oldest open request, where it has all its forks; else shares these. It ends
+    /// where memory is wanted for a decision.
+    fn serve(&mut self, station: Settled<Station>) -> Step<StationAct>
+        ensures step { ForkServes station.decider self.old result self.new }
+        ensures awaits { IsAwaited (λ act.
+            ForkAwaits self.new.neighbours.items self.new.stage act) result }
+    {
+        match station.serve() {
+            Ok(Served::Nothing(station)) => self.share(station, 0),
+            Ok(Served::Answered(decided, request)) => {
+                let (step, deciding) = on_decided(request, decided);
+                self.turn = Turn::Done;
+                self.stage = ForkStage::Deciding(deciding);
+                step
+            }
+            Err(_) => {
+                self.counts.lack();
+                Step::Over(Turn::Ends)
+            }
+        }
+    }
+
+    /// Goes on to the next neighbour to which something may be sent, from this place on.
+    fn share(&mut self, mut station: Settled<Station>, from: usize) -> Step<StationAct>
+        ensures step { IsSharing station.decider from self.old result self.new }
+        ensures awaits { IsAwaited (λ act.
+            ForkAwaits self.new.neighbours.items self.new.stage act) result }
+        ensures left { rank_fork (length self.new.neighbours.items) self.new.stage
+            ≤ length self.old.neighbours.items - from
+            + rank_fork (length self.old.neighbours.items) self.old.stage }
+    {
+        let Some((place, other)) = self.next_shared(&station, from) else {
+            self.station = Some(station);
+            return Step::Over(self.turn);
+        };
+        let message = station.share(other);
+        self.stage = ForkStage::Sharing(station, place, shared_by(&message));
+        Step::Act(StationAct::Share(other, message))
+    }
+
+    /// The place and the number of the next neighbour to which something may be sent.
+    fn next_shared(&self, station: &Settled<Station>, from: usize) -> Option<(usize, StationId)>
+        ensures some { IfSome result (λ found.
+            IsNextShared self.now.neighbours.items station.now.decider from found.0 found.1) }
+        ensures none { IfNone result
+            (SharesNone self.now.neighbours.items station.now.decider from) }
+    {
+        for place in from..self.neighbours.len() {
+            let other = self.neighbours[place];
+            if station.may_share(other) {
+                return Some((place, other));
+            }
+        }
+        None
+    }
+}
+
+/// Which of the two a message is.
+fn shared_by(message: &ToStation) -> Shared
+    ensures { result ≡ shared_by message.now }
+{
+    match message {
+        ToStation::Fork(_) => Shared::Fork,
+        _ => Shared::Ask,
+    }
+}
+
+impl Actor for ForkActor {
+    ghost use Rattle.std.specs.Prelude.{length};
+    ghost use Rattle.bip_host.specs.Actors.{IsAwaited};
+    ghost use Rattle.bip_host.specs.Forks.{ForkAwaits, ForkGoesOn, ForkHears, ForkStarts};
+    ghost use Rattle.bip_host.specs.Forks.{rank_fork};
+    ghost use Rattle.bip_host.specs.Stations.{StationFits};
+
+    type Heard = ToStation;
+
+    type Act = StationAct;
+
+    type Answer = StationAnswer;
+
+    ghost fits = { StationFits };
+
+    ghost awaits = { λ a act. ForkAwaits a.neighbours.items a.stage act };
+
+    ghost left = { λ a. rank_fork (length a.neighbours.items) a.stage };
+
+    ghost starts = { ForkStarts };
+
+    ghost hears = { ForkHears };
+
+    ghost goes_on = { ForkGoesOn };
+
+    fn start(&mut self) -> Step<StationAct> {
+        Step::Over(Turn::Nothing)
+    }
+
+    /// Takes a message; decides on the oldest open request, where it has all its forks; else shares
+    /// these. It ends where memory is wanted for a decision.
+    fn hear(&mut self, heard: Option<ToStation>) -> Step<StationAct>
+        ensures step { ForkHears self.old heard result self.new }
+        ensures awaits { IsAwaited (λ act.
+            ForkAwaits self.new.neighbours.items self.new.stage act) result }
+    {
+        let Some(station) = self.station.take() else {
+            return Step::Over(Turn::Ends);
+        };
+        match heard {
+            None => {
+                self.turn = Turn::Nothing;
+                self.serve(station)
+            }
+            Some(message) => {
+                self.turn = Turn::Done;
+                self.hear_message(station, message)
+            }
+        }
+    }
+
+    /// Answers once its grant stands in the book, and shares its forks once it has answered. What
+    /// couldn't be put stays here.
+    fn go_on(&mut self, answer: StationAnswer) -> Step<StationAct> {
+        match (mem::replace(&mut self.stage, ForkStage::Resting), answer) {
+            (
+                ForkStage::Deciding(Deciding::Appending(unsettled, request, serial)),
+                StationAnswer::Appended(Some(entry)),
+            ) => {
+                let settled = unsettled.settle(&entry);
+                self.stage = ForkStage::Deciding(Deciding::Answering(settled));
+                Step::Act(StationAct::Answer(ToClass::Granted {
+                    entry,
+                    request,
+                    serial,
+                }))
+            }
+            (ForkStage::Deciding(Deciding::Appending(..)), StationAnswer::Appended(None)) =>
+                Step::Over(Turn::Ends),
+            (ForkStage::Deciding(Deciding::Answering(station)), StationAnswer::Answered(posted)) =>
+                {
+                    self.counts.post(posted);
+                    self.share(station, 0)
+                }
+            (ForkStage::Sharing(station, place, shared), StationAnswer::Shared(back)) => {
+                self.go_on_sharing(station, place, shared, back)
+            }
+            _ => unreachable!(),
+        }
+    }
+
+    fn counts(&self) -> Counts {
+        self.counts
+    }
 }

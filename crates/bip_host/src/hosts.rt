@@ -1,34 +1,36 @@
 //! Hosts: a plan's nodes as threads, round one locked book, with a locked table, a ring or forks.
-ghost use Rattle.std.specs.Prelude.{◌≡◌, ◌<◌, [], IfErr, IfOk};
-ghost use Rattle.bip_replay.specs.Runs.{IsModelRun};
+ghost use Rattle.std.specs.Prelude.{◌≡◌, ◌↔◌, ◌+◌, ◌<◌, ◌≤◌, ◌^◌, [], All, IfErr, IfOk, IsSome};
+ghost use Rattle.std.specs.Prelude.{length, max};
 ghost use Rattle.bip_host.specs.Mailboxes.{AreEndsOfEach};
-ghost use Rattle.bip_host.specs.Reports.{IsHostFault, IsReportOf, IsWhyNone};
+ghost use Rattle.bip_host.specs.Nodes.{kind_of};
+ghost use Rattle.bip_host.specs.Reports.{AreFiguresOf, AreTotalsOf, IsHostFault, IsReportOf};
+ghost use Rattle.bip_host.specs.Reports.{IsThreadCount, IsWhyNone, no_totals, with_end};
+ghost use Rattle.bip_replay.specs.Runs.{IsModelRun};
 
+use crate::actors::NodeEnd;
 use crate::books::{SharedBook, as_run};
-use crate::ends::{join_all, part_all};
 use crate::faults::HostFault;
-use crate::forks::{fork_mailboxes, start_forks};
 use crate::gates::Gate;
-use crate::inboxes::Inbox;
-use crate::layers::Layers;
-use crate::mailboxes::{LooseEnds, Mailbox};
+use crate::joining::{join_all, part_all};
+use crate::layers::{Layers, StationLayers};
+use crate::mailboxes::LooseEnds;
 use crate::messages::{ToClass, ToStation};
-use crate::nodes::{NodeEnd, NodeThread, add_classes, add_components, add_stations};
-use crate::rings::{ring_mailboxes, start_ring};
+use crate::nodes::Nodes;
 use crate::starting::{
     Commons, class_mailboxes, component_mailboxes, start_classes, start_components,
 };
+use crate::starting_stations::{start_stations, station_mailboxes};
 use bip_bank::first_table;
 use bip_model::{Grant, Notify};
 use bip_partition::Plan;
 use bip_replay::Book;
-use bip_table::{Pass, Table, TableLock};
+use bip_table::{Pass, TableLock};
 use std::alloc::{AllocError, Global};
-use std::marker::{Brand, PhantomData};
+use std::marker::Brand;
 use std::sync::ledger::{Blank, Ledger};
 use std::sync::{Mutex, Wait};
 use std::thread;
-use std::thread::Threads;
+use std::thread::{Promise, PromisedHandle, Threads};
 
 /// Which form the third layer of a host has.
 #[derive(Clone, Copy, Debug, PartialEq, Eq)]
@@ -64,10 +66,12 @@ pub struct HostReport {
     pub lost: u64,
 }
 
-/// How much a host did it with: how many threads ran, how many turns they made together, how many
-/// tokens and forks stations sent, and how many request tokens; none with one table.
-#[derive(Clone, Copy, Debug, Default, PartialEq, Eq)]
+/// How much a host did it with: which kind of third layer it had, how many threads ran, how many
+/// turns they made together, how many tokens and forks stations sent, and how many request tokens;
+/// none with one table.
+#[derive(Clone, Copy, Debug, PartialEq, Eq)]
 pub struct HostFigures {
+    pub kind: Kind,
     pub threads: u64,
     pub turns: u64,
     pub passes: u64,
@@ -75,8 +79,8 @@ pub struct HostFigures {
 }
 
 /// What all threads did, and whether one couldn't be started, or wanted memory.
-#[derive(Clone, Copy, Default)]
-struct Totals {
+#[derive(Clone, Copy)]
+pub(crate) struct Totals {
     figures: HostFigures,
     told: u64,
     lost: u64,
@@ -85,15 +89,38 @@ struct Totals {
 }
 
 impl Totals {
+    /// Nothing so far, of a host of a kind.
+    fn of(kind: Kind) -> Totals
+        ensures { result ≡ no_totals kind }
+    {
+        let figures = HostFigures {
+            kind,
+            threads: 0,
+            turns: 0,
+            passes: 0,
+            asks: 0,
+        };
+        Totals {
+            figures,
+            told: 0,
+            lost: 0,
+            wanted_memory: false,
+            is_short: false,
+        }
+    }
+
     /// Adds what a thread left.
-    fn add(&mut self, end: NodeEnd) {
-        self.figures.threads = self.figures.threads.saturating_add(1);
+    fn add(&mut self, end: NodeEnd)
+        requires { self.old.figures.threads + 1 < 2 ^ 64 }
+        ensures { self.new ≡ with_end end self.old }
+    {
+        self.figures.threads += 1;
         self.figures.turns = self.figures.turns.saturating_add(end.turns);
-        self.figures.passes = self.figures.passes.saturating_add(end.passes);
-        self.figures.asks = self.figures.asks.saturating_add(end.asks);
-        self.told = self.told.saturating_add(end.told);
-        self.lost = self.lost.saturating_add(end.lost);
-        self.wanted_memory = self.wanted_memory || end.wanted_memory;
+        self.figures.passes = self.figures.passes.saturating_add(end.counts.passes);
+        self.figures.asks = self.figures.asks.saturating_add(end.counts.asks);
+        self.told = self.told.saturating_add(end.counts.told);
+        self.lost = self.lost.saturating_add(end.counts.lost);
+        self.wanted_memory = self.wanted_memory || end.counts.wanted_memory;
     }
 }
 
@@ -130,227 +157,208 @@ pub fn run_host_counted<G: Gate + Sync, R: Threads + Wait + Sync>(
     gate: &G,
 ) -> Result<(HostReport, HostFigures), HostFault>
     ensures run { IfOk result (λ done. IsModelRun plan.now.model 0 done.0.grants.items) }
+    ensures figures { IfOk result (λ done. AreFiguresOf plan.now kind limits.turns done.1) }
     ensures fault { IfErr result IsHostFault }
 {
-    match (kind, tables) {
-        (Kind::Central, Tables::Locked) => {
-            let table = first_table(alloc, plan, 0)?;
-            let passes = plan.classes().len().max(1);
-            let blank = Blank::new(passes as u64);
-            run_central::<Brand, G, R>(rt, alloc, blank, table, passes, plan, limits, gate)
-        }
-        (Kind::Ring, Tables::Locked) => {
-            let inboxes = ring_mailboxes(alloc, plan)?;
-            run_stations::<Brand, G, R>(rt, alloc, plan, Form::Ring, inboxes, limits, gate)
-        }
-        (Kind::Forks, Tables::Locked) => {
-            let inboxes = fork_mailboxes(alloc, plan)?;
-            run_stations::<Brand, G, R>(rt, alloc, plan, Form::Forks, inboxes, limits, gate)
-        }
-    }
+    let Tables::Locked = tables;
+    let passes = plan.classes().len().max(1);
+    let blank = Blank::new(passes as u64);
+    run_kind::<Brand, G, R>(rt, alloc, plan, kind, blank, limits, gate)
 }
 
-/// Runs a host whose classes ask one locked table, with so many passes.
-fn run_central<L: Ledger + Send + Sync, G: Gate + Sync, R: Threads + Wait + Sync>(
+/// Runs a host with a third layer of a kind. The ledger has a part for the pass of each class.
+fn run_kind<L: Ledger + Send + Sync, G: Gate + Sync, R: Threads + Wait + Sync>(
     rt: &R,
     alloc: Global,
-    blank: Blank,
-    table: Table,
-    passes: usize,
     plan: &Plan,
+    kind: Kind,
+    blank: Blank,
     limits: Limits,
     gate: &G,
 ) -> Result<(HostReport, HostFigures), HostFault>
     requires name { blank.name ≡ L.name }
+    requires parts { (blank.parts ≡ L.parts)
+        × (blank.parts ≡ max 1 (length plan.now.classes.members)) }
+    ensures run { IfOk result (λ done. IsModelRun plan.now.model 0 done.0.grants.items) }
+    ensures fault { IfErr result IsHostFault }
+    ensures figures { IfOk result (λ done. AreFiguresOf plan.now kind limits.turns done.1) }
+{
+    let passes = plan.classes().len().max(1);
+    let (table, passes) = open_table::<L>(alloc, plan, kind, blank, passes)?;
+    let book = Mutex::new(SharedBook::of(Book::start(alloc, plan.model(), 0)?));
+    let has_stations = kind != Kind::Central;
+    let (offers, offer_ends) = part_all(alloc, class_mailboxes(alloc, plan, has_stations)?)?;
+    let (notices, notice_ends) = part_all(alloc, component_mailboxes(alloc, plan)?)?;
+    let (shares, share_ends) = part_all(alloc, station_mailboxes(alloc, plan, kind)?)?;
+    let commons = Commons {
+        table,
+        book,
+        offers,
+        notices,
+        shares,
+    };
+    let ends = HostEnds {
+        offers: offer_ends,
+        notices: notice_ends,
+        shares: share_ends,
+        passes,
+    };
+    let nodes = start_nodes(alloc, plan, kind, &commons, ends, gate)?;
+    let asked = Asked {
+        kind,
+        threads: count_threads(plan, kind),
+        turns: limits.turns,
+    };
+    let totals = run_threads(rt, alloc, nodes, asked)?;
+    let Commons { book, .. } = commons;
+    report(alloc, plan, book.into_inner(), totals)
+}
+
+/// The table of a plan behind a lock, with the passes of its classes, where one table decides.
+fn open_table<L: Ledger>(
+    alloc: Global,
+    plan: &Plan,
+    kind: Kind,
+    blank: Blank,
+    passes: usize,
+) -> Result<(Option<TableLock<L>>, Vec<Pass<L>>), AllocError>
+    requires name { blank.name ≡ L.name }
     requires parts { (blank.parts ≡ L.parts) × (blank.parts ≡ passes) }
     requires some { 0 < passes }
-    requires empty { table.journal ≡ [] }
-    ensures run { IfOk result (λ done. IsModelRun plan.now.model 0 done.0.grants.items) }
-    ensures fault { IfErr result IsHostFault }
+    ensures { IfOk result (λ opened. IsSome opened.0 ↔ (kind ≡ Kind.Central)) }
 {
+    if kind != Kind::Central {
+        return Ok((None, Vec::new(alloc)));
+    }
+    let table = first_table(alloc, plan, 0)?;
     let (lock, passes) = TableLock::<L>::new(alloc, blank, table, passes)?;
-    let book = Mutex::new(SharedBook::of(Book::start(alloc, plan.model(), 0)?));
-    let (offers, offer_ends) = part_all(alloc, class_mailboxes(alloc, plan, false)?)?;
-    let (notices, notice_ends) = part_all(alloc, component_mailboxes(alloc, plan)?)?;
-    let commons = Commons {
-        shared: lock,
-        book,
-        offers,
-        notices,
-    };
-    let totals = run_nodes(
-        rt,
-        alloc,
-        plan,
-        &commons,
-        offer_ends,
-        notice_ends,
-        passes,
-        limits.turns,
-        gate,
-    )?;
-    let Commons { book, .. } = commons;
-    report(alloc, plan, book.into_inner(), totals)
+    Ok((Some(lock), passes))
 }
 
-/// Makes the nodes of a plan, and runs them.
-fn run_nodes<'h, 'm, L: Ledger + Send + Sync, G: Gate + Sync, R: Threads + Wait + Sync>(
-    rt: &R,
-    alloc: Global,
-    plan: &Plan,
-    commons: &'h Commons<'m, TableLock<L>>,
-    offer_ends: Vec<LooseEnds<ToClass>>,
-    notice_ends: Vec<LooseEnds<Notify>>,
-    passes: Vec<Pass<L>>,
-    turns: u32,
-    gate: &G,
-) -> Result<Totals, AllocError>
-    requires offers { AreEndsOfEach commons.now.offers.items offer_ends.items }
-    requires notices { AreEndsOfEach commons.now.notices.items notice_ends.items }
-{
-    let (gathering, mut offer_outlets) = join_all(alloc, commons.offers.as_slice(), offer_ends)?;
-    let (receiving, mut notice_outlets) = join_all(alloc, commons.notices.as_slice(), notice_ends)?;
-    let components = start_components(alloc, plan, receiving, &mut offer_outlets)?;
-    let layers = Layers::Table(&commons.shared, passes);
-    let classes = start_classes(
-        alloc,
-        plan,
-        &commons.book,
-        gathering,
-        &mut notice_outlets,
-        layers,
-    )?;
-    let mut nodes = Vec::with_capacity(alloc, components.len())?;
-    add_components(&mut nodes, components)?;
-    add_classes(&mut nodes, classes)?;
-    run_threads(rt, alloc, nodes, turns, gate)
-}
-
-/// Which stations there are.
-#[derive(Clone, Copy)]
-enum Form {
-    Ring,
-    Forks,
-}
-
-/// What stations share: their inboxes. The ledger is that of no lock.
+/// The ends of all inboxes of a host, which aren't handed out yet, and the passes of its table.
 #[derive(Drop)]
-struct StationInboxes<L: Ledger> {
-    inboxes: Vec<Inbox<ToStation>>,
-    no_lock: PhantomData<L>,
+struct HostEnds<L: Ledger> {
+    offers: Vec<LooseEnds<ToClass>>,
+    notices: Vec<LooseEnds<Notify>>,
+    shares: Vec<LooseEnds<ToStation>>,
+    passes: Vec<Pass<L>>,
 }
 
-/// Runs a host whose classes ask stations, of which these are the inboxes.
-fn run_stations<L: Ledger + Send + Sync, G: Gate + Sync, R: Threads + Wait + Sync>(
-    rt: &R,
+/// Makes the nodes of a plan, with a third layer of a kind.
+fn start_nodes<'h, 'p, 'm, 'g, L: Ledger, G: Gate>(
     alloc: Global,
-    plan: &Plan,
-    form: Form,
-    mailboxes: Vec<Mailbox<ToStation>>,
-    limits: Limits,
-    gate: &G,
-) -> Result<(HostReport, HostFigures), HostFault>
-    ensures run { IfOk result (λ done. IsModelRun plan.now.model 0 done.0.grants.items) }
-    ensures fault { IfErr result IsHostFault }
+    plan: &'p Plan,
+    kind: Kind,
+    commons: &'h Commons<'m, L>,
+    ends: HostEnds<L>,
+    gate: &'g G,
+) -> Result<Nodes<'h, 'p, 'm, 'g, L, G>, AllocError>
+    requires offers { AreEndsOfEach commons.now.offers.items ends.offers.items }
+    requires notices { AreEndsOfEach commons.now.notices.items ends.notices.items }
+    requires shares { AreEndsOfEach commons.now.shares.items ends.shares.items }
+    ensures { IfOk result (λ nodes. kind_of nodes.stations ≡ kind) }
 {
-    let book = Mutex::new(SharedBook::of(Book::start(alloc, plan.model(), 0)?));
-    let (offers, offer_ends) = part_all(alloc, class_mailboxes(alloc, plan, true)?)?;
-    let (notices, notice_ends) = part_all(alloc, component_mailboxes(alloc, plan)?)?;
-    let (inboxes, station_ends) = part_all(alloc, mailboxes)?;
-    let commons = Commons {
-        shared: StationInboxes::<L> {
-            inboxes,
-            no_lock: PhantomData,
-        },
-        book,
-        offers,
-        notices,
-    };
-    let totals = run_station_nodes(
-        rt,
-        alloc,
-        plan,
-        form,
-        &commons,
-        offer_ends,
-        notice_ends,
-        station_ends,
-        limits.turns,
-        gate,
-    )?;
-    let Commons { book, .. } = commons;
-    report(alloc, plan, book.into_inner(), totals)
-}
-
-/// Makes the nodes and the stations of a plan, and runs them.
-fn run_station_nodes<'h, 'm, L: Ledger + Send + Sync, G: Gate + Sync, R: Threads + Wait + Sync>(
-    rt: &R,
-    alloc: Global,
-    plan: &Plan,
-    form: Form,
-    commons: &'h Commons<'m, StationInboxes<L>>,
-    offer_ends: Vec<LooseEnds<ToClass>>,
-    notice_ends: Vec<LooseEnds<Notify>>,
-    station_ends: Vec<LooseEnds<ToStation>>,
-    turns: u32,
-    gate: &G,
-) -> Result<Totals, AllocError>
-    requires offers { AreEndsOfEach commons.now.offers.items offer_ends.items }
-    requires notices { AreEndsOfEach commons.now.notices.items notice_ends.items }
-    requires stations { AreEndsOfEach commons.now.shared.inboxes.items station_ends.items }
-{
-    let (gathering, mut offer_outlets) = join_all(alloc, commons.offers.as_slice(), offer_ends)?;
-    let (receiving, mut notice_outlets) = join_all(alloc, commons.notices.as_slice(), notice_ends)?;
-    let (serving, mut station_outlets) = join_all(
-        alloc,
-        commons.shared.inboxes.as_slice(),
-        station_ends,
-    )?;
-    let components = start_components(alloc, plan, receiving, &mut offer_outlets)?;
+    let (gathering, mut offers) = join_all(alloc, commons.offers.as_slice(), ends.offers)?;
+    let (receiving, mut notices) = join_all(alloc, commons.notices.as_slice(), ends.notices)?;
+    let (serving, mut shares) = join_all(alloc, commons.shares.as_slice(), ends.shares)?;
     let book = &commons.book;
-    let (ends, outlets) = (&mut station_outlets, &mut offer_outlets);
-    let stations = match form {
-        Form::Ring => start_ring(alloc, plan, book, serving, ends, outlets)?,
-        Form::Forks => start_forks(alloc, plan, book, serving, ends, outlets)?,
+    let components = start_components(alloc, plan, receiving, &mut offers)?;
+    let stations = start_stations(alloc, plan, kind, book, serving, &mut shares, &mut offers)?;
+    let layers = match &commons.table {
+        Some(lock) => Layers::Table(lock, ends.passes),
+        None => Layers::Stations(StationLayers {
+            stations: plan.stations(),
+            outlets: shares,
+        }),
     };
-    let layers = Layers::<L>::Stations(station_outlets);
-    let classes = start_classes(alloc, plan, book, gathering, &mut notice_outlets, layers)?;
-    let mut nodes = Vec::with_capacity(alloc, components.len())?;
-    add_components(&mut nodes, components)?;
-    add_classes(&mut nodes, classes)?;
-    add_stations(&mut nodes, stations)?;
-    run_threads(rt, alloc, nodes, turns, gate)
+    let classes = start_classes(alloc, plan, book, gathering, &mut notices, layers, gate)?;
+    Ok(Nodes {
+        components,
+        classes,
+        stations,
+    })
+}
+
+/// How many threads a host of a plan and a kind has: one for each component, for each class, and
+/// for each station.
+fn count_threads(plan: &Plan, kind: Kind) -> u128
+    ensures { IsThreadCount plan.now kind result }
+{
+    let components = plan.model().components().len() as u128;
+    let classes = plan.classes().len() as u128;
+    let stations = match kind {
+        Kind::Central => 0,
+        _ => plan.stations().len() as u128,
+    };
+    components + classes + stations
+}
+
+/// What is asked of a host: its kind of third layer, how many threads, and how many turns of each.
+#[derive(Clone, Copy)]
+pub(crate) struct Asked {
+    kind: Kind,
+    threads: u128,
+    turns: u32,
+}
+
+/// That a node makes no more turns than this.
+#[derive(Drop)]
+struct AtMost {
+    turns: u32,
+}
+
+impl Promise<NodeEnd> for AtMost {
+    ghost use Rattle.std.specs.Prelude.{◌≤◌};
+
+    ghost kept_by = { λ promise end. end.turns ≤ promise.turns };
 }
 
 /// Starts a thread for each node, up to the first that can't be, and joins those that were started.
-fn run_threads<'h, 'p, 'm, L: Ledger + Send + Sync, G: Gate + Sync, R: Threads + Wait + Sync>(
+/// It falls short where these aren't as many as are asked for.
+fn run_threads<'h, 'p, 'm, 'g, L: Ledger + Send + Sync, G: Gate + Sync, R: Threads + Wait + Sync>(
     rt: &R,
     alloc: Global,
-    nodes: Vec<NodeThread<'h, 'p, 'm, L>>,
-    turns: u32,
-    gate: &G,
-) -> Result<Totals, AllocError> {
+    nodes: Nodes<'h, 'p, 'm, 'g, L, G>,
+    asked: Asked,
+) -> Result<Totals, AllocError>
+    requires { kind_of nodes.stations ≡ asked.kind }
+    ensures { IfOk result (AreTotalsOf asked) }
+{
+    let nodes = nodes.into_list(alloc)?;
     thread::scope(
         thread::scope_env(),
         rt,
-        |scope| -> Result<Totals, AllocError> {
-            let mut totals = Totals::default();
+        |scope| -> Result<Totals, AllocError>
+            ensures { IfOk result (AreTotalsOf asked) }
+        {
+            let turns = asked.turns;
             let mut running = Vec::with_capacity(alloc, nodes.len())?;
             for node in nodes {
-                match scope.spawn(move || node.run(rt, gate, turns)) {
+                match scope.spawn_with(AtMost { turns }, move || node.run(rt, turns)) {
                     Ok(handle) => running.push(handle)?,
-                    Err(_) => {
-                        totals.is_short = true;
-                        break;
-                    }
+                    Err(_) => break,
                 }
             }
-            for handle in running {
-                totals.add(handle.join(rt));
-            }
-            Ok(totals)
+            Ok(join_threads(rt, running, asked))
         },
     )
+}
+
+/// Joins threads, and adds up what they left.
+fn join_threads<R: Threads>(
+    rt: &R,
+    running: Vec<PromisedHandle<NodeEnd, AtMost>>,
+    asked: Asked,
+) -> Totals
+    requires { All (λ h. h.promise.turns ≤ asked.turns) running.items }
+    ensures { AreTotalsOf asked result }
+{
+    let mut totals = Totals::of(asked.kind);
+    for handle in running {
+        totals.add(handle.join(rt));
+    }
+    totals.is_short = u128::from(totals.figures.threads) != asked.threads;
+    totals
 }
 
 /// The report of the grants in the book, or why there is none.

@@ -2,15 +2,20 @@
 //! one locked book.
 #![tactic(auto)]
 
+mod actors;
+mod addressed;
 mod books;
 mod classes;
 mod components;
+mod counts;
 mod ends;
 mod faults;
 mod forks;
 mod gates;
+mod hands;
 mod hosts;
 mod inboxes;
+mod joining;
 mod keepers;
 mod laws;
 mod layers;
@@ -23,10 +28,21 @@ mod rests;
 mod rings;
 mod settled;
 mod starting;
+mod starting_stations;
 mod stations;
 
+pub use actors::{Actor, Hands, NodeEnd, Step, Turn, run_actor};
+pub use books::{Entry, SharedBook};
+pub use classes::{ClassAct, ClassActor, ClassAnswer, Reserved};
+pub use components::{ComponentActor, Offering};
+pub use counts::{Counts, Posted};
 pub use faults::HostFault;
+pub use forks::ForkActor;
 pub use gates::{Gate, Open, Point};
 pub use hosts::{HostFigures, HostReport, Kind, Limits, Tables, run_host, run_host_counted};
 pub use inboxes::{Inbox, Reader, Writer};
 pub use laws::inbox_laws;
+pub use messages::{ToClass, ToStation};
+pub use rings::RingActor;
+pub use settled::Settled;
+pub use stations::{StationAct, StationAnswer};

@@ -5,9 +5,9 @@ use bip_forks::{AskToken, Fork};
 use bip_model::{Offer, Reply, Request};
 use bip_ring::Token;
 
-/// What the thread of a class hears.
+/// What the actor of a class hears.
 #[derive(Drop)]
-pub(crate) enum ToClass {
+pub enum ToClass {
     /// A component's offer.
     Offer(Offer),
     /// The request with this number is granted with this serial, and the grant stands in the book.
@@ -20,9 +20,9 @@ pub(crate) enum ToClass {
     Refused(Reply),
 }
 
-/// What the thread of a station hears.
+/// What the actor of a station hears.
 #[derive(Drop)]
-pub(crate) enum ToStation {
+pub enum ToStation {
     /// Its class asks for its interaction.
     Asked(Request),
     /// The station before it in the ring hands the token on.

@@ -1,76 +1,160 @@
-//! The nodes of a host, each of which has a thread of its own; and what a thread leaves.
-use crate::classes::ClassThread;
-use crate::components::ComponentThread;
+//! The nodes of a host, each an actor with its hands, which has a thread of its own.
+ghost use Rattle.std.specs.Prelude.{◌≡◌, ◌+◌, ◌≤◌, IfOk, OnOk, length};
+ghost use Rattle.bip_host.specs.Nodes.{count_nodes, count_stations, kind_of};
+
+use crate::actors::{NodeEnd, run_actor};
+use crate::classes::ClassActor;
+use crate::components::ComponentActor;
+use crate::forks::ForkActor;
 use crate::gates::Gate;
-use crate::stations::StationThread;
-use std::alloc::AllocError;
+use crate::hands::{ClassHands, ComponentHands, StationHands};
+use crate::hosts::Kind;
+use crate::rings::RingActor;
+use std::alloc::{AllocError, Global};
 use std::sync::Wait;
 use std::sync::ledger::Ledger;
 
-/// What a node's thread leaves.
-#[derive(Clone, Copy, Default)]
-pub(crate) struct NodeEnd {
-    pub(crate) turns: u64,
-    /// Of how many grants it went on to send the notifications.
-    pub(crate) told: u64,
-    /// How many messages it lost for want of memory.
-    pub(crate) lost: u64,
-    /// How many tokens and forks it sent.
-    pub(crate) passes: u64,
-    /// How many request tokens it sent.
-    pub(crate) asks: u64,
-    /// Whether its table wanted memory.
-    pub(crate) wanted_memory: bool,
-}
-
-/// A node with the ends that it holds.
+/// All nodes of a host.
 #[derive(Drop)]
-pub(crate) enum NodeThread<'h, 'p, 'm, L: Ledger> {
-    Component(ComponentThread<'h, 'p>),
-    Class(ClassThread<'h, 'p, 'm, L>),
-    Station(StationThread<'h, 'm>),
+pub(crate) struct Nodes<'h, 'p, 'm, 'g, L: Ledger, G> {
+    pub(crate) components: Vec<(ComponentActor<'p>, ComponentHands<'h>)>,
+    pub(crate) classes: Vec<(ClassActor<'p>, ClassHands<'h, 'm, 'g, 'p, L, G>)>,
+    pub(crate) stations: Stations<'h, 'm>,
 }
 
-impl<'h, 'p, 'm, L: Ledger> NodeThread<'h, 'p, 'm, L> {
+/// The stations of a host: those of its kind.
+#[derive(Drop)]
+pub(crate) enum Stations<'h, 'm> {
+    /// There are none: one table decides.
+    Central,
+    Ring(Vec<(RingActor, StationHands<'h, 'm>)>),
+    Forks(Vec<(ForkActor, StationHands<'h, 'm>)>),
+}
+
+/// A node, whichever it is.
+#[derive(Drop)]
+pub(crate) enum Node<'h, 'p, 'm, 'g, L: Ledger, G> {
+    Component(ComponentActor<'p>, ComponentHands<'h>),
+    Class(ClassActor<'p>, ClassHands<'h, 'm, 'g, 'p, L, G>),
+    Ring(RingActor, StationHands<'h, 'm>),
+    Forks(ForkActor, StationHands<'h, 'm>),
+}
+
+impl<'h, 'p, 'm, 'g, L: Ledger, G: Gate> Node<'h, 'p, 'm, 'g, L, G> {
     /// Makes so many turns, or fewer where the node ends before (docs/HOST.md, "Turns").
-    pub(crate) fn run<R: Wait, G: Gate>(self, rt: &R, gate: &G, turns: u32) -> NodeEnd {
+    pub(crate) fn run<R: Wait>(self, rt: &R, turns: u32) -> NodeEnd
+        ensures { result.turns ≤ turns }
+    {
         match self {
-            NodeThread::Component(component) => component.run(rt, turns),
-            NodeThread::Class(class) => class.run(rt, gate, turns),
-            NodeThread::Station(station) => station.run(rt, turns),
+            Node::Component(actor, hands) => run_actor(rt, actor, hands, turns),
+            Node::Class(actor, hands) => run_actor(rt, actor, hands, turns),
+            Node::Ring(actor, hands) => run_actor(rt, actor, hands, turns),
+            Node::Forks(actor, hands) => run_actor(rt, actor, hands, turns),
         }
     }
 }
 
+impl<'h, 'm> Stations<'h, 'm> {
+    /// Which kind of third layer they are of.
+    pub(crate) fn kind(&self) -> Kind
+        ensures { result ≡ kind_of self.now }
+    {
+        match self {
+            Stations::Central => Kind::Central,
+            Stations::Ring(_) => Kind::Ring,
+            Stations::Forks(_) => Kind::Forks,
+        }
+    }
+}
+
+impl<'h, 'p, 'm, 'g, L: Ledger, G: Gate> Nodes<'h, 'p, 'm, 'g, L, G> {
+    /// All nodes, one behind another.
+    pub(crate) fn into_list(
+        self,
+        alloc: Global,
+    ) -> Result<Vec<Node<'h, 'p, 'm, 'g, L, G>>, AllocError>
+        ensures { IfOk result (λ nodes. length nodes.items ≡ count_nodes self.entry) }
+    {
+        let Nodes {
+            components,
+            classes,
+            stations,
+        } = self;
+        let mut nodes = Vec::with_capacity(alloc, components.len())?;
+        add_components(&mut nodes, components)?;
+        add_classes(&mut nodes, classes)?;
+        add_stations(&mut nodes, stations)?;
+        Ok(nodes)
+    }
+}
+
 /// Nodes join others, behind them.
-pub(crate) fn add_components<'h, 'p, 'm, L: Ledger>(
-    nodes: &mut Vec<NodeThread<'h, 'p, 'm, L>>,
-    components: Vec<ComponentThread<'h, 'p>>,
-) -> Result<(), AllocError> {
-    for component in components {
-        nodes.push(NodeThread::Component(component))?;
+fn add_components<'h, 'p, 'm, 'g, L: Ledger, G: Gate>(
+    nodes: &mut Vec<Node<'h, 'p, 'm, 'g, L, G>>,
+    components: Vec<(ComponentActor<'p>, ComponentHands<'h>)>,
+) -> Result<(), AllocError>
+    ensures { OnOk result (length nodes.new.items
+        ≡ length nodes.old.items + length components.entry.items) }
+{
+    for (actor, hands) in components {
+        nodes.push(Node::Component(actor, hands))?;
     }
     Ok(())
 }
 
 /// Nodes join others, behind them.
-pub(crate) fn add_classes<'h, 'p, 'm, L: Ledger>(
-    nodes: &mut Vec<NodeThread<'h, 'p, 'm, L>>,
-    classes: Vec<ClassThread<'h, 'p, 'm, L>>,
-) -> Result<(), AllocError> {
-    for class in classes {
-        nodes.push(NodeThread::Class(class))?;
+fn add_classes<'h, 'p, 'm, 'g, L: Ledger, G: Gate>(
+    nodes: &mut Vec<Node<'h, 'p, 'm, 'g, L, G>>,
+    classes: Vec<(ClassActor<'p>, ClassHands<'h, 'm, 'g, 'p, L, G>)>,
+) -> Result<(), AllocError>
+    ensures { OnOk result (length nodes.new.items
+        ≡ length nodes.old.items + length classes.entry.items) }
+{
+    for (actor, hands) in classes {
+        nodes.push(Node::Class(actor, hands))?;
     }
     Ok(())
 }
 
 /// Nodes join others, behind them.
-pub(crate) fn add_stations<'h, 'p, 'm, L: Ledger>(
-    nodes: &mut Vec<NodeThread<'h, 'p, 'm, L>>,
-    stations: Vec<StationThread<'h, 'm>>,
-) -> Result<(), AllocError> {
-    for station in stations {
-        nodes.push(NodeThread::Station(station))?;
+fn add_stations<'h, 'p, 'm, 'g, L: Ledger, G: Gate>(
+    nodes: &mut Vec<Node<'h, 'p, 'm, 'g, L, G>>,
+    stations: Stations<'h, 'm>,
+) -> Result<(), AllocError>
+    ensures { OnOk result (length nodes.new.items
+        ≡ length nodes.old.items + count_stations stations.entry) }
+{
+    match stations {
+        Stations::Central => Ok(()),
+        Stations::Ring(stations) => add_ring(nodes, stations),
+        Stations::Forks(stations) => add_forks(nodes, stations),
+    }
+}
+
+/// Nodes join others, behind them.
+fn add_ring<'h, 'p, 'm, 'g, L: Ledger, G: Gate>(
+    nodes: &mut Vec<Node<'h, 'p, 'm, 'g, L, G>>,
+    stations: Vec<(RingActor, StationHands<'h, 'm>)>,
+) -> Result<(), AllocError>
+    ensures { OnOk result (length nodes.new.items
+        ≡ length nodes.old.items + length stations.entry.items) }
+{
+    for (actor, hands) in stations {
+        nodes.push(Node::Ring(actor, hands))?;
+    }
+    Ok(())
+}
+
+/// Nodes join others, behind them.
+fn add_forks<'h, 'p, 'm, 'g, L: Ledger, G: Gate>(
+    nodes: &mut Vec<Node<'h, 'p, 'm, 'g, L, G>>,
+    stations: Vec<(ForkActor, StationHands<'h, 'm>)>,
+) -> Result<(), AllocError>
+    ensures { OnOk result (length nodes.new.items
+        ≡ length nodes.old.items + length stations.entry.items) }
+{
+    for (actor, hands) in stations {
+        nodes.push(Node::Forks(actor, hands))?;
     }
     Ok(())
 }

@@ -1,57 +1,68 @@
-//! The stations of a ring.
-use crate::books::SharedBook;
-use crate::ends::{Intake, Outlet, Outlets};
-use crate::keepers::BookKeeper;
-use crate::mailboxes::Mailbox;
+//! The actor of a ring's station.
+ghost use Rattle.std.specs.Prelude.{◌≡◌};
+ghost use Rattle.bip_host.specs.Rings.{IsFirstRingActor, RingServes, RingTakes, handing_on};
+
+use crate::actors::{Actor, Step, Turn};
+use crate::counts::Counts;
 use crate::messages::{ToClass, ToStation};
 use crate::settled::Settled;
-use crate::starting::decided_at;
-use crate::stations::{Desk, StationThread, StationTurn};
-use bip_bank::Queue;
+use crate::stations::{Deciding, StationAct, StationAnswer, on_decided};
+use bip_bank::{Queue, StationId};
 use bip_model::Request;
-use bip_partition::Plan;
 use bip_ring::Token;
 use bip_table::TableFault;
-use std::alloc::{AllocError, Global};
-use std::sync::{Mutex, Wait};
+use std::alloc::Global;
+use std::mem;
 
-/// The writers of an inbox: the class of the station's interaction, and the station before it.
-const WRITERS: usize = 2;
-
-/// A station of a ring with the ends that it holds: its own inbox, and one of the next station; its
-/// open requests, the oldest first; and the token, while it has that.
+/// What the actor of a ring's station waits for.
 #[derive(Drop)]
-pub(crate) struct RingStation<'h, 'm> {
-    pub(crate) desk: Desk<'h, 'm>,
-    intake: Intake<'h, ToStation>,
-    next: Outlet<'h, ToStation>,
-    waiting: Queue<Request>,
-    token: Option<Settled<Token>>,
+pub(crate) enum RingStage {
+    /// Nothing.
+    Resting,
+    /// What comes of a decision.
+    Deciding(Deciding<Token>),
+    /// That the token is put for the next station.
+    Passing,
 }
 
-impl<'h, 'm> RingStation<'h, 'm> {
-    /// Takes at most one message; with the token, decides on the oldest open request, and hands the
-    /// token on.
-    pub(crate) fn turn<R: Wait>(&mut self, rt: &R) -> StationTurn {
-        let received = match self.intake.receive(rt) {
-            Some(message) => self.hear(message),
-            None => StationTurn::Nothing,
-        };
-        let Some(token) = self.token.take() else {
-            return received;
-        };
-        match self.serve(rt, token) {
-            Some(token) => self.hand_on(rt, token),
-            None => StationTurn::Over,
+/// The actor of a station of a ring, with its open requests, the oldest first, and the token, while
+/// it has that: it decides then on the oldest, and hands the token on to the next station
+/// (docs/HOST.md, "Actors").
+#[derive(Drop)]
+pub struct RingActor {
+    next: StationId,
+    waiting: Queue<Request>,
+    token: Option<Settled<Token>>,
+    stage: RingStage,
+    /// What its turn comes to so far.
+    turn: Turn,
+    counts: Counts,
+}
+
+impl RingActor {
+    /// The actor of a station without requests, behind which this one is the next, and which has
+    /// the token, or hasn't.
+    pub fn new(alloc: Global, next: StationId, token: Option<Settled<Token>>) -> RingActor
+        ensures { IsFirstRingActor next token result }
+    {
+        RingActor {
+            next,
+            waiting: Queue::new(alloc),
+            token,
+            stage: RingStage::Resting,
+            turn: Turn::Nothing,
+            counts: Counts::default(),
         }
     }
 
-    /// Hears a message. A request for which there is no memory is lost.
-    fn hear(&mut self, message: ToStation) -> StationTurn {
+    /// Takes a message. A request for which there is no memory is lost.
+    fn take(&mut self, message: ToStation)
+        ensures { RingTakes message self.old self.new }
+    {
         match message {
             ToStation::Asked(request) => {
                 if self.waiting.put_last(request).is_err() {
-                    self.desk.lose();
+                    self.counts.lose();
                 }
             }
             ToStation::Token(token) => self.token = Some(token),
@@ -59,84 +70,119 @@ impl<'h, 'm> RingStation<'h, 'm> {
             ToStation::Ask(_token) => {}
             ToStation::Fork(_fork) => {}
         }
-        StationTurn::Done
     }
 
-    /// Decides on the oldest open request, if there is one, and answers it. None where the station
-    /// ends: the book doesn't take the grant, memory is wanted for it, or no serial is left.
-    fn serve<R: Wait>(&mut self, rt: &R, token: Settled<Token>) -> Option<Settled<Token>> {
+    /// Decides on the oldest open request, if there is one; else hands the token on. It ends where
+    /// nothing is decided: memory is wanted for it, or no serial is left.
+    fn serve(&mut self, token: Settled<Token>) -> Step<StationAct>
+        ensures { RingServes token self.old result self.new }
+    {
         let Some(request) = self.waiting.take_first() else {
-            return Some(token);
+            return self.hand_on(token);
         };
         match token.decide(&request) {
-            Ok(decided) => self.desk.answer(rt, request, decided),
-            Err(fault) => {
-                if matches!(fault, TableFault::Memory) {
-                    self.desk.lack();
-                }
-                None
+            Ok(decided) => {
+                let (step, deciding) = on_decided(request, decided);
+                self.stage = RingStage::Deciding(deciding);
+                step
             }
+            Err(TableFault::Memory) => {
+                self.counts.lack();
+                Step::Over(Turn::Ends)
+            }
+            Err(_) => Step::Over(Turn::Ends),
         }
     }
 
-    /// Hands the token on to the next station. One that can't be put stays here.
-    fn hand_on<R: Wait>(&mut self, rt: &R, token: Settled<Token>) -> StationTurn {
-        match self.next.send(rt, ToStation::Token(token)) {
-            Some(ToStation::Token(token)) => {
+    /// Wants that the token is put for the next station.
+    fn hand_on(&mut self, token: Settled<Token>) -> Step<StationAct>
+        ensures step { result ≡ handing_on self.old token }
+        ensures actor { self.new ≡ record self.old { stage = RingStage.Passing } }
+    {
+        self.stage = RingStage::Passing;
+        Step::Act(StationAct::Share(self.next, ToStation::Token(token)))
+    }
+}
+
+impl Actor for RingActor {
+    ghost use Rattle.bip_host.specs.Actors.{IsAwaited};
+    ghost use Rattle.bip_host.specs.Rings.{RingAwaits, RingGoesOn, RingHears, RingStarts};
+    ghost use Rattle.bip_host.specs.Rings.{rank_ring};
+    ghost use Rattle.bip_host.specs.Stations.{StationFits};
+
+    type Heard = ToStation;
+
+    type Act = StationAct;
+
+    type Answer = StationAnswer;
+
+    ghost fits = { StationFits };
+
+    ghost awaits = { λ a act. RingAwaits a.next a.stage act };
+
+    ghost left = { λ a. rank_ring a.stage };
+
+    ghost starts = { RingStarts };
+
+    ghost hears = { RingHears };
+
+    ghost goes_on = { RingGoesOn };
+
+    fn start(&mut self) -> Step<StationAct> {
+        Step::Over(Turn::Nothing)
+    }
+
+    /// Takes a message; with the token, decides on the oldest open request, or hands the token on.
+    fn hear(&mut self, heard: Option<ToStation>) -> Step<StationAct>
+        ensures step { RingHears self.old heard result self.new }
+        ensures awaits { IsAwaited (λ act. RingAwaits self.new.next self.new.stage act) result }
+    {
+        self.turn = Turn::Nothing;
+        if let Some(message) = heard {
+            self.turn = Turn::Done;
+            self.take(message);
+        }
+        match self.token.take() {
+            Some(token) => self.serve(token),
+            None => Step::Over(self.turn),
+        }
+    }
+
+    /// Answers once its grant stands in the book, and hands the token on once it has answered. What
+    /// couldn't be put stays here.
+    fn go_on(&mut self, answer: StationAnswer) -> Step<StationAct> {
+        match (mem::replace(&mut self.stage, RingStage::Resting), answer) {
+            (
+                RingStage::Deciding(Deciding::Appending(unsettled, request, serial)),
+                StationAnswer::Appended(Some(entry)),
+            ) => {
+                let settled = unsettled.settle(&entry);
+                self.stage = RingStage::Deciding(Deciding::Answering(settled));
+                Step::Act(StationAct::Answer(ToClass::Granted {
+                    entry,
+                    request,
+                    serial,
+                }))
+            }
+            (RingStage::Deciding(Deciding::Appending(..)), StationAnswer::Appended(None)) =>
+                Step::Over(Turn::Ends),
+            (RingStage::Deciding(Deciding::Answering(token)), StationAnswer::Answered(posted)) => {
+                self.counts.post(posted);
+                self.hand_on(token)
+            }
+            (RingStage::Passing, StationAnswer::Shared(None)) => {
+                self.counts.pass();
+                Step::Over(Turn::Done)
+            }
+            (RingStage::Passing, StationAnswer::Shared(Some(ToStation::Token(token)))) => {
                 self.token = Some(token);
-                StationTurn::Nothing
+                Step::Over(Turn::Nothing)
             }
-            _ => {
-                self.desk.count_pass();
-                StationTurn::Done
-            }
+            _ => unreachable!(),
         }
     }
-}
 
-/// The inboxes of all stations of a ring.
-pub(crate) fn ring_mailboxes(
-    alloc: Global,
-    plan: &Plan,
-) -> Result<Vec<Mailbox<ToStation>>, AllocError> {
-    let mut mailboxes = Vec::new(alloc);
-    for _ in plan.stations() {
-        mailboxes.push(Mailbox::new(alloc, WRITERS)?)?;
+    fn counts(&self) -> Counts {
+        self.counts
     }
-    Ok(mailboxes)
-}
-
-/// The threads of all stations of a ring, each with its own inbox; the first one has the token.
-/// They stand by station.
-pub(crate) fn start_ring<'h, 'm>(
-    alloc: Global,
-    plan: &Plan,
-    book: &'h Mutex<SharedBook<'m>>,
-    intakes: Vec<Intake<'h, ToStation>>,
-    stations: &mut Outlets<'h, ToStation>,
-    classes: &mut Outlets<'h, ToClass>,
-) -> Result<Vec<StationThread<'h, 'm>>, AllocError> {
-    let count = intakes.len();
-    let mut token = Some(Settled::<Token>::first(alloc, plan)?);
-    let mut threads = Vec::with_capacity(alloc, count)?;
-    let mut number: usize = 0;
-    for intake in intakes {
-        let Some((_inter, class)) = decided_at(plan, number) else {
-            return Ok(threads);
-        };
-        let class = classes.take(class.0 as usize);
-        number = number.saturating_add(1);
-        let next = stations.take(if number < count { number } else { 0 });
-        let (Some(next), Some(class)) = (next, class) else {
-            return Ok(threads);
-        };
-        threads.push(StationThread::Ring(RingStation {
-            desk: Desk::of(class, BookKeeper::of(book)),
-            intake,
-            next,
-            waiting: Queue::new(alloc),
-            token: token.take(),
-        }))?;
-    }
-    Ok(threads)
 }

@@ -1,10 +1,16 @@
 //! What decides for a station, and when it may be handed on.
-ghost use Rattle.std.specs.Prelude.{◌≡◌, IfOk, Ok};
-ghost use Rattle.bip_host.specs.Settled.{IsAnswerOfTurn, IsAsServed, IsDecidedOn, IsOfDecision};
+ghost use Rattle.std.specs.Prelude.{◌≡◌, ◌↔◌, Err, IfErr, IfOk, IfSome, IsTrue, false, true};
+ghost use Rattle.bip_forks.specs.Opening.{IsNewStation};
+ghost use Rattle.bip_bank.specs.Opening.{IsOpening};
+ghost use Rattle.bip_forks.specs.Stations.{IsReadyToServe};
+ghost use Rattle.bip_host.specs.Settled.{IsAsServed, IsAskTaken, IsDecidedByToken, IsDecidedOn};
+ghost use Rattle.bip_host.specs.Settled.{IsForkLaid, IsOfDecision, IsSending, IsShareable};
+ghost use Rattle.bip_host.specs.Settled.{IsSubmitted, IsTakenBack, MayShare, decider_in};
 ghost use Rattle.bip_table.specs.Reservations.{IsTableAnswer};
-ghost use Rattle.bip_table.specs.declared.reservations.Decision.{Decision};
 
 use crate::books::{Entry, Mover};
+use crate::counts::Posted;
+use crate::messages::ToStation;
 use bip_bank::StationId;
 use bip_forks::{AskToken, Fork, Station};
 use bip_model::{CompId, InterId, Number, Request};
@@ -16,7 +22,7 @@ use std::alloc::{AllocError, Global};
 /// What decides on requests, and each of its grants stands in the book: so it may be handed on, and
 /// what it shares.
 #[derive(Drop)]
-pub(crate) struct Settled<T> {
+pub struct Settled<T> {
     decider: T,
 }
 
@@ -34,6 +40,7 @@ impl<T> Unsettled<T> {
     pub(crate) fn settle(self, _entry: &Entry) -> Settled<T>
         requires inter { _entry.now.inter ≡ self.inter }
         requires mover { _entry.now.mover ≡ self.mover }
+        ensures { result.decider ≡ self.decider }
     {
         Settled {
             decider: self.decider,
@@ -55,6 +62,7 @@ impl<T> Decided<T> {
     fn of(decider: T, request: &Request, decision: Decision) -> Decided<T>
         ensures on { IsDecidedOn request.now result }
         ensures so { IsOfDecision decision result }
+        ensures left { decider_in result ≡ decider }
     {
         let inter = request.inter;
         let mover = Mover::of(&request.wants);
@@ -76,18 +84,19 @@ impl<T> Decided<T> {
 
 impl Settled<Token> {
     /// The token of a plan's ring, which has granted nothing.
-    pub(crate) fn first(alloc: Global, plan: &Plan) -> Result<Settled<Token>, AllocError> {
+    pub fn first(alloc: Global, plan: &Plan) -> Result<Settled<Token>, AllocError>
+        ensures { IfOk result (λ settled. IsOpening plan.now 0 settled.decider.table) }
+    {
         let decider = Token::new(alloc, plan, 0)?;
         Ok(Settled { decider })
     }
 
-    /// Decides on a request. Where nothing is decided, the token goes with it.
+    /// Decides on a request, as the token's table does. Where nothing is decided, the token goes
+    /// with it.
     pub(crate) fn decide(self, request: &Request) -> Result<Decided<Token>, TableFault>
-        ensures on { IfOk result (IsDecidedOn request.now) }
-        // It is what the token's table answers.
-        ensures so { IfOk result (λ decided. (decision : Decision)
-            × IsTableAnswer self.decider.table request.now.wants (Ok decision)
-            × IsOfDecision decision decided) }
+        ensures decided { IfOk result (IsDecidedByToken self.decider request.now) }
+        ensures fault { IfErr result (λ why.
+            IsTableAnswer self.decider.table request.now.wants (Err why)) }
     {
         let Settled { mut decider } = self;
         let decision = decider.decide(request)?;
@@ -106,51 +115,92 @@ pub(crate) enum Served {
 
 impl Settled<Station> {
     /// The station of a plan with this number, if the plan has it, which has granted nothing.
-    pub(crate) fn first(
+    pub fn first(
         alloc: Global,
         plan: &Plan,
         number: StationId,
-    ) -> Result<Option<Settled<Station>>, AllocError> {
-        let made = Station::new(alloc, plan, number, 0)?;
-        Ok(made.map(|decider| Settled { decider }))
+    ) -> Result<Option<Settled<Station>>, AllocError>
+        ensures { IfOk result (λ made. IfSome made (λ settled.
+            IsNewStation plan.now 0 number.0 settled.decider)) }
+    {
+        match Station::new(alloc, plan, number, 0)? {
+            Some(decider) => Ok(Some(Settled { decider })),
+            None => Ok(None),
+        }
     }
 
-    /// Makes a request the newest open one, and says whether it is lost.
-    pub(crate) fn submit(&mut self, request: Request) -> bool {
-        self.decider.submit(request).is_err()
+    /// Makes a request the newest open one, where there is memory.
+    pub(crate) fn submit(&mut self, request: Request) -> Posted
+        ensures { IsSubmitted request self.old.decider result self.new.decider }
+    {
+        match self.decider.submit(request) {
+            Ok(()) => Posted::Sent,
+            Err(_) => Posted::Lost,
+        }
     }
 
     /// Takes a request token, if it is one that the station can take.
-    pub(crate) fn take_ask(&mut self, token: AskToken) {
+    pub(crate) fn take_ask(&mut self, token: AskToken)
+        ensures { IsAskTaken token self.old.decider self.new.decider }
+    {
         let _refused = self.decider.take_ask(token);
     }
 
-    /// Takes a fork, if it is one that the station can take.
-    pub(crate) fn take_fork(&mut self, fork: Fork) {
+    /// Takes a fork, which is clean then, if it is one that the station can take.
+    pub(crate) fn take_fork(&mut self, fork: Fork)
+        ensures { IsForkLaid fork true self.old.decider self.new.decider }
+    {
         let _refused = self.decider.take_fork(fork);
     }
 
-    /// Lays a fork that couldn't be sent back.
-    pub(crate) fn lay_back(&mut self, fork: Fork) {
+    /// Takes back what couldn't be sent: a fork, which is dirty then, or a request token.
+    pub(crate) fn take_back(&mut self, message: ToStation)
+        requires { IsShareable message }
+        ensures { IsTakenBack message self.old.decider self.new.decider }
+    {
+        match message {
+            ToStation::Fork(fork) => self.lay_back(fork),
+            ToStation::Ask(token) => self.take_ask(token),
+            _ => unreachable!(),
+        }
+    }
+
+    /// Lays a fork back that couldn't be sent: it is dirty.
+    fn lay_back(&mut self, fork: Fork)
+        ensures { IsForkLaid fork false self.old.decider self.new.decider }
+    {
         let _refused = self.decider.back(fork);
     }
 
-    /// The fork shared with another station, where it may be sent.
-    pub(crate) fn pass(&mut self, other: StationId) -> Option<Fork> {
-        self.decider.pass(other)
+    /// Whether something may be sent to another station: the fork that they share, or its request
+    /// token.
+    pub(crate) fn may_share(&self, other: StationId) -> bool
+        ensures { IsTrue result ↔ MayShare self.now.decider other }
+    {
+        self.decider.may_pass(other) || self.decider.may_ask(other)
     }
 
-    /// The request token of the fork shared with another station, where it may be sent.
-    pub(crate) fn ask(&mut self, other: StationId) -> Option<AskToken> {
-        self.decider.ask(other)
+    /// What is sent to another station: the fork that they share, where it may be, and else its
+    /// request token.
+    pub(crate) fn share(&mut self, other: StationId) -> ToStation
+        requires { MayShare self.old.decider other }
+        ensures { IsSending other self.old.decider result self.new.decider }
+    {
+        if let Some(fork) = self.decider.pass(other) {
+            return ToStation::Fork(fork);
+        }
+        match self.decider.ask(other) {
+            Some(token) => ToStation::Ask(token),
+            None => unreachable!(),
+        }
     }
 
     /// Decides on the oldest open request, where the station has all its forks. Where memory is
     /// wanted, the station goes with it.
     pub(crate) fn serve(self) -> Result<Served, AllocError>
-        ensures on { IfOk result IsAnswerOfTurn }
         // It is what the station decides on its oldest open request.
-        ensures so { IfOk result (IsAsServed self.decider) }
+        ensures served { IfOk result (IsAsServed self.decider) }
+        ensures lacks { IfErr result (λ why. IsReadyToServe self.decider) }
     {
         let Settled { mut decider } = self;
         match decider.serve()? {

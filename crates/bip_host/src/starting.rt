@@ -1,34 +1,38 @@
 //! How the nodes of a host begin: the inboxes, and each node with its ends.
-ghost use Rattle.std.specs.Prelude.{◌≡◌, ◌<◌, IfOk, length};
+ghost use Rattle.std.specs.Prelude.{◌≡◌, ◌≤◌, IfOk, IfSome, length};
+ghost use Rattle.bip_model.specs.Partitions.{class_in};
 
+use crate::addressed::Addressed;
 use crate::books::SharedBook;
-use crate::classes::ClassThread;
-use crate::components::ComponentThread;
-use crate::ends::{Intake, Outlet, Outlets};
+use crate::classes::ClassActor;
+use crate::components::ComponentActor;
+use crate::ends::{Intake, Outlets};
+use crate::gates::Gate;
+use crate::hands::{ClassHands, ComponentHands};
 use crate::inboxes::Inbox;
 use crate::keepers::BookKeeper;
 use crate::layers::Layers;
 use crate::mailboxes::Mailbox;
-use crate::messages::ToClass;
-use crate::nodes::NodeEnd;
-use bip_component::SrComponent;
-use bip_ip::IpNode;
+use crate::messages::{ToClass, ToStation};
 use bip_model::{ClassId, CompId, InterId, Notify};
 use bip_partition::Plan;
+use bip_table::TableLock;
 use std::alloc::{AllocError, Global};
 use std::sync::Mutex;
 use std::sync::ledger::Ledger;
 
-/// What the nodes of all hosts share, in one place, so that they borrow it for one lifetime; and
-/// what those of this kind share beside.
+/// What the nodes of a host share, in one place, so that they borrow it for one lifetime.
 #[derive(Drop)]
-pub(crate) struct Commons<'m, S> {
-    pub(crate) shared: S,
+pub(crate) struct Commons<'m, L: Ledger> {
+    /// The locked table, where one table decides.
+    pub(crate) table: Option<TableLock<L>>,
     pub(crate) book: Mutex<SharedBook<'m>>,
     /// By class: what components offer it, and stations answer it.
     pub(crate) offers: Vec<Inbox<ToClass>>,
     /// By component: what classes notify it of.
     pub(crate) notices: Vec<Inbox<Notify>>,
+    /// By station: what its class asks it, and stations hand on to it.
+    pub(crate) shares: Vec<Inbox<ToStation>>,
 }
 
 /// The inboxes of all classes: each has a writer for each component that the class touches, and for
@@ -37,7 +41,9 @@ pub(crate) fn class_mailboxes(
     alloc: Global,
     plan: &Plan,
     has_stations: bool,
-) -> Result<Vec<Mailbox<ToClass>>, AllocError> {
+) -> Result<Vec<Mailbox<ToClass>>, AllocError>
+    ensures { IfOk result (λ boxes. length boxes.items ≡ length plan.now.classes.members) }
+{
     let mut mailboxes = Vec::new(alloc);
     for number in 0..plan.classes().len() {
         let class = ClassId(number as u16);
@@ -53,18 +59,22 @@ pub(crate) fn class_mailboxes(
 }
 
 /// How many components a class touches.
-fn count_touched(plan: &Plan, class: ClassId) -> usize {
+fn count_touched(plan: &Plan, class: ClassId) -> usize
+    ensures { result ≤ length plan.now.model.components }
+{
     let mut count: usize = 0;
     for number in 0..plan.model().components().len() {
         if plan.class_touches(class, CompId(number as u16)) {
-            count = count.saturating_add(1);
+            count += 1;
         }
     }
     count
 }
 
 /// The interaction that the station with a number decides for, and its class, if there is one.
-pub(crate) fn decided_at(plan: &Plan, number: usize) -> Option<(InterId, ClassId)> {
+pub(crate) fn decided_at(plan: &Plan, number: usize) -> Option<(InterId, ClassId)>
+    ensures { IfSome result (λ found. found.1.0 ≡ class_in plan.now.classes found.0.0) }
+{
     let inter = *plan.stations().get(number)?;
     if plan.model().interactions().len() <= usize::from(inter.0) {
         return None;
@@ -76,7 +86,9 @@ pub(crate) fn decided_at(plan: &Plan, number: usize) -> Option<(InterId, ClassId
 pub(crate) fn component_mailboxes(
     alloc: Global,
     plan: &Plan,
-) -> Result<Vec<Mailbox<Notify>>, AllocError> {
+) -> Result<Vec<Mailbox<Notify>>, AllocError>
+    ensures { IfOk result (λ boxes. length boxes.items ≡ length plan.now.model.components) }
+{
     let mut mailboxes = Vec::new(alloc);
     for number in 0..plan.model().components().len() {
         let count = plan.classes_of(CompId(number as u16)).len();
@@ -85,29 +97,27 @@ pub(crate) fn component_mailboxes(
     Ok(mailboxes)
 }
 
-/// The threads of all components, each with its own inbox: they stand by component.
+/// The nodes of all components, each with its own inbox: they stand by component.
 pub(crate) fn start_components<'h, 'p>(
     alloc: Global,
     plan: &'p Plan,
     intakes: Vec<Intake<'h, Notify>>,
     offers: &mut Outlets<'h, ToClass>,
-) -> Result<Vec<ComponentThread<'h, 'p>>, AllocError> {
-    let mut threads = Vec::with_capacity(alloc, intakes.len())?;
-    let mut number: usize = 0;
+) -> Result<Vec<(ComponentActor<'p>, ComponentHands<'h>)>, AllocError> {
+    let mut nodes = Vec::with_capacity(alloc, intakes.len())?;
     for intake in intakes {
+        let number = nodes.len();
         if number >= plan.model().components().len() {
-            return Ok(threads);
+            return Ok(nodes);
         }
         let comp = CompId(number as u16);
-        threads.push(ComponentThread {
-            node: SrComponent::start(plan, comp, 0),
-            intake,
-            outlets: class_outlets(alloc, plan.classes_of(comp), offers)?,
-            lost: 0,
-        })?;
-        number += 1;
+        let classes = class_outlets(alloc, plan.classes_of(comp), offers)?;
+        nodes.push((
+            ComponentActor::new(plan, comp),
+            ComponentHands { intake, classes },
+        ))?;
     }
-    Ok(threads)
+    Ok(nodes)
 }
 
 /// An outlet to each of these classes.
@@ -115,49 +125,49 @@ fn class_outlets<'h>(
     alloc: Global,
     classes: &[ClassId],
     offers: &mut Outlets<'h, ToClass>,
-) -> Result<Vec<Outlet<'h, ToClass>>, AllocError> {
-    let mut outlets = Vec::with_capacity(alloc, classes.len())?;
+) -> Result<Addressed<'h, ToClass>, AllocError>
+    ensures { IfOk result (λ outlets. outlets.inboxes.now ≡ offers.old.inboxes.now) }
+{
+    let mut outlets = Addressed::new(alloc, offers.inboxes());
     for class in classes {
-        if let Some(outlet) = offers.take(class.0 as usize) {
-            outlets.push(outlet)?;
+        let number = class.0 as usize;
+        if let Some(outlet) = offers.take(number) {
+            outlets.add(number, outlet)?;
         }
     }
     Ok(outlets)
 }
 
-/// The threads of all classes, each with its own inbox and of whom it asks: they stand by class.
-pub(crate) fn start_classes<'h, 'p, 'm, L: Ledger>(
+/// The nodes of all classes, each with its own inbox and of whom it asks: they stand by class.
+pub(crate) fn start_classes<'h, 'p, 'm, 'g, L: Ledger, G: Gate>(
     alloc: Global,
     plan: &'p Plan,
     book: &'h Mutex<SharedBook<'m>>,
     intakes: Vec<Intake<'h, ToClass>>,
     notices: &mut Outlets<'h, Notify>,
-    mut layers: Layers<'h, L>,
-) -> Result<Vec<ClassThread<'h, 'p, 'm, L>>, AllocError> {
-    let mut threads = Vec::with_capacity(alloc, intakes.len())?;
-    let mut number: usize = 0;
+    mut layers: Layers<'h, 'p, L>,
+    gate: &'g G,
+) -> Result<Vec<(ClassActor<'p>, ClassHands<'h, 'm, 'g, 'p, L, G>)>, AllocError> {
+    let mut nodes = Vec::with_capacity(alloc, intakes.len())?;
     for intake in intakes {
+        let number = nodes.len();
         if number >= plan.classes().len() {
-            return Ok(threads);
+            return Ok(nodes);
         }
         let class = ClassId(number as u16);
         let Some(layer) = layers.of_class(alloc, plan, class)? else {
-            return Ok(threads);
+            return Ok(nodes);
         };
-        threads.push(ClassThread {
-            node: IpNode::new(alloc, plan, class, 0, 1)?,
-            class,
-            inters: plan.classes().members(class),
-            next: 0,
+        let hands = ClassHands {
             intake,
-            outlets: component_outlets(alloc, plan, class, notices)?,
+            components: component_outlets(alloc, plan, class, notices)?,
             layer,
             keeper: BookKeeper::of(book),
-            end: NodeEnd::default(),
-        })?;
-        number += 1;
+            gate,
+        };
+        nodes.push((ClassActor::new(alloc, plan, class)?, hands))?;
     }
-    Ok(threads)
+    Ok(nodes)
 }
 
 /// An outlet to each component that a class touches, by component.
@@ -166,13 +176,14 @@ fn component_outlets<'h>(
     plan: &Plan,
     class: ClassId,
     notices: &mut Outlets<'h, Notify>,
-) -> Result<Vec<(CompId, Outlet<'h, Notify>)>, AllocError> {
-    let mut outlets = Vec::new(alloc);
+) -> Result<Addressed<'h, Notify>, AllocError>
+    ensures { IfOk result (λ outlets. outlets.inboxes.now ≡ notices.old.inboxes.now) }
+{
+    let mut outlets = Addressed::new(alloc, notices.inboxes());
     for number in 0..plan.model().components().len() {
-        let comp = CompId(number as u16);
-        if plan.class_touches(class, comp) {
+        if plan.class_touches(class, CompId(number as u16)) {
             if let Some(outlet) = notices.take(number) {
-                outlets.push((comp, outlet))?;
+                outlets.add(number, outlet)?;
             }
         }
     }

@@ -1,168 +1,77 @@
-//! What the threads of all stations have and do, and the thread of one.
+//! What the actors of all stations want and hear, and how they answer what they decided.
 ghost use Rattle.std.specs.Prelude.{◌≡◌};
-ghost use Rattle.bip_host.specs.Settled.{IsDecidedOn, IsUnsettledBy};
+ghost use Rattle.bip_host.specs.Stations.{deciding_on, on_decided};
 
-use crate::ends::Outlet;
-use crate::forks::ForkStation;
-use crate::keepers::BookKeeper;
-use crate::messages::ToClass;
-use crate::nodes::NodeEnd;
-use crate::rests::Rest;
-use crate::rings::RingStation;
+use crate::actors::Step;
+use crate::books::Entry;
+use crate::counts::Posted;
+use crate::messages::{ToClass, ToStation};
 use crate::settled::{Decided, Settled, Unsettled};
-use bip_model::{CompId, Grant, Number, Reply, Request};
-use std::sync::Wait;
+use bip_bank::StationId;
+use bip_model::{Grant, Reply, Request};
 
-/// What a turn of a station comes to.
-#[derive(Clone, Copy, PartialEq, Eq)]
-pub(crate) enum StationTurn {
-    Done,
-    Nothing,
-    /// The station ends.
-    Over,
-}
-
-/// A station that runs: of a ring, or one that shares forks.
+/// What the actor of a station wants.
 #[derive(Drop)]
-pub(crate) enum StationThread<'h, 'm> {
-    Ring(RingStation<'h, 'm>),
-    Forks(ForkStation<'h, 'm>),
+pub enum StationAct {
+    /// That this grant is appended to the book.
+    Append(Grant),
+    /// That this is put for the class of its interaction.
+    Answer(ToClass),
+    /// That this is put for another station.
+    Share(StationId, ToStation),
 }
 
-impl<'h, 'm> StationThread<'h, 'm> {
-    /// Makes so many turns, or fewer where the station ends before (docs/HOST.md, "Turns").
-    pub(crate) fn run<R: Wait>(mut self, rt: &R, turns: u32) -> NodeEnd {
-        let mut rest = Rest::new();
-        let mut made: u64 = 0;
-        for _ in 0..turns {
-            made = made.saturating_add(1);
-            match self.turn(rt) {
-                StationTurn::Done => {}
-                StationTurn::Nothing => rest.give_way(),
-                StationTurn::Over => break,
-            }
-        }
-        let desk = match self {
-            StationThread::Ring(station) => station.desk,
-            StationThread::Forks(station) => station.desk,
-        };
-        desk.end_after(made)
-    }
-
-    fn turn<R: Wait>(&mut self, rt: &R) -> StationTurn {
-        match self {
-            StationThread::Ring(station) => station.turn(rt),
-            StationThread::Forks(station) => station.turn(rt),
-        }
-    }
-}
-
-/// Where a station answers its class: an end of the class's inbox, and its keeper.
+/// What the actor of a station hears of its act.
 #[derive(Drop)]
-pub(crate) struct Desk<'h, 'm> {
-    class: Outlet<'h, ToClass>,
-    keeper: BookKeeper<'h, 'm>,
-    end: NodeEnd,
+pub enum StationAnswer {
+    /// The grant stands in the book, or can't be next there.
+    Appended(Option<Entry>),
+    /// The answer is put, or lost.
+    Answered(Posted),
+    /// What was put for another station, or comes back where there was no memory for it.
+    Shared(Option<ToStation>),
 }
 
-impl<'h, 'm> Desk<'h, 'm> {
-    pub(crate) fn of(class: Outlet<'h, ToClass>, keeper: BookKeeper<'h, 'm>) -> Desk<'h, 'm> {
-        Desk {
-            class,
-            keeper,
-            end: NodeEnd::default(),
+/// What a station waits for that decided on a request.
+#[derive(Drop)]
+pub(crate) enum Deciding<T> {
+    /// That its grant is appended, of the request with this number, with this serial.
+    Appending(Unsettled<T>, u64, u64),
+    /// That its answer is put.
+    Answering(Settled<T>),
+}
+
+/// What a station wants that decided on a request: that its grant is appended, or that its refusal
+/// is put; and what it waits for.
+pub(crate) fn on_decided<T>(
+    request: Request,
+    decided: Decided<T>,
+) -> (Step<StationAct>, Deciding<T>)
+    ensures step { result.0 ≡ on_decided request decided }
+    ensures deciding { result.1 ≡ deciding_on request decided }
+{
+    match decided {
+        Decided::Granted(unsettled, serial) => {
+            let deciding = Deciding::Appending(unsettled, request.request, serial);
+            let grant = Grant {
+                inter: request.inter,
+                wants: request.wants,
+            };
+            (Step::Act(StationAct::Append(grant)), deciding)
         }
-    }
-
-    /// Counts a message that is lost.
-    pub(crate) fn lose(&mut self) {
-        self.end.lost = self.end.lost.saturating_add(1);
-    }
-
-    /// Counts a token or a fork that is sent.
-    pub(crate) fn count_pass(&mut self) {
-        self.end.passes = self.end.passes.saturating_add(1);
-    }
-
-    /// Counts a request token that is sent.
-    pub(crate) fn count_ask(&mut self) {
-        self.end.asks = self.end.asks.saturating_add(1);
-    }
-
-    /// Notes that memory was wanted.
-    pub(crate) fn lack(&mut self) {
-        self.end.wanted_memory = true;
-    }
-
-    fn end_after(self, turns: u64) -> NodeEnd {
-        let Desk { end, .. } = self;
-        NodeEnd { turns, ..end }
-    }
-
-    /// Answers a request that was decided on: a grant once it stands in the book, by which is
-    /// settled what decided. None where the book doesn't take it: the station ends.
-    pub(crate) fn answer<R: Wait, T: Drop>(
-        &mut self,
-        rt: &R,
-        request: Request,
-        decided: Decided<T>,
-    ) -> Option<Settled<T>>
-        requires { IsDecidedOn request decided }
-    {
-        match decided {
-            Decided::Granted(unsettled, serial) => self.grant(rt, request, unsettled, serial),
-            Decided::Refused(settled, comp, used) => {
-                self.refuse(rt, &request, comp, used);
-                Some(settled)
-            }
-        }
-    }
-
-    /// Appends a grant to the book, and tells the class of it.
-    fn grant<R: Wait, T: Drop>(
-        &mut self,
-        rt: &R,
-        request: Request,
-        unsettled: Unsettled<T>,
-        serial: u64,
-    ) -> Option<Settled<T>>
-        requires { IsUnsettledBy request unsettled }
-    {
-        let number = request.request;
-        let grant = Grant {
-            inter: request.inter,
-            wants: request.wants,
-        };
-        let entry = self.keeper.append(rt, grant)?;
-        let settled = unsettled.settle(&entry);
-        self.send(
-            rt,
-            ToClass::Granted {
-                entry,
-                request: number,
-                serial,
-            },
-        );
-        Some(settled)
-    }
-
-    /// Tells the class that its request is refused.
-    fn refuse<R: Wait>(&mut self, rt: &R, request: &Request, comp: CompId, used: Number) {
-        self.send(
-            rt,
-            ToClass::Refused(Reply::Refused {
+        Decided::Refused(settled, comp, used) => {
+            let reply = Reply::Refused {
                 class: request.class,
                 request: request.request,
                 inter: request.inter,
                 comp,
                 used,
-            }),
-        );
-    }
-
-    fn send<R: Wait>(&mut self, rt: &R, message: ToClass) {
-        if self.class.send(rt, message).is_some() {
-            self.lose();
+            };
+            let answer = ToClass::Refused(reply);
+            (
+                Step::Act(StationAct::Answer(answer)),
+                Deciding::Answering(settled),
+            )
         }
     }
 }

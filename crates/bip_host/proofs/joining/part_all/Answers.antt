@@ -1,5 +1,5 @@
 use Rattle.bip_host.proofs.MailboxLemmas.{ends_push}
-use Rattle.bip_host.proofs.ends.part_all.Goals as goal
+use Rattle.bip_host.proofs.joining.part_all.Goals as goal
 
 pub loop-mailbox-preserved : goal.loop-mailbox-preserved
 loop-mailbox-preserved g c =

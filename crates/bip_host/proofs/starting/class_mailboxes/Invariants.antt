@@ -1,0 +1,6 @@
+use Rattle.std.specs.Prelude.{◌≡◌, length}
+use Rattle.bip_host.proofs.starting.class_mailboxes.Given as goal
+
+abbrev pub invariant-loop-number : goal.invariant-loop-number
+invariant-loop-number l =
+    length l.mailboxes.items ≡ l.number

@@ -1,0 +1,143 @@
+//! Actors: nodes as plain states, whose turns are chains of acts; and the loop that lends them its
+//! hands.
+ghost use Rattle.std.specs.Prelude.{◌≤◌, ◌<◌};
+ghost use Rattle.bip_host.specs.Actors.{IsAwaited};
+
+use crate::counts::Counts;
+use crate::rests::Rest;
+use std::sync::Wait;
+
+/// What an actor does next.
+#[derive(Drop)]
+pub enum Step<A> {
+    /// This act, whose answer it waits for.
+    Act(A),
+    /// Nothing more in this turn.
+    Over(Turn),
+}
+
+/// What a turn comes to.
+#[derive(Clone, Copy, Debug, PartialEq, Eq)]
+pub enum Turn {
+    Done,
+    Nothing,
+    /// The node ends.
+    Ends,
+}
+
+/// A node as a plain state: it holds no inbox, no lock and no gate. Its turn is a chain of steps:
+/// it hears a message or none, and wants an act; it hears that act's answer, and wants the next
+/// one, until its turn is over (docs/HOST.md, "Actors").
+pub trait Actor {
+    ghost use Rattle.std.specs.Prelude.{◌<◌, ℕ, Option};
+    ghost use Rattle.bip_host.specs.Actors.{IsAwaited};
+    ghost use Rattle.bip_host.specs.declared.counts.Counts.{Counts};
+    ghost use Rattle.bip_host.specs.declared.actors.Step.{Step};
+
+    type Heard;
+
+    type Act;
+
+    type Answer;
+
+    /// Which answers an act can have.
+    ghost fits: { Self.Act → Self.Answer → Type 0 };
+
+    /// Whether an actor waits for an act's answer.
+    ghost awaits: { Self → Self.Act → Type 0 };
+
+    /// More than how many acts an actor can't want any more in its turn.
+    ghost left: { Self → ℕ };
+
+    /// Actor, step, actor: what the start may make of it.
+    ghost starts: { Self → Step Self.Act → Self → Type 0 };
+
+    /// Actor, message, step, actor: what a turn's first step may make of it.
+    ghost hears: { Self → Option Self.Heard → Step Self.Act → Self → Type 0 };
+
+    /// Actor, answer, step, actor: what a later step may make of it.
+    ghost goes_on: { Self → Self.Answer → Step Self.Act → Self → Type 0 };
+
+    /// What it does before its first turn.
+    fn start(&mut self) -> Step<Self::Act>
+        ensures step { starts self.old result self.new }
+        ensures awaits { IsAwaited (awaits self.new) result };
+
+    /// Hears at most one message.
+    fn hear(&mut self, heard: Option<Self::Heard>) -> Step<Self::Act>
+        ensures step { hears self.old heard result self.new }
+        ensures awaits { IsAwaited (awaits self.new) result };
+
+    /// Hears the answer of the act that it waits for.
+    fn go_on(&mut self, answer: Self::Answer) -> Step<Self::Act>
+        requires { (act : Self.Act) × awaits self.old act × fits act answer }
+        ensures step { goes_on self.old answer result self.new }
+        ensures awaits { IsAwaited (awaits self.new) result }
+        ensures fewer { left self.new < left self.old };
+
+    /// What it has counted so far.
+    fn counts(&self) -> Counts;
+}
+
+/// What an actor hears with, and acts with: inboxes, the third layer, the book, a gate.
+pub trait Hands<A: Actor> {
+    /// The next message, if there is one.
+    fn receive<R: Wait>(&mut self, rt: &R) -> Option<A::Heard>;
+
+    /// Does an act, and gives its answer.
+    fn act<R: Wait>(&mut self, rt: &R, act: A::Act) -> A::Answer
+        ensures { A.fits act result };
+}
+
+/// What a node's thread leaves: how many turns it made, and what it counted.
+#[derive(Clone, Copy, Default)]
+pub struct NodeEnd {
+    pub turns: u64,
+    pub counts: Counts,
+}
+
+/// Starts an actor, and makes so many turns, or fewer where it ends before (docs/HOST.md, "Turns").
+pub fn run_actor<A: Actor + Drop, H: Hands<A> + Drop, R: Wait>(
+    rt: &R,
+    mut actor: A,
+    mut hands: H,
+    turns: u32,
+) -> NodeEnd
+    ensures { result.turns ≤ turns }
+{
+    let first = actor.start();
+    let _begun = finish(rt, &mut actor, &mut hands, first);
+    let mut rest = Rest::new();
+    let mut made = 0;
+    for number in 0..turns {
+        made = u64::from(number) + 1;
+        let heard = hands.receive(rt);
+        let step = actor.hear(heard);
+        match finish(rt, &mut actor, &mut hands, step) {
+            Turn::Done => {}
+            Turn::Nothing => rest.give_way(),
+            Turn::Ends => break,
+        }
+    }
+    NodeEnd {
+        turns: made,
+        counts: actor.counts(),
+    }
+}
+
+/// Does what an actor wants, until its turn is over, and says what that came to.
+fn finish<A: Actor, H: Hands<A>, R: Wait>(
+    rt: &R,
+    actor: &mut A,
+    hands: &mut H,
+    mut step: Step<A::Act>,
+) -> Turn
+    requires { IsAwaited (A.awaits actor.old) step }
+{
+    loop {
+        match step {
+            Step::Over(turn) => return turn,
+            Step::Act(act) => step = actor.go_on(hands.act(rt, act)),
+        }
+    }
+}

@@ -1,0 +1,127 @@
+//! What actors of a host hear with and act with: inboxes, the third layer, the locked book, a gate.
+ghost use Rattle.bip_host.specs.Classes.{ClassFits};
+ghost use Rattle.bip_host.specs.Components.{ComponentFits};
+ghost use Rattle.bip_host.specs.Stations.{StationFits};
+
+use crate::actors::Hands;
+use crate::addressed::{Addressed, posted};
+use crate::classes::{ClassAct, ClassActor, ClassAnswer};
+use crate::components::{ComponentActor, Offering};
+use crate::counts::Posted;
+use crate::ends::{Intake, Outlet};
+use crate::forks::ForkActor;
+use crate::gates::Gate;
+use crate::keepers::BookKeeper;
+use crate::layers::ThirdLayer;
+use crate::messages::{ToClass, ToStation};
+use crate::rings::RingActor;
+use crate::stations::{StationAct, StationAnswer};
+use bip_model::Notify;
+use std::sync::Wait;
+use std::sync::ledger::Ledger;
+
+/// What a component's actor hears with and acts with: its own inbox, and one of each class that
+/// touches it.
+#[derive(Drop)]
+pub(crate) struct ComponentHands<'h> {
+    pub(crate) intake: Intake<'h, Notify>,
+    pub(crate) classes: Addressed<'h, ToClass>,
+}
+
+impl<'h, 'p> Hands<ComponentActor<'p>> for ComponentHands<'h> {
+    fn receive<R: Wait>(&mut self, rt: &R) -> Option<Notify> {
+        self.intake.receive(rt)
+    }
+
+    fn act<R: Wait>(&mut self, rt: &R, act: Offering) -> Posted
+        ensures { ComponentFits act result }
+    {
+        let offer = ToClass::Offer(act.offer);
+        posted(&self.classes.send(rt, act.class.0 as usize, offer))
+    }
+}
+
+/// What a class's actor hears with and acts with: its own inbox, and one of each component that it
+/// touches; of whom it asks for reserved interactions; its keeper, and the gate.
+#[derive(Drop)]
+pub(crate) struct ClassHands<'h, 'm, 'g, 'p, L: Ledger, G> {
+    pub(crate) intake: Intake<'h, ToClass>,
+    pub(crate) components: Addressed<'h, Notify>,
+    pub(crate) layer: ThirdLayer<'h, 'p, L>,
+    pub(crate) keeper: BookKeeper<'h, 'm>,
+    pub(crate) gate: &'g G,
+}
+
+impl<'h, 'm, 'g, 'p, L: Ledger, G: Gate> Hands<ClassActor<'p>>
+    for ClassHands<'h, 'm, 'g, 'p, L, G> {
+    fn receive<R: Wait>(&mut self, rt: &R) -> Option<ToClass> {
+        self.intake.receive(rt)
+    }
+
+    fn act<R: Wait>(&mut self, rt: &R, act: ClassAct) -> ClassAnswer
+        ensures { ClassFits act result }
+    {
+        match act {
+            ClassAct::Append(grant) => ClassAnswer::Appended(self.keeper.append(rt, grant)),
+            ClassAct::Ask(request) => self.layer.ask(rt, request, &mut self.keeper),
+            ClassAct::Pass(at) => {
+                self.gate.pass(rt, at);
+                ClassAnswer::Passed
+            }
+            ClassAct::Tell(notify) => {
+                let back = self.components.send(rt, notify.comp.0 as usize, notify);
+                ClassAnswer::Told(posted(&back))
+            }
+        }
+    }
+}
+
+/// What a station's actor hears with and acts with: its own inbox, one of the class of its
+/// interaction, and one of each station with which it shares something; and its keeper.
+#[derive(Drop)]
+pub(crate) struct StationHands<'h, 'm> {
+    pub(crate) intake: Intake<'h, ToStation>,
+    pub(crate) class: Outlet<'h, ToClass>,
+    pub(crate) stations: Addressed<'h, ToStation>,
+    pub(crate) keeper: BookKeeper<'h, 'm>,
+}
+
+impl<'h, 'm> StationHands<'h, 'm> {
+    fn act_for<R: Wait>(&mut self, rt: &R, act: StationAct) -> StationAnswer
+        ensures { StationFits act result }
+    {
+        match act {
+            StationAct::Append(grant) => StationAnswer::Appended(self.keeper.append(rt, grant)),
+            StationAct::Answer(message) => {
+                StationAnswer::Answered(posted(&self.class.send(rt, message)))
+            }
+            StationAct::Share(to, message) => {
+                StationAnswer::Shared(self.stations.send(rt, to.0 as usize, message))
+            }
+        }
+    }
+}
+
+impl<'h, 'm> Hands<RingActor> for StationHands<'h, 'm> {
+    fn receive<R: Wait>(&mut self, rt: &R) -> Option<ToStation> {
+        self.intake.receive(rt)
+    }
+
+    fn act<R: Wait>(&mut self, rt: &R, act: StationAct) -> StationAnswer
+        ensures { StationFits act result }
+    {
+        self.act_for(rt, act)
+    }
+}
+
+impl<'h, 'm> Hands<ForkActor> for StationHands<'h, 'm> {
+    fn receive<R: Wait>(&mut self, rt: &R) -> Option<ToStation> {
+        self.intake.receive(rt)
+    }
+
+    fn act<R: Wait>(&mut self, rt: &R, act: StationAct) -> StationAnswer
+        ensures { StationFits act result }
+    {
+        self.act_for(rt, act)
+    }
+}
