@@ -4,11 +4,13 @@
 ghost use Rattle.bip_model.specs.Partitions.{AreClassesOf};
 
 mod accepting;
+mod acting;
 mod appending;
 mod asking;
 mod banking;
 mod building;
 mod charting;
+mod desks;
 mod drawing;
 mod exploring;
 mod framing;

@@ -2,7 +2,7 @@
 //! waits for another one's grant.
 use super::plan;
 use bip_host::{Gate, HostReport, Kind, Limits, Point, Tables, run_host};
-use bip_model::ClassId;
+use bip_model::{ClassId, CompId, Want};
 use std::alloc::Global;
 use std::process::Abort;
 use std::sync::Wait;
@@ -16,6 +16,13 @@ const COMPETE: &str = "bip 1\n\
     component A\nloc a0\nloc a1\nport s\ntrans s a0 a1\nend\n\
     component B\nloc b0\nloc b1\nport s\ntrans s b0 b1\nend\n\
     component R\nvar n 0\nloc r0\nport g\ntrans g r0 r0 when n < 1 do n := n + 1\nend\n\
+    interaction x A.s R.g\ninteraction y B.s R.g\nclass P x\nclass Q y\n";
+
+/// The same, where the third moves twice.
+const COMPETE_TWICE: &str = "bip 1\n\
+    component A\nloc a0\nloc a1\nport s\ntrans s a0 a1\nend\n\
+    component B\nloc b0\nloc b1\nport s\ntrans s b0 b1\nend\n\
+    component R\nvar n 0\nloc r0\nport g\ntrans g r0 r0 when n < 2 do n := n + 1\nend\n\
     interaction x A.s R.g\ninteraction y B.s R.g\nclass P x\nclass Q y\n";
 
 /// Two components that each move once by themselves, in a class each.
@@ -140,18 +147,85 @@ impl Gate for Behind {
     }
 }
 
-#[test]
-fn one_waits_for_another(rt: HostRuntime) -> Result<(), Fail> {
+/// Runs a model in which the first class asks behind the second's grant, with each kind of third
+/// layer: these interactions are granted, with these numbers of the third component.
+fn wait<R: Threads + Wait + Abort + Sync>(
+    rt: &R,
+    alloc: Global,
+    text: &str,
+    expected: &[(u16, u64)],
+) -> Result<(), Fail> {
     for kind in KINDS {
         let gate = Behind {
             told: AtomicU64::new(0),
         };
-        let report = host(&rt, rt.alloc(), COMPETE, kind, &gate);
-        let mut names = Vec::new(rt.alloc());
+        let report = host(rt, alloc, text, kind, &gate);
+        let mut granted = Vec::new(alloc);
         for grant in report.grants.iter() {
-            names.push(grant.inter.0)?;
+            granted.push((grant.inter.0, number_of(grant.wants.as_slice(), CompId(2))))?;
         }
-        assert_eq!(rt; names.as_slice(), [1].as_slice());
+        assert_eq!(rt; granted.as_slice(), expected);
+    }
+    Ok(())
+}
+
+/// The number that wants have of a component; 0 where they have none.
+fn number_of(wants: &[Want], comp: CompId) -> u64 {
+    match wants.iter().find(|want| want.comp == comp) {
+        Some(want) => want.number,
+        None => 0,
+    }
+}
+
+#[test]
+fn one_waits_for_another(rt: HostRuntime) -> Result<(), Fail> {
+    wait(&rt, rt.alloc(), COMPETE, &[(1, 1)])
+}
+
+/// Its first request is refused, from which it knows that the third has moved; it asks once more.
+#[test]
+fn a_refusal_counts(rt: HostRuntime) -> Result<(), Fail> {
+    wait(&rt, rt.alloc(), COMPETE_TWICE, &[(1, 1), (0, 2)])
+}
+
+/// One component that moves by one class, and then by another one.
+const ONE_BEHIND_ANOTHER: &str = "bip 1\n\
+    component A\nloc a0\nloc a1\nloc a2\nport s\nport t\ntrans s a0 a1\ntrans t a1 a2\nend\n\
+    interaction x A.s\ninteraction y A.t\nclass P x\nclass Q y\n";
+
+/// Holds the first class back at its grant, and looks whether the second gets on meanwhile.
+#[derive(Drop)]
+struct Held {
+    told: AtomicU64,
+    early: AtomicU64,
+}
+
+impl Gate for Held {
+    fn pass<R: Wait>(&self, _rt: &R, at: Point) {
+        match at {
+            Point::Told(ClassId(1), _) => self.told.store(1, Ordering::SeqCst),
+            Point::Told(ClassId(0), _) => {
+                for _ in 0..YIELDS {
+                    give_way();
+                }
+                self.early
+                    .store(self.told.load(Ordering::SeqCst), Ordering::SeqCst);
+            }
+            _ => {}
+        }
+    }
+}
+
+#[test]
+fn nobody_moves_on_before_it_is_told(rt: HostRuntime) -> Result<(), Fail> {
+    for kind in KINDS {
+        let gate = Held {
+            told: AtomicU64::new(0),
+            early: AtomicU64::new(0),
+        };
+        let report = host(&rt, rt.alloc(), ONE_BEHIND_ANOTHER, kind, &gate);
+        assert_eq!(&rt; gate.early.load(Ordering::SeqCst), 0);
+        assert_eq!(&rt; report.grants.len(), 2);
     }
     Ok(())
 }

@@ -25,7 +25,7 @@ enum Did {
     Stays,
 }
 
-fn notify(rt: &impl Abort, (comp, number, port, values): &Told) -> Notify {
+pub(super) fn notify(rt: &impl Abort, (comp, number, port, values): &Told) -> Notify {
     Notify {
         number: *number,
         values: Values::of(values).expect(rt, "values"),
