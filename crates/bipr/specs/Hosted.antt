@@ -2,17 +2,28 @@
 use Rattle.std.specs.Prelude.{Bool, true, false, List, [], ℕ, Result, Ok, Err, length}
 use Rattle.bip_host.specs.declared.faults.HostFault.TheVariants as host_fault
 use Rattle.bip_host.specs.declared.faults.HostFault.{HostFault}
+use Rattle.bip_host.specs.Reports.{AreFiguresOf}
 use Rattle.bip_partition.specs.Plans.{Planned}
 use Rattle.bip_replay.specs.Replays.{IsRunOf}
+use Rattle.bip_replay.specs.Runs.{IsModelRun}
 use Rattle.bip_replay.specs.Writing.{text_of}
 use Rattle.bip_replay.specs.declared.faults.BookFault.{BookFault}
 use Rattle.bipr.specs.Answers.{complaining}
+use Rattle.bipr.specs.Resolvers.{kind_named}
 use Rattle.bipr.specs.Scheduled.{reporting}
 use Rattle.bipr.specs.Stops.{out_of_memory}
 use Rattle.bipr.specs.Wording.{host_refusal, no_thread_text, stats_text}
 use Rattle.bipr.specs.declared.answers.Answer.{Answer}
 use Rattle.bipr.specs.declared.answers.Status.TheVariants.{NoThread, NotARun}
 use Rattle.bipr.specs.declared.hosted.Hosted.{Hosted}
+use Rattle.bipr.specs.declared.resolvers.Resolver.{Resolver}
+
+-- what a host gave over a resolver, for so many turns of each thread: a run of the plan's model, by
+-- the third layer that the resolver names, in as many threads as that asks for, none of which made
+-- more turns
+pub record IsHostedAs (p : Planned) (r : Resolver) (turns : ℕ) (hosted : Hosted) : Type 0 where
+  pub run : IsModelRun p.model 0 hosted.report.grants.items
+  pub figures : AreFiguresOf p (kind_named r) turns hosted.figures
 
 -- what is told of a host on standard error: what is counted, where that is asked for
 abbrev pub stats_told : Bool → Hosted → List ℕ

@@ -39,14 +39,17 @@ pub trait Hosting {
             IsModelRun plan.now.model 0 hosted.report.grants.items) };
 }
 
-/// Runs nodes as threads of the process. Tables are behind a lock, or with their stations.
+/// Runs nodes as threads of the process. Tables are behind a lock, or with their stations. The
+/// third layer is the one that the resolver names; there are as many threads as that and the plan
+/// ask for, and none makes more turns than so many.
 #[derive(Drop)]
 pub struct Threaded;
 
 impl Hosting for Threaded {
-    ghost use Rattle.std.specs.Prelude.{⊤};
+    ghost use Rattle.std.specs.Prelude.{IfOk};
+    ghost use Rattle.bipr.specs.Hosted.{IsHostedAs};
 
-    ghost hosts = { λ _ _ _ _ _. ⊤ };
+    ghost hosts = { λ _ p resolver turns given. IfOk given (IsHostedAs p resolver turns) };
 
     fn host<R: Threads + Wait + Clock + Sync>(
         &self,

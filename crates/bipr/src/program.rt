@@ -106,7 +106,10 @@ table: those that some interaction looks at (a component of an interaction above
 doesn't move), those that two classes touch, and with each one all that an interaction
 touches beside it. R of its interactions are reserved: they touch such components, and each
 grant of them is asked of the third layer. The other I - R are granted by their class alone.
-Fewer classes make T and R smaller; more classes let more grants go on side by side.";
+Fewer classes make T and R smaller; more classes let more grants go on side by side.
+
+What an interaction looks at is all that its requests may look at: of each interaction above
+one reason is enough, a component whose port is off, or a guard that is false.";
 
 const DRAW_ABOUT: &str = "Draws a model, in the language of Graphviz";
 
@@ -154,8 +157,8 @@ are steps that lead to the trace `grant x A:1`, which `bipr replay` takes, as an
 16,777,216 bytes. The report on standard error has one line: events, grants, refused requests,
 steps that did nothing, and what was skipped or lost for want of memory: a trace is cut short
 where that isn't 0. With --tell a line for each step stands before
-it: the message that it hands on, what was answered, and each message that this sent, with
-its place in flight from then on:
+it: the message that it hands on, what was answered, with the reasons of a request that is
+sent, and each message that this sent, with its place in flight from then on:
 
     1 mail 0: offer A:1 to P held
     2 try P x: granted A:1, 0 notify A:1 s";
