@@ -159,15 +159,18 @@ ClassStarts a step later = (step ≡ Over Nothing) × (later ≡ a)
 abbrev pub begun : ClassActor → ClassActor
 begun a = record a { turn = Done; has_tried = false }
 
-abbrev pub ClassHears : ClassActor → Option ToClass → Step ClassAct → ClassActor → Type 0
-ClassHears a None step later = IsTrial (record a { turn = Nothing; has_tried = false }) step later
-ClassHears a (Some (heard.Offer offer)) step later =
+abbrev pub ClassHearsOf : ToClass → ClassActor → Step ClassAct → ClassActor → Type 0
+ClassHearsOf (heard.Offer offer) a step later =
     (got : Receipt) × (node : KeptNode) × IsReceipt (observed a.node.offers) offer got
     × (node_of node ≡ after_offer offer got (node_of a.node))
-    × IsTrial (record (begun a) { node = node }) step later
-ClassHears a (Some (heard.Granted entry request serial)) step later =
-    IsOnGrant entry request serial (begun a) step later
-ClassHears a (Some (heard.Refused reply)) step later = IsOnRefusal reply (begun a) step later
+    × IsTrial (record a { node = node }) step later
+ClassHearsOf (heard.Granted entry request serial) a step later =
+    IsOnGrant entry request serial a step later
+ClassHearsOf (heard.Refused reply) a step later = IsOnRefusal reply a step later
+
+abbrev pub ClassHears : ClassActor → Option ToClass → Step ClassAct → ClassActor → Type 0
+ClassHears a None step later = IsTrial (record a { turn = Nothing; has_tried = false }) step later
+ClassHears a (Some message) step later = ClassHearsOf message (begun a) step later
 
 -- what the answer makes of it that it waited for at a stage: a local grant that stands in the book
 -- is told, and one that can't be next there ends the node; behind the gate it hands its request on,

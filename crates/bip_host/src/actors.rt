@@ -1,7 +1,6 @@
 //! Actors: nodes as plain states, whose turns are chains of acts; and the loop that lends them its
 //! hands.
 ghost use Rattle.std.specs.Prelude.{◌≤◌, ◌<◌};
-ghost use Rattle.bip_host.specs.Actors.{IsAwaited};
 
 use crate::counts::Counts;
 use crate::rests::Rest;
@@ -105,15 +104,19 @@ pub fn run_actor<A: Actor + Drop, H: Hands<A> + Drop, R: Wait>(
 ) -> NodeEnd
     ensures { result.turns ≤ turns }
 {
-    let first = actor.start();
-    let _begun = finish(rt, &mut actor, &mut hands, first);
+    if let Step::Act(act) = actor.start() {
+        let _begun = finish(rt, &mut actor, &mut hands, act);
+    }
     let mut rest = Rest::new();
     let mut made = 0;
     for number in 0..turns {
         made = u64::from(number) + 1;
         let heard = hands.receive(rt);
-        let step = actor.hear(heard);
-        match finish(rt, &mut actor, &mut hands, step) {
+        let turn = match actor.hear(heard) {
+            Step::Over(turn) => turn,
+            Step::Act(act) => finish(rt, &mut actor, &mut hands, act),
+        };
+        match turn {
             Turn::Done => {}
             Turn::Nothing => rest.give_way(),
             Turn::Ends => break,
@@ -125,19 +128,21 @@ pub fn run_actor<A: Actor + Drop, H: Hands<A> + Drop, R: Wait>(
     }
 }
 
-/// Does what an actor wants, until its turn is over, and says what that came to.
+/// Does what an actor wants, until its turn is over, and says what that came to. A turn that wants
+/// nothing doesn't pay for an act's room.
+#[inline(never)]
 fn finish<A: Actor, H: Hands<A>, R: Wait>(
     rt: &R,
     actor: &mut A,
     hands: &mut H,
-    mut step: Step<A::Act>,
+    mut act: A::Act,
 ) -> Turn
-    requires { IsAwaited (A.awaits actor.old) step }
+    requires { A.awaits actor.old act }
 {
     loop {
-        match step {
+        match actor.go_on(hands.act(rt, act)) {
             Step::Over(turn) => return turn,
-            Step::Act(act) => step = actor.go_on(hands.act(rt, act)),
+            Step::Act(next) => act = next,
         }
     }
 }

@@ -1,8 +1,10 @@
 //! The actor of a class.
 ghost use Rattle.std.specs.Prelude.{◌≡◌, ◌+◌, ◌-◌, ◌<◌, ◌≤◌, IfOk, length};
 ghost use Rattle.bip_host.specs.Actors.{IsAwaited};
-ghost use Rattle.bip_host.specs.Classes.{ClassAwaits, IsFirstClassActor, IsOnDecision, IsOnEntry};
-ghost use Rattle.bip_host.specs.Classes.{IsOnGrant, left_of_class, rank_class, tries_left};
+ghost use Rattle.bip_ip.specs.Nodes.{CanBeAsked, node_of};
+ghost use Rattle.bip_host.specs.Classes.{ClassAwaits, ClassHearsOf, IsFirstClassActor};
+ghost use Rattle.bip_host.specs.Classes.{IsOnDecision, IsOnEntry, IsOnGrant, left_of_class};
+ghost use Rattle.bip_host.specs.Classes.{rank_class, tries_left};
 ghost use Rattle.bip_host.specs.Classes.{IsOnRefusal, IsOnTold, IsRest, IsTrial, IsTrialOf};
 ghost use Rattle.bip_host.specs.Classes.{place_next, stage_of_try, step_of_try};
 
@@ -11,7 +13,7 @@ use crate::books::Entry;
 use crate::counts::{Counts, Posted};
 use crate::gates::Point;
 use crate::messages::ToClass;
-use bip_ip::{Answered, IpNode, Tried};
+use bip_ip::{Answered, IpNode, Tried, WhyNot};
 use bip_model::{ClassId, CompId, Grant, InterId, Notifies, Notify, Number, Reply, Request};
 use bip_partition::Plan;
 use bip_table::TableFault;
@@ -141,7 +143,24 @@ impl<'p> ClassActor<'p> {
         ensures left { left_of_class self.new
             ≤ 11 + rank_class self.old.stage + tries_left self.old.has_tried }
     {
-        let did = self.node.try_interaction(inter);
+        match self.node.why_not(inter) {
+            Some(WhyNot::Foreign) => Step::Over(self.turn),
+            Some(WhyNot::Pending(_)) => Step::Over(self.turn),
+            Some(WhyNot::Not(_)) => Step::Over(self.turn),
+            None => self.ask(inter),
+        }
+    }
+
+    /// Asks for an interaction that can be asked for. What that makes is large, and rare.
+    #[inline(never)]
+    fn ask(&mut self, inter: InterId) -> Step<ClassAct>
+        requires { CanBeAsked (node_of self.old.node) inter.0 }
+        ensures trial { IsTrialOf inter self.old result self.new }
+        ensures awaits { IsAwaited (λ act. ClassAwaits self.new.class self.new.stage act) result }
+        ensures left { left_of_class self.new
+            ≤ 11 + rank_class self.old.stage + tries_left self.old.has_tried }
+    {
+        let did = self.node.ask(inter);
         self.on_tried(did)
     }
 
@@ -181,6 +200,26 @@ impl<'p> ClassActor<'p> {
             return Step::Over(Turn::Done);
         }
         self.try_next()
+    }
+
+    /// Hears a message.
+    #[inline(never)]
+    fn hear_message(&mut self, message: ToClass) -> Step<ClassAct>
+        ensures step { ClassHearsOf message self.old result self.new }
+        ensures awaits { IsAwaited (λ act. ClassAwaits self.new.class self.new.stage act) result }
+    {
+        match message {
+            ToClass::Offer(offer) => {
+                let _got = self.node.on_offer(offer);
+                self.try_next()
+            }
+            ToClass::Granted {
+                entry,
+                request,
+                serial,
+            } => self.hear_grant(entry, request, serial),
+            ToClass::Refused(reply) => self.hear_refusal(reply),
+        }
     }
 
     /// Hears that the request with this number is granted with this serial.

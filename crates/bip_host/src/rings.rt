@@ -74,6 +74,7 @@ impl RingActor {
 
     /// Decides on the oldest open request, if there is one; else hands the token on. It ends where
     /// nothing is decided: memory is wanted for it, or no serial is left.
+    #[inline(never)]
     fn serve(&mut self, token: Settled<Token>) -> Step<StationAct>
         ensures { RingServes token self.old result self.new }
     {
