@@ -1,5 +1,5 @@
 -- Why grants aren't known to be a run.
-use Rattle.std.proofs.Common.{◌≡◌, ◌<◌, suc, Bool, List, [], ◌∷◌, ◌++◌, None, Some, ap, arith, drop, get_or, length, map, refl, subst, sym, take}
+use Rattle.std.proofs.Common.{◌≡◌, ℕ, ◌<◌, suc, Bool, List, [], ◌∷◌, ◌++◌, None, Some, ap, arith, drop, get_or, length, map, refl, subst, sym, take}
 use Rattle.std.proofs.lemmas.Grind.{common_steps}
 use Rattle.std.specs.Prelude.{Err, IfOk, IsTrue, Ok, Result}
 use Rattle.bip_host.specs.Books.{SharedContent, blames_grant}
@@ -85,15 +85,17 @@ no_run_told m b lacks short host.Memory gs same none is = no_memory none
 no_run_told m b lacks short host.Thread gs same none is = absurd is
 
 -- the figures of a report are of what was asked for
-pub figures_of : (p : Planned) (asked : Asked) (t : Totals) (b : SharedContent)
+pub figures_of : (p : Planned) (asked : Asked) (t : Totals) (b : SharedContent) (entered : ℕ)
     (r : Result (HostReport × HostFigures) HostFault) → AreTotalsOf asked t
-    → IsThreadCount p asked.kind asked.threads → IfOk r (λ done. IsReportOf b t done.0 done.1)
-    → IfOk r (λ done. AreFiguresOf p asked.kind asked.turns done.1)
-figures_of p asked t b (Ok done) of count told =
-    subst (AreFiguresOf p asked.kind asked.turns) (sym told.figures)
+    → IsThreadCount p asked.kind asked.threads
+    → IfOk r (λ done. IsReportOf b entered t done.0 done.1)
+    → IfOk r (λ done. AreFiguresOf p asked.kind asked.tables asked.turns done.1)
+figures_of p asked t b entered (Ok done) of count told =
+    subst (AreFiguresOf p asked.kind asked.tables asked.turns) (sym told.figures)
     (record {
       kind = of.kind;
+      tables = of.tables;
       threads = subst (IsThreadCount p asked.kind) (sym (of.threads told.with_threads)) count;
       turns = of.turns;
     })
-figures_of p asked t b (Err why) of count told = tt
+figures_of p asked t b entered (Err why) of count told = tt

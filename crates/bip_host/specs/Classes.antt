@@ -1,7 +1,7 @@
 -- The actor of a class: what it tries, asks, appends and tells, and in which order.
-use Rattle.std.specs.Prelude.{◌≡◌, ◌⊎◌, ℕ, ◌+◌, ◌-◌, ◌≤◌, nat_lt, Bool, false, true, List, Option}
-use Rattle.std.specs.Prelude.{None, Some, Result, Err, Ok, IfOk, IfSome, IsTrue, MatchOption}
-use Rattle.std.specs.Prelude.{length, if◌then◌else◌, slice_get, ⊤}
+use Rattle.std.specs.Prelude.{◌≡◌, ◌⊎◌, ℕ, ◌+◌, ◌-◌, ◌<◌, ◌≤◌, nat_lt, Bool, false, true, List}
+use Rattle.std.specs.Prelude.{Option, None, Some, Result, Err, Ok, IfOk, IfSome, IsTrue}
+use Rattle.std.specs.Prelude.{MatchOption, length, if◌then◌else◌, slice_get, ⊤}
 use Rattle.bip_host.specs.Counts.{nothing_counted, counted_up, with_posted}
 use Rattle.bip_host.specs.Keepers.{IsEntryOf}
 use Rattle.bip_host.specs.Movers.{CanTell}
@@ -10,19 +10,23 @@ use Rattle.bip_host.specs.declared.actors.Step.TheVariants.{Act, Over}
 use Rattle.bip_host.specs.declared.actors.Turn.TheVariants.{Done, Ends, Nothing}
 use Rattle.bip_host.specs.declared.books.Entry.{Entry}
 use Rattle.bip_host.specs.declared.classes.ClassAct.{ClassAct}
-use Rattle.bip_host.specs.declared.classes.ClassAct.TheVariants.{Append, Ask, Pass, Tell}
+use Rattle.bip_host.specs.declared.classes.ClassAct.TheVariants.{Append, Ask, Look, Pass, Tell}
 use Rattle.bip_host.specs.declared.classes.ClassActor.{ClassActor}
 use Rattle.bip_host.specs.declared.classes.ClassAnswer.{ClassAnswer}
 use Rattle.bip_host.specs.declared.classes.ClassAnswer.TheVariants as answers
+use Rattle.bip_host.specs.declared.classes.Errand.TheVariants as errand
+use Rattle.bip_host.specs.declared.classes.Errand.{Errand}
 use Rattle.bip_host.specs.declared.classes.Reserved.{Reserved}
 use Rattle.bip_host.specs.declared.classes.Reserved.TheVariants as reserved
 use Rattle.bip_host.specs.declared.classes.Stage.{Stage}
 use Rattle.bip_host.specs.declared.classes.Stage.TheVariants.{Appending, Asked, Asking, Entered}
-use Rattle.bip_host.specs.declared.classes.Stage.TheVariants.{Resting, Telling}
+use Rattle.bip_host.specs.declared.classes.Stage.TheVariants.{Looking, Resting, Telling}
 use Rattle.bip_host.specs.declared.counts.Counts.{Counts}
 use Rattle.bip_host.specs.declared.gates.Point.TheVariants as point
 use Rattle.bip_host.specs.declared.messages.ToClass.{ToClass}
 use Rattle.bip_host.specs.declared.messages.ToClass.TheVariants as heard
+use Rattle.bip_host.specs.declared.waiting.Outcome.TheVariants as outcome
+use Rattle.bip_host.specs.declared.waiting.Outcome.{Outcome}
 use Rattle.bip_ip.specs.Nodes.{IsAnswered, IsLeftByReply, IsTried, KeptNode, after_offer}
 use Rattle.bip_ip.specs.Nodes.{after_try, first_node, node_of}
 use Rattle.bip_ip.specs.declared.nodes.Answered.{Answered}
@@ -31,6 +35,7 @@ use Rattle.bip_ip.specs.declared.nodes.Tried.{Tried}
 use Rattle.bip_ip.specs.declared.nodes.Tried.TheVariants.{Ended, Foreign, Local, Not, Pending, Sent}
 use Rattle.bip_model.specs.declared.grants.Grant.{Grant}
 use Rattle.bip_model.specs.declared.messages.Notify.{Notify}
+use Rattle.bip_model.specs.declared.messages.Offer.{Offer}
 use Rattle.bip_model.specs.declared.messages.Reply.{Reply}
 use Rattle.bip_model.specs.declared.messages.Reply.TheVariants as reply
 use Rattle.bip_model.specs.declared.messages.Request.{Request}
@@ -44,12 +49,15 @@ use Rattle.bip_table.specs.declared.faults.TableFault.{TableFault}
 use Rattle.bip_table.specs.declared.faults.TableFault.TheVariants as fault
 
 -- an actor of a class at first: its node is new, with the first request number 1; it has the
--- class's interactions, in order of number, and tries the first of them next
-pub record IsFirstClassActor (p : Planned) (c : ℕ) (a : ClassActor) : Type 0 where
+-- class's interactions, in order of number, and tries the first of them next; it takes offers with
+-- numbers up to this one, and has nothing to end
+pub record IsFirstClassActor (p : Planned) (c greatest : ℕ) (a : ClassActor) : Type 0 where
   pub node : node_of a.node ≡ first_node p c 0 1
   pub class : a.class.0 ≡ c
   pub members : slice_get p.classes.members c ≡ Some a.members.now
   pub next : a.next ≡ 0
+  pub most : a.most ≡ greatest
+  pub errand : a.errand ≡ errand.Nothing
   pub stage : a.stage ≡ Resting
   pub counts : a.counts ≡ nothing_counted
 
@@ -90,11 +98,34 @@ IsTrial a step later =
     ((step ≡ Over a.turn) × (later ≡ record a { has_tried = true }))
     (λ inter. IsTrialOf inter (record a { next = place_next a + 1; has_tried = true }) step later)
 
--- what is left of a turn: it tries the next interaction, where it tried none yet
+-- it goes on with what is to be ended: it asks for the same request again, or looks for its grant
+-- that waits; where that is nothing, it tries the next interaction
+abbrev pub IsErrandDone : Errand → ClassActor → Step ClassAct → ClassActor → Type 0
+IsErrandDone errand.Nothing a step later = IsTrial a step later
+IsErrandDone (errand.Asks q) a step later =
+    (step ≡ Act (Ask q))
+    × (later ≡ record a {
+      errand = errand.Nothing;
+      stage = Asked q.inter q.request;
+      has_tried = true;
+    })
+IsErrandDone (errand.Waits request serial) a step later =
+    (step ≡ Act Look)
+    × (later ≡ record a {
+      errand = errand.Nothing;
+      stage = Looking request serial;
+      has_tried = true;
+    })
+
+abbrev pub IsNextDone : ClassActor → Step ClassAct → ClassActor → Type 0
+IsNextDone a step later = IsErrandDone a.errand a step later
+
+-- what is left of a turn: it goes on with what is to be ended, or tries the next interaction, where
+-- it did neither yet
 abbrev pub IsRest : ClassActor → Step ClassAct → ClassActor → Type 0
 IsRest a step later =
     (IsTrue a.has_tried × (step ≡ Over Done) × (later ≡ a))
-    ⊎ ((a.has_tried ≡ false) × IsTrial a step later)
+    ⊎ ((a.has_tried ≡ false) × IsNextDone a step later)
 
 -- a grant that stands in the book is to be told: it wants to pass the gate first; where these are
 -- notifications of another grant it ends
@@ -125,12 +156,26 @@ IsOnGrant entry request serial a step later =
     (node_of node)
     × IsOnAnswered did entry (record a { node = node }) step later
 
--- a request is refused by this reply
+-- a request is refused by this reply, which is counted
 abbrev pub IsOnRefusal : Reply → ClassActor → Step ClassAct → ClassActor → Type 0
 IsOnRefusal reply a step later =
     (did : Answered) × (node : KeptNode) × IsAnswered (node_of a.node) reply did
     × IsLeftByReply reply did (node_of a.node) (node_of node)
-    × IsRest (record a { node = node }) step later
+    × IsRest
+    (record a {
+      node = node;
+      counts = record a.counts { refusals = counted_up a.counts.refusals };
+    })
+    step later
+
+-- this has become of the grant of its request with this number, which has this serial: it stands in
+-- the book, and is told; it waits still; or the book doesn't take it, and the node ends
+abbrev pub IsOnOutcome : ℕ → ℕ → Outcome → ClassActor → Step ClassAct → ClassActor → Type 0
+IsOnOutcome request serial (outcome.Entered entry) a step later =
+    IsOnGrant entry request serial a step later
+IsOnOutcome request serial outcome.Waits a step later =
+    (step ≡ Over a.turn) × (later ≡ record a { errand = errand.Waits request serial })
+IsOnOutcome request serial outcome.Refused a step later = (step ≡ Over Ends) × (later ≡ a)
 
 -- want of memory is noted
 abbrev pub with_fault : TableFault → Counts → Counts
@@ -154,27 +199,36 @@ IsOnDecision inter request (Err fault) a step later =
 abbrev pub ClassStarts : ClassActor → Step ClassAct → ClassActor → Type 0
 ClassStarts a step later = (step ≡ Over Nothing) × (later ≡ a)
 
--- what a turn's first step makes of it: it takes the message, if there is one, and tries the next
--- interaction, behind a grant once that is told
+-- what an offer makes of it: its node hears it, where its number isn't too great
+abbrev pub IsOfferHeard : Offer → ClassActor → ClassActor → Type 0
+IsOfferHeard offer a later =
+    ((offer.number ≤ a.most)
+    × ((got : Receipt) × IsReceipt (observed a.node.offers) offer got
+    × (node_of later.node ≡ after_offer offer got (node_of a.node))
+    × (later ≡ record a { node = later.node })))
+    ⊎ ((a.most < offer.number) × (later ≡ a))
+
+-- what a turn's first step makes of it: it takes the message, if there is one, and goes on with
+-- what is to be ended, or tries the next interaction, behind a grant once that is told
 abbrev pub begun : ClassActor → ClassActor
 begun a = record a { turn = Done; has_tried = false }
 
 abbrev pub ClassHearsOf : ToClass → ClassActor → Step ClassAct → ClassActor → Type 0
 ClassHearsOf (heard.Offer offer) a step later =
-    (got : Receipt) × (node : KeptNode) × IsReceipt (observed a.node.offers) offer got
-    × (node_of node ≡ after_offer offer got (node_of a.node))
-    × IsTrial (record a { node = node }) step later
+    (heard : ClassActor) × IsOfferHeard offer a heard × IsNextDone heard step later
 ClassHearsOf (heard.Granted entry request serial) a step later =
     IsOnGrant entry request serial a step later
 ClassHearsOf (heard.Refused reply) a step later = IsOnRefusal reply a step later
 
 abbrev pub ClassHears : ClassActor → Option ToClass → Step ClassAct → ClassActor → Type 0
-ClassHears a None step later = IsTrial (record a { turn = Nothing; has_tried = false }) step later
+ClassHears a None step later =
+    IsNextDone (record a { turn = Nothing; has_tried = false }) step later
 ClassHears a (Some message) step later = ClassHearsOf message (begun a) step later
 
 -- what the answer makes of it that it waited for at a stage: a local grant that stands in the book
 -- is told, and one that can't be next there ends the node; behind the gate it hands its request on,
--- or tells; what the table answers is heard; what is lost is counted
+-- or tells; what the table answers is heard; a request that found a row busy is asked again, and a
+-- grant that waits is looked for, before anything new is tried; what is lost is counted
 abbrev pub ClassAnsweredAt : Stage → ClassAnswer → ClassActor → Step ClassAct → ClassActor → Type 0
 ClassAnsweredAt (Appending notifies) (answers.Appended (Some entry)) a step later =
     IsOnEntry entry notifies a step later
@@ -186,6 +240,16 @@ ClassAnsweredAt (Asked inter request) (answers.Decided answer) a step later =
     IsOnDecision inter request answer a step later
 ClassAnsweredAt (Asked inter request) (answers.Handed posted) a step later =
     (step ≡ Over Done) × (later ≡ record a { counts = with_posted posted a.counts })
+ClassAnsweredAt (Asked inter request) (answers.Busy q) a step later =
+    (step ≡ Over a.turn)
+    × (later ≡ record a {
+      errand = errand.Asks q;
+      counts = record a.counts { busy = counted_up a.counts.busy };
+    })
+ClassAnsweredAt (Asked inter request) (answers.Waits serial) a step later =
+    (step ≡ Over Done) × (later ≡ record a { errand = errand.Waits request serial })
+ClassAnsweredAt (Looking request serial) (answers.Looked outcome) a step later =
+    IsOnOutcome request serial outcome a step later
 ClassAnsweredAt (Entered entry notifies) answers.Passed a step later =
     IsOnTold entry notifies 0
     (record a { counts = record a.counts { told = counted_up a.counts.told } }) step later
@@ -203,11 +267,14 @@ IsDecidedHere q (reserved.Granted entry serial) = IsEntryOf (grant_of q) entry
 IsDecidedHere q (reserved.Refused c used) = ⊤
 
 -- which answers an act can have: an entry is of the grant that was to be appended, or of that of
--- the request that was asked
+-- the request that was asked; a request that comes back is the one that was asked
 abbrev pub ClassFits : ClassAct → ClassAnswer → Type 0
 ClassFits (Append g) (answers.Appended entry) = IfSome entry (IsEntryOf g)
 ClassFits (Ask q) (answers.Decided answer) = IfOk answer (IsDecidedHere q)
 ClassFits (Ask q) (answers.Handed posted) = ⊤
+ClassFits (Ask q) (answers.Busy back) = back ≡ q
+ClassFits (Ask q) (answers.Waits serial) = ⊤
+ClassFits Look (answers.Looked outcome) = ⊤
 ClassFits (Pass at) answers.Passed = ⊤
 ClassFits (Tell n) (answers.Told posted) = ⊤
 ClassFits act answer = ⊥
@@ -217,7 +284,9 @@ abbrev pub ClassAwaits : ClassId → Stage → ClassAct → Type 0
 ClassAwaits class Resting act = ⊥
 ClassAwaits class (Appending notifies) act = (g : Grant) × (act ≡ Append g)
 ClassAwaits class (Asking q) act = act ≡ Pass (point.Asked class q.inter)
-ClassAwaits class (Asked inter request) act = (q : Request) × (act ≡ Ask q)
+ClassAwaits class (Asked inter request) act =
+    (q : Request) × (act ≡ Ask q) × (q.inter ≡ inter) × (q.request ≡ request)
+ClassAwaits class (Looking request serial) act = act ≡ Look
 ClassAwaits class (Entered entry notifies) act =
     (act ≡ Pass (point.Told class entry.inter)) × (length notifies ≤ 8)
 ClassAwaits class (Telling entry notifies k) act =
@@ -229,6 +298,7 @@ rank_class Resting = 0
 rank_class (Appending notifies) = 10
 rank_class (Asking q) = 11
 rank_class (Asked inter request) = 10
+rank_class (Looking request serial) = 10
 rank_class (Entered entry notifies) = 9
 rank_class (Telling entry notifies k) = length notifies - k
 

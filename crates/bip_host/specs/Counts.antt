@@ -5,7 +5,16 @@ use Rattle.bip_host.specs.declared.counts.Posted.{Posted}
 use Rattle.bip_host.specs.declared.counts.Posted.TheVariants.{Lost, Sent}
 
 abbrev pub nothing_counted : Counts
-nothing_counted = record { told = 0; lost = 0; passes = 0; asks = 0; wanted_memory = false }
+nothing_counted =
+    record {
+      told = 0;
+      lost = 0;
+      passes = 0;
+      asks = 0;
+      refusals = 0;
+      busy = 0;
+      wanted_memory = false;
+    }
 
 -- a sum, as far as 64 bits count
 abbrev pub sum_of : ℕ → ℕ → ℕ

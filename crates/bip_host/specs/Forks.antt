@@ -5,7 +5,7 @@ use Rattle.bip_bank.specs.declared.banks.StationId.{StationId}
 use Rattle.bip_forks.specs.Stations.{IsReadyToServe, KeptStation}
 use Rattle.bip_forks.specs.declared.stations.Station.{Station}
 use Rattle.bip_host.specs.Counts.{nothing_counted, counted_up, with_posted}
-use Rattle.bip_host.specs.Settled.{IsAsServed, IsAskTaken, IsForkLaid, IsShareable, IsSending}
+use Rattle.bip_host.specs.Settled.{IsAsServed, IsAskTaken, IsForkLaid, IsShareable, SharesWith}
 use Rattle.bip_host.specs.Settled.{IsSubmitted, IsTakenBack, MayShare}
 use Rattle.bip_host.specs.Stations.{AwaitsDecided, deciding_on, on_decided, rank_decided}
 use Rattle.bip_host.specs.declared.actors.Step.{Step}
@@ -82,7 +82,7 @@ abbrev pub IsSharing : KeptStation → ℕ → ForkActor → Step StationAct →
 IsSharing station from a step later =
     ((k : ℕ) × (other : StationId) × (message : ToStation) × (left : Settled Station)
     × IsNextShared a.neighbours.items station from k other
-    × IsSending other station message left.decider × (step ≡ Act (Share other message))
+    × SharesWith other station message left.decider × (step ≡ Act (Share other message))
     × (later ≡ record a { stage = stage.Sharing left k (shared_by message) }))
     ⊎ ((left : Settled Station) × SharesNone a.neighbours.items station from
     × (left.decider ≡ station) × (step ≡ Over a.turn) × (later ≡ record a { station = Some left }))

@@ -1,11 +1,13 @@
 pub mod Actors
 pub mod Addressed
+pub mod Attempts
 pub mod Books
 pub mod Classes
 pub mod Components
 pub mod Counts
 pub mod Ends
 pub mod Forks
+pub mod Hands
 pub mod Keepers
 pub mod Laws
 pub mod Layers
@@ -17,6 +19,9 @@ pub mod Nodes
 pub mod Posting
 pub mod Reports
 pub mod Rings
+pub mod Seats
 pub mod Settled
 pub mod Starting
 pub mod Stations
+pub mod Tables
+pub mod Waiting

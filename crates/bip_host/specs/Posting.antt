@@ -1,6 +1,8 @@
 -- What contracts see of the ends of an inbox.
-use Rattle.std.specs.Prelude.{List}
+use Rattle.std.specs.Prelude.{◌≡◌, ◌++◌, [], ◌∷◌, List}
 use Rattle.crossbeam_queue.specs.SegTies.{IsSegPassOf}
+use Rattle.bip_host.specs.declared.counts.Posted.{Posted}
+use Rattle.bip_host.specs.declared.counts.Posted.TheVariants.{Lost, Sent}
 use Rattle.bip_host.specs.declared.inboxes.Inbox.{Inbox}
 use Rattle.bip_host.specs.declared.inboxes.Reader.{Reader}
 use Rattle.bip_host.specs.declared.inboxes.Writer.{Writer}
@@ -21,3 +23,8 @@ module _ {M : Type 0} where
   -- what was got by a reader, in order
   abbrev pub got_by : Reader M → List M
   got_by reader = reader.pass.me.view.client.got
+
+  -- what a writer puts: a message, the last one so far; or that is lost
+  abbrev pub IsPostedBy : M → Writer M → Posted → Writer M → Type 0
+  IsPostedBy message old Sent new = put_by new ≡ put_by old ++ message ∷ []
+  IsPostedBy message old Lost new = put_by new ≡ put_by old

@@ -1,12 +1,13 @@
 -- What a host reports, and why it gives no report.
-use Rattle.std.specs.Prelude.{◌≡◌, ℕ, ◌+◌, ◌*◌, ◌≤◌, ◌||◌, Bool, IsTrue, List, None, Some, false}
-use Rattle.std.specs.Prelude.{true, ⊤, length}
+use Rattle.std.specs.Prelude.{◌≡◌, ℕ, ◌+◌, ◌*◌, ◌≤◌, ◌||◌, Bool, IsTrue, List, None, Some}
+use Rattle.std.specs.Prelude.{false, length, true, ⊤}
 use Rattle.bip_host.specs.Starting.{IsStationCount}
 use Rattle.bip_partition.specs.Plans.{Planned}
 use Rattle.bip_host.specs.Counts.{sum_of}
 use Rattle.bip_host.specs.declared.actors.NodeEnd.{NodeEnd}
 use Rattle.bip_host.specs.declared.hosts.Asked.{Asked}
 use Rattle.bip_host.specs.declared.hosts.Kind.{Kind}
+use Rattle.bip_host.specs.declared.hosts.Tables.{Tables}
 use Rattle.bip_model.specs.declared.grants.Grant.{Grant}
 use Rattle.bip_model.specs.declared.parts.System.{System}
 use Rattle.bip_host.specs.Books.{SharedContent, blames_grant}
@@ -28,10 +29,22 @@ IsThreadCount p k n =
     × (n ≡ length p.model.components + length p.classes.members + stations)
 
 -- of no thread so far
-abbrev pub no_totals : Kind → Totals
-no_totals k =
+abbrev pub no_totals : Kind → Tables → Totals
+no_totals k tables =
     record {
-      figures = record { kind = k; threads = 0; turns = 0; passes = 0; asks = 0 };
+      figures =
+          record {
+            kind = k;
+            tables = tables;
+            threads = 0;
+            turns = 0;
+            passes = 0;
+            asks = 0;
+            refusals = 0;
+            busy = 0;
+            drawn = 0;
+            entered = 0;
+          };
       told = 0;
       lost = 0;
       wanted_memory = false;
@@ -48,6 +61,9 @@ with_end e t =
             turns = sum_of t.figures.turns e.turns;
             passes = sum_of t.figures.passes e.counts.passes;
             asks = sum_of t.figures.asks e.counts.asks;
+            refusals = sum_of t.figures.refusals e.counts.refusals;
+            busy = sum_of t.figures.busy e.counts.busy;
+            drawn = sum_of t.figures.drawn e.drawn;
           };
       told = sum_of t.told e.counts.told;
       lost = sum_of t.lost e.counts.lost;
@@ -55,17 +71,20 @@ with_end e t =
       is_short = t.is_short;
     }
 
--- the totals of threads, of the kind that was asked for, each of which made at most as many turns;
+-- the totals of threads, of the form that was asked for, each of which made at most as many turns;
 -- they fall short where there weren't as many threads
 pub record AreTotalsOf (asked : Asked) (t : Totals) : Type 0 where
   pub kind : t.figures.kind ≡ asked.kind
+  pub tables : t.figures.tables ≡ asked.tables
   pub turns : t.figures.turns ≤ t.figures.threads * asked.turns
   pub threads : t.is_short ≡ false → t.figures.threads ≡ asked.threads
 
--- the figures of a host: it had this kind of third layer, as many threads as that asks for, and
--- each of them made at most so many turns
-pub record AreFiguresOf (p : Planned) (k : Kind) (limit : ℕ) (f : HostFigures) : Type 0 where
+-- the figures of a host: it had this kind of third layer, whose tables were shared so, as many
+-- threads as that asks for, and each of them made at most so many turns
+pub record AreFiguresOf (p : Planned) (k : Kind) (how : Tables) (limit : ℕ) (f : HostFigures)
+    : Type 0 where
   pub kind : f.kind ≡ k
+  pub tables : f.tables ≡ how
   pub threads : IsThreadCount p k f.threads
   pub turns : f.turns ≤ f.threads * limit
 
@@ -104,13 +123,14 @@ pub data IsWhyNone (m : System) (b : SharedContent) (lacks short : Bool) : HostF
   no_thread : b.refused ≡ None → b.wanted_memory ≡ false → lacks ≡ false → short ≡ true
       → IsModelRun m 0 b.book.grants → IsWhyNone m b lacks short host.Thread
 
--- a report of what the book holds, with the totals of all threads: nothing was refused, nobody
--- wanted memory, and each thread was started
-pub record IsReportOf (b : SharedContent) (t : Totals) (r : HostReport) (f : HostFigures) : Type 0
+-- a report of what the book holds, of which so many grants came by their serials, with the totals
+-- of all threads: nothing was refused, nobody wanted memory, and each thread was started
+pub record IsReportOf (b : SharedContent) (entered : ℕ) (t : Totals) (r : HostReport)
+    (f : HostFigures) : Type 0
   where
     pub grants : r.grants.items ≡ b.book.grants
     pub counted : (r.told ≡ t.told) × (r.lost ≡ t.lost)
-    pub figures : f ≡ t.figures
+    pub figures : f ≡ record t.figures { entered = entered }
     pub all_taken : b.refused ≡ None
     pub with_memory : (b.wanted_memory ≡ false) × (t.wanted_memory ≡ false)
     pub with_threads : t.is_short ≡ false

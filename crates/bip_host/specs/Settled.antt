@@ -92,17 +92,17 @@ abbrev pub MayShare : KeptStation → StationId → Type 0
 MayShare station other = MayPass (side_with station other.0) ⊎ MaySendAsk station other
 
 -- what it sends: the fork, where it may, and else the request token
-abbrev pub IsSending : StationId → KeptStation → ToStation → KeptStation → Type 0
-IsSending other station (message.Fork fork) later =
+abbrev pub SharesWith : StationId → KeptStation → ToStation → KeptStation → Type 0
+SharesWith other station (message.Fork fork) later =
     MayPass (side_with station other.0) × ((side_with station other.0).fork ≡ Some fork)
     × (later ≡ with_side_to station other.0 (record (side_with station other.0) { fork = None }))
-IsSending other station (message.Ask token) later =
+SharesWith other station (message.Ask token) later =
     (¬ MayPass (side_with station other.0)) × MaySendAsk station other
     × (token.pair ≡ pair_of_stations station.number other)
     × (later ≡ with_side_to station other.0
     (record (side_with station other.0) { asked = false }))
-IsSending other station (message.Asked q) later = ⊥
-IsSending other station (message.Token token) later = ⊥
+SharesWith other station (message.Asked q) later = ⊥
+SharesWith other station (message.Token token) later = ⊥
 
 -- what a station sends a neighbour: a fork, or a request token
 abbrev pub IsShareable : ToStation → Type 0

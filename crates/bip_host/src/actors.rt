@@ -1,6 +1,6 @@
 //! Actors: nodes as plain states, whose turns are chains of acts; and the loop that lends them its
 //! hands.
-ghost use Rattle.std.specs.Prelude.{◌≤◌, ◌<◌};
+ghost use Rattle.std.specs.Prelude.{◌≤◌};
 
 use crate::counts::Counts;
 use crate::rests::Rest;
@@ -28,10 +28,10 @@ pub enum Turn {
 /// it hears a message or none, and wants an act; it hears that act's answer, and wants the next
 /// one, until its turn is over (docs/HOST.md, "Actors").
 pub trait Actor {
-    ghost use Rattle.std.specs.Prelude.{◌<◌, ℕ, Option};
+    ghost use Rattle.std.specs.Prelude.{◌≡◌, ◌<◌, ℕ, Option};
     ghost use Rattle.bip_host.specs.Actors.{IsAwaited};
-    ghost use Rattle.bip_host.specs.declared.counts.Counts.{Counts};
     ghost use Rattle.bip_host.specs.declared.actors.Step.{Step};
+    ghost use Rattle.bip_host.specs.declared.counts.Counts.{Counts};
 
     type Heard;
 
@@ -47,6 +47,9 @@ pub trait Actor {
 
     /// More than how many acts an actor can't want any more in its turn.
     ghost left: { Self → ℕ };
+
+    /// What an actor has counted.
+    ghost counted: { Self → Counts };
 
     /// Actor, step, actor: what the start may make of it.
     ghost starts: { Self → Step Self.Act → Self → Type 0 };
@@ -75,24 +78,36 @@ pub trait Actor {
         ensures fewer { left self.new < left self.old };
 
     /// What it has counted so far.
-    fn counts(&self) -> Counts;
+    fn counts(&self) -> Counts
+        ensures { result ≡ counted self.now };
 }
 
 /// What an actor hears with, and acts with: inboxes, the third layer, the book, a gate.
 pub trait Hands<A: Actor> {
+    ghost use Rattle.std.specs.Prelude.{◌≡◌, ℕ};
+
+    /// How many grants were drawn with them from a word table.
+    ghost drawn: { Self → ℕ };
+
     /// The next message, if there is one.
     fn receive<R: Wait>(&mut self, rt: &R) -> Option<A::Heard>;
 
     /// Does an act, and gives its answer.
     fn act<R: Wait>(&mut self, rt: &R, act: A::Act) -> A::Answer
         ensures { A.fits act result };
+
+    /// How many grants were drawn with them, by the list that they keep themselves.
+    fn count_drawn(&self) -> u64
+        ensures { result ≡ drawn self.now };
 }
 
-/// What a node's thread leaves: how many turns it made, and what it counted.
+/// What a node's thread leaves: how many turns it made, what it counted, and how many grants were
+/// drawn with its hands.
 #[derive(Clone, Copy, Default)]
 pub struct NodeEnd {
     pub turns: u64,
     pub counts: Counts,
+    pub drawn: u64,
 }
 
 /// Starts an actor, and makes so many turns, or fewer where it ends before (docs/HOST.md, "Turns").
@@ -125,6 +140,7 @@ pub fn run_actor<A: Actor + Drop, H: Hands<A> + Drop, R: Wait>(
     NodeEnd {
         turns: made,
         counts: actor.counts(),
+        drawn: hands.count_drawn(),
     }
 }
 

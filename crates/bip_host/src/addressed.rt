@@ -1,7 +1,7 @@
 //! Outlets by the number of whom their inboxes belong to.
 ghost use Rattle.std.specs.Prelude.{◌≡◌, ℕ, ◌++◌, ◌∷◌, [], All, IfNone, IfSome, IsSomeAnd, OnOk};
-ghost use Rattle.std.specs.Prelude.{Some, slice_get};
-ghost use Rattle.bip_host.specs.Addressed.{IsKeptPut, IsPutFor, posted_by};
+ghost use Rattle.std.specs.Prelude.{Some, length, slice_get};
+ghost use Rattle.bip_host.specs.Addressed.{IsKeptPut, IsPostedTo, IsPutFor, LacksNumber};
 
 use crate::counts::Posted;
 use crate::ends::Outlet;
@@ -61,10 +61,23 @@ impl<'h, M: Drop> Addressed<'h, M> {
         }
     }
 
-    /// The place of an outlet with this number, if there is one.
+    /// Sends a message to whom has this number, and says whether it is lost.
+    pub(crate) fn post<R: Wait>(&mut self, rt: &R, number: usize, message: M) -> Posted
+        ensures { IsPostedTo number message self.old.outlets.items result
+            self.new.outlets.items }
+    {
+        match self.send(rt, number, message) {
+            None => Posted::Sent,
+            Some(_) => Posted::Lost,
+        }
+    }
+
+    /// The place of the first outlet with this number, if there is one.
     fn place_of(&self, number: usize) -> Option<usize>
-        ensures { IfSome result (λ k. IsSomeAnd (slice_get self.now.outlets.items k)
+        ensures some { IfSome result (λ k. IsSomeAnd (slice_get self.now.outlets.items k)
             (λ o. o.number ≡ number)) }
+        ensures none { IfNone result (LacksNumber number self.now.outlets.items
+            (length self.now.outlets.items)) }
     {
         for place in 0..self.outlets.len() {
             if self.outlets[place].number == number {
@@ -72,15 +85,5 @@ impl<'h, M: Drop> Addressed<'h, M> {
             }
         }
         None
-    }
-}
-
-/// Whether a message was put, or came back.
-pub(crate) fn posted<M>(back: &Option<M>) -> Posted
-    ensures { result ≡ posted_by back.now }
-{
-    match back {
-        Some(_) => Posted::Lost,
-        None => Posted::Sent,
     }
 }

@@ -39,8 +39,9 @@ impl Mover {
     }
 }
 
-/// That a grant of an interaction, with this mover, was appended to the locked book. Nothing else
-/// makes one, so what asks for an entry is done for grants alone that stand in the book.
+/// That a grant of an interaction, with this mover, was appended to a book that threads share.
+/// Nothing else makes one, so what asks for an entry is done for grants alone that stand in a book:
+/// in a host there is one.
 #[derive(Drop)]
 pub struct Entry {
     inter: InterId,

@@ -1,20 +1,22 @@
 //! The actor of a class.
 ghost use Rattle.std.specs.Prelude.{◌≡◌, ◌+◌, ◌-◌, ◌<◌, ◌≤◌, IfOk, length};
 ghost use Rattle.bip_host.specs.Actors.{IsAwaited};
-ghost use Rattle.bip_ip.specs.Nodes.{CanBeAsked, node_of};
-ghost use Rattle.bip_host.specs.Classes.{ClassAwaits, ClassHearsOf, IsFirstClassActor};
-ghost use Rattle.bip_host.specs.Classes.{IsOnDecision, IsOnEntry, IsOnGrant, left_of_class};
-ghost use Rattle.bip_host.specs.Classes.{rank_class, tries_left};
+ghost use Rattle.bip_host.specs.Classes.{ClassAwaits, ClassHearsOf, IsErrandDone};
+ghost use Rattle.bip_host.specs.Classes.{IsFirstClassActor, IsNextDone, IsOfferHeard};
+ghost use Rattle.bip_host.specs.Classes.{IsOnDecision, IsOnEntry, IsOnGrant, IsOnOutcome};
 ghost use Rattle.bip_host.specs.Classes.{IsOnRefusal, IsOnTold, IsRest, IsTrial, IsTrialOf};
-ghost use Rattle.bip_host.specs.Classes.{place_next, stage_of_try, step_of_try};
+ghost use Rattle.bip_host.specs.Classes.{left_of_class, place_next, rank_class, stage_of_try};
+ghost use Rattle.bip_host.specs.Classes.{step_of_try, tries_left};
+ghost use Rattle.bip_ip.specs.Nodes.{CanBeAsked, node_of};
 
 use crate::actors::{Actor, Step, Turn};
 use crate::books::Entry;
 use crate::counts::{Counts, Posted};
 use crate::gates::Point;
 use crate::messages::ToClass;
+use crate::waiting::Outcome;
 use bip_ip::{Answered, IpNode, Tried, WhyNot};
-use bip_model::{ClassId, CompId, Grant, InterId, Notifies, Notify, Number, Reply, Request};
+use bip_model::{ClassId, CompId, Grant, InterId, Notifies, Notify, Number, Offer, Reply, Request};
 use bip_partition::Plan;
 use bip_table::TableFault;
 use std::alloc::{AllocError, Global};
@@ -27,6 +29,8 @@ pub enum ClassAct {
     Append(Grant),
     /// That the third layer is asked for this.
     Ask(Request),
+    /// That its grant which waits for those with lower serials is looked for.
+    Look,
     /// That the gate is passed.
     Pass(Point),
     /// That a notification is put for its component.
@@ -40,6 +44,12 @@ pub enum ClassAnswer {
     Appended(Option<Entry>),
     /// What the table answers to the request.
     Decided(Result<Reserved, TableFault>),
+    /// The request found a row busy, and comes back.
+    Busy(Request),
+    /// The request is granted with this serial, and its grant waits for those with lower ones.
+    Waits(u64),
+    /// What has become of the grant that waits.
+    Looked(Outcome),
     /// The request is on its way to the station of its interaction, or lost.
     Handed(Posted),
     /// The gate is passed.
@@ -68,14 +78,27 @@ pub(crate) enum Stage {
     Asking(Request),
     /// What comes of the request with this number for this interaction.
     Asked(InterId, u64),
+    /// What has become of the grant of the request with this number, which has this serial.
+    Looking(u64, u64),
     /// That the gate is passed before this is told of the grant of the entry.
     Entered(Entry, Notifies),
     /// That the notification at this place is put, of those of the entry's grant.
     Telling(Entry, Notifies, usize),
 }
 
+/// What a class has to end before it tries anything new.
+#[derive(Drop)]
+pub(crate) enum Errand {
+    Nothing,
+    /// This is asked for again, since it found a row busy.
+    Asks(Request),
+    /// The grant of the request with this number, which has this serial, isn't in the book yet.
+    Waits(u64, u64),
+}
+
 /// The actor of a class: it takes what components offer, tries its interactions in order of number,
-/// one in each turn, beginning again after the last, and tells of grants (docs/HOST.md, "Actors").
+/// one in each turn, beginning again after the last, and tells of grants. What it has to end goes
+/// before a try (docs/HOST.md, "Actors").
 #[derive(Drop)]
 pub struct ClassActor<'p> {
     node: IpNode<'p>,
@@ -83,6 +106,9 @@ pub struct ClassActor<'p> {
     members: &'p [InterId],
     /// The place of the interaction that is tried next; past the last it is the first.
     next: usize,
+    /// The greatest number that its third layer can have: offers with a greater one are dropped.
+    most: Number,
+    errand: Errand,
     stage: Stage,
     /// What its turn comes to so far, and whether an interaction was tried in it.
     turn: Turn,
@@ -91,21 +117,64 @@ pub struct ClassActor<'p> {
 }
 
 impl<'p> ClassActor<'p> {
-    /// The actor of a class of a plan, whose node is new, and whose requests begin with number 1.
-    pub fn new(alloc: Global, plan: &'p Plan, class: ClassId) -> Result<ClassActor<'p>, AllocError>
+    /// The actor of a class of a plan, whose node is new, and whose requests begin with number 1,
+    /// over a third layer that can have numbers up to this one.
+    pub fn new(
+        alloc: Global,
+        plan: &'p Plan,
+        class: ClassId,
+        most: Number,
+    ) -> Result<ClassActor<'p>, AllocError>
         requires { class.0 < length plan.now.classes.members }
-        ensures { IfOk result (IsFirstClassActor plan.now class.0) }
+        ensures { IfOk result (IsFirstClassActor plan.now class.0 most) }
     {
         Ok(ClassActor {
             node: IpNode::new(alloc, plan, class, 0, 1)?,
             class,
             members: plan.classes().members(class),
             next: 0,
+            most,
+            errand: Errand::Nothing,
             stage: Stage::Resting,
             turn: Turn::Nothing,
             has_tried: false,
             counts: Counts::default(),
         })
+    }
+
+    /// Goes on with what is to be ended; where that is nothing, it tries the next interaction.
+    fn do_next(&mut self) -> Step<ClassAct>
+        ensures next { IsNextDone self.old result self.new }
+        ensures awaits { IsAwaited (λ act. ClassAwaits self.new.class self.new.stage act) result }
+        ensures left { left_of_class self.new ≤ 11 + rank_class self.old.stage }
+    {
+        match self.errand {
+            Errand::Nothing => self.try_next(),
+            _ => self.end_errand(),
+        }
+    }
+
+    /// Goes on with what is to be ended: it asks for the same again, or looks for its grant. That
+    /// is large, and rare.
+    #[inline(never)]
+    fn end_errand(&mut self) -> Step<ClassAct>
+        ensures errand { IsErrandDone self.old.errand self.old result self.new }
+        ensures awaits { IsAwaited (λ act. ClassAwaits self.new.class self.new.stage act) result }
+        ensures left { left_of_class self.new ≤ 11 + rank_class self.old.stage }
+    {
+        match mem::replace(&mut self.errand, Errand::Nothing) {
+            Errand::Nothing => self.try_next(),
+            Errand::Asks(request) => {
+                self.has_tried = true;
+                self.stage = Stage::Asked(request.inter, request.request);
+                Step::Act(ClassAct::Ask(request))
+            }
+            Errand::Waits(request, serial) => {
+                self.has_tried = true;
+                self.stage = Stage::Looking(request, serial);
+                Step::Act(ClassAct::Look)
+            }
+        }
     }
 
     /// Tries the next interaction, in order of number.
@@ -189,7 +258,7 @@ impl<'p> ClassActor<'p> {
         }
     }
 
-    /// What is left of a turn: a try, where there was none yet.
+    /// What is left of a turn: what is to be ended, or a try, where there was neither yet.
     fn rest(&mut self) -> Step<ClassAct>
         ensures rest { IsRest self.old result self.new }
         ensures awaits { IsAwaited (λ act. ClassAwaits self.new.class self.new.stage act) result }
@@ -199,10 +268,10 @@ impl<'p> ClassActor<'p> {
         if self.has_tried {
             return Step::Over(Turn::Done);
         }
-        self.try_next()
+        self.do_next()
     }
 
-    /// Hears a message.
+    /// Hears a message. What it may want is large, which a turn without one doesn't pay for.
     #[inline(never)]
     fn hear_message(&mut self, message: ToClass) -> Step<ClassAct>
         ensures step { ClassHearsOf message self.old result self.new }
@@ -210,8 +279,8 @@ impl<'p> ClassActor<'p> {
     {
         match message {
             ToClass::Offer(offer) => {
-                let _got = self.node.on_offer(offer);
-                self.try_next()
+                self.hear_offer(offer);
+                self.do_next()
             }
             ToClass::Granted {
                 entry,
@@ -219,6 +288,15 @@ impl<'p> ClassActor<'p> {
                 serial,
             } => self.hear_grant(entry, request, serial),
             ToClass::Refused(reply) => self.hear_refusal(reply),
+        }
+    }
+
+    /// Hears an offer, which is dropped where the third layer can't have its number.
+    fn hear_offer(&mut self, offer: Offer)
+        ensures { IsOfferHeard offer self.old self.new }
+    {
+        if offer.number <= self.most {
+            let _got = self.node.on_offer(offer);
         }
     }
 
@@ -250,6 +328,7 @@ impl<'p> ClassActor<'p> {
             ≤ 9 + rank_class self.old.stage + tries_left self.old.has_tried }
     {
         let _did = self.node.on_reply(&reply);
+        self.counts.refuse();
         self.rest()
     }
 
@@ -279,6 +358,23 @@ impl<'p> ClassActor<'p> {
                 Step::Over(Turn::Ends)
             }
             Err(_) => Step::Over(Turn::Ends),
+        }
+    }
+
+    /// Hears what has become of the grant of the request with this number, which has this serial.
+    fn hear_outcome(&mut self, request: u64, serial: u64, outcome: Outcome) -> Step<ClassAct>
+        ensures outcome { IsOnOutcome request serial outcome self.old result self.new }
+        ensures awaits { IsAwaited (λ act. ClassAwaits self.new.class self.new.stage act) result }
+        ensures left { left_of_class self.new
+            ≤ 9 + rank_class self.old.stage + tries_left self.old.has_tried }
+    {
+        match outcome {
+            Outcome::Entered(entry) => self.hear_grant(entry, request, serial),
+            Outcome::Waits => {
+                self.errand = Errand::Waits(request, serial);
+                Step::Over(self.turn)
+            }
+            Outcome::Refused => Step::Over(Turn::Ends),
         }
     }
 
@@ -333,6 +429,8 @@ impl<'p> Actor for ClassActor<'p> {
 
     ghost left = { left_of_class };
 
+    ghost counted = { λ a. a.counts };
+
     ghost starts = { ClassStarts };
 
     ghost hears = { ClassHears };
@@ -343,31 +441,22 @@ impl<'p> Actor for ClassActor<'p> {
         Step::Over(Turn::Nothing)
     }
 
-    /// Takes a message, and tries the next interaction: behind a grant once that is told.
+    /// Takes a message, and goes on with what is to be ended, or tries the next interaction: behind
+    /// a grant once that is told.
     fn hear(&mut self, heard: Option<ToClass>) -> Step<ClassAct>
         ensures step { ClassHears self.old heard result self.new }
         ensures awaits { IsAwaited (λ act. ClassAwaits self.new.class self.new.stage act) result }
     {
         self.has_tried = false;
-        self.turn = if heard.is_some() {
-            Turn::Done
-        } else {
-            Turn::Nothing
-        };
         match heard {
-            None => self.try_next(),
-            Some(ToClass::Offer(offer)) => {
-                let _got = self.node.on_offer(offer);
-                self.try_next()
+            None => {
+                self.turn = Turn::Nothing;
+                self.do_next()
             }
-            Some(
-                ToClass::Granted {
-                    entry,
-                    request,
-                    serial,
-                },
-            ) => self.hear_grant(entry, request, serial),
-            Some(ToClass::Refused(reply)) => self.hear_refusal(reply),
+            Some(message) => {
+                self.turn = Turn::Done;
+                self.hear_message(message)
+            }
         }
     }
 
@@ -387,6 +476,18 @@ impl<'p> Actor for ClassActor<'p> {
             (Stage::Asked(..), ClassAnswer::Handed(posted)) => {
                 self.counts.post(posted);
                 Step::Over(Turn::Done)
+            }
+            (Stage::Asked(..), ClassAnswer::Busy(request)) => {
+                self.counts.find_busy();
+                self.errand = Errand::Asks(request);
+                Step::Over(self.turn)
+            }
+            (Stage::Asked(_, request), ClassAnswer::Waits(serial)) => {
+                self.errand = Errand::Waits(request, serial);
+                Step::Over(Turn::Done)
+            }
+            (Stage::Looking(request, serial), ClassAnswer::Looked(outcome)) => {
+                self.hear_outcome(request, serial, outcome)
             }
             (Stage::Entered(entry, notifies), ClassAnswer::Passed) => {
                 self.counts.tell();

@@ -84,6 +84,8 @@ impl<'p> Actor for ComponentActor<'p> {
 
     ghost left = { λ a. length a.classes.now - a.offered };
 
+    ghost counted = { λ a. a.counts };
+
     ghost starts = { ComponentStarts };
 
     ghost hears = { ComponentHears };

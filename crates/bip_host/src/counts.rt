@@ -21,6 +21,10 @@ pub struct Counts {
     pub passes: u64,
     /// How many request tokens it sent.
     pub asks: u64,
+    /// How many of its requests it heard to be refused.
+    pub refusals: u64,
+    /// How often a request of its found a row busy.
+    pub busy: u64,
     /// Whether memory was wanted for a decision.
     pub wanted_memory: bool,
 }
@@ -62,6 +66,20 @@ impl Counts {
         ensures { self.new ≡ record self.old { asks = counted_up self.old.asks } }
     {
         self.asks = self.asks.saturating_add(1);
+    }
+
+    /// Counts a request that is refused.
+    pub(crate) fn refuse(&mut self)
+        ensures { self.new ≡ record self.old { refusals = counted_up self.old.refusals } }
+    {
+        self.refusals = self.refusals.saturating_add(1);
+    }
+
+    /// Counts a request that found a row busy.
+    pub(crate) fn find_busy(&mut self)
+        ensures { self.new ≡ record self.old { busy = counted_up self.old.busy } }
+    {
+        self.busy = self.busy.saturating_add(1);
     }
 
     /// Notes that memory was wanted.

@@ -1,8 +1,9 @@
 //! The ends of inboxes, each with its inbox.
 ghost use Rattle.std.specs.Prelude.{◌≡◌, ◌++◌, ◌∷◌, [], IfSome, MatchOption, slice_get};
 ghost use Rattle.bip_host.specs.Mailboxes.{AreWritersAt};
-ghost use Rattle.bip_host.specs.Posting.{IsReaderOf, IsWriterOf, got_by, put_by};
+ghost use Rattle.bip_host.specs.Posting.{IsPostedBy, IsReaderOf, IsWriterOf, got_by, put_by};
 
+use crate::counts::Posted;
 use crate::inboxes::{Inbox, Reader, Writer};
 use std::sync::Wait;
 
@@ -32,6 +33,16 @@ impl<'h, M: Drop> Outlet<'h, M> {
     {
         let Outlet { inbox, writer } = self;
         inbox.put(rt, writer, message).err()
+    }
+
+    /// Sends a message, and says whether it is lost.
+    pub(crate) fn post<R: Wait>(&mut self, rt: &R, message: M) -> Posted
+        ensures { IsPostedBy message self.old.writer result self.new.writer }
+    {
+        match self.send(rt, message) {
+            None => Posted::Sent,
+            Some(_) => Posted::Lost,
+        }
     }
 }
 

@@ -219,6 +219,8 @@ impl Actor for ForkActor {
 
     ghost left = { λ a. rank_fork (length a.neighbours.items) a.stage };
 
+    ghost counted = { λ a. a.counts };
+
     ghost starts = { ForkStarts };
 
     ghost hears = { ForkHears };

@@ -1,10 +1,15 @@
 //! What actors of a host hear with and act with: inboxes, the third layer, the locked book, a gate.
+ghost use Rattle.std.specs.Prelude.{◌≡◌};
+ghost use Rattle.bip_host.specs.Addressed.{IsPostedTo};
 ghost use Rattle.bip_host.specs.Classes.{ClassFits};
 ghost use Rattle.bip_host.specs.Components.{ComponentFits};
+ghost use Rattle.bip_host.specs.Hands.{IsClassActDone, IsGot, IsStationActDone};
+ghost use Rattle.bip_host.specs.Layers.{drawn_with};
 ghost use Rattle.bip_host.specs.Stations.{StationFits};
+ghost use Rattle.bip_host.specs.declared.messages.ToClass.TheVariants.{Offer};
 
 use crate::actors::Hands;
-use crate::addressed::{Addressed, posted};
+use crate::addressed::Addressed;
 use crate::classes::{ClassAct, ClassActor, ClassAnswer};
 use crate::components::{ComponentActor, Offering};
 use crate::counts::Posted;
@@ -29,15 +34,28 @@ pub(crate) struct ComponentHands<'h> {
 }
 
 impl<'h, 'p> Hands<ComponentActor<'p>> for ComponentHands<'h> {
-    fn receive<R: Wait>(&mut self, rt: &R) -> Option<Notify> {
+    ghost drawn = { λ _. 0 };
+
+    fn receive<R: Wait>(&mut self, rt: &R) -> Option<Notify>
+        ensures { IsGot self.old.intake result self.new.intake }
+    {
         self.intake.receive(rt)
     }
 
     fn act<R: Wait>(&mut self, rt: &R, act: Offering) -> Posted
-        ensures { ComponentFits act result }
+        ensures fits { ComponentFits act result }
+        // Its offer is put for that class.
+        ensures put { IsPostedTo act.class.0 (Offer act.offer) self.old.classes.outlets.items
+            result self.new.classes.outlets.items }
     {
-        let offer = ToClass::Offer(act.offer);
-        posted(&self.classes.send(rt, act.class.0 as usize, offer))
+        self.classes
+            .post(rt, act.class.0 as usize, ToClass::Offer(act.offer))
+    }
+
+    fn count_drawn(&self) -> u64
+        ensures { result ≡ 0 }
+    {
+        0
     }
 }
 
@@ -54,25 +72,40 @@ pub(crate) struct ClassHands<'h, 'm, 'g, 'p, L: Ledger, G> {
 
 impl<'h, 'm, 'g, 'p, L: Ledger, G: Gate> Hands<ClassActor<'p>>
     for ClassHands<'h, 'm, 'g, 'p, L, G> {
-    fn receive<R: Wait>(&mut self, rt: &R) -> Option<ToClass> {
+    ghost use Rattle.bip_host.specs.Layers.{drawn_with};
+
+    ghost drawn = { λ hands. drawn_with hands.layer };
+
+    fn receive<R: Wait>(&mut self, rt: &R) -> Option<ToClass>
+        ensures { IsGot self.old.intake result self.new.intake }
+    {
         self.intake.receive(rt)
     }
 
     fn act<R: Wait>(&mut self, rt: &R, act: ClassAct) -> ClassAnswer
-        ensures { ClassFits act result }
+        ensures fits { ClassFits act result }
+        // What is put is put for whom the act names.
+        ensures put { IsClassActDone act self.old result self.new }
     {
         match act {
             ClassAct::Append(grant) => ClassAnswer::Appended(self.keeper.append(rt, grant)),
             ClassAct::Ask(request) => self.layer.ask(rt, request, &mut self.keeper),
+            ClassAct::Look => ClassAnswer::Looked(self.layer.look(rt, &self.keeper)),
             ClassAct::Pass(at) => {
                 self.gate.pass(rt, at);
                 ClassAnswer::Passed
             }
             ClassAct::Tell(notify) => {
-                let back = self.components.send(rt, notify.comp.0 as usize, notify);
-                ClassAnswer::Told(posted(&back))
+                let comp = notify.comp.0 as usize;
+                ClassAnswer::Told(self.components.post(rt, comp, notify))
             }
         }
+    }
+
+    fn count_drawn(&self) -> u64
+        ensures { result ≡ drawn_with self.now.layer }
+    {
+        self.layer.count_drawn()
     }
 }
 
@@ -88,13 +121,12 @@ pub(crate) struct StationHands<'h, 'm> {
 
 impl<'h, 'm> StationHands<'h, 'm> {
     fn act_for<R: Wait>(&mut self, rt: &R, act: StationAct) -> StationAnswer
-        ensures { StationFits act result }
+        ensures fits { StationFits act result }
+        ensures put { IsStationActDone act self.old result self.new }
     {
         match act {
             StationAct::Append(grant) => StationAnswer::Appended(self.keeper.append(rt, grant)),
-            StationAct::Answer(message) => {
-                StationAnswer::Answered(posted(&self.class.send(rt, message)))
-            }
+            StationAct::Answer(message) => StationAnswer::Answered(self.class.post(rt, message)),
             StationAct::Share(to, message) => {
                 StationAnswer::Shared(self.stations.send(rt, to.0 as usize, message))
             }
@@ -103,25 +135,49 @@ impl<'h, 'm> StationHands<'h, 'm> {
 }
 
 impl<'h, 'm> Hands<RingActor> for StationHands<'h, 'm> {
-    fn receive<R: Wait>(&mut self, rt: &R) -> Option<ToStation> {
+    ghost drawn = { λ _. 0 };
+
+    fn receive<R: Wait>(&mut self, rt: &R) -> Option<ToStation>
+        ensures { IsGot self.old.intake result self.new.intake }
+    {
         self.intake.receive(rt)
     }
 
     fn act<R: Wait>(&mut self, rt: &R, act: StationAct) -> StationAnswer
-        ensures { StationFits act result }
+        ensures fits { StationFits act result }
+        // What is put is put for whom the act names.
+        ensures put { IsStationActDone act self.old result self.new }
     {
         self.act_for(rt, act)
+    }
+
+    fn count_drawn(&self) -> u64
+        ensures { result ≡ 0 }
+    {
+        0
     }
 }
 
 impl<'h, 'm> Hands<ForkActor> for StationHands<'h, 'm> {
-    fn receive<R: Wait>(&mut self, rt: &R) -> Option<ToStation> {
+    ghost drawn = { λ _. 0 };
+
+    fn receive<R: Wait>(&mut self, rt: &R) -> Option<ToStation>
+        ensures { IsGot self.old.intake result self.new.intake }
+    {
         self.intake.receive(rt)
     }
 
     fn act<R: Wait>(&mut self, rt: &R, act: StationAct) -> StationAnswer
-        ensures { StationFits act result }
+        ensures fits { StationFits act result }
+        // What is put is put for whom the act names.
+        ensures put { IsStationActDone act self.old result self.new }
     {
         self.act_for(rt, act)
+    }
+
+    fn count_drawn(&self) -> u64
+        ensures { result ≡ 0 }
+    {
+        0
     }
 }

@@ -1,10 +1,12 @@
-//! Hosts: a plan's nodes as threads, round one locked book, with a locked table, a ring or forks.
-ghost use Rattle.std.specs.Prelude.{◌≡◌, ◌↔◌, ◌+◌, ◌<◌, ◌≤◌, ◌^◌, [], All, IfErr, IfOk, IsSome};
-ghost use Rattle.std.specs.Prelude.{length, max};
+//! Hosts: a plan's nodes as threads, round one locked book, with one table, a ring or forks.
+ghost use Rattle.std.specs.Prelude.{◌≡◌, ◌+◌, ◌<◌, ◌≤◌, ◌^◌, All, IfErr, IfOk, length, max};
 ghost use Rattle.bip_host.specs.Mailboxes.{AreEndsOfEach};
 ghost use Rattle.bip_host.specs.Nodes.{kind_of};
 ghost use Rattle.bip_host.specs.Reports.{AreFiguresOf, AreTotalsOf, IsHostFault, IsReportOf};
 ghost use Rattle.bip_host.specs.Reports.{IsThreadCount, IsWhyNone, no_totals, with_end};
+ghost use Rattle.bip_host.specs.Seats.{CanHave};
+ghost use Rattle.bip_host.specs.Starting.{HaveForm};
+ghost use Rattle.bip_host.specs.Tables.{IsAccessTo, form_asked, form_of_table};
 ghost use Rattle.bip_replay.specs.Runs.{IsModelRun};
 
 use crate::actors::NodeEnd;
@@ -12,7 +14,7 @@ use crate::books::{SharedBook, as_run};
 use crate::faults::HostFault;
 use crate::gates::Gate;
 use crate::joining::{join_all, part_all};
-use crate::layers::{Layers, StationLayers};
+use crate::layers::StationLayers;
 use crate::mailboxes::LooseEnds;
 use crate::messages::{ToClass, ToStation};
 use crate::nodes::Nodes;
@@ -20,11 +22,11 @@ use crate::starting::{
     Commons, class_mailboxes, component_mailboxes, start_classes, start_components,
 };
 use crate::starting_stations::{start_stations, station_mailboxes};
-use bip_bank::first_table;
+use crate::tables::{Access, CommonTable, layers_over, open_table};
+use crate::waiting::WaitingBook;
 use bip_model::{Grant, Notify};
 use bip_partition::Plan;
 use bip_replay::Book;
-use bip_table::{Pass, TableLock};
 use std::alloc::{AllocError, Global};
 use std::marker::Brand;
 use std::sync::ledger::{Blank, Ledger};
@@ -47,8 +49,10 @@ pub enum Kind {
 /// How the tables of a host are shared.
 #[derive(Clone, Copy, Debug, PartialEq, Eq)]
 pub enum Tables {
-    /// Behind a lock.
+    /// Behind a lock; with stations, by what these hand on.
     Locked,
+    /// In single words, without a lock: one table of at most 32 rows.
+    Words,
 }
 
 /// How long a host runs: each thread ends after so many turns.
@@ -66,16 +70,24 @@ pub struct HostReport {
     pub lost: u64,
 }
 
-/// How much a host did it with: which kind of third layer it had, how many threads ran, how many
-/// turns they made together, how many tokens and forks stations sent, and how many request tokens;
-/// none with one table.
+/// How much a host did it with: which kind of third layer it had, and how its tables were shared.
 #[derive(Clone, Copy, Debug, PartialEq, Eq)]
 pub struct HostFigures {
     pub kind: Kind,
+    pub tables: Tables,
+    /// How many threads ran, and how many turns they made together.
     pub threads: u64,
     pub turns: u64,
+    /// How many tokens and forks stations sent, and how many request tokens; none with one table.
     pub passes: u64,
     pub asks: u64,
+    /// How many requests classes heard to be refused, and how often one found a row busy.
+    pub refusals: u64,
+    pub busy: u64,
+    /// How many grants stand in the lists of a word table's seats, and how many of its grants the
+    /// book took: as many, unless a class ended amid one.
+    pub drawn: u64,
+    pub entered: u64,
 }
 
 /// What all threads did, and whether one couldn't be started, or wanted memory.
@@ -89,16 +101,21 @@ pub(crate) struct Totals {
 }
 
 impl Totals {
-    /// Nothing so far, of a host of a kind.
-    fn of(kind: Kind) -> Totals
-        ensures { result ≡ no_totals kind }
+    /// Nothing so far, of a host of a kind whose tables are shared so.
+    fn of(kind: Kind, tables: Tables) -> Totals
+        ensures { result ≡ no_totals kind tables }
     {
         let figures = HostFigures {
             kind,
+            tables,
             threads: 0,
             turns: 0,
             passes: 0,
             asks: 0,
+            refusals: 0,
+            busy: 0,
+            drawn: 0,
+            entered: 0,
         };
         Totals {
             figures,
@@ -118,6 +135,9 @@ impl Totals {
         self.figures.turns = self.figures.turns.saturating_add(end.turns);
         self.figures.passes = self.figures.passes.saturating_add(end.counts.passes);
         self.figures.asks = self.figures.asks.saturating_add(end.counts.asks);
+        self.figures.refusals = self.figures.refusals.saturating_add(end.counts.refusals);
+        self.figures.busy = self.figures.busy.saturating_add(end.counts.busy);
+        self.figures.drawn = self.figures.drawn.saturating_add(end.drawn);
         self.told = self.told.saturating_add(end.counts.told);
         self.lost = self.lost.saturating_add(end.counts.lost);
         self.wanted_memory = self.wanted_memory || end.counts.wanted_memory;
@@ -125,7 +145,8 @@ impl Totals {
 }
 
 /// Runs the nodes of a plan, each in a thread of its own that ends after so many turns: one of each
-/// component, one of each class, and with a ring or forks one of each station. **The grants of the
+/// component, one of each class, and with a ring or forks one of each station; row words want one
+/// table of at most 32 rows. **The grants of the
 /// report are a run of the plan's model, with exact numbers above 0.** A grant that were none is
 /// refused by the book before anybody is told of it, and the fault is NotARun then; else Memory,
 /// where it was wanted; else Thread, where one couldn't be started. Each thread that was started is
@@ -139,6 +160,7 @@ pub fn run_host<G: Gate + Sync, R: Threads + Wait + Sync>(
     limits: Limits,
     gate: &G,
 ) -> Result<HostReport, HostFault>
+    requires { CanHave plan.now kind tables }
     ensures run { IfOk result (λ report. IsModelRun plan.now.model 0 report.grants.items) }
     ensures fault { IfErr result IsHostFault }
 {
@@ -156,36 +178,46 @@ pub fn run_host_counted<G: Gate + Sync, R: Threads + Wait + Sync>(
     limits: Limits,
     gate: &G,
 ) -> Result<(HostReport, HostFigures), HostFault>
+    requires { CanHave plan.now kind tables }
     ensures run { IfOk result (λ done. IsModelRun plan.now.model 0 done.0.grants.items) }
-    ensures figures { IfOk result (λ done. AreFiguresOf plan.now kind limits.turns done.1) }
+    ensures figures { IfOk result (λ done. AreFiguresOf plan.now kind tables limits.turns done.1) }
     ensures fault { IfErr result IsHostFault }
 {
-    let Tables::Locked = tables;
+    let asked = Asked {
+        kind,
+        tables,
+        threads: count_threads(plan, kind),
+        turns: limits.turns,
+    };
     let passes = plan.classes().len().max(1);
     let blank = Blank::new(passes as u64);
-    run_kind::<Brand, G, R>(rt, alloc, plan, kind, blank, limits, gate)
+    run_kind::<Brand, G, R>(rt, alloc, plan, asked, blank, gate)
 }
 
-/// Runs a host with a third layer of a kind. The ledger has a part for the pass of each class.
+/// Runs a host as is asked. The ledger has a part for the pass of each class.
 fn run_kind<L: Ledger + Send + Sync, G: Gate + Sync, R: Threads + Wait + Sync>(
     rt: &R,
     alloc: Global,
     plan: &Plan,
-    kind: Kind,
+    asked: Asked,
     blank: Blank,
-    limits: Limits,
     gate: &G,
 ) -> Result<(HostReport, HostFigures), HostFault>
+    requires tables { CanHave plan.now asked.kind asked.tables }
+    requires threads { IsThreadCount plan.now asked.kind asked.threads }
     requires name { blank.name ≡ L.name }
     requires parts { (blank.parts ≡ L.parts)
         × (blank.parts ≡ max 1 (length plan.now.classes.members)) }
     ensures run { IfOk result (λ done. IsModelRun plan.now.model 0 done.0.grants.items) }
     ensures fault { IfErr result IsHostFault }
-    ensures figures { IfOk result (λ done. AreFiguresOf plan.now kind limits.turns done.1) }
+    ensures figures { IfOk result (λ done. AreFiguresOf plan.now asked.kind asked.tables asked.turns
+        done.1) }
 {
+    let Asked { kind, tables, .. } = asked;
     let passes = plan.classes().len().max(1);
-    let (table, passes) = open_table::<L>(alloc, plan, kind, blank, passes)?;
-    let book = Mutex::new(SharedBook::of(Book::start(alloc, plan.model(), 0)?));
+    let (table, access) = open_table::<L>(alloc, plan, kind, tables, blank, passes)?;
+    let book = SharedBook::of(Book::start(alloc, plan.model(), 0)?);
+    let book = Mutex::new(WaitingBook::of(alloc, book, plan.classes().len())?);
     let has_stations = kind != Kind::Central;
     let (offers, offer_ends) = part_all(alloc, class_mailboxes(alloc, plan, has_stations)?)?;
     let (notices, notice_ends) = part_all(alloc, component_mailboxes(alloc, plan)?)?;
@@ -201,50 +233,26 @@ fn run_kind<L: Ledger + Send + Sync, G: Gate + Sync, R: Threads + Wait + Sync>(
         offers: offer_ends,
         notices: notice_ends,
         shares: share_ends,
-        passes,
+        access,
     };
     let nodes = start_nodes(alloc, plan, kind, &commons, ends, gate)?;
-    let asked = Asked {
-        kind,
-        threads: count_threads(plan, kind),
-        turns: limits.turns,
-    };
     let totals = run_threads(rt, alloc, nodes, asked)?;
     let Commons { book, .. } = commons;
-    report(alloc, plan, book.into_inner(), totals)
+    let (book, entered) = book.into_inner().close();
+    report(alloc, plan, book, entered, totals)
 }
 
-/// The table of a plan behind a lock, with the passes of its classes, where one table decides.
-fn open_table<L: Ledger>(
-    alloc: Global,
-    plan: &Plan,
-    kind: Kind,
-    blank: Blank,
-    passes: usize,
-) -> Result<(Option<TableLock<L>>, Vec<Pass<L>>), AllocError>
-    requires name { blank.name ≡ L.name }
-    requires parts { (blank.parts ≡ L.parts) × (blank.parts ≡ passes) }
-    requires some { 0 < passes }
-    ensures { IfOk result (λ opened. IsSome opened.0 ↔ (kind ≡ Kind.Central)) }
-{
-    if kind != Kind::Central {
-        return Ok((None, Vec::new(alloc)));
-    }
-    let table = first_table(alloc, plan, 0)?;
-    let (lock, passes) = TableLock::<L>::new(alloc, blank, table, passes)?;
-    Ok((Some(lock), passes))
-}
-
-/// The ends of all inboxes of a host, which aren't handed out yet, and the passes of its table.
+/// The ends of all inboxes of a host, which aren't handed out yet, and by what its table is asked.
 #[derive(Drop)]
 struct HostEnds<L: Ledger> {
     offers: Vec<LooseEnds<ToClass>>,
     notices: Vec<LooseEnds<Notify>>,
     shares: Vec<LooseEnds<ToStation>>,
-    passes: Vec<Pass<L>>,
+    access: Access<L>,
 }
 
 /// Makes the nodes of a plan, with a third layer of a kind.
+#[tactic(auto, using(crate::proofs::StartingLemmas::have_form))]
 fn start_nodes<'h, 'p, 'm, 'g, L: Ledger, G: Gate>(
     alloc: Global,
     plan: &'p Plan,
@@ -256,7 +264,10 @@ fn start_nodes<'h, 'p, 'm, 'g, L: Ledger, G: Gate>(
     requires offers { AreEndsOfEach commons.now.offers.items ends.offers.items }
     requires notices { AreEndsOfEach commons.now.notices.items ends.notices.items }
     requires shares { AreEndsOfEach commons.now.shares.items ends.shares.items }
-    ensures { IfOk result (λ nodes. kind_of nodes.stations ≡ kind) }
+    requires access { IsAccessTo commons.now.table ends.access }
+    ensures kind { IfOk result (λ nodes. kind_of nodes.stations ≡ kind) }
+    ensures form { IfOk result (λ nodes.
+        HaveForm (form_of_table commons.now.table) nodes.classes.items) }
 {
     let (gathering, mut offers) = join_all(alloc, commons.offers.as_slice(), ends.offers)?;
     let (receiving, mut notices) = join_all(alloc, commons.notices.as_slice(), ends.notices)?;
@@ -264,13 +275,11 @@ fn start_nodes<'h, 'p, 'm, 'g, L: Ledger, G: Gate>(
     let book = &commons.book;
     let components = start_components(alloc, plan, receiving, &mut offers)?;
     let stations = start_stations(alloc, plan, kind, book, serving, &mut shares, &mut offers)?;
-    let layers = match &commons.table {
-        Some(lock) => Layers::Table(lock, ends.passes),
-        None => Layers::Stations(StationLayers {
-            stations: plan.stations(),
-            outlets: shares,
-        }),
+    let desks = StationLayers {
+        stations: plan.stations(),
+        outlets: shares,
     };
+    let layers = layers_over(&commons.table, ends.access, desks);
     let classes = start_classes(alloc, plan, book, gathering, &mut notices, layers, gate)?;
     Ok(Nodes {
         components,
@@ -293,10 +302,12 @@ fn count_threads(plan: &Plan, kind: Kind) -> u128
     components + classes + stations
 }
 
-/// What is asked of a host: its kind of third layer, how many threads, and how many turns of each.
+/// What is asked of a host: its kind of third layer, how its tables are shared, how many threads,
+/// and how many turns of each.
 #[derive(Clone, Copy)]
 pub(crate) struct Asked {
     kind: Kind,
+    tables: Tables,
     threads: u128,
     turns: u32,
 }
@@ -321,7 +332,8 @@ fn run_threads<'h, 'p, 'm, 'g, L: Ledger + Send + Sync, G: Gate + Sync, R: Threa
     nodes: Nodes<'h, 'p, 'm, 'g, L, G>,
     asked: Asked,
 ) -> Result<Totals, AllocError>
-    requires { kind_of nodes.stations ≡ asked.kind }
+    requires kind { kind_of nodes.stations ≡ asked.kind }
+    requires form { HaveForm (form_asked asked.kind asked.tables) nodes.classes.items }
     ensures { IfOk result (AreTotalsOf asked) }
 {
     let nodes = nodes.into_list(alloc)?;
@@ -353,7 +365,7 @@ fn join_threads<R: Threads>(
     requires { All (λ h. h.promise.turns ≤ asked.turns) running.items }
     ensures { AreTotalsOf asked result }
 {
-    let mut totals = Totals::of(asked.kind);
+    let mut totals = Totals::of(asked.kind, asked.tables);
     for handle in running {
         totals.add(handle.join(rt));
     }
@@ -361,15 +373,17 @@ fn join_threads<R: Threads>(
     totals
 }
 
-/// The report of the grants in the book, or why there is none.
+/// The report of the grants in the book, of which so many came by their serials; or why there is
+/// none.
 fn report(
     alloc: Global,
     plan: &Plan,
     book: SharedBook<'_>,
+    entered: u64,
     totals: Totals,
 ) -> Result<(HostReport, HostFigures), HostFault>
     ensures run { IfOk result (λ done. IsModelRun plan.now.model 0 done.0.grants.items) }
-    ensures all { IfOk result (λ done. IsReportOf book.entry totals done.0 done.1) }
+    ensures all { IfOk result (λ done. IsReportOf book.entry entered totals done.0 done.1) }
     ensures fault { IfErr result IsHostFault }
     ensures why { IfErr result (IsWhyNone plan.now.model book.entry totals.wanted_memory
         totals.is_short) }
@@ -387,5 +401,9 @@ fn report(
         told: totals.told,
         lost: totals.lost,
     };
-    Ok((report, totals.figures))
+    let figures = HostFigures {
+        entered,
+        ..totals.figures
+    };
+    Ok((report, figures))
 }

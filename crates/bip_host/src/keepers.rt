@@ -1,8 +1,11 @@
 //! The keeper of a class, which appends its grants to the locked book.
-ghost use Rattle.std.specs.Prelude.{IfSome};
+ghost use Rattle.std.specs.Prelude.{◌≡◌, IfOk, IfSome, None};
 ghost use Rattle.bip_host.specs.Keepers.{IsEntryOf};
+ghost use Rattle.bip_host.specs.Waiting.{IsOutcomeOf};
 
-use crate::books::{Entry, SharedBook};
+use crate::books::Entry;
+use crate::drawn::Drawn;
+use crate::waiting::{Outcome, WaitingBook};
 use bip_model::Grant;
 use bip_table::Keep;
 use std::sync::{Mutex, Wait};
@@ -11,12 +14,14 @@ use std::sync::{Mutex, Wait};
 /// taken.
 #[derive(Drop)]
 pub(crate) struct BookKeeper<'h, 'm> {
-    book: &'h Mutex<SharedBook<'m>>,
+    book: &'h Mutex<WaitingBook<'m>>,
     pub(crate) entry: Option<Entry>,
 }
 
 impl<'h, 'm> BookKeeper<'h, 'm> {
-    pub(crate) fn of(book: &'h Mutex<SharedBook<'m>>) -> BookKeeper<'h, 'm> {
+    pub(crate) fn of(book: &'h Mutex<WaitingBook<'m>>) -> BookKeeper<'h, 'm>
+        ensures { result.entry ≡ None }
+    {
         BookKeeper { book, entry: None }
     }
 
@@ -25,6 +30,23 @@ impl<'h, 'm> BookKeeper<'h, 'm> {
         ensures { IfSome result (IsEntryOf grant) }
     {
         self.book.lock(rt).append(grant)
+    }
+
+    /// Lays a grant beside the locked book at this place, and says what has become of it.
+    pub(crate) fn enter<R: Wait>(
+        &self,
+        rt: &R,
+        place: usize,
+        drawn: Drawn,
+    ) -> Result<Outcome, Drawn>
+        ensures { IfOk result (IsOutcomeOf drawn.grant) }
+    {
+        self.book.lock(rt).enter(place, drawn)
+    }
+
+    /// Says what has become of the grant that was laid at this place.
+    pub(crate) fn look<R: Wait>(&self, rt: &R, place: usize) -> Outcome {
+        self.book.lock(rt).look(place)
     }
 }
 

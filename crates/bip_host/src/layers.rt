@@ -1,17 +1,22 @@
 //! The third layer, as the hands of a class's actor have it.
-ghost use Rattle.std.specs.Prelude.{◌≡◌, IfOk, IfSome, Some, slice_get};
+ghost use Rattle.std.specs.Prelude.{◌≡◌, IfNone, IfOk, IfSome, Some, length, slice_get};
 ghost use Rattle.bip_host.specs.Classes.{ClassFits, IsDecidedHere};
-ghost use Rattle.bip_host.specs.Layers.{IsSentToStation, has_table, has_tables};
+ghost use Rattle.bip_host.specs.Layers.{IsAskedByWords, IsAskedFor, IsLaidAnswer, IsLayerOf};
+ghost use Rattle.bip_host.specs.Layers.{IsSentToStation, IsSought, NoneDecides, drawn_with};
+ghost use Rattle.bip_host.specs.Tables.{form_of_layers, most_of};
 ghost use Rattle.bip_host.specs.declared.classes.ClassAct.TheVariants.{Ask};
 
-use crate::addressed::{Addressed, posted};
+use crate::addressed::Addressed;
 use crate::classes::{ClassAnswer, Reserved};
 use crate::counts::Posted;
+use crate::drawn::Drawn;
 use crate::ends::Outlets;
 use crate::keepers::BookKeeper;
 use crate::messages::ToStation;
+use crate::seats::{Draw, MOST_IN_WORDS, WordSeat};
 use crate::starting::decided_at;
-use bip_model::{ClassId, InterId, Request};
+use crate::waiting::Outcome;
+use bip_model::{ClassId, InterId, Number, Request};
 use bip_partition::Plan;
 use bip_table::{Decision, Pass, TableFault, TableLock};
 use std::alloc::{AllocError, Global};
@@ -23,6 +28,8 @@ use std::sync::ledger::Ledger;
 pub(crate) enum ThirdLayer<'h, 'p, L: Ledger> {
     /// Of the locked table, by the class's pass.
     Table(TableDesk<'h, L>),
+    /// Of the word table, by the class's seat.
+    Words(WordDesk<'h>),
     /// Of the station of each interaction.
     Stations(StationDesk<'h, 'p>),
 }
@@ -38,21 +45,21 @@ pub(crate) struct StationDesk<'h, 'p> {
 impl<'h, 'p> StationDesk<'h, 'p> {
     /// Sends a request to the station of its interaction.
     fn send<R: Wait>(&mut self, rt: &R, request: Request) -> Posted
-        ensures { IsSentToStation request self.old.stations.now self.old.outlets.outlets.items
-            result self.new.outlets.outlets.items }
+        ensures sent { IsSentToStation request self.old.stations.now
+            self.old.outlets.outlets.items result self.new.outlets.outlets.items }
+        ensures stations { self.new.stations.now ≡ self.old.stations.now }
     {
         match self.station_of(request.inter) {
-            Some(number) => {
-                let back = self.outlets.send(rt, number, ToStation::Asked(request));
-                posted(&back)
-            }
+            Some(number) => self.outlets.post(rt, number, ToStation::Asked(request)),
             None => Posted::Lost,
         }
     }
 
     /// The number of the station of an interaction, if it has one.
     fn station_of(&self, inter: InterId) -> Option<usize>
-        ensures { IfSome result (λ k. slice_get self.now.stations.now k ≡ Some inter) }
+        ensures some { IfSome result (λ k. slice_get self.now.stations.now k ≡ Some inter) }
+        ensures none { IfNone result (NoneDecides inter self.now.stations.now
+            (length self.now.stations.now)) }
     {
         for number in 0..self.stations.len() {
             if self.stations[number] == inter {
@@ -65,18 +72,82 @@ impl<'h, 'p> StationDesk<'h, 'p> {
 
 impl<'h, 'p, L: Ledger> ThirdLayer<'h, 'p, L> {
     /// Asks for an interaction: the locked table, which decides at once, and whose grant the keeper
-    /// appends to the book; or the interaction's station.
+    /// appends to the book; the word table, whose grant is laid beside the book; or the
+    /// interaction's station.
     pub(crate) fn ask<R: Wait>(
         &mut self,
         rt: &R,
         request: Request,
         keeper: &mut BookKeeper<'_, '_>,
     ) -> ClassAnswer
-        ensures { ClassFits (Ask request) result }
+        ensures fits { ClassFits (Ask request) result }
+        ensures asked { IsAskedFor request self.old result self.new }
     {
         match self {
             ThirdLayer::Table(desk) => ClassAnswer::Decided(desk.ask(rt, request, keeper)),
+            ThirdLayer::Words(desk) => desk.ask(rt, request, keeper),
             ThirdLayer::Stations(desk) => ClassAnswer::Handed(desk.send(rt, request)),
+        }
+    }
+
+    /// Says what has become of the grant that the class laid beside the book: with words alone one
+    /// can.
+    pub(crate) fn look<R: Wait>(&self, rt: &R, keeper: &BookKeeper<'_, '_>) -> Outcome
+        ensures { IsSought self.now result }
+    {
+        match self {
+            ThirdLayer::Words(desk) => keeper.look(rt, desk.place),
+            ThirdLayer::Table(_) => Outcome::Refused,
+            ThirdLayer::Stations(_) => Outcome::Refused,
+        }
+    }
+
+    /// How many grants were drawn with it from a word table.
+    pub(crate) fn count_drawn(&self) -> u64
+        ensures { result ≡ drawn_with self.now }
+    {
+        match self {
+            ThirdLayer::Words(desk) => desk.seat.count_drawn(),
+            ThirdLayer::Table(_) => 0,
+            ThirdLayer::Stations(_) => 0,
+        }
+    }
+}
+
+/// A class's seat of the word table, and its place beside the book.
+#[derive(Drop)]
+pub(crate) struct WordDesk<'h> {
+    pub(crate) seat: WordSeat<'h>,
+    pub(crate) place: usize,
+}
+
+impl<'h> WordDesk<'h> {
+    /// Tries once to draw the request's grant, and lays it beside the book.
+    fn ask<R: Wait>(&mut self, rt: &R, request: Request, keeper: &BookKeeper<'_, '_>) -> ClassAnswer
+        ensures fits { ClassFits (Ask request) result }
+        ensures asked { IsAskedByWords request self.old result self.new }
+    {
+        match self.seat.draw(request) {
+            Draw::Granted(drawn) => self.enter(rt, drawn, keeper),
+            Draw::Used { comp, used } => ClassAnswer::Decided(Ok(Reserved::Refused { comp, used })),
+            Draw::Busy(back) => ClassAnswer::Busy(back),
+            Draw::Unknown(comp) => ClassAnswer::Decided(Err(TableFault::UnknownRow(comp))),
+            Draw::TooGreat => ClassAnswer::Decided(Err(TableFault::Ended)),
+        }
+    }
+
+    /// Lays a grant beside the book, and says what has become of it.
+    fn enter<R: Wait>(&self, rt: &R, drawn: Drawn, keeper: &BookKeeper<'_, '_>) -> ClassAnswer
+        ensures { IsLaidAnswer drawn.serial drawn.grant result }
+    {
+        let serial = drawn.serial();
+        match keeper.enter(rt, self.place, drawn) {
+            Ok(Outcome::Entered(entry)) => {
+                ClassAnswer::Decided(Ok(Reserved::Granted(entry, serial)))
+            }
+            Ok(Outcome::Waits) => ClassAnswer::Waits(serial),
+            Ok(Outcome::Refused) => ClassAnswer::Decided(Err(TableFault::NotKept)),
+            Err(_) => ClassAnswer::Decided(Err(TableFault::NotKept)),
         }
     }
 }
@@ -93,6 +164,8 @@ pub(crate) struct TableDesk<'h, L: Ledger> {
 pub(crate) enum Layers<'h, 'p, L: Ledger> {
     /// The locked table, and the passes that no class has yet.
     Table(&'h TableLock<L>, Vec<Pass<L>>),
+    /// The seat of the word table of which those of the classes are split off.
+    Words(WordSeat<'h>),
     /// The stations.
     Stations(StationLayers<'h, 'p>),
 }
@@ -113,7 +186,8 @@ impl<'h, 'p> StationLayers<'h, 'p> {
         plan: &Plan,
         class: ClassId,
     ) -> Result<StationDesk<'h, 'p>, AllocError>
-        ensures { IfOk result (λ desk. desk.stations.now ≡ self.old.stations.now) }
+        ensures desk { IfOk result (λ desk. desk.stations.now ≡ self.old.stations.now) }
+        ensures stations { self.new.stations.now ≡ self.old.stations.now }
     {
         let outlets = station_outlets(alloc, plan, class, &mut self.outlets)?;
         Ok(StationDesk {
@@ -124,6 +198,16 @@ impl<'h, 'p> StationLayers<'h, 'p> {
 }
 
 impl<'h, 'p, L: Ledger> Layers<'h, 'p, L> {
+    /// The greatest number that they can have.
+    pub(crate) fn most(&self) -> Number
+        ensures { result ≡ most_of (form_of_layers self.now) }
+    {
+        match self {
+            Layers::Words(_) => MOST_IN_WORDS,
+            _ => Number::MAX,
+        }
+    }
+
     /// The third layer of a class, if there is what it takes.
     pub(crate) fn of_class(
         &mut self,
@@ -131,10 +215,14 @@ impl<'h, 'p, L: Ledger> Layers<'h, 'p, L> {
         plan: &Plan,
         class: ClassId,
     ) -> Result<Option<ThirdLayer<'h, 'p, L>>, AllocError>
-        ensures { IfOk result (λ made. IfSome made (λ layer.
-            has_table layer ≡ has_tables self.old)) }
+        ensures layer { IfOk result (λ made. IfSome made (IsLayerOf self.old class.0)) }
+        ensures form { form_of_layers self.new ≡ form_of_layers self.old }
     {
         match self {
+            Layers::Words(seat) => Ok(Some(ThirdLayer::Words(WordDesk {
+                seat: seat.split(),
+                place: class.0 as usize,
+            }))),
             Layers::Table(lock, passes) => match passes.pop() {
                 Some(pass) => Ok(Some(ThirdLayer::Table(TableDesk { lock, pass }))),
                 None => Ok(None),

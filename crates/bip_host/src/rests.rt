@@ -1,4 +1,6 @@
 //! How a thread gives way after a turn that did nothing.
+ghost use Rattle.std.specs.Prelude.{◌≡◌, ◌+◌, if◌then◌else◌, nat_lt};
+
 use std::{hint, thread};
 
 /// After how many turns that did nothing the scheduler is asked for another thread. Asking after
@@ -12,12 +14,16 @@ pub(crate) struct Rest {
 }
 
 impl Rest {
-    pub(crate) fn new() -> Rest {
+    pub(crate) fn new() -> Rest
+        ensures { result.idle ≡ 0 }
+    {
         Rest { idle: 0 }
     }
 
     /// Gives way: to what shares the processor's core, or by the scheduler.
-    pub(crate) fn give_way(&mut self) {
+    pub(crate) fn give_way(&mut self)
+        ensures { self.new.idle ≡ (if nat_lt self.old.idle 64 then self.old.idle + 1 else 0) }
+    {
         if self.idle < IDLE_TURNS_A_YIELD {
             self.idle += 1;
             hint::spin_loop();

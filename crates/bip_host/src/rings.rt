@@ -123,6 +123,8 @@ impl Actor for RingActor {
 
     ghost left = { λ a. rank_ring a.stage };
 
+    ghost counted = { λ a. a.counts };
+
     ghost starts = { RingStarts };
 
     ghost hears = { RingHears };

@@ -4,7 +4,7 @@ ghost use Rattle.bip_forks.specs.Opening.{IsNewStation};
 ghost use Rattle.bip_bank.specs.Opening.{IsOpening};
 ghost use Rattle.bip_forks.specs.Stations.{IsReadyToServe};
 ghost use Rattle.bip_host.specs.Settled.{IsAsServed, IsAskTaken, IsDecidedByToken, IsDecidedOn};
-ghost use Rattle.bip_host.specs.Settled.{IsForkLaid, IsOfDecision, IsSending, IsShareable};
+ghost use Rattle.bip_host.specs.Settled.{IsForkLaid, IsOfDecision, SharesWith, IsShareable};
 ghost use Rattle.bip_host.specs.Settled.{IsSubmitted, IsTakenBack, MayShare, decider_in};
 ghost use Rattle.bip_table.specs.Reservations.{IsTableAnswer};
 
@@ -184,7 +184,7 @@ impl Settled<Station> {
     /// request token.
     pub(crate) fn share(&mut self, other: StationId) -> ToStation
         requires { MayShare self.old.decider other }
-        ensures { IsSending other self.old.decider result self.new.decider }
+        ensures { SharesWith other self.old.decider result self.new.decider }
     {
         if let Some(fork) = self.decider.pass(other) {
             return ToStation::Fork(fork);

@@ -1,9 +1,10 @@
 //! How the nodes of a host begin: the inboxes, and each node with its ends.
 ghost use Rattle.std.specs.Prelude.{◌≡◌, ◌≤◌, IfOk, IfSome, length};
+ghost use Rattle.bip_host.specs.Starting.{AreClassNodes, AreComponentNodes, IsStationAt};
+ghost use Rattle.bip_host.specs.Tables.{form_of_layers};
 ghost use Rattle.bip_model.specs.Partitions.{class_in};
 
 use crate::addressed::Addressed;
-use crate::books::SharedBook;
 use crate::classes::ClassActor;
 use crate::components::ComponentActor;
 use crate::ends::{Intake, Outlets};
@@ -14,9 +15,10 @@ use crate::keepers::BookKeeper;
 use crate::layers::Layers;
 use crate::mailboxes::Mailbox;
 use crate::messages::{ToClass, ToStation};
+use crate::tables::CommonTable;
+use crate::waiting::WaitingBook;
 use bip_model::{ClassId, CompId, InterId, Notify};
 use bip_partition::Plan;
-use bip_table::TableLock;
 use std::alloc::{AllocError, Global};
 use std::sync::Mutex;
 use std::sync::ledger::Ledger;
@@ -24,9 +26,9 @@ use std::sync::ledger::Ledger;
 /// What the nodes of a host share, in one place, so that they borrow it for one lifetime.
 #[derive(Drop)]
 pub(crate) struct Commons<'m, L: Ledger> {
-    /// The locked table, where one table decides.
-    pub(crate) table: Option<TableLock<L>>,
-    pub(crate) book: Mutex<SharedBook<'m>>,
+    /// The table that all classes ask, where one decides.
+    pub(crate) table: CommonTable<L>,
+    pub(crate) book: Mutex<WaitingBook<'m>>,
     /// By class: what components offer it, and stations answer it.
     pub(crate) offers: Vec<Inbox<ToClass>>,
     /// By component: what classes notify it of.
@@ -73,7 +75,8 @@ fn count_touched(plan: &Plan, class: ClassId) -> usize
 
 /// The interaction that the station with a number decides for, and its class, if there is one.
 pub(crate) fn decided_at(plan: &Plan, number: usize) -> Option<(InterId, ClassId)>
-    ensures { IfSome result (λ found. found.1.0 ≡ class_in plan.now.classes found.0.0) }
+    ensures station { IfSome result (λ found. IsStationAt plan.now number found.0) }
+    ensures class { IfSome result (λ found. found.1.0 ≡ class_in plan.now.classes found.0.0) }
 {
     let inter = *plan.stations().get(number)?;
     if plan.model().interactions().len() <= usize::from(inter.0) {
@@ -98,12 +101,15 @@ pub(crate) fn component_mailboxes(
 }
 
 /// The nodes of all components, each with its own inbox: they stand by component.
+#[tactic(auto, using(crate::proofs::StartingLemmas::no_component))]
 pub(crate) fn start_components<'h, 'p>(
     alloc: Global,
     plan: &'p Plan,
     intakes: Vec<Intake<'h, Notify>>,
     offers: &mut Outlets<'h, ToClass>,
-) -> Result<Vec<(ComponentActor<'p>, ComponentHands<'h>)>, AllocError> {
+) -> Result<Vec<(ComponentActor<'p>, ComponentHands<'h>)>, AllocError>
+    ensures { IfOk result (λ nodes. AreComponentNodes plan.now nodes.items) }
+{
     let mut nodes = Vec::with_capacity(alloc, intakes.len())?;
     for intake in intakes {
         let number = nodes.len();
@@ -139,15 +145,20 @@ fn class_outlets<'h>(
 }
 
 /// The nodes of all classes, each with its own inbox and of whom it asks: they stand by class.
+#[tactic(auto, using(crate::proofs::StartingLemmas::no_class))]
 pub(crate) fn start_classes<'h, 'p, 'm, 'g, L: Ledger, G: Gate>(
     alloc: Global,
     plan: &'p Plan,
-    book: &'h Mutex<SharedBook<'m>>,
+    book: &'h Mutex<WaitingBook<'m>>,
     intakes: Vec<Intake<'h, ToClass>>,
     notices: &mut Outlets<'h, Notify>,
     mut layers: Layers<'h, 'p, L>,
     gate: &'g G,
-) -> Result<Vec<(ClassActor<'p>, ClassHands<'h, 'm, 'g, 'p, L, G>)>, AllocError> {
+) -> Result<Vec<(ClassActor<'p>, ClassHands<'h, 'm, 'g, 'p, L, G>)>, AllocError>
+    ensures { IfOk result (λ nodes.
+        AreClassNodes plan.now (form_of_layers layers.entry) nodes.items) }
+{
+    let most = layers.most();
     let mut nodes = Vec::with_capacity(alloc, intakes.len())?;
     for intake in intakes {
         let number = nodes.len();
@@ -165,7 +176,7 @@ pub(crate) fn start_classes<'h, 'p, 'm, 'g, L: Ledger, G: Gate>(
             keeper: BookKeeper::of(book),
             gate,
         };
-        nodes.push((ClassActor::new(alloc, plan, class)?, hands))?;
+        nodes.push((ClassActor::new(alloc, plan, class, most)?, hands))?;
     }
     Ok(nodes)
 }

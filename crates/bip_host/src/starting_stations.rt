@@ -1,14 +1,16 @@
 //! How the stations of a host begin: their inboxes, and each station with its ends.
-ghost use Rattle.std.specs.Prelude.{◌≡◌, ◌↔◌, ◌≤◌, IfOk, IfSome, IsTrue, List, length};
+ghost use Rattle.std.specs.Prelude.{◌≡◌, ◌⊎◌, ◌↔◌, ◌≤◌, ◌^◌, IfNone, IfOk, IfSome};
+ghost use Rattle.std.specs.Prelude.{IsTrue, List, Some, length, slice_get};
 ghost use Rattle.bip_bank.specs.Sharing.{IsNextStation};
 ghost use Rattle.bip_host.specs.Nodes.{kind_of};
-ghost use Rattle.bip_host.specs.Starting.{AreNeighbours, AreNeighboursOf, IsForkActor};
-ghost use Rattle.bip_host.specs.Starting.{IsStationCount};
+ghost use Rattle.bip_host.specs.Starting.{AreForkNodes, AreNeighbours, AreNeighboursOf};
+ghost use Rattle.bip_host.specs.Starting.{AreRingNodes, IsForkActor};
+ghost use Rattle.bip_host.specs.Starting.{IsStationAt, IsStationCount};
+ghost use Rattle.bip_model.specs.Partitions.{class_in};
 ghost use Rattle.bip_model.specs.declared.numbering.InterId.{InterId};
 ghost use Rattle.bip_partition.specs.Plans.{AreStations};
 
 use crate::addressed::Addressed;
-use crate::books::SharedBook;
 use crate::ends::{Intake, Outlet, Outlets};
 use crate::forks::ForkActor;
 use crate::hands::StationHands;
@@ -20,6 +22,7 @@ use crate::nodes::Stations;
 use crate::rings::RingActor;
 use crate::settled::Settled;
 use crate::starting::decided_at;
+use crate::waiting::WaitingBook;
 use bip_bank::StationId;
 use bip_forks::Station;
 use bip_model::InterId;
@@ -59,7 +62,7 @@ pub(crate) fn start_stations<'h, 'm>(
     alloc: Global,
     plan: &Plan,
     kind: Kind,
-    book: &'h Mutex<SharedBook<'m>>,
+    book: &'h Mutex<WaitingBook<'m>>,
     intakes: Vec<Intake<'h, ToStation>>,
     stations: &mut Outlets<'h, ToStation>,
     classes: &mut Outlets<'h, ToClass>,
@@ -81,14 +84,17 @@ pub(crate) fn start_stations<'h, 'm>(
 
 /// The stations of a ring, each with its own inbox; the first one has the token. They stand by
 /// station.
+#[tactic(auto, using(crate::proofs::StartingLemmas::no_ring))]
 fn start_ring<'h, 'm>(
     alloc: Global,
     plan: &Plan,
-    book: &'h Mutex<SharedBook<'m>>,
+    book: &'h Mutex<WaitingBook<'m>>,
     intakes: Vec<Intake<'h, ToStation>>,
     stations: &mut Outlets<'h, ToStation>,
     classes: &mut Outlets<'h, ToClass>,
-) -> Result<Vec<(RingActor, StationHands<'h, 'm>)>, AllocError> {
+) -> Result<Vec<(RingActor, StationHands<'h, 'm>)>, AllocError>
+    ensures { IfOk result (λ nodes. AreRingNodes (length intakes.entry.items) nodes.items) }
+{
     let count = intakes.len();
     let mut token = Some(Settled::<Token>::first(alloc, plan)?);
     let mut nodes = Vec::with_capacity(alloc, count)?;
@@ -116,7 +122,10 @@ fn class_outlet<'h>(
     place: usize,
     classes: &mut Outlets<'h, ToClass>,
 ) -> Option<Outlet<'h, ToClass>>
-    ensures { classes.new.inboxes.now ≡ classes.old.inboxes.now }
+    ensures of { IfSome result (λ outlet. (inter : InterId) × IsStationAt plan.now place inter
+        × (slice_get classes.old.inboxes.now (class_in plan.now.classes inter.0)
+        ≡ Some outlet.inbox.now)) }
+    ensures inboxes { classes.new.inboxes.now ≡ classes.old.inboxes.now }
 {
     let (_inter, class) = decided_at(plan, place)?;
     classes.take(class.0 as usize)
@@ -124,7 +133,8 @@ fn class_outlet<'h>(
 
 /// The station behind the one at a place of a ring of so many: the first one behind the last.
 fn next_in_ring(count: usize, place: usize) -> Option<StationId>
-    ensures { IfSome result (λ next. IsNextStation count place next.0) }
+    ensures some { IfSome result (λ next. IsNextStation count place next.0) }
+    ensures none { IfNone result ((count ≤ place) ⊎ (2 ^ 16 ≤ count)) }
 {
     if place >= count {
         return None;
@@ -175,14 +185,17 @@ fn are_neighbours(plan: &Plan, stations: &[InterId], place: usize, other: usize)
 }
 
 /// The stations that share forks, each with its own inbox. They stand by station.
+#[tactic(auto, using(crate::proofs::StartingLemmas::no_fork))]
 fn start_forks<'h, 'm>(
     alloc: Global,
     plan: &Plan,
-    book: &'h Mutex<SharedBook<'m>>,
+    book: &'h Mutex<WaitingBook<'m>>,
     intakes: Vec<Intake<'h, ToStation>>,
     stations: &mut Outlets<'h, ToStation>,
     classes: &mut Outlets<'h, ToClass>,
-) -> Result<Vec<(ForkActor, StationHands<'h, 'm>)>, AllocError> {
+) -> Result<Vec<(ForkActor, StationHands<'h, 'm>)>, AllocError>
+    ensures { IfOk result (λ nodes. AreForkNodes plan.now nodes.items) }
+{
     let mut nodes = Vec::with_capacity(alloc, intakes.len())?;
     for intake in intakes {
         let place = nodes.len();
@@ -212,10 +225,11 @@ fn fork_actor(alloc: Global, plan: &Plan, place: usize) -> Result<ForkActor, All
     Ok(ForkActor::new(neighbours, station))
 }
 
-/// The neighbours of the station at a place, in order of number.
+/// The neighbours of the station at a place, all of them, in order of number.
 fn neighbours(alloc: Global, plan: &Plan, place: usize) -> Result<Vec<StationId>, AllocError>
     ensures { IfOk result (λ list. AreNeighboursOf plan.now place list.items) }
 {
+    plan.recall();
     let stations = plan.stations();
     let mut list = Vec::new(alloc);
     for other in 0..stations.len() {

@@ -5,6 +5,7 @@ abbrev pub invariant-loop-handle : goal.invariant-loop-handle
 invariant-loop-handle g l =
     (goal.iterator-loop-handle g).can_next l.handle-iterator
     × (goal.iterator-loop-handle g).is_finite l.handle-iterator
-    × (l.totals.figures.kind ≡ l.asked.kind) × (l.totals.is_short ≡ false)
+    × (l.totals.figures.kind ≡ l.asked.kind) × (l.totals.figures.tables ≡ l.asked.tables)
+    × (l.totals.is_short ≡ false)
     × (l.totals.figures.threads ≡ length l.yielded)
     × (l.totals.figures.turns ≤ l.totals.figures.threads * l.asked.turns)

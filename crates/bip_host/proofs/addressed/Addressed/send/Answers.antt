@@ -8,7 +8,7 @@ use Rattle.bip_host.proofs.addressed.Addressed.send.Goals as goal
 
 pub returns-in-Some-clause-sent : goal.returns-in-Some-clause-sent
 returns-in-Some-clause-sent g c =
-    let at = there _ c.in-Some.ensures in
+    let at = there _ c.in-Some.ensures.some in
     let read = c.index_mut.ensures.value ∙ read_at c.args.self.now.outlets.items c.in-Some.place at.0
     c.index_mut.result.now at.1 in
     none_of _ c.send.result c.send.ensures.put
@@ -28,7 +28,7 @@ returns-in-Some-clause-sent g c =
 
 pub returns-in-Some-clause-back : goal.returns-in-Some-clause-back
 returns-in-Some-clause-back g c =
-    let at = there _ c.in-Some.ensures in
+    let at = there _ c.in-Some.ensures.some in
     let read = c.index_mut.ensures.value ∙ read_at c.args.self.now.outlets.items c.in-Some.place at.0
     c.index_mut.result.now at.1 in
     some_of _ c.send.result c.send.ensures.put
@@ -41,7 +41,7 @@ returns-in-Some-clause-back g c =
 
 pub invariant_of-self : goal.invariant_of-self
 invariant_of-self g c =
-    let at = there _ c.in-Some.ensures in
+    let at = there _ c.in-Some.ensures.some in
     let read = c.index_mut.ensures.value ∙ read_at c.args.self.now.outlets.items c.in-Some.place at.0
     c.index_mut.result.now at.1 in
     let inboxes = c.args.self.now.inboxes.now in
