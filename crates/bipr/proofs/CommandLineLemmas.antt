@@ -4,9 +4,10 @@ use Rattle.std.specs.Option.{option_map_or}
 use Rattle.std.specs.Prelude.{IfNone, IfSome}
 use Rattle.std.specs.Str.Parse.{ParsesUnsigned, digits_value, without_leading_plus}
 use Rattle.clap.specs.Words.{ReadsOne, Row, Text, first_of, one_of}
-use Rattle.bipr.specs.CommandLine.{AreStepsAsked, Asks, AsksNothing, IsAsked, IsChartAsked, IsCheckAsked, IsDrawAsked, IsNumberAsked, IsResolverAsked, MayAskNumber}
+use Rattle.bipr.specs.CommandLine.{AreStepsAsked, AreTablesAsked, Asks, AsksNothing, IsAsked, IsChartAsked, IsCheckAsked, IsDrawAsked, IsNumberAsked, IsResolverAsked, MayAskNumber}
 use Rattle.bipr.specs.Program.{Parsed}
-use Rattle.bipr.specs.Resolvers.{resolver_name}
+use Rattle.bip_host.specs.declared.hosts.Tables.{Tables}
+use Rattle.bipr.specs.Resolvers.{resolver_name, tables_name}
 use Rattle.bipr.specs.declared.command_line.Asked.{Asked}
 use Rattle.bipr.specs.declared.command_line.Asked.TheVariants as asks
 use Rattle.bipr.specs.declared.command_line.ChartArguments.{ChartArguments}
@@ -253,6 +254,17 @@ steps_ask_nothing parsed values named none (asks.Run arguments) asked =
 pub resolver_asked : (values : List Row) (name : Text) (found : Option Resolver) → Some name ≡ first_of (codes "resolver") values → IfSome found (λ resolver. name ≡ resolver_name resolver) → IfSome found (IsResolverAsked values)
 resolver_asked values name None first named = tt
 resolver_asked values name (Some resolver) first named = sym first ∙ ap Some named
+
+pub tables_asked : (values : List Row) (name : Text) (found : Option Tables) → Some name ≡ first_of (codes "table") values → IfSome found (λ tables. name ≡ tables_name tables) → IfSome found (AreTablesAsked values)
+tables_asked values name None first named = tt
+tables_asked values name (Some tables) first named = sym first ∙ ap Some named
+
+pub no_tables_asked : (values : List Row) (name : Text) (found : Option Tables) → Some name ≡ first_of (codes "table") values → IfNone found ((tables : Tables) → name ≡ tables_name tables → ⊥) → IfNone found ((tables : Tables) → AreTablesAsked values tables → ⊥)
+no_tables_asked values name None first none = λ tables asked. none tables (same_name name (tables_name tables) (first ∙ asked))
+  where
+    same_name : (x y : Text) → Some x ≡ Some y → x ≡ y
+    same_name x y is = cc
+no_tables_asked values name (Some tables) first none = tt
 
 pub no_resolver_asked : (values : List Row) (name : Text) (found : Option Resolver) → Some name ≡ first_of (codes "resolver") values → IfNone found ((resolver : Resolver) → name ≡ resolver_name resolver → ⊥) → IfNone found ((resolver : Resolver) → IsResolverAsked values resolver → ⊥)
 no_resolver_asked values name None first none = λ resolver asked. none resolver (same_name name (resolver_name resolver) (first ∙ asked))

@@ -8,7 +8,7 @@ use Rattle.bipr.specs.declared.answers.Status.TheVariants.{Done, Refused, BadCom
 use Rattle.bipr.specs.Stops.{answer_of_stop, out_of_memory}
 use Rattle.bipr.specs.declared.answers.Answer.{Answer}
 use Rattle.bipr.specs.declared.stops.Stop.{Stop}
-use Rattle.bipr.specs.declared.stops.Stop.TheVariants.{CannotRead, CannotWrite, GrantRefused, OutOfMemory, SeedNotARun, ThreadRefused}
+use Rattle.bipr.specs.declared.stops.Stop.TheVariants.{CannotRead, CannotWrite, GrantRefused, OutOfMemory, SeedNotARun, ThreadRefused, TooManyRows, WordsNeedCentral}
 
 -- an answer is said as it is
 pub outcome_answered : (P : Answer → Type 0) (given : Answer) → P given → (answer : Answer) → answer ≡ given → P answer
@@ -24,6 +24,8 @@ outcome_stopped (Err why) P given is told lacking = λ answer said. by_why why a
     by_why (CannotRead path) answer held (inl same) = subst P (sym same) held
     by_why (CannotRead path) answer held (inr same) = subst P (sym same) lacking
     by_why CannotWrite answer held same = subst P (sym same) held
+    by_why WordsNeedCentral answer held same = subst P (sym same) held
+    by_why TooManyRows answer held same = subst P (sym same) held
     by_why GrantRefused answer held same = subst P (sym same) held
     by_why ThreadRefused answer held same = subst P (sym same) held
     by_why (SeedNotARun seed) answer held same = subst P (sym same) held
@@ -39,6 +41,13 @@ outcome_grant_refused P told = λ answer same. subst P (sym same) told
 
 pub outcome_thread_refused : (P : Answer → Type 0) → P (answer_of_stop ThreadRefused) → AllOutcomes (Err ThreadRefused) P
 outcome_thread_refused P told = λ answer same. subst P (sym same) told
+
+-- nor that row words can't be had
+pub outcome_words_need_central : (P : Answer → Type 0) → P (answer_of_stop WordsNeedCentral) → AllOutcomes (Err WordsNeedCentral) P
+outcome_words_need_central P told = λ answer same. subst P (sym same) told
+
+pub outcome_too_many_rows : (P : Answer → Type 0) → P (answer_of_stop TooManyRows) → AllOutcomes (Err TooManyRows) P
+outcome_too_many_rows P told = λ answer same. subst P (sym same) told
 
 -- want of memory is said
 pub outcome_lacking : (result : Result Answer Stop) (P : Answer → Type 0) → IsErrAnd result (λ why. why ≡ OutOfMemory)

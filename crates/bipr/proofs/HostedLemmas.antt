@@ -8,6 +8,7 @@ use Rattle.bipr.specs.Answers.{IsAnswer, run, saying}
 use Rattle.bipr.specs.Commands.Run.{IsThreadedRun, of_no_text}
 use Rattle.bipr.specs.Hosted.{IsHostAnswer, host_lacking, hosted, no_thread, refused_grant, stats_told, text_lacking}
 use Rattle.bipr.specs.Laws.{HostsReplay}
+use Rattle.bipr.specs.Resolvers.{NeedsCentral}
 use Rattle.bipr.specs.Scheduled.{reporting}
 use Rattle.bipr.specs.Stops.{answer_of_stop, unread}
 use Rattle.bipr.specs.Wording.{run_text}
@@ -16,17 +17,18 @@ use Rattle.bipr.specs.declared.answers.Status.TheVariants.{Done}
 use Rattle.bipr.specs.declared.command_line.RunArguments.{RunArguments}
 use Rattle.bipr.specs.declared.hosted.Hosted.{Hosted}
 use Rattle.bipr.specs.declared.inputs.InputFault.{InputFault}
-use Rattle.bipr.specs.declared.resolvers.Resolver.{Resolver}
+use Rattle.bipr.specs.declared.resolvers.HostForm.{HostForm}
 use Rattle.bipr.specs.declared.stops.Stop.{Stop}
 
 -- what is said where the text isn't read
 pub stopped_at_run : (gives : List ℕ → Result (List ℕ) InputFault → Type 0)
-    (hosts : Planned → Resolver → ℕ → Result Hosted HostFault → Type 0) (asked : RunArguments) (why : Stop)
+    (hosts : Planned → HostForm → ℕ → Result Hosted HostFault → Type 0) (asked : RunArguments) (why : Stop)
+    → ¬ NeedsCentral asked.form
     → (fault : InputFault) × gives asked.model.now (Err fault)
     × (answer_of_stop why ≡ unread asked.model.now fault)
     → IsThreadedRun gives hosts asked (answer_of_stop why)
-stopped_at_run gives hosts asked why (fault, given, same) =
-    subst (IsThreadedRun gives hosts asked) (sym same) (of_no_text fault given)
+stopped_at_run gives hosts asked why fits (fault, given, same) =
+    subst (IsThreadedRun gives hosts asked) (sym same) (of_no_text fault fits given)
 
 -- what is written of a host is replayed as a run
 pub hosts_replay : HostsReplay

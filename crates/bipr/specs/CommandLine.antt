@@ -3,8 +3,9 @@ use Rattle.std.specs.Prelude.{◌≡◌, ℕ, ◌<◌, ◌≤◌, ◌^◌, Bool,
 use Rattle.std.specs.Prelude.{IfNone, IfSome, Option}
 use Rattle.std.specs.Str.Parse.{IsNumeral, digits_value, without_leading_plus}
 use Rattle.clap.specs.Words.{Row, Text, first_of, one_of}
+use Rattle.bip_host.specs.declared.hosts.Tables.{Tables}
 use Rattle.bipr.specs.Program.{Parsed}
-use Rattle.bipr.specs.Resolvers.{resolver_name}
+use Rattle.bipr.specs.Resolvers.{resolver_name, tables_name}
 use Rattle.bipr.specs.declared.command_line.Asked.{Asked}
 use Rattle.bipr.specs.declared.command_line.Asked.TheVariants as asks
 use Rattle.bipr.specs.declared.command_line.ChartArguments.{ChartArguments}
@@ -43,6 +44,10 @@ pub record IsBaseAsked (values : List Row) (base : ℕ) : Type 0 where
 abbrev pub IsResolverAsked : List Row → Resolver → Type 0
 IsResolverAsked values resolver =
     first_of (codes "resolver") values ≡ Some (resolver_name resolver)
+
+-- values name how tables are shared
+abbrev pub AreTablesAsked : List Row → Tables → Type 0
+AreTablesAsked values tables = first_of (codes "table") values ≡ Some (tables_name tables)
 
 -- values set an option that takes none, or don't
 pub record IsFlagAsked (values : List Row) (option : Text) (is_set : Bool) : Type 0 where
@@ -95,10 +100,11 @@ pub record IsExploreAsked (values : List Row) (arguments : ExploreArguments) : T
   pub progress : IsFlagAsked values (codes "progress") arguments.is_told
   pub jobs : MayAskNumber values (codes "jobs") 32 arguments.jobs
 
--- the values behind `run` ask; of its tables there is one
+-- the values behind `run` ask
 pub record IsRunAsked (values : List Row) (arguments : RunArguments) : Type 0 where
   pub model : first_of (codes "model") values ≡ Some arguments.model.now
-  pub resolver : IsResolverAsked values arguments.resolver
+  pub resolver : IsResolverAsked values arguments.form.resolver
+  pub tables : AreTablesAsked values arguments.form.tables
   pub turns : IsNumberAsked values (codes "turns") 32 arguments.turns
   pub stats : IsFlagAsked values (codes "stats") arguments.with_stats
 

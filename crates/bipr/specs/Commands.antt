@@ -37,7 +37,7 @@ use Rattle.bipr.specs.declared.command_line.CheckArguments.{CheckArguments}
 use Rattle.bipr.specs.declared.command_line.RunArguments.{RunArguments}
 use Rattle.bipr.specs.declared.command_line.StepsArguments.{StepsArguments}
 use Rattle.bipr.specs.declared.hosted.Hosted.{Hosted}
-use Rattle.bipr.specs.declared.resolvers.Resolver.{Resolver}
+use Rattle.bipr.specs.declared.resolvers.HostForm.{HostForm}
 use Rattle.bipr.specs.declared.inputs.InputFault.{InputFault}
 
 -- what words that are parsed may tell on the way and answer, where reading a path may give these
@@ -45,7 +45,7 @@ use Rattle.bipr.specs.declared.inputs.InputFault.{InputFault}
 -- nothing, that the base is out of range
 pub data IsCarriedOutBy (parsed : Parsed)
     (gives : List ℕ → Result (List ℕ) InputFault → Type 0)
-    (hosts : Planned → Resolver → ℕ → Result Hosted HostFault → Type 0)
+    (hosts : Planned → HostForm → ℕ → Result Hosted HostFault → Type 0)
     : List Put → Answer → Type 0 where
   chart_asked : (arguments : ChartArguments) (answer : Answer) → AsksToChart parsed arguments
       → IsChart gives arguments answer → IsCarriedOutBy parsed gives hosts [] answer
@@ -69,7 +69,7 @@ pub data IsCarriedOutBy (parsed : Parsed)
 -- texts; and whether it is asked to explain what it refuses
 pub data IsCarriedOut (words : List Text)
     (gives : List ℕ → Result (List ℕ) InputFault → Type 0)
-    (hosts : Planned → Resolver → ℕ → Result Hosted HostFault → Type 0) :
+    (hosts : Planned → HostForm → ℕ → Result Hosted HostFault → Type 0) :
     Bool → List Put → Answer → Type 0 where
   parsed : (said : Parsed) (is_asked : Bool) (told : List Put) (answer : Answer)
       → IsParse words said → IsExplainAsked said is_asked
@@ -83,7 +83,7 @@ pub data IsCarriedOut (words : List Text)
 -- texts: the words can't be had, or they were carried out
 pub data IsProgramEnd {S : Type 0} (asks : Result (List Text) io_error.Error → Type 0)
     (gives : List ℕ → Result (List ℕ) InputFault → Type 0)
-    (hosts : Planned → Resolver → ℕ → Result Hosted HostFault → Type 0)
+    (hosts : Planned → HostForm → ℕ → Result Hosted HostFault → Type 0)
     (says : List ℕ → Bool → Type 0)
     (writes : S → List ℕ → Bool → S → Type 0) (before after : S) (status : Status) : Type 0 where
   wordless : (error : io_error.Error) → asks (Err error)

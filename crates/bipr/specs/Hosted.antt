@@ -16,14 +16,14 @@ use Rattle.bipr.specs.Wording.{host_refusal, no_thread_text, stats_text}
 use Rattle.bipr.specs.declared.answers.Answer.{Answer}
 use Rattle.bipr.specs.declared.answers.Status.TheVariants.{NoThread, NotARun}
 use Rattle.bipr.specs.declared.hosted.Hosted.{Hosted}
-use Rattle.bipr.specs.declared.resolvers.Resolver.{Resolver}
+use Rattle.bipr.specs.declared.resolvers.HostForm.{HostForm}
 
--- what a host gave over a resolver, for so many turns of each thread: a run of the plan's model, by
--- the third layer that the resolver names, in as many threads as that asks for, none of which made
--- more turns
-pub record IsHostedAs (p : Planned) (r : Resolver) (turns : ℕ) (hosted : Hosted) : Type 0 where
+-- what a host gave in a form, for so many turns of each thread: a run of the plan's model, by the
+-- third layer that the resolver names, whose tables were shared so, in as many threads as that asks
+-- for, none of which made more turns
+pub record IsHostedAs (p : Planned) (form : HostForm) (turns : ℕ) (hosted : Hosted) : Type 0 where
   pub run : IsModelRun p.model 0 hosted.report.grants.items
-  pub figures : AreFiguresOf p (kind_named r) turns hosted.figures
+  pub figures : AreFiguresOf p (kind_named form.resolver) form.tables turns hosted.figures
 
 -- what is told of a host on standard error: what is counted, where that is asked for
 abbrev pub stats_told : Bool → Hosted → List ℕ

@@ -143,7 +143,7 @@ names_in names = map (λ (name : Bor Text). name.now) names.now
 pub record AreChoices (choices : Choices) : Type 0 where
   pub resolvers : names_in choices.resolvers
       ≡ codes "central" ∷ codes "ring" ∷ codes "forks" ∷ []
-  pub tables : names_in choices.tables ≡ codes "locked" ∷ []
+  pub tables : names_in choices.tables ≡ codes "locked" ∷ codes "words" ∷ []
 
 -- what words are parsed to: the command that they name, with the values that each of its arguments
 -- has

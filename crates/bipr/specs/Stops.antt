@@ -3,8 +3,10 @@ use Rattle.std.specs.Prelude.{ℕ, Bool, List, ◌++◌, ◌&&◌, ◌||◌, cod
 use Rattle.std.specs.Prelude.{chars, encode_utf8_all}
 use Rattle.bipr.specs.Answers.{complaining, saying}
 use Rattle.bipr.specs.Wording.{complaint_text, host_refusal, no_thread_text, seed_verdict}
+use Rattle.bipr.specs.Wording.{too_many_rows_text, words_need_central_text}
 use Rattle.bipr.specs.declared.answers.Answer.{Answer}
-use Rattle.bipr.specs.declared.answers.Status.TheVariants.{Refused, NoMemory, NoThread, NotARun}
+use Rattle.bipr.specs.declared.answers.Status.TheVariants.{BadCommandLine, NoMemory, NoThread}
+use Rattle.bipr.specs.declared.answers.Status.TheVariants.{NotARun, Refused}
 use Rattle.bipr.specs.declared.inputs.InputFault.{InputFault}
 use Rattle.bipr.specs.declared.inputs.InputFault.TheVariants as input_fault
 use Rattle.bipr.specs.declared.stops.Stop.{Stop}
@@ -51,10 +53,20 @@ unread path input_fault.Failed = complaining Refused (unread_text path)
 unread path input_fault.TooLong = complaining Refused (unread_text path)
 unread path input_fault.NoMemory = out_of_memory
 
+-- what is said where row words are asked for without the central bank, and where more components
+-- have a row than these can
+abbrev pub words_need_central : Answer
+words_need_central = complaining BadCommandLine words_need_central_text
+
+abbrev pub too_many_rows : Answer
+too_many_rows = complaining Refused too_many_rows_text
+
 -- what is said of what stopped a command
 abbrev pub answer_of_stop : Stop → Answer
 answer_of_stop (stop.CannotRead path) = complaining Refused (unread_text path.now)
 answer_of_stop stop.CannotWrite = complaining Refused unwritten_text
+answer_of_stop stop.WordsNeedCentral = words_need_central
+answer_of_stop stop.TooManyRows = too_many_rows
 answer_of_stop stop.GrantRefused = complaining NotARun host_refusal
 answer_of_stop stop.ThreadRefused = complaining NoThread no_thread_text
 answer_of_stop (stop.SeedNotARun seed) = saying NotARun (seed_verdict seed)

@@ -116,16 +116,37 @@ seconds_text milliseconds =
 abbrev pub sharing_text : Hosted → List ℕ
 sharing_text hosted =
     codes " passes " ++ (decimal hosted.figures.passes
-    ++ (codes " asks " ++ (decimal hosted.figures.asks ++ line_feed ∷ [])))
+    ++ (codes " asks " ++ decimal hosted.figures.asks))
+
+-- how many requests were refused, and how many found a row busy
+abbrev pub asking_text : Hosted → List ℕ
+asking_text hosted =
+    codes " refusals " ++ (decimal hosted.figures.refusals
+    ++ (codes " busy " ++ decimal hosted.figures.busy))
+
+-- how many grants stand in the lists of a word table's seats, and how many the book took of it
+abbrev pub drawn_text : Hosted → List ℕ
+drawn_text hosted =
+    codes " words " ++ (decimal hosted.figures.drawn
+    ++ (codes " entered " ++ (decimal hosted.figures.entered ++ line_feed ∷ [])))
 
 abbrev pub stats_text : Hosted → List ℕ
 stats_text hosted =
     host_work_text hosted
-    ++ (host_end_text hosted ++ (seconds_text hosted.milliseconds ++ sharing_text hosted))
+    ++ (host_end_text hosted ++ (seconds_text hosted.milliseconds ++ (sharing_text hosted
+    ++ (asking_text hosted ++ drawn_text hosted))))
 
 -- a host's book refused a grant
 abbrev pub host_refusal : List ℕ
 host_refusal = complaint_text (codes "not a run")
+
+-- row words are asked for without the central bank
+abbrev pub words_need_central_text : List ℕ
+words_need_central_text = complaint_text (codes "words need central")
+
+-- more components have a row than row words can
+abbrev pub too_many_rows_text : List ℕ
+too_many_rows_text = complaint_text (codes "too many rows")
 
 -- a thread couldn't be made
 abbrev pub no_thread_text : List ℕ

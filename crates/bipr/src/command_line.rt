@@ -1,12 +1,14 @@
 //! What a command line asks.
 ghost use Rattle.std.specs.Prelude.{IfNone, IfSome};
 ghost use Rattle.clap.specs.Words.{found_of, rows_of, subcommand_rows_of};
-ghost use Rattle.bipr.specs.CommandLine.{AreStepsAsked, Asks, AsksNothing, IsAsked, IsBaseAsked};
+ghost use Rattle.bipr.specs.CommandLine.{AreStepsAsked, AreTablesAsked, Asks, AsksNothing};
+ghost use Rattle.bipr.specs.CommandLine.{IsAsked, IsBaseAsked};
 ghost use Rattle.bipr.specs.CommandLine.{IsExplainAsked, IsExploreAsked, IsResolverAsked};
 ghost use Rattle.bipr.specs.CommandLine.{IsChartAsked, IsCheckAsked, IsDrawAsked, IsRunAsked};
 
 use crate::charted::Shown;
-use crate::resolvers::{Resolver, resolver_named};
+use crate::resolvers::{HostForm, Resolver, resolver_named, tables_named};
+use bip_host::Tables;
 use bip_model::Number;
 use clap::ArgMatches;
 
@@ -67,12 +69,12 @@ pub struct ExploreArguments<'a> {
     pub jobs: Option<u32>,
 }
 
-/// What the command line asks: to run the nodes of the model that a path names as threads, over a
-/// resolver, for so many turns each; and whether what is counted is told.
+/// What the command line asks: to run the nodes of the model that a path names as threads, in a
+/// form, for so many turns each; and whether what is counted is told.
 #[derive(Drop)]
 pub struct RunArguments<'a> {
     pub model: &'a str,
-    pub resolver: Resolver,
+    pub form: HostForm,
     pub turns: u32,
     pub with_stats: bool,
 }
@@ -221,9 +223,10 @@ fn read_run<'a>(matches: &ArgMatches<'a>) -> Option<RunArguments<'a>>
         → IsRunAsked (rows_of (found_of matches.now)) asked → ⊥) }
 {
     let resolver = read_resolver(matches)?;
+    let tables = read_tables(matches)?;
     Some(RunArguments {
         model: matches.get_str("model")?,
-        resolver,
+        form: HostForm { resolver, tables },
         turns: matches.get_one("turns")?,
         with_stats: matches.get_flag("stats"),
     })
@@ -236,6 +239,15 @@ fn read_resolver(matches: &ArgMatches<'_>) -> Option<Resolver>
         → IsResolverAsked (rows_of (found_of matches.now)) resolver → ⊥) }
 {
     resolver_named(matches.get_str("resolver")?)
+}
+
+// How tables are shared; none where no such way is named.
+fn read_tables(matches: &ArgMatches<'_>) -> Option<Tables>
+    ensures some { IfSome result (AreTablesAsked (rows_of (found_of matches.now))) }
+    ensures none { IfNone result ((tables : _)
+        → AreTablesAsked (rows_of (found_of matches.now)) tables → ⊥) }
+{
+    tables_named(matches.get_str("table")?)
 }
 
 // The base; none where it is out of range.

@@ -9,7 +9,10 @@ ghost use Rattle.bipr.specs.Answers.{complaining};
 ghost use Rattle.bipr.specs.Streams.{Puts};
 
 use crate::answers::{Answer, Status};
-use crate::stops::{CANNOT_WRITE, NO_MEMORY, NO_THREAD, NOT_A_RUN, Stop, unread_text};
+use crate::stops::{
+    CANNOT_WRITE, NO_MEMORY, NO_THREAD, NOT_A_RUN, Stop, TOO_MANY_ROWS, WORDS_NEED_CENTRAL,
+    unread_text,
+};
 use crate::streams::{Stream, put};
 use crate::wording::seed_verdict;
 use arrayvec::ArrayVec;
@@ -84,6 +87,10 @@ fn end_stopped<O: Stream, E: Stream>(
     match *why {
         Stop::CannotRead(path) => end_unread(alloc, explanation, output, errors, path),
         Stop::CannotWrite => complain(output, errors, Status::Refused, CANNOT_WRITE),
+        Stop::WordsNeedCentral => {
+            complain(output, errors, Status::BadCommandLine, WORDS_NEED_CENTRAL)
+        }
+        Stop::TooManyRows => complain(output, errors, Status::Refused, TOO_MANY_ROWS),
         Stop::GrantRefused => complain(output, errors, Status::NotARun, NOT_A_RUN),
         Stop::ThreadRefused => complain(output, errors, Status::NoThread, NO_THREAD),
         Stop::SeedNotARun(seed) => {

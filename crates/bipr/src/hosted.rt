@@ -1,10 +1,12 @@
 //! Answers to running nodes as threads.
 ghost use Rattle.std.specs.Prelude.{◌≡◌, IfOk, length};
+ghost use Rattle.bip_host.specs.Seats.{CanHave};
 ghost use Rattle.bip_replay.specs.Replays.{IsRunOf};
 ghost use Rattle.bip_replay.specs.Runs.{IsModelRun};
 ghost use Rattle.bip_replay.specs.Writing.{text_of};
 ghost use Rattle.bipr.specs.Endings.{AllOutcomes};
 ghost use Rattle.bipr.specs.Hosted.{IsHostAnswer, stats_told};
+ghost use Rattle.bipr.specs.Resolvers.{kind_named};
 ghost use Rattle.bipr.specs.Scheduled.{reporting};
 
 use crate::answers::Answer;
@@ -42,11 +44,12 @@ pub fn answer_host<'a, R: Threads + Wait + Clock + Sync, H: Hosting>(
     hosting: &H,
     asked: &RunArguments<'a>,
 ) -> Result<Answer, Stop<'a>>
+    requires { CanHave plan.now (kind_named asked.now.form.resolver) asked.now.form.tables }
     ensures { AllOutcomes result (IsHostAnswer
-        (H.hosts hosting.now plan.now asked.now.resolver asked.now.turns) plan.now
+        (H.hosts hosting.now plan.now asked.now.form asked.now.turns) plan.now
         asked.now.with_stats) }
 {
-    match hosting.host(rt, alloc, plan, asked.resolver, asked.turns) {
+    match hosting.host(rt, alloc, plan, asked.form, asked.turns) {
         Ok(hosted) => Ok(answer_hosted(alloc, plan, &hosted, asked.with_stats)?),
         Err(HostFault::NotARun(fault)) => {
             explain_refused(explanation, &fault);

@@ -1,16 +1,17 @@
 //! What runs the nodes of a plan as threads.
 ghost use denote.Param.Send.{IsSync};
-ghost use Rattle.std.specs.Prelude.{◌≡◌, ℕ, IfOk, Result};
+ghost use Rattle.std.specs.Prelude.{ℕ, IfOk, Result};
 ghost use Rattle.bip_partition.specs.Plans.{Planned};
 ghost use Rattle.bip_host.specs.declared.faults.HostFault.{HostFault};
 ghost use Rattle.bip_replay.specs.Runs.{IsModelRun};
+ghost use Rattle.bip_host.specs.Seats.{CanHave};
 ghost use Rattle.bipr.specs.Resolvers.{kind_named};
 ghost use Rattle.bipr.specs.declared.hosted.Hosted.{Hosted};
-ghost use Rattle.bipr.specs.declared.resolvers.Resolver.{Resolver};
+ghost use Rattle.bipr.specs.declared.resolvers.HostForm.{HostForm};
 
 use crate::hosted::Hosted;
-use crate::resolvers::Resolver;
-use bip_host::{HostFault, Kind, Limits, Open, Tables, run_host_counted};
+use crate::resolvers::HostForm;
+use bip_host::{HostFault, Limits, Open, run_host_counted};
 use bip_partition::Plan;
 use std::alloc::Global;
 use std::sync::Wait;
@@ -20,28 +21,29 @@ use std::time::{Clock, Instant};
 /// What runs the nodes of a plan, each in a thread of its own, which may wait for one another. A
 /// command is proved for every such thing: of what it gives it knows what `host` says.
 pub trait Hosting {
-    /// Running the nodes of a plan over a resolver, for so many turns each, may give this.
-    ghost hosts: { Self → Planned → Resolver → ℕ → Result Hosted HostFault → Type 0 };
+    /// Running the nodes of a plan in a form, for so many turns each, may give this.
+    ghost hosts: { Self → Planned → HostForm → ℕ → Result Hosted HostFault → Type 0 };
 
-    /// Runs the nodes of a plan over a resolver, for so many turns each, in threads that share the
-    /// runtime. The grants are a run of the plan's model.
+    /// Runs the nodes of a plan in a form that it can have, for so many turns each, in threads that
+    /// share the runtime. The grants are a run of the plan's model.
     fn host<R: Threads + Wait + Clock + Sync>(
         &self,
         rt: &R,
         alloc: Global,
         plan: &Plan,
-        resolver: Resolver,
+        form: HostForm,
         turns: u32,
     ) -> Result<Hosted, HostFault>
         requires shared { IsSync R.row }
-        ensures gives { hosts self.now plan.now resolver turns result }
+        requires form { CanHave plan.now (kind_named form.resolver) form.tables }
+        ensures gives { hosts self.now plan.now form turns result }
         ensures run { IfOk result (λ hosted.
             IsModelRun plan.now.model 0 hosted.report.grants.items) };
 }
 
-/// Runs nodes as threads of the process. Tables are behind a lock, or with their stations. The
-/// third layer is the one that the resolver names; there are as many threads as that and the plan
-/// ask for, and none makes more turns than so many.
+/// Runs nodes as threads of the process. The third layer is the one that the resolver names, and
+/// its tables are shared as is asked; there are as many threads as that and the plan ask for, and
+/// none makes more turns than so many.
 #[derive(Drop)]
 pub struct Threaded;
 
@@ -49,14 +51,14 @@ impl Hosting for Threaded {
     ghost use Rattle.std.specs.Prelude.{IfOk};
     ghost use Rattle.bipr.specs.Hosted.{IsHostedAs};
 
-    ghost hosts = { λ _ p resolver turns given. IfOk given (IsHostedAs p resolver turns) };
+    ghost hosts = { λ _ p form turns given. IfOk given (IsHostedAs p form turns) };
 
     fn host<R: Threads + Wait + Clock + Sync>(
         &self,
         rt: &R,
         alloc: Global,
         plan: &Plan,
-        resolver: Resolver,
+        form: HostForm,
         turns: u32,
     ) -> Result<Hosted, HostFault> {
         let start = Instant::now(rt);
@@ -64,8 +66,8 @@ impl Hosting for Threaded {
             rt,
             alloc,
             plan,
-            kind_of(resolver),
-            Tables::Locked,
+            form.kind(),
+            form.tables,
             Limits { turns },
             &Open,
         )?;
@@ -78,17 +80,6 @@ impl Hosting for Threaded {
             figures,
             milliseconds,
         })
-    }
-}
-
-// The form of the third layer that a resolver names.
-fn kind_of(resolver: Resolver) -> Kind
-    ensures { result ≡ kind_named resolver }
-{
-    match resolver {
-        Resolver::Central => Kind::Central,
-        Resolver::Ring => Kind::Ring,
-        Resolver::Forks => Kind::Forks,
     }
 }
 

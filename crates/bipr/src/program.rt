@@ -184,7 +184,9 @@ const RUN_ABOUT: &str = "Runs the nodes of a model as threads, and says which gr
 const RUN_HELP: &str = "\
 Each component and each class has a thread, which makes N turns and ends: it takes what it
 was sent, and moves, or tries its next interaction. A reserved one is asked of one table
-behind a lock, or of a station, a thread too, in a token ring or with forks. The trace of all
+behind a lock, or of a station, a thread too, in a token ring or with forks; with
+`--table words` the one table is in single words, without a lock, and has at most 32 rows: as
+many components as `bipr check` counts as tabled. The trace of all
 grants is written then, and `bipr replay` takes it where it has at most 16,777,216 bytes:
 that it is a run of the model is proved for every order in which threads run. Which grants
 are made is another one each time. A turn that did nothing counts too, so of few turns the
@@ -195,7 +197,9 @@ trace may be short, or empty. Of the model of `bipr --help`,
 writes `grant x A:1`, and on standard error how many threads made how many turns together,
 the grants, of how many the components were told, how many messages were lost for want of
 memory, how many seconds it took, how many tokens and forks stations sent, and how many
-request tokens. These figures are counted, and promise nothing.";
+request tokens; how many requests were refused, and how many found a row busy; and how many
+grants words were drawn for, and how many of these stand in the trace. These figures are
+counted, and promise nothing.";
 
 /// What names an option may have: the resolvers, and how threads share a table.
 #[derive(Clone, Copy)]
@@ -407,7 +411,7 @@ fn table<'a>(alloc: Global, tables: &'a [&'a str]) -> Arg<'a>
         .value_name("T")
         .value_parser(tables)
         .default_value("locked")
-        .help("how threads share the table: behind a lock")
+        .help("how threads share the table: behind a lock, or with `central` in words without one")
 }
 
 // The options of which rows a chart shows.

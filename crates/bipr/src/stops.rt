@@ -15,6 +15,10 @@ pub enum Stop<'a> {
     CannotRead(&'a str),
     /// What is told on the way can't be written.
     CannotWrite,
+    /// Row words are asked for without the central bank.
+    WordsNeedCentral,
+    /// More components have a row than row words can.
+    TooManyRows,
     /// A host's book refused a grant.
     GrantRefused,
     /// The system makes no thread for a host.
@@ -36,6 +40,12 @@ pub const CANNOT_WRITE: &[u8] = b"bipr: cannot write\n";
 pub const NOT_A_RUN: &[u8] = b"bipr: not a run\n";
 
 pub const NO_THREAD: &[u8] = b"bipr: no thread\n";
+
+/// The complaint where row words are asked for without the central bank; and where more components
+/// have a row than these can.
+pub const WORDS_NEED_CENTRAL: &[u8] = b"bipr: words need central\n";
+
+pub const TOO_MANY_ROWS: &[u8] = b"bipr: too many rows\n";
 
 impl<'a> Stop<'a> {
     /// Why the text of this path isn't read.

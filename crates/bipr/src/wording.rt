@@ -5,7 +5,8 @@ ghost use Rattle.bipr.specs.Wording.{chart_refusal};
 ghost use Rattle.bipr.specs.Wording.{counts_text, interaction_on, model_refusal, plan_refusal};
 ghost use Rattle.bipr.specs.Wording.{decisions_text, losses_text, report_text, run_text};
 ghost use Rattle.bipr.specs.Wording.{progress_text, schedule_refusal, seed_verdict, seeds_text};
-ghost use Rattle.bipr.specs.Wording.{host_work_text, host_end_text, sharing_text};
+ghost use Rattle.bipr.specs.Wording.{asking_text, drawn_text, host_end_text, host_work_text};
+ghost use Rattle.bipr.specs.Wording.{sharing_text};
 ghost use Rattle.bipr.specs.Wording.{pace_text, reached_text, seconds_text, stats_text, step_text};
 ghost use Rattle.bipr.specs.Wording.{timed_text, trace_refusal, verdict_text};
 
@@ -130,8 +131,8 @@ fn losses_text(alloc: Global, report: &Report) -> Result<String, AllocError>
     format!(in alloc; " idle {idle} skipped {skipped} lost {lost}\n")
 }
 
-/// `threads H turns N grants G told T lost L seconds S passes P asks A`, where S has three places
-/// behind the point.
+/// `threads H turns N grants G told T lost L seconds S passes P asks A refusals R busy B words W
+/// entered E`, where S has three places behind the point.
 pub fn stats_text(alloc: Global, hosted: &Hosted) -> Result<Vec<u8>, AllocError>
     ensures { IfOk result (λ text. text.items ≡ stats_text hosted.now) }
 {
@@ -139,6 +140,8 @@ pub fn stats_text(alloc: Global, hosted: &Hosted) -> Result<Vec<u8>, AllocError>
     text.extend_from_slice(host_end_text(alloc, hosted)?.as_bytes())?;
     text.extend_from_slice(seconds_text(alloc, hosted.milliseconds)?.as_bytes())?;
     text.extend_from_slice(sharing_text(alloc, hosted)?.as_bytes())?;
+    text.extend_from_slice(asking_text(alloc, hosted)?.as_bytes())?;
+    text.extend_from_slice(drawn_text(alloc, hosted)?.as_bytes())?;
     Ok(text)
 }
 
@@ -171,7 +174,21 @@ fn sharing_text(alloc: Global, hosted: &Hosted) -> Result<String, AllocError>
     ensures { IfOk result (λ text. text.bytes.items ≡ sharing_text hosted.now) }
 {
     let (passes, asks) = (hosted.figures.passes, hosted.figures.asks);
-    format!(in alloc; " passes {passes} asks {asks}\n")
+    format!(in alloc; " passes {passes} asks {asks}")
+}
+
+fn asking_text(alloc: Global, hosted: &Hosted) -> Result<String, AllocError>
+    ensures { IfOk result (λ text. text.bytes.items ≡ asking_text hosted.now) }
+{
+    let (refusals, busy) = (hosted.figures.refusals, hosted.figures.busy);
+    format!(in alloc; " refusals {refusals} busy {busy}")
+}
+
+fn drawn_text(alloc: Global, hosted: &Hosted) -> Result<String, AllocError>
+    ensures { IfOk result (λ text. text.bytes.items ≡ drawn_text hosted.now) }
+{
+    let (drawn, entered) = (hosted.figures.drawn, hosted.figures.entered);
+    format!(in alloc; " words {drawn} entered {entered}\n")
 }
 
 /// `seeds K runs K`.

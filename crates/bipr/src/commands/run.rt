@@ -1,5 +1,5 @@
 //! The command `run`.
-ghost use Rattle.bipr.specs.Commands.Run.{IsThreadedRun, IsTextHosted};
+ghost use Rattle.bipr.specs.Commands.Run.{IsPlanHosted, IsTextHosted, IsThreadedRun};
 ghost use Rattle.bipr.specs.Endings.{AllOutcomes, Ends};
 ghost use Rattle.bipr.specs.Streams.{Puts};
 
@@ -13,6 +13,8 @@ use crate::inputs::Inputs;
 use crate::stops::Stop;
 use crate::streams::Stream;
 use bip_explain::Explanation;
+use bip_host::can_have;
+use bip_partition::Plan;
 use std::alloc::Global;
 use std::sync::Wait;
 use std::thread::Threads;
@@ -50,6 +52,10 @@ fn answer_asked<'a, R: Threads + Wait + Clock + Sync, I: Inputs, H: Hosting>(
     ensures { AllOutcomes result
         (IsThreadedRun (I.gives inputs.now) (H.hosts hosting.now) asked.now) }
 {
+    if asked.form.needs_central() {
+        explanation.say(b"`--table words` goes with `--resolver central` alone");
+        return Err(Stop::WordsNeedCentral);
+    }
     let text = read_input(alloc, explanation, inputs, asked.model)?;
     let text = text.as_slice();
     answer_text(rt, alloc, explanation, text, hosting, asked)
@@ -68,7 +74,26 @@ fn answer_text<'a, R: Threads + Wait + Clock + Sync, H: Hosting>(
 {
     let given = plan_text(alloc, explanation, text)?;
     match given {
-        PlanOrRefusal::Plan(plan) => answer_host(rt, alloc, explanation, &plan, hosting, asked),
+        PlanOrRefusal::Plan(plan) => answer_plan(rt, alloc, explanation, &plan, hosting, asked),
         PlanOrRefusal::Refusal(answer) => Ok(answer),
     }
+}
+
+// The answer where the text has this plan.
+fn answer_plan<'a, R: Threads + Wait + Clock + Sync, H: Hosting>(
+    rt: &R,
+    alloc: Global,
+    explanation: &mut Explanation,
+    plan: &Plan,
+    hosting: &H,
+    asked: &RunArguments<'a>,
+) -> Result<Answer, Stop<'a>>
+    ensures { AllOutcomes result
+        (IsPlanHosted plan.now (H.hosts hosting.now) asked.now) }
+{
+    if !can_have(plan, asked.form.kind(), asked.form.tables) {
+        explanation.say(b"row words are of at most 32 components, and more have a row");
+        return Err(Stop::TooManyRows);
+    }
+    answer_host(rt, alloc, explanation, plan, hosting, asked)
 }

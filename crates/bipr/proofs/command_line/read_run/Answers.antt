@@ -10,8 +10,14 @@ use Rattle.bipr.proofs.command_line.read_run.Goals as goal
 pub returns-in_err-resolver-clause-none : goal.returns-in_err-resolver-clause-none
 returns-in_err-resolver-clause-none c =
     let none : (asked : RunArguments) → IsRunAsked (rows_of (found_of c.args.matches.now)) asked → ⊥ =
-    λ asked is. c.in_err-resolver.ensures.none asked.resolver is.resolver in
+    λ asked is. c.in_err-resolver.ensures.none asked.form.resolver is.resolver in
     if_none c.from_residual.result _ none
+
+pub returns-in_err-tables-clause-none : goal.returns-in_err-tables-clause-none
+returns-in_err-tables-clause-none c =
+    let none : (asked : RunArguments) → IsRunAsked (rows_of (found_of c.args.matches.now)) asked → ⊥ =
+    λ asked is. c.in_err-tables.ensures.none asked.form.tables is.tables in
+    if_none c.from_residual-in_err-tables.result _ none
 
 pub returns-in_err-get_str-clause-none : goal.returns-in_err-get_str-clause-none
 returns-in_err-get_str-clause-none c =
@@ -34,6 +40,7 @@ pub returns-clause-some : goal.returns-clause-some
 returns-clause-some c = record {
   model = sym (first_read c.args.matches.now (codes "model") (Some c.in_ok-get_str.field-0.now) c.in_ok-get_str.ensures);
   resolver = c.in_ok-resolver.ensures.some;
+  tables = c.in_ok-tables.ensures.some;
   turns = number_asked _
       (λ bs r. ParsesUnsigned 32 10 bs r × ExplainsUnsignedError 10 bs r × HasUnsignedDigitsIfOk bs r)
       32 (rows_of (found_of c.args.matches.now)) (codes "turns") (Some c.in_ok-get_one.field-0)

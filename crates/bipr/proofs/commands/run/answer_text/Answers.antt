@@ -11,7 +11,7 @@ returns-in_err-given g c =
 pub returns-in-Plan : goal.returns-in-Plan
 returns-in-Plan g c = λ answer said.
     of_plan c.in-Plan.plan answer (rw c.in-Plan.is at c.in_ok-given.ensures)
-    (c.answer_host.ensures answer said)
+    (c.answer_plan.ensures answer said)
 
 pub returns-in-Refusal : goal.returns-in-Refusal
 returns-in-Refusal g c =
