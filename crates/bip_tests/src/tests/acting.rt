@@ -1,7 +1,7 @@
 //! Actors in turns, over hands in memory: what is done for whom, in which order, what is counted,
 //! and what stands in the book then.
-use super::desks::Did::{Appends, Asks, Grants, Offers, Passes, Refuses, Sends, Tells};
-use super::desks::{Desk, Fake, NOTHING, Outcome, Shared, Third, comes_to};
+use super::desks::Did::{Appends, Asks, Grants, Looks, Offers, Passes, Refuses, Sends, Tells};
+use super::desks::{Desk, Fake, Later, NOTHING, Outcome, Shared, Third, comes_to};
 use super::notifying::{Told, notify};
 use super::observing::{Offered, offer};
 use super::tabling::{Wanted, request};
@@ -106,6 +106,9 @@ const TWO_RESERVED: &str = "bip 1\n\
     component B\nloc l\nport s\ntrans s l l\nend\n\
     interaction x A.s\ninteraction y B.s\ninteraction z A.s B.s\nclass P x y\nclass Q z\n";
 
+/// The greatest number of an offer that isn't dropped.
+const MOST: u64 = 100;
+
 /// Makes turns with the first class.
 fn run_class<W: Abort + Wait>(
     rt: &W,
@@ -115,7 +118,7 @@ fn run_class<W: Abort + Wait>(
     turns: u32,
 ) -> NodeEnd {
     assert!(rt; plan.classes().len() > 0);
-    let actor = ClassActor::new(alloc, plan, P).expect(rt, "memory");
+    let actor = ClassActor::new(alloc, plan, P, MOST).expect(rt, "memory");
     run_actor(rt, actor, hands, turns)
 }
 
@@ -143,6 +146,7 @@ fn a_class_tries_its_interactions_in_turn(rt: HostRuntime) {
         counts: Counts {
             told: 2,
             lost: 1,
+            refusals: 1,
             ..NOTHING
         },
         did: &[
@@ -207,6 +211,49 @@ fn a_class_tells_what_its_station_granted(rt: HostRuntime) {
         grants: &[Y],
     };
     over_plan(&rt, rt.alloc(), TWO_RESERVED, &OUTCOME, behind_stations);
+}
+
+/// An offer with too great a number is dropped; a row is busy at first, and then the grant waits.
+fn over_words<W: Abort + Wait>(rt: &W, alloc: Global, plan: &Plan, outcome: &Outcome) {
+    const TURNS: &[Option<Offered>] = &[
+        Some((B, MOST + 1, 1, &[])),
+        Some((A, 1, 1, &[])),
+        Some((B, 1, 1, &[])),
+        None,
+    ];
+    let later = Later {
+        was_busy: false,
+        was_looked_for: false,
+        waiting: None,
+    };
+    let mut desk = Desk::new(rt, alloc, plan, Third::Words(later), 0);
+    let hands = Fake::at(&mut desk, offers(rt, alloc, TURNS));
+    let end = run_class(rt, alloc, plan, hands, 7);
+    comes_to(rt, &end, desk, outcome);
+}
+
+#[test]
+fn a_class_ends_its_errand_first(rt: HostRuntime) {
+    const OUTCOME: Outcome = Outcome {
+        turns: 7,
+        counts: Counts {
+            told: 1,
+            busy: 1,
+            ..NOTHING
+        },
+        did: &[
+            &[],
+            &[],
+            &[],
+            &[Passes(Point::Asked(P, X)), Asks(X, 1)],
+            &[Asks(X, 1)],
+            &[Looks],
+            &[Looks, Appends(X), Passes(Point::Told(P, X)), Tells(A, 1)],
+            &[Passes(Point::Asked(P, Y)), Asks(Y, 2)],
+        ],
+        grants: &[X],
+    };
+    over_plan(&rt, rt.alloc(), TWO_RESERVED, &OUTCOME, over_words);
 }
 
 fn without_memory<W: Abort + Wait>(rt: &W, alloc: Global, plan: &Plan, outcome: &Outcome) {

@@ -301,7 +301,10 @@ fn the_last_request_number_is_used_once(rt: HostRuntime) {
             0,
             Sent(18446744073709551615, &[(0, 1, true), (2, 1, true)], &[]),
         ),
-        Refuses((0, 18446744073709551615, 0), (1, 1), Drops),
+        Refuses((0, 18446744073709551615, 0), (2, 1), Drops),
+        Tries(0, Not(Verdict::NotReady(CompId(2)))),
+        Hears((CompId(2), 2, 1, &[1])),
+        Tries(0, Ended),
         Tries(0, Ended),
     ];
     over_plan(

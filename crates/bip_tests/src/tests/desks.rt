@@ -7,12 +7,12 @@ ghost use Rattle.bip_host.specs.Stations.{StationFits};
 ghost use Rattle.bip_host.specs.declared.classes.ClassAct.TheVariants.{Ask};
 ghost use Rattle.bip_host.specs.declared.classes.ClassAnswer.TheVariants.{Decided};
 
-use self::Did::{Appends, Asks, Grants, Offers, Passes, Refuses, Sends, Strays, Tells};
+use self::Did::{Appends, Asks, Grants, Looks, Offers, Passes, Refuses, Sends, Strays, Tells};
 use bip_bank::{Queue, StationId};
 use bip_host::{
     ClassAct, ClassActor, ClassAnswer, ComponentActor, Counts, Entry, ForkActor, Hands, NodeEnd,
-    Offering, Point, Posted, Reserved, RingActor, SharedBook, StationAct, StationAnswer, ToClass,
-    ToStation,
+    Offering, Outcome as Found, Point, Posted, Reserved, RingActor, SharedBook, StationAct,
+    StationAnswer, ToClass, ToStation,
 };
 use bip_model::{ClassId, CompId, Grant, InterId, Notify, Number, Reply, Request};
 use bip_partition::Plan;
@@ -30,6 +30,8 @@ pub(super) enum Did {
     Passes(Point),
     /// The interaction is asked for, by the request with this number.
     Asks(InterId, u64),
+    /// What has become of the grant that waits is looked for.
+    Looks,
     Appends(InterId),
     Tells(CompId, Number),
     /// The request with this number is granted, with this serial.
@@ -57,7 +59,42 @@ pub(super) enum Third {
     Table(Table),
     /// A table without memory for an answer.
     Full,
+    Words(Later),
     Stations,
+}
+
+/// Words whose row is busy at the first request; the grant of the next one waits until it is looked
+/// for twice.
+#[derive(Drop)]
+pub(super) struct Later {
+    pub(super) was_busy: bool,
+    pub(super) was_looked_for: bool,
+    pub(super) waiting: Option<Grant>,
+}
+
+impl Later {
+    fn ask(&mut self, request: Request) -> ClassAnswer
+        ensures { ClassFits (Ask request) result }
+    {
+        if !self.was_busy {
+            self.was_busy = true;
+            return ClassAnswer::Busy(request);
+        }
+        self.waiting = Some(Grant {
+            inter: request.inter,
+            wants: request.wants,
+        });
+        ClassAnswer::Waits(0)
+    }
+
+    /// The grant that waits, where it was looked for before.
+    fn look(&mut self) -> Option<Grant> {
+        if !self.was_looked_for {
+            self.was_looked_for = true;
+            return None;
+        }
+        self.waiting.take()
+    }
 }
 
 /// What hands do things with, and what they did.
@@ -134,9 +171,29 @@ impl<'m> Desk<'m> {
             Third::Stations => return ClassAnswer::Handed(self.put(did)),
             Third::Table(table) => table.decide(&request),
             Third::Full => Err(TableFault::Memory),
+            Third::Words(later) => {
+                let answer = later.ask(request);
+                self.note(did);
+                return answer;
+            }
         };
         self.note(did);
         ClassAnswer::Decided(self.keep(request, decided))
+    }
+
+    /// Looks for the grant that waits: it is appended the second time.
+    fn look(&mut self) -> Found {
+        self.note(Looks);
+        let Third::Words(later) = &mut self.third else {
+            return Found::Refused;
+        };
+        match later.look() {
+            None => Found::Waits,
+            Some(grant) => match self.append(grant) {
+                Some(entry) => Found::Entered(entry),
+                None => Found::Refused,
+            },
+        }
     }
 
     /// Keeps the grant of a request, where a table decided so.
@@ -225,6 +282,8 @@ impl<'d, 'm, M> Fake<'d, 'm, M> {
 }
 
 impl<'d, 'm, 'p> Hands<ComponentActor<'p>> for Fake<'d, 'm, Notify> {
+    ghost drawn = { λ _. 0 };
+
     fn receive<W: Wait>(&mut self, _rt: &W) -> Option<Notify> {
         self.hear()
     }
@@ -235,9 +294,17 @@ impl<'d, 'm, 'p> Hands<ComponentActor<'p>> for Fake<'d, 'm, Notify> {
         let Offering { class, offer } = act;
         self.desk.put(Offers(class, offer.comp, offer.number))
     }
+
+    fn count_drawn(&self) -> u64
+        ensures { result ≡ 0 }
+    {
+        0
+    }
 }
 
 impl<'d, 'm, 'p> Hands<ClassActor<'p>> for Fake<'d, 'm, ToClass> {
+    ghost drawn = { λ _. 0 };
+
     fn receive<W: Wait>(&mut self, _rt: &W) -> Option<ToClass> {
         self.hear()
     }
@@ -248,6 +315,7 @@ impl<'d, 'm, 'p> Hands<ClassActor<'p>> for Fake<'d, 'm, ToClass> {
         match act {
             ClassAct::Append(grant) => ClassAnswer::Appended(self.desk.append(grant)),
             ClassAct::Ask(request) => self.desk.ask(request),
+            ClassAct::Look => ClassAnswer::Looked(self.desk.look()),
             ClassAct::Pass(at) => {
                 self.desk.note(Passes(at));
                 ClassAnswer::Passed
@@ -256,6 +324,12 @@ impl<'d, 'm, 'p> Hands<ClassActor<'p>> for Fake<'d, 'm, ToClass> {
                 ClassAnswer::Told(self.desk.put(Tells(told.comp, told.number)))
             }
         }
+    }
+
+    fn count_drawn(&self) -> u64
+        ensures { result ≡ 0 }
+    {
+        0
     }
 }
 
@@ -274,6 +348,8 @@ impl<'d, 'm> Fake<'d, 'm, ToStation> {
 }
 
 impl<'d, 'm> Hands<RingActor> for Fake<'d, 'm, ToStation> {
+    ghost drawn = { λ _. 0 };
+
     fn receive<W: Wait>(&mut self, _rt: &W) -> Option<ToStation> {
         self.hear()
     }
@@ -282,10 +358,18 @@ impl<'d, 'm> Hands<RingActor> for Fake<'d, 'm, ToStation> {
         ensures { StationFits act result }
     {
         self.act_for(act)
+    }
+
+    fn count_drawn(&self) -> u64
+        ensures { result ≡ 0 }
+    {
+        0
     }
 }
 
 impl<'d, 'm> Hands<ForkActor> for Fake<'d, 'm, ToStation> {
+    ghost drawn = { λ _. 0 };
+
     fn receive<W: Wait>(&mut self, _rt: &W) -> Option<ToStation> {
         self.hear()
     }
@@ -294,6 +378,12 @@ impl<'d, 'm> Hands<ForkActor> for Fake<'d, 'm, ToStation> {
         ensures { StationFits act result }
     {
         self.act_for(act)
+    }
+
+    fn count_drawn(&self) -> u64
+        ensures { result ≡ 0 }
+    {
+        0
     }
 }
 
@@ -312,6 +402,8 @@ pub(super) const NOTHING: Counts = Counts {
     lost: 0,
     passes: 0,
     asks: 0,
+    refusals: 0,
+    busy: 0,
     wanted_memory: false,
 };
 

@@ -25,6 +25,18 @@ pub(super) const REQUEST: &str = "0200000000000000000001000002\
 pub(super) const EXPLAINED: &str = "0600000000000000000001000002\
     000001000000000000000100010000000000000000010100010001";
 
+/// Class 0 asks to move components 0 and 2 beside component 1, since the guard of interaction 1 is
+/// false.
+const GUARDED: &str = "0600000000000000000001000003\
+    00000100000000000000010001000000000000000001\
+    0002010000000000000001010001ffff";
+
+/// It asks to move component 0 beside components 1 and 2, since the port of component 1 for
+/// interaction 1 is off, and the guard of interaction 2 is false.
+const EXPLAINED_TWICE: &str = "0600000000000000000001000003\
+    00000100000000000000010001000000000000000001\
+    000200000000000000000102000100010002ffff";
+
 pub(super) const GRANTED: &str = "030000000000000000000100000000000000000000";
 
 pub(super) const REFUSED: &str = "0400010000000000000001000100020000000000000001";
@@ -32,11 +44,13 @@ pub(super) const REFUSED: &str = "0400010000000000000001000100020000000000000001
 pub(super) const NOTIFY: &str = "0500020000000000000001000100000000";
 
 /// Bytes, and the number of their first fault: 0 where they are a frame.
-pub(super) const WORKED: [(&str, u8); 22] = [
+pub(super) const WORKED: [(&str, u8); 24] = [
     (OFFER, 0),
     (FIRST_OFFER, 0),
     (REQUEST, 0),
     (EXPLAINED, 0),
+    (GUARDED, 0),
+    (EXPLAINED_TWICE, 0),
     (GRANTED, 0),
     (REFUSED, 0),
     (NOTIFY, 0),
@@ -80,7 +94,7 @@ fn is_numbered(reply: &Reply) -> bool
 }
 
 /// The frame of what a frame shows.
-fn written_again(rt: &impl Abort, alloc: Global, frame: &Frame<'_>) -> Bytes {
+pub(super) fn written_again(rt: &impl Abort, alloc: Global, frame: &Frame<'_>) -> Bytes {
     match frame {
         Frame::Offer(frame) => {
             let offer = frame.offer();

@@ -39,9 +39,9 @@ fn numbered(request: u64, inter: u16, wants: &[Want]) -> Option<Request> {
 }
 
 /// What a pass counts of each component, and was shown of it.
-type Told = [(u64, Number); 4];
+pub(super) type Told = [(u64, Number); 4];
 
-fn told<L: Ledger>(pass: &Pass<L>) -> Told {
+pub(super) fn told<L: Ledger>(pass: &Pass<L>) -> Told {
     let of = |comp: u16| (pass.count(CompId(comp)), pass.shown(CompId(comp)));
     [of(0), of(1), of(2), of(3)]
 }

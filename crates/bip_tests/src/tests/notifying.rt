@@ -13,6 +13,11 @@ const COUNTER: &str = "bip 1\n\
     trans stop on off when n = 7\nend\n\
     interaction t C.tick\ninteraction s C.stop\nclass P t s\n";
 
+/// One that may move for ever.
+const LOOP: &str = "bip 1\n\
+    component L\nloc l\nport t\ntrans t l l\nend\n\
+    interaction z L.t\nclass P z\n";
+
 /// What a component is told: of which component, with which number, port and values.
 pub(super) type Told = (u16, Number, u8, &'static [u32]);
 
@@ -58,17 +63,29 @@ fn are_told(rt: &impl Abort, node: &mut SrComponent<'_>, steps: &[(Told, Did)]) 
     }
 }
 
+/// What the first component of a plan does above a base, with these values at its start.
 fn takes(
     rt: &impl Abort,
     _alloc: Global,
     plan: &Plan,
-    (base, ports, steps): (Number, u16, &[(Told, Did)]),
+    (base, values, steps): (Number, &[u32], &[(Told, Did)]),
 ) {
     assert!(rt; !plan.model().components().is_empty() && base < Number::MAX);
     let mut node = SrComponent::start(plan, CompId(0), base);
     let first = node.offer().expect(rt, "an offer");
-    assert!(rt; is_offer(&first, base + 1, ports, &[2]));
+    assert!(rt; is_offer(&first, base + 1, 1, values));
     are_told(rt, &mut node, steps);
+}
+
+fn are_taken(
+    rt: &impl Abort,
+    alloc: Global,
+    text: &str,
+    base: Number,
+    values: &[u32],
+    steps: &[(Told, Did)],
+) {
+    over_plan(rt, alloc, text, (base, values, steps), takes);
 }
 
 #[test]
@@ -84,7 +101,7 @@ fn a_component_moves_by_what_is_for_its_next_move(rt: HostRuntime) {
         ((0, 2, 0, &[8]), Moves(3, 0, &[9])),
         ((0, 3, 0, &[1]), Stays),
     ];
-    over_plan(&rt, rt.alloc(), COUNTER, (0, 1, STEPS), takes);
+    are_taken(&rt, rt.alloc(), COUNTER, 0, &[2], STEPS);
 }
 
 #[test]
@@ -94,7 +111,7 @@ fn a_component_stops_where_its_transition_leads(rt: HostRuntime) {
         ((0, 6, 1, &[3]), Moves(7, 0, &[3])),
         ((0, 7, 0, &[3]), Stays),
     ];
-    over_plan(&rt, rt.alloc(), COUNTER, (4, 1, STEPS), takes);
+    are_taken(&rt, rt.alloc(), COUNTER, 4, &[2], STEPS);
 }
 
 #[test]
@@ -103,11 +120,14 @@ fn a_component_with_the_last_number_moves_once(rt: HostRuntime) {
         ((0, 18446744073709551615, 0, &[2]), Spends),
         ((0, 18446744073709551615, 0, &[3]), Stays),
     ];
-    over_plan(
-        &rt,
-        rt.alloc(),
-        COUNTER,
-        (18446744073709551614, 1, STEPS),
-        takes,
-    );
+    are_taken(&rt, rt.alloc(), COUNTER, 18446744073709551614, &[2], STEPS);
+}
+
+#[test]
+fn one_that_could_go_on_is_spent_at_the_last_number(rt: HostRuntime) {
+    const STEPS: &[(Told, Did)] = &[
+        ((0, 18446744073709551615, 0, &[]), Spends),
+        ((0, 18446744073709551615, 0, &[]), Stays),
+    ];
+    are_taken(&rt, rt.alloc(), LOOP, 18446744073709551614, &[], STEPS);
 }

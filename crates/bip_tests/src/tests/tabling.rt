@@ -8,7 +8,7 @@ use std::alloc::Global;
 use std::process::Abort;
 
 /// Rows of three components, all numbers of which are free.
-const THREE: &[(CompId, Number)] = &[(CompId(0), 0), (CompId(1), 0), (CompId(2), 0)];
+pub(super) const THREE: &[(CompId, Number)] = &[(CompId(0), 0), (CompId(1), 0), (CompId(2), 0)];
 
 /// A want: of which component, with which number, and whether it moves it.
 pub(super) type Wanted = (u16, Number, bool);

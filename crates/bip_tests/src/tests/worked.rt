@@ -13,7 +13,7 @@ pub(super) const COMPETE: &str = "bip 1\n\
     component R\nvar n 0\nloc r0\nport g\ntrans g r0 r0 when n < 1 do n := n + 1\nend\n\
     interaction x A.s R.g\ninteraction y B.s R.g\nclass P x\nclass Q y\n";
 
-const COMPETE_WITH_PRIORITY: &str = "bip 1\n\
+pub(super) const COMPETE_WITH_PRIORITY: &str = "bip 1\n\
     component A\nloc a0\nloc a1\nport s\ntrans s a0 a1\nend\n\
     component B\nloc b0\nloc b1\nport s\ntrans s b0 b1\nend\n\
     component R\nvar n 0\nloc r0\nport g\ntrans g r0 r0 when n < 1 do n := n + 1\nend\n\
