@@ -28,9 +28,10 @@ pub enum Turn {
 /// it hears a message or none, and wants an act; it hears that act's answer, and wants the next
 /// one, until its turn is over (docs/HOST.md, "Actors").
 pub trait Actor {
-    ghost use Rattle.std.specs.Prelude.{◌≡◌, ◌<◌, ℕ, Option};
+    ghost use Rattle.std.specs.Prelude.{◌≡◌, ◌<◌, ℕ, IfNone, IfSome, None, Option};
     ghost use Rattle.bip_host.specs.Actors.{IsAwaited};
     ghost use Rattle.bip_host.specs.declared.actors.Step.{Step};
+    ghost use Rattle.bip_host.specs.declared.actors.Step.TheVariants.{Over};
     ghost use Rattle.bip_host.specs.declared.counts.Counts.{Counts};
 
     type Heard;
@@ -64,6 +65,12 @@ pub trait Actor {
     fn start(&mut self) -> Step<Self::Act>
         ensures step { starts self.old result self.new }
         ensures awaits { IsAwaited (awaits self.new) result };
+
+    /// A turn without a message that wants no act either, as most are: what it comes to. Where it
+    /// would want one, none, and nothing has changed. It has no room for an act.
+    fn idle(&mut self) -> Option<Turn>
+        ensures turn { IfSome result (λ turn. hears self.old None (Over turn) self.new) }
+        ensures none { IfNone result (self.new ≡ self.old) };
 
     /// Hears at most one message.
     fn hear(&mut self, heard: Option<Self::Heard>) -> Step<Self::Act>
@@ -126,12 +133,7 @@ pub fn run_actor<A: Actor + Drop, H: Hands<A> + Drop, R: Wait>(
     let mut made = 0;
     for number in 0..turns {
         made = u64::from(number) + 1;
-        let heard = hands.receive(rt);
-        let turn = match actor.hear(heard) {
-            Step::Over(turn) => turn,
-            Step::Act(act) => finish(rt, &mut actor, &mut hands, act),
-        };
-        match turn {
+        match make_turn(rt, &mut actor, &mut hands) {
             Turn::Done => {}
             Turn::Nothing => rest.give_way(),
             Turn::Ends => break,
@@ -144,8 +146,33 @@ pub fn run_actor<A: Actor + Drop, H: Hands<A> + Drop, R: Wait>(
     }
 }
 
-/// Does what an actor wants, until its turn is over, and says what that came to. A turn that wants
-/// nothing doesn't pay for an act's room.
+/// Makes a turn, and says what it came to.
+fn make_turn<A: Actor, H: Hands<A>, R: Wait>(rt: &R, actor: &mut A, hands: &mut H) -> Turn {
+    match hands.receive(rt) {
+        Some(message) => hear(rt, actor, hands, Some(message)),
+        None => match actor.idle() {
+            Some(turn) => turn,
+            None => hear(rt, actor, hands, None),
+        },
+    }
+}
+
+/// Lets an actor hear at most one message, and does what it wants then. Only a turn that may want
+/// an act pays for its room.
+#[inline(never)]
+fn hear<A: Actor, H: Hands<A>, R: Wait>(
+    rt: &R,
+    actor: &mut A,
+    hands: &mut H,
+    heard: Option<A::Heard>,
+) -> Turn {
+    match actor.hear(heard) {
+        Step::Over(turn) => turn,
+        Step::Act(act) => finish(rt, actor, hands, act),
+    }
+}
+
+/// Does what an actor wants, until its turn is over, and says what that came to.
 #[inline(never)]
 fn finish<A: Actor, H: Hands<A>, R: Wait>(
     rt: &R,

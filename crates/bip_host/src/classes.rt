@@ -441,6 +441,27 @@ impl<'p> Actor for ClassActor<'p> {
         Step::Over(Turn::Nothing)
     }
 
+    /// Tries the next interaction, where that comes to nothing and nothing is to be ended.
+    fn idle(&mut self) -> Option<Turn> {
+        match self.errand {
+            Errand::Nothing => {}
+            _ => return None,
+        }
+        let place = self.place_next();
+        if let Some(inter) = self.members.get(place) {
+            match self.node.why_not(*inter) {
+                Some(WhyNot::Foreign) => {}
+                Some(WhyNot::Pending(_)) => {}
+                Some(WhyNot::Not(_)) => {}
+                None => return None,
+            }
+            self.next = place + 1;
+        }
+        self.turn = Turn::Nothing;
+        self.has_tried = true;
+        Some(Turn::Nothing)
+    }
+
     /// Takes a message, and goes on with what is to be ended, or tries the next interaction: behind
     /// a grant once that is told.
     fn hear(&mut self, heard: Option<ToClass>) -> Step<ClassAct>

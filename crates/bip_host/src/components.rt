@@ -98,6 +98,10 @@ impl<'p> Actor for ComponentActor<'p> {
         self.offer_to_all(offer)
     }
 
+    fn idle(&mut self) -> Option<Turn> {
+        Some(Turn::Nothing)
+    }
+
     /// Takes a notification; where it moves by that, it makes its next offer.
     fn hear(&mut self, heard: Option<Notify>) -> Step<Offering>
         ensures step { ComponentHears self.old heard result self.new }

@@ -231,6 +231,11 @@ impl Actor for ForkActor {
         Step::Over(Turn::Nothing)
     }
 
+    /// Whether something can be decided or shared is known once it is tried.
+    fn idle(&mut self) -> Option<Turn> {
+        None
+    }
+
     /// Takes a message; decides on the oldest open request, where it has all its forks; else shares
     /// these. It ends where memory is wanted for a decision.
     fn hear(&mut self, heard: Option<ToStation>) -> Step<StationAct>

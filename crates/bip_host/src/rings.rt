@@ -135,6 +135,15 @@ impl Actor for RingActor {
         Step::Over(Turn::Nothing)
     }
 
+    /// Without the token it does nothing.
+    fn idle(&mut self) -> Option<Turn> {
+        if self.token.is_some() {
+            return None;
+        }
+        self.turn = Turn::Nothing;
+        Some(Turn::Nothing)
+    }
+
     /// Takes a message; with the token, decides on the oldest open request, or hands the token on.
     fn hear(&mut self, heard: Option<ToStation>) -> Step<StationAct>
         ensures step { RingHears self.old heard result self.new }
