@@ -3,14 +3,16 @@ ghost use Rattle.bip_bank.specs.Banks.{content_of};
 
 use self::Step::{Delivers, Goes, Serves, Shows, Submits, Tries};
 use super::over_plan;
+use super::refusing::{call, called};
 use super::tabling::{Wanted, request};
 use crate::Second;
 use bip_bank::{Acted, Bank, BankStep, Central, StationId};
 use bip_forks::Forks;
 use bip_model::{CompId, Request};
 use bip_partition::Plan;
+use bip_ring::Ring;
 use bip_table::Decision;
-use std::alloc::Global;
+use std::alloc::{AllocError, Global};
 use std::process::Abort;
 
 /// Two components that each move with a third, in two classes, so both interactions have a station.
@@ -59,22 +61,50 @@ enum Step {
     Shows(usize),
 }
 
-/// Submits a request that fits the plan.
-fn submits<B: Bank>(rt: &impl Abort, plan: &Plan, bank: &mut B, request: Request)
+/// Whether two requests are the same but for their reasons.
+fn is_same(one: &Request, other: &Request) -> bool {
+    (one.class, one.inter, one.request) == (other.class, other.inter, other.request)
+        && one.wants.as_slice() == other.wants.as_slice()
+}
+
+/// How many grants a bank has given, and how many of its messages are in flight.
+fn shown<B: Bank>(bank: &B) -> (usize, usize) {
+    (bank.grants().len(), bank.in_flight())
+}
+
+/// Submits a request that fits the plan; where memory was refused, what comes back once more.
+fn submits<B: Bank>(rt: &(impl Abort + Print), plan: &Plan, bank: &mut B, request: Request)
     requires plan { (content_of (B.kept bank.old)).plan ≡ plan.now }
     ensures plan { (content_of (B.kept bank.new)).plan ≡ plan.now }
 {
     assert!(rt; plan.fits(&request));
-    let submitted = bank.submit(request).is_ok();
-    assert!(rt; submitted);
+    let (asked, before) = (request.copy(), shown(bank));
+    call(rt);
+    let submitted = bank.submit(request);
+    called(rt);
+    if let Err((back, AllocError)) = submitted {
+        assert!(rt; is_same(&back, &asked) && shown(bank) == before);
+        let again = bank.submit(back).is_ok();
+        assert!(rt; again);
+    }
 }
 
-/// Does a step of a bank, and says what it did.
-fn acts<B: Bank>(rt: &impl Abort, plan: &Plan, bank: &mut B, step: BankStep) -> Acted
+/// Does a step of a bank, once more where memory was refused, and says what it did.
+fn acts<B: Bank>(rt: &(impl Abort + Print), plan: &Plan, bank: &mut B, step: BankStep) -> Acted
     requires plan { (content_of (B.kept bank.old)).plan ≡ plan.now }
     ensures plan { (content_of (B.kept bank.new)).plan ≡ plan.now }
 {
-    bank.act(step).expect(rt, "memory")
+    let before = shown(bank);
+    call(rt);
+    let did = bank.act(step);
+    called(rt);
+    match did {
+        Ok(did) => did,
+        Err(AllocError) => {
+            assert!(rt; shown(bank) == before);
+            bank.act(step).expect(rt, "memory")
+        }
+    }
 }
 
 /// Whether an answer is to a request for this interaction, with this decision.
@@ -88,7 +118,13 @@ fn is_answer(did: &Acted, answer: &Option<(u16, Decision)>) -> bool {
     }
 }
 
-fn take_step<B: Bank>(rt: &impl Abort, alloc: Global, plan: &Plan, bank: &mut B, step: &Step)
+fn take_step<B: Bank>(
+    rt: &(impl Abort + Print),
+    alloc: Global,
+    plan: &Plan,
+    bank: &mut B,
+    step: &Step,
+)
     requires plan { (content_of (B.kept bank.old)).plan ≡ plan.now }
     ensures plan { (content_of (B.kept bank.new)).plan ≡ plan.now }
 {
@@ -116,7 +152,13 @@ fn take_step<B: Bank>(rt: &impl Abort, alloc: Global, plan: &Plan, bank: &mut B,
     }
 }
 
-fn take_steps<B: Bank>(rt: &impl Abort, alloc: Global, plan: &Plan, bank: &mut B, steps: &[Step])
+fn take_steps<B: Bank>(
+    rt: &(impl Abort + Print),
+    alloc: Global,
+    plan: &Plan,
+    bank: &mut B,
+    steps: &[Step],
+)
     requires plan { (content_of (B.kept bank.old)).plan ≡ plan.now }
 {
     for step in steps {
@@ -124,19 +166,25 @@ fn take_steps<B: Bank>(rt: &impl Abort, alloc: Global, plan: &Plan, bank: &mut B
     }
 }
 
-fn central_takes(rt: &impl Abort, alloc: Global, plan: &Plan, steps: &[Step]) {
+fn central_takes(rt: &(impl Abort + Print), alloc: Global, plan: &Plan, steps: &[Step]) {
     let mut bank = Central::new(alloc, plan, 0).expect(rt, "memory");
     take_steps(rt, alloc, plan, &mut bank, steps);
     assert!(rt; bank.in_flight() == 0);
 }
 
-fn second_takes(rt: &impl Abort, alloc: Global, plan: &Plan, steps: &[Step]) {
+fn second_takes(rt: &(impl Abort + Print), alloc: Global, plan: &Plan, steps: &[Step]) {
     let mut bank = Second::new(alloc, plan, 0).expect(rt, "memory");
     take_steps(rt, alloc, plan, &mut bank, steps);
     assert!(rt; bank.in_flight() == 0);
 }
 
-fn forks_take(rt: &impl Abort, alloc: Global, plan: &Plan, steps: &[Step]) {
+fn ring_takes(rt: &(impl Abort + Print), alloc: Global, plan: &Plan, steps: &[Step]) {
+    let mut bank = Ring::new(alloc, plan, 0).expect(rt, "memory");
+    take_steps(rt, alloc, plan, &mut bank, steps);
+    assert!(rt; bank.in_flight() == 0);
+}
+
+fn forks_take(rt: &(impl Abort + Print), alloc: Global, plan: &Plan, steps: &[Step]) {
     let mut bank = Forks::new(alloc, plan, 0).expect(rt, "memory");
     take_steps(rt, alloc, plan, &mut bank, steps);
     assert!(rt; bank.in_flight() == 0);
@@ -199,6 +247,32 @@ fn a_second_bank_serves_what_was_handed_on(rt: HostRuntime) {
         Shows(2),
     ];
     over_plan(&rt, rt.alloc(), COMPETE, STEPS, second_takes);
+}
+
+#[test]
+fn the_station_with_the_token_is_served(rt: HostRuntime) {
+    const STEPS: &[Step] = &[
+        Submits(X),
+        Submits(Y),
+        Serves(1, None),
+        Serves(0, Some((0, Decision::Granted(0)))),
+        Tries(BankStep::Pass(StationId(1), StationId(0))),
+        Goes(BankStep::Pass(StationId(0), StationId(1))),
+        Serves(1, None),
+        Delivers(0),
+        Serves(
+            1,
+            Some((
+                1,
+                Decision::Refused {
+                    comp: CompId(2),
+                    used: 1,
+                },
+            )),
+        ),
+        Shows(1),
+    ];
+    over_plan(&rt, rt.alloc(), COMPETE, STEPS, ring_takes);
 }
 
 #[test]

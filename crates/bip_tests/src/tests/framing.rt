@@ -8,7 +8,7 @@ use super::slow_frames::fault_by_table;
 use bip_frame::{Frame, read, write_notify, write_offer, write_reply, write_reserve};
 use bip_model::{Cause, ClassId, CompId, InterId, Reasons, Reply, Request, Role, Want, Wants, Why};
 use bytes::Bytes;
-use std::alloc::Global;
+use std::alloc::{AllocError, Global};
 use std::process::Abort;
 
 /// Component 2 offers port 0 as its move 1: with the value 5, and with the value 0.
@@ -93,30 +93,39 @@ fn is_numbered(reply: &Reply) -> bool
     }
 }
 
-/// The frame of what a frame shows.
-pub(super) fn written_again(rt: &impl Abort, alloc: Global, frame: &Frame<'_>) -> Bytes {
+/// Writes what a frame shows.
+pub(super) fn write(
+    rt: &impl Abort,
+    alloc: Global,
+    frame: &Frame<'_>,
+) -> Result<Bytes, AllocError> {
     match frame {
         Frame::Offer(frame) => {
             let offer = frame.offer();
             assert!(rt; offer.number != 0);
-            write_offer(alloc, &offer).expect(rt, "memory")
+            write_offer(alloc, &offer)
         }
         Frame::Reserve(frame) => {
             let request = frame.value();
             assert!(rt; request.request != 0);
-            write_reserve(alloc, &request).expect(rt, "memory")
+            write_reserve(alloc, &request)
         }
         Frame::Reply(frame) => {
             let reply = frame.reply();
             assert!(rt; is_numbered(&reply));
-            write_reply(alloc, &reply).expect(rt, "memory")
+            write_reply(alloc, &reply)
         }
         Frame::Notify(frame) => {
             let notify = frame.notify();
             assert!(rt; notify.number != 0 && notify.port.0 < 16);
-            write_notify(alloc, &notify).expect(rt, "memory")
+            write_notify(alloc, &notify)
         }
     }
+}
+
+/// The frame of what a frame shows.
+pub(super) fn written_again(rt: &impl Abort, alloc: Global, frame: &Frame<'_>) -> Bytes {
+    write(rt, alloc, frame).expect(rt, "memory")
 }
 
 /// The number of the fault that is told of bytes. Where they are a frame it is 0, and what is read

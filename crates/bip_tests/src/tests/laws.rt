@@ -2,7 +2,6 @@ use bip_bank::bank_laws;
 use bip_component::component_laws;
 use bip_draw::picture_laws;
 use bip_frame::frame_laws;
-use bip_host::inbox_laws;
 use bip_ip::{node_laws, notify_laws};
 use bip_model::{
     builder_laws, expression_laws, history_laws, partition_laws, priority_laws, step_laws,
@@ -12,7 +11,6 @@ use bip_partition::plan_laws;
 use bip_reader::{line_laws, meaning_laws};
 use bip_replay::{fault_laws, run_laws, trace_laws};
 use bip_table::{lock_laws, table_laws};
-use bip_words::word_laws;
 
 #[test]
 fn laws_can_be_called(_rt: HostRuntime) {
@@ -33,11 +31,9 @@ fn laws_can_be_called(_rt: HostRuntime) {
     picture_laws();
     table_laws();
     lock_laws();
-    word_laws();
     bank_laws();
     component_laws();
     notify_laws();
     node_laws();
     frame_laws();
-    inbox_laws::<u64>();
 }

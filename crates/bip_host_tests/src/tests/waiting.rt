@@ -1,7 +1,5 @@
 //! Grants of row words, which wait beside the book for those with lower serials.
-use super::hosting::COMPETE_TWICE;
-use super::over_plan;
-use super::tabling::{Wanted, request};
+use super::{COMPETE_TWICE, Wanted, over_plan, request};
 use bip_host::{
     Draw, Drawn, Entry, HostFault, Kind, Outcome, SharedBook, Tables, WaitingBook, WordSeat,
     can_have, open_words,

@@ -1,6 +1,6 @@
 //! Hosts: two classes that meet between their grants and their notifications, and a class that
 //! waits for another one's grant.
-use super::plan;
+use super::{COMPETE, COMPETE_TWICE, plan};
 use bip_host::{Gate, HostReport, Kind, Limits, Point, Tables, can_have, run_host};
 use bip_model::{ClassId, CompId, Want};
 use std::alloc::Global;
@@ -10,20 +10,6 @@ use std::sync::atomic::{AtomicU64, Ordering};
 use std::test::*;
 use std::thread;
 use std::thread::Threads;
-
-/// Two components that each move once with a third, in a class each.
-const COMPETE: &str = "bip 1\n\
-    component A\nloc a0\nloc a1\nport s\ntrans s a0 a1\nend\n\
-    component B\nloc b0\nloc b1\nport s\ntrans s b0 b1\nend\n\
-    component R\nvar n 0\nloc r0\nport g\ntrans g r0 r0 when n < 1 do n := n + 1\nend\n\
-    interaction x A.s R.g\ninteraction y B.s R.g\nclass P x\nclass Q y\n";
-
-/// The same, where the third moves twice.
-pub(super) const COMPETE_TWICE: &str = "bip 1\n\
-    component A\nloc a0\nloc a1\nport s\ntrans s a0 a1\nend\n\
-    component B\nloc b0\nloc b1\nport s\ntrans s b0 b1\nend\n\
-    component R\nvar n 0\nloc r0\nport g\ntrans g r0 r0 when n < 2 do n := n + 1\nend\n\
-    interaction x A.s R.g\ninteraction y B.s R.g\nclass P x\nclass Q y\n";
 
 /// Two components that each move once by themselves, in a class each.
 const APART: &str = "bip 1\n\
@@ -47,7 +33,7 @@ const LOOKS: u32 = 100_000;
 const YIELDS: u32 = 20;
 
 /// The kinds of third layer, with how tables are shared.
-const FORMS: [(Kind, Tables); 4] = [
+pub(super) const FORMS: [(Kind, Tables); 4] = [
     (Kind::Central, Tables::Locked),
     (Kind::Central, Tables::Words),
     (Kind::Ring, Tables::Locked),

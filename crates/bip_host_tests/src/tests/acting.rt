@@ -2,11 +2,7 @@
 //! and what stands in the book then.
 use super::desks::Did::{Appends, Asks, Grants, Looks, Offers, Passes, Refuses, Sends, Tells};
 use super::desks::{Desk, Fake, Later, NOTHING, Outcome, Shared, Third, comes_to};
-use super::notifying::{Told, notify};
-use super::observing::{Offered, offer};
-use super::tabling::{Wanted, request};
-use super::worked::COMPETE;
-use super::{moved, over_plan};
+use super::{COMPETE, Offered, Told, Wanted, moved, notify, offer, over_plan, request};
 use bip_bank::{Queue, StationId};
 use bip_forks::Station;
 use bip_host::{

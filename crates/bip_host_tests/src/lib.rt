@@ -1,0 +1,5 @@
+//! Tests of nodes as threads and of row words, by public calls alone.
+#![tactic(auto)]
+
+#[cfg(test)]
+mod tests;
