@@ -55,8 +55,8 @@ module _ {L : Type 0} where
   IsAccessTo (table.Words words) (access.Seat seat) = IsSeatOf words seat
   IsAccessTo table access = ⊥
 
-  -- a table of which no grant was made so far has the rows of the plan: each component that has one,
-  -- with the number 0
+  -- a table of which no grant was made so far has the rows of the plan: each component that has
+  -- one, with the number 0
   abbrev pub IsOpenedFor : Planned → CommonTable L → Type 0
   IsOpenedFor p table.Absent = ⊤
   IsOpenedFor p (table.Locked lock) = (t : KeptRows) × IsOpening p 0 t × (lock.rows ≡ t.floor)
