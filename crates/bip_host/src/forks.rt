@@ -231,9 +231,21 @@ impl Actor for ForkActor {
         Step::Over(Turn::Nothing)
     }
 
-    /// Whether something can be decided or shared is known once it is tried.
+    /// Where it can neither decide nor share anything it does nothing.
     fn idle(&mut self) -> Option<Turn> {
-        None
+        let Some(station) = &self.station else {
+            return None;
+        };
+        if station.is_ready() {
+            return None;
+        }
+        match self.next_shared(station, 0) {
+            Some(_) => None,
+            None => {
+                self.turn = Turn::Nothing;
+                Some(Turn::Nothing)
+            }
+        }
     }
 
     /// Takes a message; decides on the oldest open request, where it has all its forks; else shares

@@ -129,6 +129,13 @@ impl Settled<Station> {
         }
     }
 
+    /// Whether it can decide on a request: one is open, and it has all its forks.
+    pub(crate) fn is_ready(&self) -> bool
+        ensures { IsTrue result ↔ IsReadyToServe self.now.decider }
+    {
+        self.decider.is_ready()
+    }
+
     /// Makes a request the newest open one, where there is memory.
     pub(crate) fn submit(&mut self, request: Request) -> Posted
         ensures { IsSubmitted request self.old.decider result self.new.decider }
