@@ -1,5 +1,6 @@
 -- How forks begin: one more station, or side, and the machine that new stations are.
-use Rattle.std.proofs.Common.{◌≡◌, ℕ, ◌+◌, ◌<◌, ◌≤◌, true, get_or, length, map, List, [], ◌∷◌, ◌++◌, refl, sym, ap, ◌∙◌, subst, inl, inr, arith}
+use Rattle.std.proofs.Common.{◌≡◌, ℕ, ◌+◌, ◌<◌, ◌≤◌, true, get_or, length, map, List, [], ◌∷◌, ◌++◌}
+use Rattle.std.proofs.Common.{refl, sym, ap, ◌∙◌, subst, inl, inr, arith}
 use Rattle.std.specs.Prelude.{◌↔◌, All, Contains, IsTrue}
 use Rattle.std.specs.List.Sorted.{IsStrictlyIncreasing}
 use Rattle.std.proofs.lemmas.Bool.{cases_lt}
@@ -18,72 +19,116 @@ use Rattle.bip_bank.proofs.CentralLemmas.{listed_row}
 use Rattle.bip_bank.proofs.UsedLemmas.{used_first}
 use Rattle.bip_forks.proofs.SharingLemmas.{map_twice}
 use Rattle.bip_forks.specs.Kept.{no_station}
-use Rattle.bip_forks.specs.Opening.{AreFirstSides, AreFirstStations, IsCommon, IsFirstSide, IsFirstStation, IsListCommon, rows_with}
+use Rattle.bip_forks.specs.Opening.{AreFirstSides, AreFirstStations, IsCommon, IsFirstSide}
+use Rattle.bip_forks.specs.Opening.{IsFirstStation, IsListCommon, rows_with}
 use Rattle.bip_forks.specs.Stations.{KeptStation, nothing_shared}
 use Rattle.bip_forks.specs.declared.shares.Side.{Side}
 
 -- a plan has few stations, of interactions that it knows
-pub stations_known : (p : Planned) (inters : List InterId) → IsSystem p.model → AreStations p inters → All (λ (a : InterId). a.0 < length p.model.interactions) inters
-stations_known p inters valid listed = λ k d within. reserved_known p (get_or inters k d).0 valid ((listed.exact (get_or inters k d).0).0 (Contains-get_or inters k d within))
+pub stations_known : (p : Planned) (inters : List InterId) → IsSystem p.model → AreStations p inters
+    → All (λ (a : InterId). a.0 < length p.model.interactions) inters
+stations_known p inters valid listed = λ k d within. reserved_known p (get_or inters k d).0 valid
+    ((listed.exact (get_or inters k d).0).0 (Contains-get_or inters k d within))
 
-pub few_stations : (p : Planned) (inters : List InterId) → IsSystem p.model → AreStations p inters → length inters ≤ 128
+pub few_stations : (p : Planned) (inters : List InterId) → IsSystem p.model → AreStations p inters
+    → length inters ≤ 128
 few_stations p inters valid listed = omega (
   arith,
-  few_below (λ (a : InterId). a.0) (length p.model.interactions) inters (apart_from_rises (map (λ (a : InterId). a.0) inters) (rises_from_increasing (map (λ (a : InterId). a.0) inters) listed.rising)) (stations_known p inters valid listed),
+  few_below (λ (a : InterId). a.0) (length p.model.interactions) inters
+      (apart_from_rises (map (λ (a : InterId). a.0) inters)
+      (rises_from_increasing (map (λ (a : InterId). a.0) inters) listed.rising))
+      (stations_known p inters valid listed),
   valid.so_far.few_interactions,
 )
 
 -- none yet, and one more
-pub no_sides : (p : Planned) (base : ℕ) (inters : List InterId) (s : ℕ) (a : InterId) → AreFirstSides p base inters s a 0 []
-no_sides p base inters s a = record { each = refl; first = λ t b below at. absurd (omega (arith, below)) }
+pub no_sides : (p : Planned) (base : ℕ) (inters : List InterId) (s : ℕ) (a : InterId)
+    → AreFirstSides p base inters s a 0 []
+no_sides p base inters s a = record {
+  each = refl;
+  first = λ t b below at. absurd (omega (arith, below));
+}
 
-pub one_side : (p : Planned) (base : ℕ) (inters : List InterId) (s : ℕ) (a d : InterId) (count : ℕ) (sides : List Side) (side : Side) → AreFirstSides p base inters s a count sides → count < length inters → IsFirstSide p base s a.0 count (get_or inters count d).0 side → AreFirstSides p base inters s a (count + 1) (sides ++ side ∷ [])
+pub one_side : (p : Planned) (base : ℕ) (inters : List InterId) (s : ℕ) (a d : InterId) (count : ℕ)
+    (sides : List Side) (side : Side) → AreFirstSides p base inters s a count sides
+    → count < length inters → IsFirstSide p base s a.0 count (get_or inters count d).0 side
+    → AreFirstSides p base inters s a (count + 1) (sides ++ side ∷ [])
 one_side p base inters s a d count sides side are within is = record {
   each = omega (arith, length_push sides side, are.each);
   first = λ t c below here. elim (cases_lt t count) [
-    | inl old ↦ subst (IsFirstSide p base s a.0 t c.0) (sym (get_or_append_left sides (side ∷ []) nothing_shared t (omega (arith, old, are.each)))) (are.first t c old here)
+    | inl old ↦ subst (IsFirstSide p base s a.0 t c.0)
+        (sym (get_or_append_left sides (side ∷ []) nothing_shared t (omega (arith, old, are.each))))
+        (are.first t c old here)
     | inr new ↦
         let same : t ≡ count = omega (arith, new, below) in
-        let last : get_or (sides ++ side ∷ []) t nothing_shared ≡ side = get_or_push sides side nothing_shared t (are.each ∙ sym same) in
-        let inter' : get_or inters count d ≡ c = ap (λ (n : ℕ). get_or inters n d) (sym same) ∙ get_or_from_slice_get inters t c d here in
-        subst (IsFirstSide p base s a.0 t c.0) (sym last) (subst (λ (n : ℕ). IsFirstSide p base s a.0 n c.0 side) (sym same) (subst (λ (e : InterId). IsFirstSide p base s a.0 count e.0 side) inter' is))
+        let last : get_or (sides ++ side ∷ []) t nothing_shared ≡ side =
+        get_or_push sides side nothing_shared t (are.each ∙ sym same) in
+        let inter' : get_or inters count d ≡ c = ap (λ (n : ℕ). get_or inters n d) (sym same)
+        ∙ get_or_from_slice_get inters t c d here in
+        subst (IsFirstSide p base s a.0 t c.0) (sym last)
+        (subst (λ (n : ℕ). IsFirstSide p base s a.0 n c.0 side) (sym same)
+        (subst (λ (e : InterId). IsFirstSide p base s a.0 count e.0 side) inter' is))
   ];
 }
 
-pub no_stations : (p : Planned) (base : ℕ) (inters : List InterId) → AreFirstStations p base inters 0 []
-no_stations p base inters = record { each = refl; first = λ s a below at. absurd (omega (arith, below)) }
+pub no_stations : (p : Planned) (base : ℕ) (inters : List InterId)
+    → AreFirstStations p base inters 0 []
+no_stations p base inters = record {
+  each = refl;
+  first = λ s a below at. absurd (omega (arith, below));
+}
 
-pub one_station : (p : Planned) (base : ℕ) (inters : List InterId) (d : InterId) (count : ℕ) (stations : List KeptStation) (st : KeptStation) → AreFirstStations p base inters count stations → count < length inters → IsFirstStation p base inters count (get_or inters count d) st → AreFirstStations p base inters (count + 1) (stations ++ st ∷ [])
+pub one_station : (p : Planned) (base : ℕ) (inters : List InterId) (d : InterId) (count : ℕ)
+    (stations : List KeptStation) (st : KeptStation) → AreFirstStations p base inters count stations
+    → count < length inters → IsFirstStation p base inters count (get_or inters count d) st
+    → AreFirstStations p base inters (count + 1) (stations ++ st ∷ [])
 one_station p base inters d count stations st are within is = record {
   each = omega (arith, length_push stations st, are.each);
   first = λ s c below here. elim (cases_lt s count) [
-    | inl old ↦ subst (IsFirstStation p base inters s c) (sym (get_or_append_left stations (st ∷ []) no_station s (omega (arith, old, are.each)))) (are.first s c old here)
+    | inl old ↦ subst (IsFirstStation p base inters s c)
+        (sym (get_or_append_left stations (st ∷ []) no_station s (omega (arith, old, are.each))))
+        (are.first s c old here)
     | inr new ↦
         let same : s ≡ count = omega (arith, new, below) in
-        let last : get_or (stations ++ st ∷ []) s no_station ≡ st = get_or_push stations st no_station s (are.each ∙ sym same) in
-        let inter' : get_or inters count d ≡ c = ap (λ (n : ℕ). get_or inters n d) (sym same) ∙ get_or_from_slice_get inters s c d here in
-        subst (IsFirstStation p base inters s c) (sym last) (subst (λ (n : ℕ). IsFirstStation p base inters n c st) (sym same) (subst (λ (e : InterId). IsFirstStation p base inters count e st) inter' is))
+        let last : get_or (stations ++ st ∷ []) s no_station ≡ st =
+        get_or_push stations st no_station s (are.each ∙ sym same) in
+        let inter' : get_or inters count d ≡ c = ap (λ (n : ℕ). get_or inters n d) (sym same)
+        ∙ get_or_from_slice_get inters s c d here in
+        subst (IsFirstStation p base inters s c) (sym last)
+        (subst (λ (n : ℕ). IsFirstStation p base inters n c st) (sym same)
+        (subst (λ (e : InterId). IsFirstStation p base inters count e st) inter' is))
   ];
 }
 
 -- rows of listed components
-pub listed_rows : (base : ℕ) (comps : List CompId) → row_components (rows_with base comps) ≡ map (λ (c : CompId). c.0) comps
+pub listed_rows : (base : ℕ) (comps : List CompId)
+    → row_components (rows_with base comps) ≡ map (λ (c : CompId). c.0) comps
 listed_rows base [] = refl
 listed_rows base (d ∷ ds) = ap (λ (ks : List ℕ). d.0 ∷ ks) (listed_rows base ds)
 
 -- as a table's rows at first
-rows_same : (base : ℕ) (list : List CompId) → rows_of (map (λ (c : CompId). (c, base)) list) ≡ rows_with base list
-rows_same base list = sym (map_twice (λ (e : CompId × ℕ). record { used = e.1; comp = e.0 }) (λ (c : CompId). (c, base)) list)
+rows_same : (base : ℕ) (list : List CompId) → rows_of (map (λ (c : CompId). (c, base)) list)
+    ≡ rows_with base list
+rows_same base list = sym (map_twice (λ (e : CompId × ℕ). record { used = e.1; comp = e.0 })
+    (λ (c : CompId). (c, base)) list)
 
-has_listed : (base : ℕ) (comps : List CompId) (c : ℕ) → IsTrue (has_row (rows_with base comps) c) ↔ Contains comps (record { 0 = c })
-has_listed base comps c = subst (λ (rows : List Row). IsTrue (has_row rows c) ↔ Contains comps (record { 0 = c })) (rows_same base comps) (listed_row base comps c)
+has_listed : (base : ℕ) (comps : List CompId) (c : ℕ)
+    → IsTrue (has_row (rows_with base comps) c) ↔ Contains comps (record { 0 = c })
+has_listed base comps c = subst (λ (rows : List Row). IsTrue (has_row rows c) ↔ Contains comps
+    (record { 0 = c })) (rows_same base comps) (listed_row base comps c)
 
-used_listed : (base : ℕ) (comps : List CompId) (c : ℕ) → has_row (rows_with base comps) c ≡ true → used_at (rows_with base comps) c ≡ base
-used_listed base comps c = subst (λ (rows : List Row). has_row rows c ≡ true → used_at rows c ≡ base) (rows_same base comps) (used_first base comps c)
+used_listed : (base : ℕ) (comps : List CompId) (c : ℕ) → has_row (rows_with base comps) c ≡ true
+    → used_at (rows_with base comps) c ≡ base
+used_listed base comps c = subst (λ (rows : List Row). has_row rows c ≡ true
+    → used_at rows c ≡ base) (rows_same base comps) (used_first base comps c)
 
-pub common_of : (both : ℕ → Type 0) (base : ℕ) (comps : List CompId) (rows : List Row) → IsListCommon both comps → rows ≡ rows_with base comps → IsCommon both base rows
+pub common_of : (both : ℕ → Type 0) (base : ℕ) (comps : List CompId) (rows : List Row)
+    → IsListCommon both comps → rows ≡ rows_with base comps → IsCommon both base rows
 common_of both base comps rows is same = subst (IsCommon both base) (sym same) (record {
   rising = subst IsStrictlyIncreasing (sym (listed_rows base comps)) is.rising;
-  tabled = λ c. (λ row. (is.exact c).0 ((has_listed base comps c).0 row), λ has. (has_listed base comps c).1 ((is.exact c).1 has));
+  tabled = λ c. (
+    λ row. (is.exact c).0 ((has_listed base comps c).0 row),
+    λ has. (has_listed base comps c).1 ((is.exact c).1 has),
+  );
   numbers = λ c row. used_listed base comps c row;
 })

@@ -33,10 +33,12 @@ pub rising_takes : (low : ℕ) (bytes : List ℕ) (c : ℕ) (rest : List ℕ) �
 unfolding read_rising
 rising_takes low bytes c rest fits e =
     let a =
-    bind_ok (read_number w16 bytes) (λ comp. cond (ltb comp.0 low) (Err Order) (Ok comp)) (c, rest) e in
+    bind_ok (read_number w16 bytes) (λ comp. cond (ltb comp.0 low) (Err Order) (Ok comp))
+    (c, rest) e in
     let g = guarded (ltb a.0.0 low) Order (Ok a.0) (c, rest) a.2 in
     let t = number_takes w16 (2 ^ 16) wide16 bytes a.0.0 a.0.1 fits a.1 in
-    subst (λ (p : ℕ × List ℕ). Takes bytes (to_be_bytes w16 p.0) p.1 × (p.0 < 2 ^ 16) × (low ≤ p.0)) (ok_is a.0 (c, rest) g.1) (t.0, t.1, ltb-false a.0.0 low g.0)
+    subst (λ (p : ℕ × List ℕ). Takes bytes (to_be_bytes w16 p.0) p.1 × (p.0 < 2 ^ 16) × (low ≤ p.0))
+    (ok_is a.0 (c, rest) g.1) (t.0, t.1, ltb-false a.0.0 low g.0)
 
 pub rising_again : (low c : ℕ) (rest : List ℕ) → c < 2 ^ 16 → low ≤ c
     → read_rising low (to_be_bytes w16 c ++ rest) ≡ Ok (c, rest)
@@ -55,12 +57,14 @@ pub role_takes : (bytes : List ℕ) (r : Role) (rest : List ℕ) → IsBytes byt
 unfolding read_role
 role_takes bytes r rest fits e =
     let a =
-    bind_ok (read_byte bytes) (λ b. cond (ltb 1 b.0) (Err faults.Role) (Ok (role_in b.0, b.1))) (r, rest) e in
+    bind_ok (read_byte bytes) (λ b. cond (ltb 1 b.0) (Err faults.Role) (Ok (role_in b.0, b.1)))
+    (r, rest) e in
     let g = guarded (ltb 1 a.0.0) faults.Role (Ok (role_in a.0.0, a.0.1)) (r, rest) a.2 in
     let t = byte_takes bytes a.0.0 a.0.1 fits a.1 in
     let same : role_byte (role_in a.0.0) ≡ a.0.0 = byte_says a.0.0 (ltb-false 1 a.0.0 g.0) in
     let made : Role × List ℕ = (role_in a.0.0, a.0.1) in
-    subst (λ (p : Role × List ℕ). Takes bytes (role_byte p.0 ∷ []) p.1) (ok_is made (r, rest) g.1) (subst (λ (b : ℕ). Takes bytes (b ∷ []) a.0.1) (sym same) t.0)
+    subst (λ (p : Role × List ℕ). Takes bytes (role_byte p.0 ∷ []) p.1) (ok_is made (r, rest) g.1)
+    (subst (λ (b : ℕ). Takes bytes (b ∷ []) a.0.1) (sym same) t.0)
 
 pub role_again : (r : Role) (rest : List ℕ) → read_role (role_byte r ∷ rest) ≡ Ok (r, rest)
 unfolding read_role
@@ -73,23 +77,34 @@ entry_takes : (low : ℕ) (bytes : List ℕ) (w : Want) (rest : List ℕ) → Is
 unfolding read_entry
 entry_takes low bytes w rest fits e =
     let a =
-    bind_ok (read_rising low bytes) (λ comp. read_role comp.1 >>= λ role. read_positive role.1 >>= λ number. Ok (want_made comp.0 role.0 number.0, number.1)) (w, rest) e in
+    bind_ok (read_rising low bytes) (λ comp. read_role comp.1 >>= λ role. read_positive role.1 >>=
+    λ number. Ok (want_made comp.0 role.0 number.0, number.1)) (w, rest) e in
     let b =
-    bind_ok (read_role a.0.1) (λ role. read_positive role.1 >>= λ number. Ok (want_made a.0.0 role.0 number.0, number.1)) (w, rest) a.2 in
+    bind_ok (read_role a.0.1) (λ role. read_positive role.1 >>= λ number.
+    Ok (want_made a.0.0 role.0 number.0, number.1)) (w, rest) a.2 in
     let c =
-    bind_ok (read_positive b.0.1) (λ number. Ok (want_made a.0.0 b.0.0 number.0, number.1)) (w, rest) b.2 in
+    bind_ok (read_positive b.0.1) (λ number. Ok (want_made a.0.0 b.0.0 number.0, number.1))
+    (w, rest) b.2 in
     let t0 = rising_takes low bytes a.0.0 a.0.1 fits a.1 in
     let t1 = role_takes a.0.1 b.0.0 b.0.1 t0.0.rest_fits b.1 in
     let t2 = positive_takes b.0.1 c.0.0 c.0.1 t1.rest_fits c.1 in
     let e12 = Takes-then a.0.1 (role_byte b.0.0 ∷ []) b.0.1 (to_be_bytes w64 c.0.0) c.0.1 t1 t2.0 in
     let e02 =
-    Takes-then bytes (to_be_bytes w16 a.0.0) a.0.1 (role_byte b.0.0 ∷ to_be_bytes w64 c.0.0) c.0.1 t0.0 e12 in
+    Takes-then bytes (to_be_bytes w16 a.0.0) a.0.1
+    (role_byte b.0.0 ∷ to_be_bytes w64 c.0.0) c.0.1 t0.0 e12 in
     let made : Want × List ℕ = (want_made a.0.0 b.0.0 c.0.0, c.0.1) in
-    subst (λ (p : Want × List ℕ). Takes bytes (entry p.0) p.1 × IsEntry p.0 × (1 ≤ p.0.number) × (low ≤ p.0.comp.0)) (ok_is made (w, rest) c.2) (e02, record { comp = t0.1; number = t2.2 }, t2.1, t0.2)
+    subst (λ (p : Want × List ℕ). Takes bytes (entry p.0) p.1 × IsEntry p.0 × (1 ≤ p.0.number)
+    × (low ≤ p.0.comp.0)) (ok_is made (w, rest) c.2)
+    (e02, record { comp = t0.1; number = t2.2 }, t2.1, t0.2)
 
 pub too_few : (low : ℕ) (bytes : List ℕ) (w : Want) (rest : List ℕ) → IsBytes bytes
     → length bytes < 11 → read_entry low bytes ≡ Ok (w, rest) → ⊥
-too_few low bytes w rest fits few e = omega (arith, few, ap length (entry_takes low bytes w rest fits e).0.parts, length-append (entry w) rest)
+too_few low bytes w rest fits few e = omega (
+  arith,
+  few,
+  ap length (entry_takes low bytes w rest fits e).0.parts,
+  length-append (entry w) rest,
+)
 
 entry_again : (low : ℕ) (w : Want) (rest : List ℕ) → IsEntry w → 1 ≤ w.number → low ≤ w.comp.0
     → read_entry low (entry w ++ rest) ≡ Ok (w, rest)
@@ -98,7 +113,13 @@ entry_again low w rest fits some le =
     let regrouped : entry w ++ rest
     ≡ to_be_bytes w16 w.comp.0 ++ (role_byte w.role ∷ (to_be_bytes w64 w.number ++ rest)) =
     append_assoc (to_be_bytes w16 w.comp.0) (role_byte w.role ∷ to_be_bytes w64 w.number) rest in
-    ap (read_entry low) regrouped ∙ rw (rising_again low w.comp.0 (role_byte w.role ∷ (to_be_bytes w64 w.number ++ rest)) fits.comp le, role_again w.role (to_be_bytes w64 w.number ++ rest), positive_again w.number rest some fits.number) refl
+    ap (read_entry low) regrouped ∙ rw (
+      rising_again low w.comp.0 (role_byte w.role
+          ∷ (to_be_bytes w64 w.number ++ rest)) fits.comp le,
+      role_again w.role
+          (to_be_bytes w64 w.number ++ rest),
+      positive_again w.number rest some fits.number,
+    ) refl
 
 role_lies : (r : Role) → role_in (role_byte r) ≡ r
 role_lies Moved = refl
@@ -108,14 +129,16 @@ same_want : (c d n k : ℕ) (r t : Role) → c ≡ d → r ≡ t → n ≡ k →
 same_want c d n k r t comps roles numbers = rw (comps, roles, numbers) refl
 
 want_again : (w : Want) → IsEntry w → want_in (entry w) ≡ w
-want_again w fits = same_want _ _ _ _ _ _ (wide16.again w.comp.0 fits.comp) (role_lies w.role) (wide64.again w.number fits.number)
+want_again w fits = same_want _ _ _ _ _ _ (wide16.again w.comp.0 fits.comp) (role_lies w.role)
+    (wide64.again w.number fits.number)
 
 entry_lies : (w : Want) → IsGoodEntry w → want_in (entry w) ≡ w
 entry_lies w good = want_again w good.fits
 
 pub entry_part : ReadsParts entry_parts read_entry
 entry_part low = record {
-  takes = λ bytes w rest fits e. (let t = entry_takes low bytes w rest fits e in (t.0, (record { fits = t.1; some = t.2 }, t.3)));
+  takes = λ bytes w rest fits e. (let t = entry_takes low bytes w rest fits e in
+      (t.0, (record { fits = t.1; some = t.2 }, t.3)));
   again = λ w rest good. entry_again low w rest good.0.fits good.0.some good.1;
 }
 
@@ -149,7 +172,8 @@ pub are_wants : (ws : List Want) → IsList entry_parts ws → one_moves ws ≡ 
 are_wants ws list moving = record {
   few = list.counted.1;
   rising = increasing_from_next entry_parts (length ws) 0 ws list.next;
-  numbered = All-from_recursion (λ (w : Want). 1 ≤ w.number) ws (numbers_some ws (good_from_next entry_parts (length ws) 0 ws list.next));
+  numbered = All-from_recursion (λ (w : Want). 1 ≤ w.number) ws
+      (numbers_some ws (good_from_next entry_parts (length ws) 0 ws list.next));
   moving = moving;
 }
 
@@ -163,7 +187,8 @@ some_wants (w ∷ ws) moving = omega arith
 pub wants_listed : (ws : List Want) → IsWants ws → AllByRecursion IsEntry ws → IsList entry_parts ws
 wants_listed ws are fits = record {
   counted = (some_wants ws are.moving, are.few);
-  next = next_from_increasing entry_parts ws (both_good ws fits (recursion_from_All (λ (w : Want). 1 ≤ w.number) ws are.numbered)) are.rising;
+  next = next_from_increasing entry_parts ws (both_good ws fits
+      (recursion_from_All (λ (w : Want). 1 ≤ w.number) ws are.numbered)) are.rising;
 }
 
 pub entries_list : Part read_entries (IsList entry_parts) (list_spelled entry_parts)

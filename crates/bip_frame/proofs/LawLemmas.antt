@@ -17,7 +17,8 @@ use Rattle.bip_frame.specs.declared.faults.FrameFault.TheVariants.{Short}
 use Rattle.bip_frame.specs.Faults.{AreNext, IsByte, IsFirstFault, IsList, entry_parts, reason_parts}
 use Rattle.bip_frame.specs.Frames.{Message, of_offer, of_request, of_reply, of_notify, spelling}
 use Rattle.bip_frame.specs.Frames.{CanBeFramed, IsEntry, IsFrame, IsNotify, IsRequest}
-use Rattle.bip_frame.specs.Laws.{frame_length, reasons_length, CutIsShort, FrameOrFault, IsWithin, MoreIsLong}
+use Rattle.bip_frame.specs.Laws.{frame_length, reasons_length, CutIsShort, FrameOrFault, IsWithin}
+use Rattle.bip_frame.specs.Laws.{MoreIsLong}
 use Rattle.bip_frame.specs.Laws.{NotBoth, OneFrameFault}
 use Rattle.bip_frame.specs.Reading.{read_frame, read_whole}
 use Rattle.bip_frame.proofs.CutLemmas.{with_more, frame_stays}
@@ -45,10 +46,12 @@ read_back : (m : Message) (a : List ℕ) → IsFrame m a → read_whole a ≡ Ok
 read_back m a frame = ap read_whole frame.is ∙ whole_again m frame.can
 
 pub not_both : NotBoth
-not_both m fault a frame bad = no_ok m fault (sym (read_back m a frame) ∙ whole_exact.only a fault bad)
+not_both m fault a frame bad = no_ok m fault (sym (read_back m a frame)
+    ∙ whole_exact.only a fault bad)
 
 pub one_fault : OneFrameFault
-one_fault f g a first second = same_fault f g (sym (whole_exact.only a f first) ∙ whole_exact.only a g second)
+one_fault f g a first second = same_fault f g
+    (sym (whole_exact.only a f first) ∙ whole_exact.only a g second)
 
 bytes_from_all : (a : List ℕ) → AllByRecursion IsByte a → IsBytes a
 bytes_from_all [] all i = omega arith
@@ -68,7 +71,8 @@ frame_or_fault a all = by_read (read_whole a) refl
 
 pub cut_is_short : CutIsShort
 unfolding read_whole
-cut_is_short m front more frame some = whole_exact.found front Short (front_fits m front more frame) short
+cut_is_short m front more frame some = whole_exact.found front Short
+    (front_fits m front more frame) short
   where
     whole : read_frame (front ++ more) ≡ Ok (m, [])
     whole = ap read_frame (frame.is ∙ sym (append-nil _)) ∙ frame_again m [] frame.can
@@ -83,13 +87,20 @@ cut_is_short m front more frame some = whole_exact.found front Short (front_fits
     by_front (Err f) same = absurd (no_pair (m, []) f (sym whole ∙ same))
 
     front_short : read_frame front ≡ Err Short
-    front_short = elim (frame_stays front more) [ inl short ↦ short | inr same ↦ by_front (read_frame front) same ]
+    front_short = elim (frame_stays front more)
+        [ inl short ↦ short | inr same ↦ by_front (read_frame front) same ]
 
     short : read_whole front ≡ Err Short
     short = rw front_short refl
 
 pub more_is_long : MoreIsLong
-more_is_long m a more frame some = inr (m, more, frame.can, ap (λ (t : List ℕ). t ++ more) frame.is, (omega (arith, some), refl))
+more_is_long m a more frame some = inr (
+  m,
+  more,
+  frame.can,
+  ap (λ (t : List ℕ). t ++ more) frame.is,
+  (omega (arith, some), refl),
+)
 
 reasons_below : (ys : List Why) → length ys ≤ 127 → reasons_length ys ≤ 509
 reasons_below [] few = omega arith
@@ -97,7 +108,10 @@ reasons_below (y ∷ ys) few = omega (arith, few)
 
 within : (m : Message) (a : List ℕ) → IsFrame m a → (13 ≤ frame_length m) × (frame_length m ≤ 875)
 within (of_offer o) a frame = (omega arith, omega (arith, frame.can.few))
-within (of_request r) a frame = (omega (arith, some_wants r.wants frame.can.wants.moving), omega (arith, frame.can.wants.few, reasons_below r.reasons frame.can.reasons.few))
+within (of_request r) a frame = (
+  omega (arith, some_wants r.wants frame.can.wants.moving),
+  omega (arith, frame.can.wants.few, reasons_below r.reasons frame.can.reasons.few),
+)
 within (of_reply (Granted c r i s)) a frame = (omega arith, omega arith)
 within (of_reply (Refused c r i k u)) a frame = (omega arith, omega arith)
 within (of_notify n) a frame = (omega arith, omega (arith, frame.can.few))
@@ -125,7 +139,14 @@ abbrev short_notify : Notify
 short_notify = record { comp = record { 0 = 0 }; number = 1; port = record { 0 = 0 }; values = [] }
 
 short_can : IsNotify short_notify
-short_can = record { comp = omega arith; some = omega arith; number = omega arith; port = omega arith; few = omega arith; values = tt }
+short_can = record {
+  comp = omega arith;
+  some = omega arith;
+  number = omega arith;
+  port = omega arith;
+  few = omega arith;
+  values = tt;
+}
 
 pub shortest : Reached 13
 shortest = reached (of_notify short_notify) 13 short_can refl
@@ -133,7 +154,8 @@ shortest = reached (of_notify short_notify) 13 short_can refl
 -- so many components in a row, each moved by its move 1
 abbrev wants_from : ℕ → ℕ → List Want
 wants_from zero c = []
-wants_from (suc n) c = record { comp = record { 0 = c }; role = Moved; number = 1 } ∷ wants_from n (c + 1)
+wants_from (suc n) c = record { comp = record { 0 = c }; role = Moved; number = 1 } ∷ wants_from n
+    (c + 1)
 
 counted_from : (n c : ℕ) → length (wants_from n c) ≡ n
 counted_from zero c = refl
@@ -143,8 +165,10 @@ wants_next : (n c : ℕ) → c + n ≤ 2 ^ 16 → AreNext entry_parts n c (wants
 wants_next zero c few = tt
 wants_next (suc n) c few =
     let fits : IsEntry (record { comp = record { 0 = c }; role = Moved; number = 1 }) =
-    record { comp = omega (arith, few); number = omega arith } in
-    ((record { fits = fits; some = omega arith }, omega arith), wants_next n (c + 1) (omega (arith, few)))
+    record { comp = omega (arith, few); number = omega arith } in (
+      (record { fits = fits; some = omega arith }, omega arith),
+      wants_next n (c + 1) (omega (arith, few)),
+    )
 
 -- so many interactions in a row, each with a guard that is false
 abbrev reasons_from : ℕ → ℕ → List Why
@@ -157,20 +181,36 @@ reasons_counted_from (suc n) i = ap suc (reasons_counted_from n (i + 1))
 
 reasons_next : (n i : ℕ) → i + n ≤ 2 ^ 16 → AreNext reason_parts n i (reasons_from n i)
 reasons_next zero i few = tt
-reasons_next (suc n) i few = ((record { fits = omega (arith, few); nameable = tt }, omega arith), reasons_next n (i + 1) (omega (arith, few)))
+reasons_next (suc n) i few = (
+  (record { fits = omega (arith, few); nameable = tt }, omega arith),
+  reasons_next n (i + 1) (omega (arith, few)),
+)
 
 long_wants : IsList entry_parts (wants_from 32 0)
-long_wants = listed entry_parts 32 (wants_from 32 0) (omega arith, omega arith) (wants_next 32 0 (omega arith))
+long_wants = listed entry_parts 32 (wants_from 32 0) (omega arith, omega arith)
+    (wants_next 32 0 (omega arith))
 
 long_reasons : IsList reason_parts (reasons_from 127 0)
-long_reasons = listed reason_parts 127 (reasons_from 127 0) (omega arith, omega arith) (reasons_next 127 0 (omega arith))
+long_reasons = listed reason_parts 127 (reasons_from 127 0) (omega arith, omega arith)
+    (reasons_next 127 0 (omega arith))
 
 abbrev long_request : Request
-long_request = record { wants = wants_from 32 0; reasons = reasons_from 127 0; request = 1; class = record { 0 = 0 }; inter = record { 0 = 0 } }
+long_request = record {
+  wants = wants_from 32 0;
+  reasons = reasons_from 127 0;
+  request = 1;
+  class = record { 0 = 0 };
+  inter = record { 0 = 0 };
+}
 
 long_can : IsRequest long_request
 long_can = record {
-  head = record { class_fits = omega arith; some = omega arith; request_fits = omega arith; inter_fits = omega arith };
+  head = record {
+    class_fits = omega arith;
+    some = omega arith;
+    request_fits = omega arith;
+    inter_fits = omega arith;
+  };
   wants = are_wants (wants_from 32 0) long_wants refl;
   entries = entries_fit (wants_from 32 0) long_wants;
   reasons = are_reasons (reasons_from 127 0) long_reasons;

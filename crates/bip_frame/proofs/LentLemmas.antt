@@ -42,9 +42,11 @@ parts_counted size one (suc n) bytes = ap suc (parts_counted size one n (drop si
 all_parts : {A : Type 0} (size : ℕ) (one : List ℕ → A) (n : ℕ) (bytes : List ℕ)
     → take n (parts_in size one n bytes) ≡ parts_in size one n bytes
 all_parts size one zero bytes = refl
-all_parts size one (suc n) bytes = ap (λ xs. one (take size bytes) ∷ xs) (all_parts size one n (drop size bytes))
+all_parts size one (suc n) bytes = ap (λ xs. one (take size bytes) ∷ xs)
+    (all_parts size one n (drop size bytes))
 
-pub at_get : {A : Type 0} (ys : List A) (i : ℕ) (x : A) → slice_get ys i ≡ Some x → get_or ys i x ≡ x
+pub at_get : {A : Type 0} (ys : List A) (i : ℕ) (x : A) → slice_get ys i ≡ Some x
+    → get_or ys i x ≡ x
 at_get [] i x e = refl
 at_get (y ∷ ys) zero x e = cc
 at_get (y ∷ ys) (suc i) x e = at_get ys i x e
@@ -53,7 +55,9 @@ at_get (y ∷ ys) (suc i) x e = at_get ys i x e
 pub one_more_part : {A : Type 0} (xs ys : List A) (i : ℕ) (x : A) → i < length xs → i < length ys
     → take i xs ≡ take i ys → slice_get ys i ≡ Some x → take (i + 1) (set xs i x) ≡ take (i + 1) ys
 one_more_part {A = A} xs ys i x below within same is =
-    take_more_set xs i x below ∙ ap (λ (t : List A). t ++ x ∷ []) same ∙ ap (λ (y : A). take i ys ++ y ∷ []) (sym (at_get ys i x is)) ∙ sym (take_more ys i x within)
+    take_more_set xs i x below ∙ ap (λ (t : List A). t ++ x ∷ []) same
+    ∙ ap (λ (y : A). take i ys ++ y ∷ []) (sym (at_get ys i x is))
+    ∙ sym (take_more ys i x within)
 
 -- ---- values
 

@@ -30,12 +30,16 @@ parts_take : {A : Type 0} (p : Parts A) (read : PartReader A) → ReadsParts p r
     → Takes bytes (flat_map p.spell xs) rest × AreNext p n low xs
 unfolding read_parts
 parts_take {A = A} p read part zero low bytes xs rest fits e =
-    subst (λ (q : List A × List ℕ). Takes bytes (flat_map p.spell q.0) q.1 × AreNext p 0 low q.0) (ok_is ([], bytes) (xs, rest) e) (record { parts = refl; rest_fits = fits }, tt)
+    subst (λ (q : List A × List ℕ). Takes bytes (flat_map p.spell q.0) q.1 × AreNext p 0 low q.0)
+    (ok_is ([], bytes) (xs, rest) e) (record { parts = refl; rest_fits = fits }, tt)
 parts_take {A = A} p read part (suc n) low bytes xs rest fits e =
     let a =
-    bind_ok (read low bytes) (λ first. read_parts read p.number n (p.number first.0 + 1) first.1 >>= λ others. Ok (first.0 ∷ others.0, others.1)) (xs, rest) e in
+    bind_ok (read low bytes) (λ first. read_parts read p.number n
+    (p.number first.0 + 1) first.1 >>= λ others. Ok (first.0 ∷ others.0, others.1))
+    (xs, rest) e in
     let b =
-    bind_ok (read_parts read p.number n (p.number a.0.0 + 1) a.0.1) (λ others. Ok (a.0.0 ∷ others.0, others.1)) (xs, rest) a.2 in
+    bind_ok (read_parts read p.number n (p.number a.0.0 + 1) a.0.1)
+    (λ others. Ok (a.0.0 ∷ others.0, others.1)) (xs, rest) a.2 in
     let first = (part low).takes bytes a.0.0 a.0.1 fits a.1 in
     let second =
     parts_take p read part n (p.number a.0.0 + 1) a.0.1 b.0.0 b.0.1 first.0.rest_fits b.1 in
@@ -44,7 +48,8 @@ parts_take {A = A} p read part (suc n) low bytes xs rest fits e =
     let made : List A × List ℕ = (a.0.0 ∷ b.0.0, b.0.1) in
     let whole : Takes bytes (flat_map p.spell (a.0.0 ∷ b.0.0)) b.0.1 =
     subst (λ (t : List ℕ). Takes bytes t b.0.1) (sym (flat_map-cons p.spell a.0.0 b.0.0)) both in
-    subst (λ (q : List A × List ℕ). Takes bytes (flat_map p.spell q.0) q.1 × AreNext p (suc n) low q.0) (ok_is made (xs, rest) b.2) (whole, (first.1, second.1))
+    subst (λ (q : List A × List ℕ). Takes bytes (flat_map p.spell q.0) q.1
+    × AreNext p (suc n) low q.0) (ok_is made (xs, rest) b.2) (whole, (first.1, second.1))
 
 -- the first of parts stands in front
 first_front : {A : Type 0} (spell : A → List ℕ) (x : A) (xs : List A) (rest : List ℕ)
@@ -62,7 +67,10 @@ parts_again p read part zero low (x ∷ xs) rest next = absurd next
 parts_again p read part (suc n) low [] rest next = absurd next
 parts_again p read part (suc n) low (x ∷ xs) rest next =
     ap (read_parts read p.number (suc n) low) (first_front p.spell x xs rest)
-    ∙ rw ((part low).again x (flat_map p.spell xs ++ rest) next.0, parts_again p read part n (p.number x + 1) xs rest next.1) refl
+    ∙ rw (
+      (part low).again x (flat_map p.spell xs ++ rest) next.0,
+      parts_again p read part n (p.number x + 1) xs rest next.1,
+    ) refl
 
 next_counted : {A : Type 0} (p : Parts A) (n low : ℕ) (xs : List A) → AreNext p n low xs
     → length xs ≡ n
@@ -78,12 +86,15 @@ count_takes : (most : ℕ) (bytes : List ℕ) (n : ℕ) (rest : List ℕ) → Is
 unfolding read_count
 count_takes most bytes n rest fits e =
     let a =
-    bind_ok (read_byte bytes) (λ c. cond (eqb c.0 0) (Err Count) (cond (ltb most c.0) (Err Count) (Ok c))) (n, rest) e in
-    let g = guarded (eqb a.0.0 0) Count (cond (ltb most a.0.0) (Err Count) (Ok a.0)) (n, rest) a.2 in
+    bind_ok (read_byte bytes) (λ c. cond (eqb c.0 0) (Err Count)
+    (cond (ltb most c.0) (Err Count) (Ok c))) (n, rest) e in
+    let g = guarded (eqb a.0.0 0) Count (cond (ltb most a.0.0) (Err Count) (Ok a.0))
+    (n, rest) a.2 in
     let h = guarded (ltb most a.0.0) Count (Ok a.0) (n, rest) g.1 in
     let t = byte_takes bytes a.0.0 a.0.1 fits a.1 in
     let some : 1 ≤ a.0.0 = omega (arith, eqb-false a.0.0 0 g.0) in
-    subst (λ (p : ℕ × List ℕ). Takes bytes (p.0 ∷ []) p.1 × IsCount most p.0) (ok_is a.0 (n, rest) h.1) (t.0, (some, ltb-false most a.0.0 h.0))
+    subst (λ (p : ℕ × List ℕ). Takes bytes (p.0 ∷ []) p.1 × IsCount most p.0)
+    (ok_is a.0 (n, rest) h.1) (t.0, (some, ltb-false most a.0.0 h.0))
 
 count_again : (most n : ℕ) (rest : List ℕ) → IsCount most n
     → read_count most (n ∷ rest) ≡ Ok (n, rest)
@@ -116,14 +127,20 @@ list_takes p read part bytes xs rest fits e =
     let first = count_takes p.most bytes a.0.0 a.0.1 fits a.1 in
     let second = parts_take p read part a.0.0 0 a.0.1 xs rest first.0.rest_fits a.2 in
     let both = Takes-then bytes (a.0.0 ∷ []) a.0.1 (flat_map p.spell xs) rest first.0 second.0 in
-    let is : a.0.0 ≡ length xs = sym (next_counted p a.0.0 0 xs second.1) in
-    (subst (λ (k : ℕ). Takes bytes (k ∷ flat_map p.spell xs) rest) is both, listed p a.0.0 xs first.1 second.1)
+    let is : a.0.0 ≡ length xs = sym (next_counted p a.0.0 0 xs second.1) in (
+      subst (λ (k : ℕ). Takes bytes (k ∷ flat_map p.spell xs) rest) is both,
+      listed p a.0.0 xs first.1 second.1,
+    )
 
 list_again : {A : Type 0} (p : Parts A) (read : PartReader A) → ReadsParts p read
     → (xs : List A) (rest : List ℕ) → IsList p xs
     → read_list p.most read p.number (list_spelled p xs ++ rest) ≡ Ok (xs, rest)
 unfolding read_list
-list_again p read part xs rest list = rw (count_again p.most (length xs) (flat_map p.spell xs ++ rest) list.counted, parts_again p read part (length xs) 0 xs rest list.next) refl
+list_again p read part xs rest list = rw (
+  count_again p.most (length xs) (flat_map p.spell xs
+      ++ rest) list.counted,
+  parts_again p read part (length xs) 0 xs rest list.next,
+) refl
 
 pub list_part : {A : Type 0} (p : Parts A) (read : PartReader A) → ReadsParts p read
     → Part (read_list p.most read p.number) (IsList p) (list_spelled p)
@@ -149,7 +166,10 @@ pub good_from_next : {A : Type 0} (p : Parts A) (n low : ℕ) (xs : List A) → 
     → AllByRecursion p.Good xs
 good_from_next p n low [] next = tt
 good_from_next p zero low (x ∷ xs) next = absurd next
-good_from_next p (suc n) low (x ∷ xs) next = (next.0.0, good_from_next p n (p.number x + 1) xs next.1)
+good_from_next p (suc n) low (x ∷ xs) next = (
+  next.0.0,
+  good_from_next p n (p.number x + 1) xs next.1,
+)
 
 next_after : {A : Type 0} (p : Parts A) (x : A) (xs : List A) → AllByRecursion p.Good xs
     → IsStrictlyIncreasing (map p.number (x ∷ xs)) → AreNext p (length xs) (p.number x + 1) xs
@@ -161,12 +181,14 @@ next_after p x (y ∷ ys) good increasing =
     tail : IsStrictlyIncreasing (map p.number (y ∷ ys))
     tail k within =
         let next : suc k + 1 ≡ suc (k + 1) = omega arith in
-        subst (λ (j : ℕ). slice_index (map p.number (y ∷ ys)) k < slice_index (map p.number (x ∷ y ∷ ys)) j) next (increasing (suc k) (omega arith))
+        subst (λ (j : ℕ). slice_index (map p.number (y ∷ ys)) k < slice_index
+        (map p.number (x ∷ y ∷ ys)) j) next (increasing (suc k) (omega arith))
 
 pub next_from_increasing : {A : Type 0} (p : Parts A) (xs : List A) → AllByRecursion p.Good xs
     → IsStrictlyIncreasing (map p.number xs) → AreNext p (length xs) 0 xs
 next_from_increasing p [] good increasing = tt
-next_from_increasing p (x ∷ xs) good increasing = ((good.0, omega arith), next_after p x xs good.1 increasing)
+next_from_increasing p (x ∷ xs) good increasing =
+    ((good.0, omega arith), next_after p x xs good.1 increasing)
 
 -- ---- parts at their places
 
@@ -180,7 +202,13 @@ pub parts_long : {A : Type 0} (p : Parts A) (size : ℕ) (one : List ℕ → A) 
 parts_long p size one has [] = omega arith
 parts_long p size one has (x ∷ xs) =
     ap length (flat_map-cons p.spell x xs)
-    ∙ omega (arith, length-append (p.spell x) (flat_map p.spell xs), has.long x, parts_long p size one has xs, mul-suc size (length xs))
+    ∙ omega (
+      arith,
+      length-append (p.spell x) (flat_map p.spell xs),
+      has.long x,
+      parts_long p size one has xs,
+      mul-suc size (length xs),
+    )
 
 pub parts_lie : {A : Type 0} (p : Parts A) (size : ℕ) (one : List ℕ → A) → HasSize p size one
     → (xs : List A) (more : List ℕ) → AllByRecursion p.Good xs
@@ -188,7 +216,12 @@ pub parts_lie : {A : Type 0} (p : Parts A) (size : ℕ) (one : List ℕ → A) �
 parts_lie p size one has [] more good = refl
 parts_lie p size one has (x ∷ xs) more good =
     ap (parts_in size one (suc (length xs))) (first_front p.spell x xs more)
-    ∙ rw (take_at (p.spell x) (flat_map p.spell xs ++ more) size (has.long x), drop_at (p.spell x) (flat_map p.spell xs ++ more) size (has.long x), has.lies x good.0, parts_lie p size one has xs more good.1) refl
+    ∙ rw (
+      take_at (p.spell x) (flat_map p.spell xs ++ more) size (has.long x),
+      drop_at (p.spell x) (flat_map p.spell xs ++ more) size (has.long x),
+      has.lies x good.0,
+      parts_lie p size one has xs more good.1,
+    ) refl
 
 list_is : {A : Type 0} (most : ℕ) (read : PartReader A) (key : A → ℕ) (bytes : List ℕ) (count : ℕ)
     (list : List ℕ) (xs : List A) (rest : List ℕ) → read_count most bytes ≡ Ok (count, list)
@@ -202,7 +235,8 @@ pub list_lies : {A B : Type 0} (p : Parts A) (read : PartReader A) → ReadsPart
     → (say : List A → B) (bytes : List ℕ) (count : ℕ) (list : List ℕ) (said : B) (rest : List ℕ)
     → IsBytes bytes → read_count p.most bytes ≡ Ok (count, list)
     → passed say (read_parts read p.number count 0 list) ≡ Ok (said, rest)
-    → Lies p (parts_in size one count list) list rest × (said ≡ say (parts_in size one count list)) × (read_list p.most read p.number bytes ≡ Ok (parts_in size one count list, rest))
+    → Lies p (parts_in size one count list) list rest × (said ≡ say (parts_in size one count list))
+    × (read_list p.most read p.number bytes ≡ Ok (parts_in size one count list, rest))
 list_lies {A = A} {B = B} p read part size one has say bytes count list said rest fits counted e =
     let first = count_takes p.most bytes count list fits counted in
     let a =
@@ -217,8 +251,15 @@ list_lies {A = A} {B = B} p read part size one has say bytes count list said res
     ∙ ap (λ (k : ℕ). parts_in size one k (flat_map p.spell a.0.0 ++ a.0.1)) (sym len)
     ∙ parts_lie p size one has a.0.0 a.0.1 (good_from_next p count 0 a.0.0 second.1) in
     let front : Lies p a.0.0 list rest =
-    record { are = listed p count a.0.0 first.1 second.1; spelled = second.0.parts ∙ ap (λ (t : List ℕ). flat_map p.spell a.0.0 ++ t) behind } in
+    record {
+      are = listed p count a.0.0 first.1 second.1;
+      spelled = second.0.parts ∙ ap (λ (t : List ℕ). flat_map p.spell a.0.0 ++ t) behind;
+    } in
     let read_is : read_list p.most read p.number bytes ≡ Ok (a.0.0, rest) =
     list_is p.most read p.number bytes count list a.0.0 a.0.1 counted a.1
-    ∙ ap (λ (t : List ℕ). done (a.0.0, t)) behind in
-    (subst (λ (xs : List A). Lies p xs list rest) (sym lie) front, sym (ap (λ (q : B × List ℕ). q.0) both) ∙ ap say (sym lie), read_is ∙ ap (λ (xs : List A). done (xs, rest)) (sym lie))
+    ∙ ap (λ (t : List ℕ). done (a.0.0, t)) behind in (
+      subst (λ (xs : List A). Lies p xs list rest) (sym lie) front,
+      sym (ap (λ (q : B × List ℕ). q.0) both) ∙ ap say (sym lie),
+      read_is
+          ∙ ap (λ (xs : List A). done (xs, rest)) (sym lie),
+    )

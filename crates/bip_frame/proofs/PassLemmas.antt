@@ -45,7 +45,8 @@ pub is_done : {A B : Type 0} (read : PartReader A) (key : A → ℕ) (say : List
 unfolding read_parts
 is_done read key say count i low bytes total le so_far =
     let k : count - i ≡ 0 = omega arith in
-    let one : passed say (read_parts read key (count - i) low bytes) ≡ Ok (say [], bytes) = rw k refl in
+    let one : passed say (read_parts read key (count - i) low bytes) ≡ Ok (say [], bytes) =
+    rw k refl in
     sym so_far ∙ one
 
 -- whether one moved before, or one of these does

@@ -36,7 +36,8 @@ one_more_fits Fits (y ∷ xs) (suc i) x lt all one =
     rw next (all.0, one_more_fits Fits xs i x (omega arith) all.1 one)
 
 -- one part more was written
-pub one_more_written : {A : Type 0} (spell : A → List ℕ) (old : List ℕ) (n : ℕ) (xs : List A) (i : ℕ)
+pub one_more_written : {A : Type 0} (spell : A → List ℕ) (old : List ℕ) (n : ℕ) (xs : List A)
+    (i : ℕ)
     (x : A) (before after : List ℕ) → i < length xs → get_or xs i x ≡ x
     → before ≡ old ++ n ∷ flat_map spell (take i xs) → after ≡ before ++ spell x
     → after ≡ old ++ n ∷ flat_map spell (take (i + 1) xs)
@@ -47,8 +48,10 @@ one_more_written {A = A} spell old n xs i x before after within here so_far is =
     let one : flat_map spell (x ∷ []) ≡ spell x =
     flat_map-cons spell x [] ∙ append-nil (spell x) in
     let spelled : flat_map spell (take (i + 1) xs) ≡ front ++ spell x =
-    ap (flat_map spell) more ∙ flat_map-append spell (take i xs) (x ∷ []) ∙ ap (λ (t : List ℕ). front ++ t) one in
-    is ∙ ap (λ (t : List ℕ). t ++ spell x) so_far ∙ append_assoc old (n ∷ front) (spell x) ∙ ap (λ (t : List ℕ). old ++ n ∷ t) (sym spelled)
+    ap (flat_map spell) more ∙ flat_map-append spell (take i xs) (x ∷ [])
+    ∙ ap (λ (t : List ℕ). front ++ t) one in
+    is ∙ ap (λ (t : List ℕ). t ++ spell x) so_far ∙ append_assoc old (n ∷ front) (spell x)
+    ∙ ap (λ (t : List ℕ). old ++ n ∷ t) (sym spelled)
 
 -- a request with reasons was written
 pub explained_frame : (r : Request) (head lists whole : List ℕ) → 1 ≤ length r.reasons
@@ -56,13 +59,26 @@ pub explained_frame : (r : Request) (head lists whole : List ℕ) → 1 ≤ leng
     → IsReasons r.reasons → AllByRecursion FitsInter r.reasons
     → head ≡ 6 ∷ head_fields r.class.0 r.request r.inter.0 → lists ≡ head ++ counted_entries r.wants
     → whole ≡ lists ++ counted_reasons r.reasons → IsFrame (of_request r) whole
-explained_frame r head lists whole some head_fits wants entries reasons inters first second third = record {
-  can = record { head = head_fits; wants = wants; entries = entries; reasons = reasons; inters = inters };
-  is = third ∙ ap (λ (t : List ℕ). t ++ counted_reasons r.reasons) (second ∙ ap (λ (t : List ℕ). t ++ counted_entries r.wants) first) ∙ append_assoc (6 ∷ head_fields r.class.0 r.request r.inter.0) (counted_entries r.wants) (counted_reasons r.reasons) ∙ by_reasons r.reasons some;
-}
+explained_frame r head lists whole some head_fits wants entries reasons inters first second third =
+    record {
+      can = record {
+        head = head_fits;
+        wants = wants;
+        entries = entries;
+        reasons = reasons;
+        inters = inters;
+      };
+      is = third ∙ ap (λ (t : List ℕ). t ++ counted_reasons r.reasons)
+          (second ∙ ap (λ (t : List ℕ). t ++ counted_entries r.wants) first)
+          ∙ append_assoc (6 ∷ head_fields r.class.0 r.request r.inter.0) (counted_entries r.wants)
+          (counted_reasons r.reasons) ∙ by_reasons r.reasons some;
+    }
   where
     by_reasons : (ys : List Why) → 1 ≤ length ys
-        → (6 ∷ head_fields r.class.0 r.request r.inter.0) ++ (counted_entries r.wants ++ counted_reasons ys) ≡ request_kind ys ∷ (head_fields r.class.0 r.request r.inter.0 ++ (counted_entries r.wants ++ reason_fields ys))
+        → (6 ∷ head_fields r.class.0 r.request r.inter.0)
+        ++ (counted_entries r.wants ++ counted_reasons ys) ≡ request_kind ys
+        ∷ (head_fields r.class.0 r.request r.inter.0
+        ++ (counted_entries r.wants ++ reason_fields ys))
     by_reasons [] some = absurd (omega arith)
     by_reasons (y ∷ ys) some = refl
 

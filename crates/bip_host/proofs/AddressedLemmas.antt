@@ -33,7 +33,8 @@ module _ {A : Type 0} where
   pub map_set : {B : Type 0} (f : A → B) (xs : List A) (k : ℕ) (x y : A)
       → slice_get xs k ≡ Some x → f y ≡ f x → map f (slice_set xs k y) ≡ map f xs
   map_set f [] k x y at same = refl
-  map_set f (a ∷ xs) zero x y at same = ap (λ b. b ∷ map f xs) (same ∙ ap f (sym (same_Some a x at)))
+  map_set f (a ∷ xs) zero x y at same = ap (λ b. b ∷ map f xs)
+      (same ∙ ap f (sym (same_Some a x at)))
   map_set f (a ∷ xs) (suc k) x y at same = ap (λ l. f a ∷ l) (map_set f xs k x y at same)
 
   -- what holds of each item holds of the one at a place

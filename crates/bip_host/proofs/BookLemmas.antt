@@ -1,7 +1,8 @@
 -- What the shared book keeps of a grant that it doesn't take.
 use Rattle.std.proofs.Common.{◌≡◌, Bool, false, true, Option, None, Some, refl, subst, sym}
 use Rattle.std.specs.Prelude.{IsTrue, is_none}
-use Rattle.bip_host.specs.Books.{IsKeptOf, SharedContent, first_refusal, blames_grant, later_refusal}
+use Rattle.bip_host.specs.Books.{IsKeptOf, SharedContent, first_refusal, blames_grant}
+use Rattle.bip_host.specs.Books.{later_refusal}
 use Rattle.bip_host.specs.Books.{memory_wanted}
 use Rattle.bip_model.specs.declared.grants.Grant.{Grant}
 use Rattle.bip_replay.specs.Book.{Content, IsAppendFault, IsRunWith}

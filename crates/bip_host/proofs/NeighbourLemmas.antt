@@ -1,5 +1,6 @@
 -- Neighbours, of the first so many stations.
-use Rattle.std.proofs.Common.{◌≡◌, ◌⊎◌, ℕ, zero, suc, ◌+◌, ◌<◌, List, [], ◌∷◌, ◌++◌, length, arith, inl, inr, refl, subst, sym, ⊎_elim}
+use Rattle.std.proofs.Common.{◌≡◌, ◌⊎◌, ℕ, zero, suc, ◌+◌, ◌<◌, List, [], ◌∷◌, ◌++◌, length, arith}
+use Rattle.std.proofs.Common.{inl, inr, refl, subst, sym, ⊎_elim}
 use Rattle.std.proofs.lemmas.Option.{none-some}
 use Rattle.std.specs.Prelude.{Some, slice_get}
 use Rattle.bip_bank.specs.declared.banks.StationId.{StationId}
@@ -43,11 +44,17 @@ pub one_neighbour : (m : System) (stations : List InterId) (s n : ℕ) (list lat
 one_neighbour m stations s n list later are one is =
     subst (AreNeighboursBelow m stations s (n + 1)) (sym is)
     (record {
-      each = at_push (λ k (t : StationId). AreNeighbours m stations s t.0) list (station n) are.each one;
+      each = at_push (λ k (t : StationId). AreNeighbours m stations s t.0) list
+          (station n) are.each one;
       all = λ t lt near.
           ⊎_elim
-          (λ (l : t < n). let at = are.all t l near in (at.0, got_front list (station n) (station t) at.0 at.1))
-          (λ (e : t ≡ n). (length list, subst (λ k. slice_get (list ++ station n ∷ []) (length list) ≡ Some (station k)) (sym e) (got_last list (station n))))
+          (λ (l : t < n). let at = are.all t l near in
+          (at.0, got_front list (station n) (station t) at.0 at.1))
+          (λ (e : t ≡ n). (
+            length list,
+            subst (λ k. slice_get (list ++ station n ∷ []) (length list)
+                ≡ Some (station k)) (sym e) (got_last list (station n)),
+          ))
           (below_or_last t n lt);
     })
 

@@ -1,5 +1,6 @@
 -- Why grants aren't known to be a run.
-use Rattle.std.proofs.Common.{◌≡◌, ℕ, ◌<◌, suc, Bool, List, [], ◌∷◌, ◌++◌, None, Some, ap, arith, drop, get_or, length, map, refl, subst, sym, take}
+use Rattle.std.proofs.Common.{◌≡◌, ℕ, ◌<◌, suc, Bool, List, [], ◌∷◌, ◌++◌, None, Some, ap, arith}
+use Rattle.std.proofs.Common.{drop, get_or, length, map, refl, subst, sym, take}
 use Rattle.std.proofs.lemmas.Grind.{common_steps}
 use Rattle.std.specs.Prelude.{Err, IfOk, IsTrue, Ok, Result}
 use Rattle.bip_host.specs.Books.{SharedContent, blames_grant}
@@ -35,7 +36,8 @@ joined (d ∷ done) rest g = ap (λ gs. d ∷ gs) (joined done rest g)
 
 -- where a grant can't follow those before it, and that isn't for want of memory, all of them are no
 -- run
-pub refuted : (m : System) (done rest : List Grant) (g : Grant) (fault : BookFault) (why : HostFault)
+pub refuted : (m : System) (done rest : List Grant) (g : Grant) (fault : BookFault)
+    (why : HostFault)
     → BeginningsAreRuns → why ≡ of_book fault
     → (IsModelRun m 0 (done ++ g ∷ []) → fault ≡ Memory)
     → IsWhyNoRun m (done ++ g ∷ rest) why
@@ -43,7 +45,8 @@ refuted m done rest g fault why begin is only =
     subst (IsWhyNoRun m (done ++ g ∷ rest)) (sym is) (by_fault fault only)
   where
     front : IsModelRun m 0 (done ++ g ∷ rest) → IsModelRun m 0 (done ++ g ∷ [])
-    front run = begin m 0 (done ++ g ∷ []) rest (subst (IsModelRun m 0) (sym (joined done rest g)) run)
+    front run = begin m 0 (done ++ g ∷ []) rest
+        (subst (IsModelRun m 0) (sym (joined done rest g)) run)
 
     by_fault : (f : BookFault) → (IsModelRun m 0 (done ++ g ∷ []) → f ≡ Memory)
         → IsWhyNoRun m (done ++ g ∷ rest) (of_book f)

@@ -6,7 +6,8 @@ use Rattle.bip_bank.specs.declared.banks.StationId.{StationId}
 use Rattle.bip_host.proofs.PlaceLemmas.{at_push}
 use Rattle.bip_host.specs.Classes.{IsFirstClassActor}
 use Rattle.bip_host.specs.Components.{IsFirstComponentActor}
-use Rattle.bip_host.specs.Starting.{AreClassNodes, AreComponentNodes, AreForkNodes, AreRingNodes, HaveForm, IsForkActor, IsRingActor, IsTokenAt}
+use Rattle.bip_host.specs.Starting.{AreClassNodes, AreComponentNodes, AreForkNodes, AreRingNodes}
+use Rattle.bip_host.specs.Starting.{HaveForm, IsForkActor, IsRingActor, IsTokenAt}
 use Rattle.bip_host.specs.Layers.{IsLayerOf}
 use Rattle.bip_host.specs.Rings.{IsFirstRingActor}
 use Rattle.bip_host.specs.Tables.{Form, form_of, form_of_layers, most_of}
@@ -32,7 +33,8 @@ pub component_behind : (p : Planned) (nodes : List (ComponentActor × ComponentH
     (node : ComponentActor × ComponentHands) → AreComponentNodes p nodes
     → IsFirstComponentActor p (length nodes) node.0 → AreComponentNodes p (nodes ++ node ∷ [])
 component_behind p nodes node are one = record {
-  each = at_push (λ k (n : ComponentActor × ComponentHands). IsFirstComponentActor p k n.0) nodes node are.each one;
+  each = at_push (λ k (n : ComponentActor × ComponentHands). IsFirstComponentActor p k n.0) nodes
+      node are.each one;
 }
 
 pub no_fork : (p : Planned) → AreForkNodes p []
@@ -49,7 +51,8 @@ pub no_ring : (count : ℕ) → AreRingNodes count []
 no_ring count = record { each = λ k node at. cc }
 
 pub ring_actor : (count k : ℕ) (t : StationId) (held : Option (Settled Token)) (a : RingActor)
-    → IsFirstRingActor t held a → IsNextStation count k t.0 → IsTokenAt k held → IsRingActor count k a
+    → IsFirstRingActor t held a → IsNextStation count k t.0 → IsTokenAt k held
+    → IsRingActor count k a
 ring_actor count k t held a new next token = record {
   behind = subst (λ (s : StationId). IsNextStation count k s.0) (sym new.next) next;
   first = record {
@@ -66,8 +69,10 @@ pub ring_behind : (count : ℕ) (nodes later : List (RingActor × StationHands))
     (node : RingActor × StationHands) → AreRingNodes count nodes → later ≡ nodes ++ node ∷ []
     → IsRingActor count (length nodes) node.0 → AreRingNodes count later
 ring_behind count nodes later node are is one = record {
-  each = subst (λ (ns : List (RingActor × StationHands)). (k : ℕ) (n : RingActor × StationHands) → slice_get ns k ≡ Some n → IsRingActor count k n.0) (sym is)
-      (at_push (λ k (n : RingActor × StationHands). IsRingActor count k n.0) nodes node are.each one);
+  each = subst (λ (ns : List (RingActor × StationHands)). (k : ℕ) (n : RingActor × StationHands)
+      → slice_get ns k ≡ Some n → IsRingActor count k n.0) (sym is)
+      (at_push (λ k (n : RingActor × StationHands). IsRingActor count k n.0) nodes node are.each
+      one);
 }
 
 -- once it is taken, the token isn't at hand any more
@@ -75,7 +80,8 @@ pub token_behind : (nodes later : List (RingActor × StationHands)) (node : Ring
     (held : Option (Settled Token)) → later ≡ nodes ++ node ∷ [] → held ≡ None
     → IsTokenAt (length later) held
 token_behind nodes later node held is none =
-    subst (λ (ns : List (RingActor × StationHands)). IsTokenAt (length ns) held) (sym is) (longer nodes)
+    subst (λ (ns : List (RingActor × StationHands)). IsTokenAt (length ns) held) (sym is)
+    (longer nodes)
   where
     longer : (ns : List (RingActor × StationHands)) → IsTokenAt (length (ns ++ node ∷ [])) held
     longer [] = none
@@ -104,11 +110,14 @@ module _ {L G : Type 0} where
       → IsFirstClassActor p (length nodes) (most_of form) node.0 → form_of node.1.layer ≡ form
       → AreClassNodes p form (nodes ++ node ∷ [])
   class_behind p form nodes node are one of = record {
-    each = at_push (λ k (n : ClassActor × ClassHands L G). IsFirstClassActor p k (most_of form) n.0) nodes node are.each one;
-    form = at_push (λ k (n : ClassActor × ClassHands L G). form_of n.1.layer ≡ form) nodes node are.form of;
+    each = at_push (λ k (n : ClassActor × ClassHands L G). IsFirstClassActor p k (most_of form) n.0)
+        nodes node are.each one;
+    form = at_push (λ k (n : ClassActor × ClassHands L G). form_of n.1.layer ≡ form) nodes node
+        are.form of;
   }
 
-  pub classes_grow : (p : Planned) (old new : Form) (nodes later : List (ClassActor × ClassHands L G))
+  pub classes_grow : (p : Planned) (old new : Form)
+      (nodes later : List (ClassActor × ClassHands L G))
       (node : ClassActor × ClassHands L G) → new ≡ old → AreClassNodes p old nodes
       → later ≡ nodes ++ node ∷ [] → IsFirstClassActor p (length nodes) (most_of old) node.0
       → form_of node.1.layer ≡ old → AreClassNodes p new later

@@ -25,7 +25,9 @@ use Rattle.bip_ip.specs.Laws.{AskedSuffices, LocalSuffices, Suffice}
 use Rattle.bip_ip.specs.Nodes.{AreWanted, CanBeAsked, ClassNode}
 
 -- what is wanted is moved, or reasons name it
-wanted_why : (m : System) (o : ℕ → Offer) (a : ℕ) (reasons : List Why) (wants : List Want) → AreWantsBy m o a reasons wants → (c : ℕ) → HasWantOf wants c → (moves m a c ≡ true) ⊎ AreNaming m reasons c
+wanted_why : (m : System) (o : ℕ → Offer) (a : ℕ) (reasons : List Why) (wants : List Want)
+    → AreWantsBy m o a reasons wants → (c : ℕ) → HasWantOf wants c → (moves m a c ≡ true)
+    ⊎ AreNaming m reasons c
 wanted_why m o a reasons wants by c has =
     let at : Contains wants has.1 = (has.0, has.2, has.3) in
     elim (moved_or_seen wants has.1 at) [
@@ -34,13 +36,15 @@ wanted_why m o a reasons wants by c has =
     ]
 
 -- and what reasons name is wanted
-named_is_wanted : (m : System) (o : ℕ → Offer) (a : ℕ) (reasons : List Why) (wants : List Want) → AreWantsBy m o a reasons wants → (c : ℕ) → AreNaming m reasons c → HasWantOf wants c
+named_is_wanted : (m : System) (o : ℕ → Offer) (a : ℕ) (reasons : List Why) (wants : List Want)
+    → AreWantsBy m o a reasons wants → (c : ℕ) → AreNaming m reasons c → HasWantOf wants c
 named_is_wanted m o a reasons wants by c named = elim (cases_Bool (moves m a c)) [
   | inl on ↦ moving_is_wanted m a wants by.parties c on
   | inr off ↦ let at = (by.named c).1 (off, named) in (at.0, at.1, at.2, at.3, at.4.0)
 ]
 
-pub suffice_by : (v : ClassNode) (a : ℕ) (reasons : List Why) (wants : List Want) → CanBeAsked v a → AreReasonsBy v.offers a reasons → AreWanted v a reasons wants → Suffice v a reasons wants
+pub suffice_by : (v : ClassNode) (a : ℕ) (reasons : List Why) (wants : List Want) → CanBeAsked v a
+    → AreReasonsBy v.offers a reasons → AreWanted v a reasons wants → Suffice v a reasons wants
 suffice_by v a reasons wants can because by =
     let m = v.offers.plan.model in
     let o = offers_of v.offers in
@@ -48,7 +52,8 @@ suffice_by v a reasons wants can because by =
     let counted : (c : ℕ) → HasWantOf wants c → OfferCounts v.offers c =
     λ c has. elim (wanted_why m o a reasons wants by c has) [
       | inl on ↦ can.ready.moved c on
-      | inr named ↦ ((All-contains (IsSound v.offers a) reasons named.1 sound (named.0, named.2, named.3)).named c named.4).1
+      | inr named ↦ ((All-contains (IsSound v.offers a) reasons named.1 sound
+          (named.0, named.2, named.3)).named c named.4).1
     ] in
     let are : AreReasonsFor m a wants reasons = record {
       each = because.each;
@@ -59,7 +64,8 @@ suffice_by v a reasons wants can because by =
             named_is_wanted m o a reasons wants by c (at.0, y, at.1, at.2, named),
           );
     } in
-    let so : All (λ (y : Why). IsTrueOf m o y.inter.0 y.cause) reasons = λ k d within. (sound k d within).so in
+    let so : All (λ (y : Why). IsTrueOf m o y.inter.0 y.cause) reasons =
+    λ k d within. (sound k d within).so in
     record {
       explained = for_explains m a wants reasons are;
       so = so;
@@ -74,10 +80,14 @@ asked_suffices v a q tried = suffice_by v a q.reasons q.wants tried.0 tried.3.re
 
 -- where all participants of an interaction are wanted, the offers of what is wanted exclude it as
 -- those that count do
-exclude_by : (v : Observed) (wants : List Want) (b : ℕ) → ((c : ℕ) → moves v.plan.model b c ≡ true → HasWantOf wants c) → Exclude v.plan.model (offers_of v) (OfferCounts v) b → Exclude v.plan.model (offers_of v) (HasWantOf wants) b
+exclude_by : (v : Observed) (wants : List Want) (b : ℕ)
+    → ((c : ℕ) → moves v.plan.model b c ≡ true → HasWantOf wants c)
+    → Exclude v.plan.model (offers_of v) (OfferCounts v) b
+    → Exclude v.plan.model (offers_of v) (HasWantOf wants) b
 exclude_by v wants b all exclude = elim exclude [
   | inl at ↦
-      let on = All-contains (λ (r : Participant). moves v.plan.model b r.0.0 ≡ true) (participants_of v.plan.model b) at.1 (moves_each v.plan.model b) (at.0, at.2, at.3) in
+      let on = All-contains (λ (r : Participant). moves v.plan.model b r.0.0 ≡ true)
+      (participants_of v.plan.model b) at.1 (moves_each v.plan.model b) (at.0, at.2, at.3) in
       inl (at.0, at.1, at.2, at.3, (all at.1.0.0 on, at.4.1))
   | inr both ↦ inr (λ k d within. all _ (moves_each v.plan.model b k d within), both.1)
 ]

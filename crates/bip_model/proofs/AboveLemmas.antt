@@ -1,20 +1,25 @@
 -- What stands above what: steps, and where no pair leads on.
-use Rattle.std.proofs.Common.{◌≡◌, ℕ, ◌<◌, true, false, eqb, ◌||◌, not, List, None, Some, refl, inl, inr, sym, ◌∙◌}
+use Rattle.std.proofs.Common.{◌≡◌, ℕ, ◌<◌, true, false, eqb, ◌||◌, not, List, None, Some, refl, inl}
+use Rattle.std.proofs.Common.{inr, sym, ◌∙◌}
 use Rattle.std.specs.Prelude.{find, All, Contains}
-use Rattle.std.proofs.lemmas.Bool.{and_parts, and_cases, or_cases, or_left, or_right, not-true, not-false, eqb-true, eq-eqb, false≢true}
+use Rattle.std.proofs.lemmas.Bool.{and_parts, and_cases, or_cases, or_left, or_right, not-true}
+use Rattle.std.proofs.lemmas.Bool.{not-false, eqb-true, eq-eqb, false≢true}
 use Rattle.std.proofs.lemmas.List.Elements.{All-contains}
 use Rattle.bip_model.specs.Sets.{has}
 use Rattle.bip_model.specs.Priorities.{IsAbove, declared, through, IsPairOf, leads, pair}
 use Rattle.bip_model.specs.declared.parts.Pair.{Pair}
 use Rattle.bip_model.proofs.ListLemmas.{found_at, not_found}
 
-pub IsAbove-trans : {pairs : List Pair} {a b c : ℕ} → IsAbove pairs a b → IsAbove pairs b c → IsAbove pairs a c
+pub IsAbove-trans : {pairs : List Pair} {a b c : ℕ} → IsAbove pairs a b → IsAbove pairs b c
+    → IsAbove pairs a c
 IsAbove-trans (declared at) second = through at second
 IsAbove-trans (through at rest) second = through at (IsAbove-trans rest second)
 
 -- what stands above something is there
-pub IsAbove-high : (count : ℕ) (pairs : List Pair) (a b : ℕ) → All (IsPairOf count) pairs → IsAbove pairs a b → b < count
-IsAbove-high count pairs a b known (declared at) = (All-contains (IsPairOf count) pairs _ known at).high
+pub IsAbove-high : (count : ℕ) (pairs : List Pair) (a b : ℕ) → All (IsPairOf count) pairs
+    → IsAbove pairs a b → b < count
+IsAbove-high count pairs a b known (declared at) =
+    (All-contains (IsPairOf count) pairs _ known at).high
 IsAbove-high count pairs a b known (through at rest) = IsAbove-high count pairs _ b known rest
 
 -- all in a set stand above an interaction
@@ -27,7 +32,8 @@ pub record IsNext (pairs : List Pair) (a set b : ℕ) : Type 0 where
   pub out : has set b ≡ false
 
 -- what a search finds leads to such an interaction, and to one that is there
-pub IsNext-found : (pairs : List Pair) (a set : ℕ) (p : Pair) → Some p ≡ find (leads a set) pairs → IsWithin pairs a set → IsNext pairs a set p.high.0
+pub IsNext-found : (pairs : List Pair) (a set : ℕ) (p : Pair) → Some p ≡ find (leads a set) pairs
+    → IsWithin pairs a set → IsNext pairs a set p.high.0
 IsNext-found pairs a set p is within =
     let both = found_at (leads a set) pairs p (sym is) in
     let parts = and_parts (eqb p.low.0 a || has set p.low.0) (not (has set p.high.0)) both.1 in
@@ -39,11 +45,14 @@ IsNext-found pairs a set p is within =
       out = not-true (has set p.high.0) parts.1;
     }
 
-pub high-found : (count : ℕ) (pairs : List Pair) (a set : ℕ) (p : Pair) → All (IsPairOf count) pairs → Some p ≡ find (leads a set) pairs → p.high.0 < count
-high-found count pairs a set p known is = (All-contains (IsPairOf count) pairs p known (found_at (leads a set) pairs p (sym is)).0).high
+pub high-found : (count : ℕ) (pairs : List Pair) (a set : ℕ) (p : Pair) → All (IsPairOf count) pairs
+    → Some p ≡ find (leads a set) pairs → p.high.0 < count
+high-found count pairs a set p known is = (All-contains (IsPairOf count) pairs p known
+    (found_at (leads a set) pairs p (sym is)).0).high
 
 -- one more interaction
-pub IsWithin-more : (pairs : List Pair) (a set more c : ℕ) → IsWithin pairs a set → IsNext pairs a set c → ((b : ℕ) → has more b ≡ (eqb b c || has set b)) → IsWithin pairs a more
+pub IsWithin-more : (pairs : List Pair) (a set more c : ℕ) → IsWithin pairs a set
+    → IsNext pairs a set c → ((b : ℕ) → has more b ≡ (eqb b c || has set b)) → IsWithin pairs a more
 IsWithin-more pairs a set more c within next is b in' =
     elim (or_cases (eqb b c) (has set b) (sym (is b) ∙ in')) [
       | inl same ↦ rw (eqb-true b c same) next.above
@@ -51,12 +60,16 @@ IsWithin-more pairs a set more c within next is b in' =
     ]
 
 -- where no pair leads on, all that stand above are in the set
-pub all_within : (pairs : List Pair) (a set : ℕ) → None ≡ find (leads a set) pairs → (b : ℕ) → IsAbove pairs a b → has set b ≡ true
-all_within pairs a set none b above = from a b (or_left (eqb a a) (has set a) (eq-eqb a a refl)) above
+pub all_within : (pairs : List Pair) (a set : ℕ) → None ≡ find (leads a set) pairs → (b : ℕ)
+    → IsAbove pairs a b → has set b ≡ true
+all_within pairs a set none b above = from a b
+    (or_left (eqb a a) (has set a) (eq-eqb a a refl)) above
   where
     step : (x y : ℕ) → (eqb x a || has set x) ≡ true → Contains pairs (pair x y) → has set y ≡ true
     step x y in' at =
-        let stays : leads a set (pair x y) ≡ false = All-contains (λ p. leads a set p ≡ false) pairs (pair x y) (not_found (leads a set) pairs (sym none)) at in
+        let stays : leads a set (pair x y) ≡ false =
+        All-contains (λ p. leads a set p ≡ false) pairs (pair x y)
+        (not_found (leads a set) pairs (sym none)) at in
         elim (and_cases (eqb x a || has set x) (not (has set y)) stays) [
           | inl no' ↦ absurd (false≢true (sym no' ∙ in'))
           | inr yes' ↦ not-false (has set y) yes'
@@ -64,4 +77,5 @@ all_within pairs a set none b above = from a b (or_left (eqb a a) (has set a) (e
 
     from : (x y : ℕ) → (eqb x a || has set x) ≡ true → IsAbove pairs x y → has set y ≡ true
     from x y in' (declared at) = step x y in' at
-    from x y in' (through {b} at rest) = from b y (or_right (eqb b a) (has set b) (step x b in' at)) rest
+    from x y in' (through {b} at rest) = from b y
+        (or_right (eqb b a) (has set b) (step x b in' at)) rest

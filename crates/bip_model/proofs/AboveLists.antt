@@ -1,15 +1,18 @@
 -- Lists of those above, in order of their numbers.
-use Rattle.std.proofs.Common.{◌≡◌, ◌↔◌, ℕ, ◌+◌, ◌<◌, true, List, [], ◌∷◌, ◌++◌, length, get_or, refl, ap, subst, inl, inr, arith, length-append, below_more}
+use Rattle.std.proofs.Common.{◌≡◌, ◌↔◌, ℕ, ◌+◌, ◌<◌, true, List, [], ◌∷◌, ◌++◌, length, get_or}
+use Rattle.std.proofs.Common.{refl, ap, subst, inl, inr, arith, length-append, below_more}
 use Rattle.std.specs.Prelude.{All, Contains, filter, map}
 use Rattle.std.specs.List.{range_with_len}
 use Rattle.std.specs.List.Sorted.{IsStrictlyIncreasing}
 use Rattle.std.proofs.lemmas.Bool.{cases_Bool}
 use Rattle.std.proofs.lemmas.List.{get_or_push, get_or_append_left}
 use Rattle.std.proofs.lemmas.List.Elements.{All-contains, filter_passes, Contains-get_or}
-use Rattle.std.proofs.lemmas.List.FromFn.{length-range_with_len, get_or-range_with_len, length-map-range_with_len, get_or-map-range_with_len}
+use Rattle.std.proofs.lemmas.List.FromFn.{length-range_with_len, get_or-range_with_len}
+use Rattle.std.proofs.lemmas.List.FromFn.{length-map-range_with_len, get_or-map-range_with_len}
 use Rattle.std.proofs.lemmas.List.Kept.{IsStrictlyIncreasing-filter}
 use Rattle.bip_model.specs.Sets.{has}
-use Rattle.bip_model.specs.Priorities.{AreListsAbove, IsAbove, IsPairOf, IsListAbove, inter, inters_in}
+use Rattle.bip_model.specs.Priorities.{AreListsAbove, IsAbove, IsPairOf, IsListAbove, inter}
+use Rattle.bip_model.specs.Priorities.{inters_in}
 use Rattle.bip_model.specs.declared.numbering.InterId.{InterId}
 use Rattle.bip_model.specs.declared.parts.Pair.{Pair}
 use Rattle.std.proofs.Common.{Bool, inl, inr}
@@ -32,11 +35,13 @@ range-rises n k within =
     omega arith
 
 -- things made of the numbers that pass a test, below a bound
-module _ {X : Type 0} (number : X → ℕ) (make : ℕ → X) (same : (n : ℕ) → number (make n) ≡ n) (test : ℕ → Bool) where
+module _ {X : Type 0} (number : X → ℕ) (make : ℕ → X) (same : (n : ℕ) → number (make n) ≡ n)
+    (test : ℕ → Bool) where
   abbrev pub kept : ℕ → List X
   kept count = filter (λ x. test (number x)) (map make (range_with_len 0 count))
 
-  numbers_kept : (ns : List ℕ) → map number (filter (λ x. test (number x)) (map make ns)) ≡ filter test ns
+  numbers_kept : (ns : List ℕ) → map number (filter (λ x. test (number x)) (map make ns))
+      ≡ filter test ns
   numbers_kept [] = refl
   numbers_kept (n ∷ ns) =
       let e = same n in
@@ -46,42 +51,55 @@ module _ {X : Type 0} (number : X → ℕ) (make : ℕ → X) (same : (n : ℕ) 
       ]
 
   pub kept-rises : (count : ℕ) → IsStrictlyIncreasing (map number (kept count))
-  kept-rises count = rw (numbers_kept (range_with_len 0 count)) (IsStrictlyIncreasing-filter test (range_with_len 0 count) (range-rises count))
+  kept-rises count = rw (numbers_kept (range_with_len 0 count))
+      (IsStrictlyIncreasing-filter test (range_with_len 0 count) (range-rises count))
 
   -- what is below the bound and passes is kept
   pub is_kept : (count b : ℕ) → b < count → test b ≡ true → Contains (kept count) (make b)
   is_kept count b within passes =
       let all : List X = map make (range_with_len 0 count) in
-      let at : get_or all b (make 0) ≡ make b = get_or-map-range_with_len make 0 count b b (make 0) within (omega arith) in
+      let at : get_or all b (make 0) ≡ make b =
+      get_or-map-range_with_len make 0 count b b (make 0) within (omega arith) in
       let below : b < length all = rw (length-map-range_with_len make 0 count) within in
-      let there : Contains all (make b) = subst (λ (x : X). Contains all x) at (Contains-get_or all b (make 0) below) in
+      let there : Contains all (make b) = subst (λ (x : X). Contains all x) at
+      (Contains-get_or all b (make 0) below) in
       Contains-filter (λ (x : X). test (number x)) all (make b) there (rw (same b) passes)
 
   -- what is kept passes
   pub kept_passes : (count b : ℕ) → Contains (kept count) (make b) → test b ≡ true
   kept_passes count b at =
-      rw (same b) at (All-contains (λ (x : X). test (number x) ≡ true) (kept count) (make b) (filter_passes (λ (x : X). test (number x)) (map make (range_with_len 0 count))) at)
+      rw (same b) at (All-contains (λ (x : X). test (number x) ≡ true) (kept count) (make b)
+      (filter_passes (λ (x : X). test (number x)) (map make (range_with_len 0 count))) at)
 
 -- the inters_in of the set of all above an interaction
-list_by : (pairs : List Pair) (count a : ℕ) (test : ℕ → Bool) → All (IsPairOf count) pairs → ((b : ℕ) → (test b ≡ true) ↔ IsAbove pairs a b) → IsListAbove pairs a (kept (λ (b : InterId). b.0) inter (λ n. refl) test count)
+list_by : (pairs : List Pair) (count a : ℕ) (test : ℕ → Bool) → All (IsPairOf count) pairs
+    → ((b : ℕ) → (test b ≡ true) ↔ IsAbove pairs a b)
+    → IsListAbove pairs a (kept (λ (b : InterId). b.0) inter (λ n. refl) test count)
 list_by pairs count a test known above = record {
   rising = kept-rises (λ (b : InterId). b.0) inter (λ n. refl) test count;
   exact = λ b. (
     λ at. (above b).0 (kept_passes (λ (x : InterId). x.0) inter (λ n. refl) test count b at),
-    λ up. is_kept (λ (x : InterId). x.0) inter (λ n. refl) test count b (IsAbove-high count pairs a b known up) ((above b).1 up),
+    λ up. is_kept (λ (x : InterId). x.0) inter (λ n. refl) test count b
+        (IsAbove-high count pairs a b known up) ((above b).1 up),
   );
 }
 
-pub list-above : (pairs : List Pair) (count a set : ℕ) → All (IsPairOf count) pairs → ((b : ℕ) → (has set b ≡ true) ↔ IsAbove pairs a b) → IsListAbove pairs a (inters_in count set)
+pub list-above : (pairs : List Pair) (count a set : ℕ) → All (IsPairOf count) pairs
+    → ((b : ℕ) → (has set b ≡ true) ↔ IsAbove pairs a b) → IsListAbove pairs a (inters_in count set)
 list-above pairs count a set known above = list_by pairs count a (has set) known above
 
 -- the components that are kept are those that an interaction looks at
-pub list_looked_at : (m : System) (a : ℕ) (above : List InterId) → IsSystemSoFar m → IsListAbove m.priorities a above → IsListLookedAt m a (comps_looked_at m a above (length m.components))
+pub list_looked_at : (m : System) (a : ℕ) (above : List InterId) → IsSystemSoFar m
+    → IsListAbove m.priorities a above → IsListLookedAt m a
+    (comps_looked_at m a above (length m.components))
 list_looked_at m a above valid list = record {
-  rising = kept-rises (λ (c : CompId). c.0) (λ n. record { 0 = n }) (λ n. refl) (looks_at m a above) (length m.components);
+  rising = kept-rises (λ (c : CompId). c.0) (λ n. record { 0 = n }) (λ n. refl) (looks_at m a above)
+      (length m.components);
   exact = λ c. (
-    λ at. looked_at m a c above list (kept_passes (λ (x : CompId). x.0) (λ n. record { 0 = n }) (λ n. refl) (looks_at m a above) (length m.components) c at),
-    λ is. is_kept (λ (x : CompId). x.0) (λ n. record { 0 = n }) (λ n. refl) (looks_at m a above) (length m.components) c (looked_known m a c valid is) (looks_where m a c above list is),
+    λ at. looked_at m a c above list (kept_passes (λ (x : CompId). x.0) (λ n. record { 0 = n })
+        (λ n. refl) (looks_at m a above) (length m.components) c at),
+    λ is. is_kept (λ (x : CompId). x.0) (λ n. record { 0 = n }) (λ n. refl) (looks_at m a above)
+        (length m.components) c (looked_known m a c valid is) (looks_where m a c above list is),
   );
 }
 
@@ -95,30 +113,44 @@ tested_is (inl holds) = (λ _. holds, λ _. refl)
 tested_is (inr fails) = (λ e. absurd (false≢true e), λ holds. absurd (fails holds))
 
 -- what stands above an interaction can be listed
-pub above_listed : (m : System) (a : ℕ) → IsSystemSoFar m → (above : List InterId) × IsListAbove m.priorities a above
-above_listed m a valid =
-    (_, list_by m.priorities (length m.interactions) a (λ b. tested (IsAbove-decided m.priorities a b)) valid.priorities (λ b. tested_is (IsAbove-decided m.priorities a b)))
+pub above_listed : (m : System) (a : ℕ) → IsSystemSoFar m → (above : List InterId)
+    × IsListAbove m.priorities a above
+above_listed m a valid = (
+  _,
+  list_by m.priorities (length m.interactions) a (λ b. tested
+      (IsAbove-decided m.priorities a b)) valid.priorities
+      (λ b. tested_is (IsAbove-decided m.priorities a b)),
+)
 
 -- what an interaction looks at can be listed
-pub looks_listed : (m : System) (a : ℕ) → IsSystemSoFar m → (looks : List CompId) × IsListLookedAt m a looks
+pub looks_listed : (m : System) (a : ℕ) → IsSystemSoFar m → (looks : List CompId)
+    × IsListLookedAt m a looks
 looks_listed m a valid =
-    let above = list_by m.priorities (length m.interactions) a (λ b. tested (IsAbove-decided m.priorities a b)) valid.priorities (λ b. tested_is (IsAbove-decided m.priorities a b)) in
+    let above = list_by m.priorities (length m.interactions) a
+    (λ b. tested (IsAbove-decided m.priorities a b)) valid.priorities
+    (λ b. tested_is (IsAbove-decided m.priorities a b)) in
     (_, list_looked_at m a _ valid above)
 
 -- one more list
-pub AreListsLookedAt-more : (m : System) (n : ℕ) (lists : List (List CompId)) (list : List CompId) → AreListsLookedAt m n lists → IsListLookedAt m n list → AreListsLookedAt m (n + 1) (lists ++ list ∷ [])
+pub AreListsLookedAt-more : (m : System) (n : ℕ) (lists : List (List CompId)) (list : List CompId)
+    → AreListsLookedAt m n lists → IsListLookedAt m n list
+    → AreListsLookedAt m (n + 1) (lists ++ list ∷ [])
 AreListsLookedAt-more m n lists list before more = record {
   each = let same = before.each in rw (length-append lists (list ∷ [])) (omega arith);
   list = below_more _ _
-      (λ a below. let within : a < length lists = let same = before.each in omega arith in rw (get_or_append_left lists (list ∷ []) [] a within) (before.list a below))
+      (λ a below. let within : a < length lists = let same = before.each in omega arith in
+      rw (get_or_append_left lists (list ∷ []) [] a within) (before.list a below))
       (rw (get_or_push lists list [] n before.each) more);
 }
 
 -- one more row
-pub AreListsAbove-more : (pairs : List Pair) (n : ℕ) (rows : List (List InterId)) (row : List InterId) → AreListsAbove pairs n rows → IsListAbove pairs n row → AreListsAbove pairs (n + 1) (rows ++ row ∷ [])
+pub AreListsAbove-more : (pairs : List Pair) (n : ℕ) (rows : List (List InterId))
+    (row : List InterId) → AreListsAbove pairs n rows → IsListAbove pairs n row
+    → AreListsAbove pairs (n + 1) (rows ++ row ∷ [])
 AreListsAbove-more pairs n rows row before more = record {
   each = let same = before.each in rw (length-append rows (row ∷ [])) (omega arith);
   list = below_more _ _
-      (λ a below. let within : a < length rows = let same = before.each in omega arith in rw (get_or_append_left rows (row ∷ []) [] a within) (before.list a below))
+      (λ a below. let within : a < length rows = let same = before.each in omega arith in
+      rw (get_or_append_left rows (row ∷ []) [] a within) (before.list a below))
       (rw (get_or_push rows row [] n before.each) more);
 }

@@ -1,5 +1,8 @@
--- Histories: one grant more, the greatest number used, and no component moved twice with one number.
-use Rattle.std.proofs.Common.{rules, ◌≡◌, ℕ, zero, suc, ◌<◌, ◌≤◌, true, ◌&&◌, eqb, List, [], ◌∷◌, ◌++◌, length, Some, refl, ap, get_or, eq-eqb, eqb-true, inl, inr, arith, slice_get}
+-- Histories: one grant more, the greatest number used, and no component moved twice with one
+-- number.
+use Rattle.std.proofs.Common.{rules, ◌≡◌, ℕ, zero, suc, ◌<◌, ◌≤◌, true, ◌&&◌, eqb, List, [], ◌∷◌}
+use Rattle.std.proofs.Common.{◌++◌, length, Some, refl, ap, get_or, eq-eqb, eqb-true, inl, inr}
+use Rattle.std.proofs.Common.{arith, slice_get}
 use Rattle.std.proofs.lemmas.Bool.{and_parts, cases_lt, cond_both, ne_eqb}
 use Rattle.std.proofs.lemmas.List.Elements.{All-cons, All-nil}
 use Rattle.bip_model.specs.declared.grants.Grant.{Grant}
@@ -17,26 +20,40 @@ pub used_by-append : UsedGoesOn
 used_by-append floor [] hs = refl
 used_by-append floor (g ∷ gs) hs = used_by-append (raised floor g.wants) gs hs
 
-pub used_by-push : (floor : ℕ → ℕ) (gs : List Grant) (g : Grant) → used_by floor (gs ++ g ∷ []) ≡ raised (used_by floor gs) g.wants
+pub used_by-push : (floor : ℕ → ℕ) (gs : List Grant) (g : Grant)
+    → used_by floor (gs ++ g ∷ []) ≡ raised (used_by floor gs) g.wants
 used_by-push floor gs g = used_by-append floor gs (g ∷ [])
 
 -- what is greatest above the numbers that a grant raised, is so with that grant at the front
-greatest_behind : (floor : ℕ → ℕ) (g : Grant) (gs : List Grant) (c n : ℕ) → IsGreatestUsed (raised floor g.wants) gs c n → IsGreatestUsed floor (g ∷ gs) c n
+greatest_behind : (floor : ℕ → ℕ) (g : Grant) (gs : List Grant) (c n : ℕ)
+    → IsGreatestUsed (raised floor g.wants) gs c n → IsGreatestUsed floor (g ∷ gs) c n
 greatest_behind floor g gs c n later = record {
   floor_within = omega (arith, later.floor_within);
-  moves_within = All-cons (λ (h : Grant). moved_in h.wants c ≤ n) g gs (omega (arith, later.floor_within)) later.moves_within;
+  moves_within = All-cons (λ (h : Grant). moved_in h.wants c ≤ n) g gs
+      (omega (arith, later.floor_within)) later.moves_within;
   reached = elim later.reached [
     | inl first ↦ elim (cases_lt (floor c) (moved_in g.wants c)) [
       | inl moves ↦ inr (g, (0, omega arith, refl), omega arith, omega (arith, first))
       | inr stays ↦ inl (omega (arith, first))
     ]
-    | inr moved ↦ inr (moved.0, (suc moved.1.0, omega (arith, moved.1.1), moved.1.2), moved.2, moved.3)
+    | inr moved ↦ inr (
+      moved.0,
+      (suc moved.1.0, omega (arith, moved.1.1), moved.1.2),
+      moved.2,
+      moved.3,
+    )
   ];
 }
 
-pub greatest_used : (floor : ℕ → ℕ) (gs : List Grant) (c : ℕ) → IsGreatestUsed floor gs c (used_by floor gs c)
-greatest_used floor [] c = record { floor_within = omega arith; moves_within = All-nil (λ (h : Grant). moved_in h.wants c ≤ floor c); reached = inl refl }
-greatest_used floor (g ∷ gs) c = greatest_behind floor g gs c (used_by (raised floor g.wants) gs c) (greatest_used (raised floor g.wants) gs c)
+pub greatest_used : (floor : ℕ → ℕ) (gs : List Grant) (c : ℕ)
+    → IsGreatestUsed floor gs c (used_by floor gs c)
+greatest_used floor [] c = record {
+  floor_within = omega arith;
+  moves_within = All-nil (λ (h : Grant). moved_in h.wants c ≤ floor c);
+  reached = inl refl;
+}
+greatest_used floor (g ∷ gs) c = greatest_behind floor g gs c (used_by (raised floor g.wants) gs c)
+    (greatest_used (raised floor g.wants) gs c)
 
 pub IsHistory-append : HistoryGoesOn
 IsHistory-append floor [] hs = assumption
@@ -45,15 +62,18 @@ IsHistory-append floor (g ∷ gs) hs =
     search (rules, rest.0, rest.1)
 
 -- the number with which fresh wants move a component is above its used number
-pub moved_above : (used : ℕ → ℕ) (wants : List Want) (c : ℕ) → IsFresh used wants → 0 < moved_in wants c → used c < moved_in wants c
+pub moved_above : (used : ℕ → ℕ) (wants : List Want) (c : ℕ) → IsFresh used wants
+    → 0 < moved_in wants c → used c < moved_in wants c
 moved_above used [] c fresh moves = absurd (omega arith)
 moved_above used (w ∷ ws) c fresh moves =
     cond_both (eqb w.comp.0 c && is_moved w.role) w.number (moved_in ws c) (λ n. 0 < n → used c < n)
-    (λ both some. rw (eqb-true w.comp.0 c (and_parts (eqb w.comp.0 c) (is_moved w.role) both).0) at (fresh 0 w (omega arith)))
+    (λ both some. rw (eqb-true w.comp.0 c (and_parts (eqb w.comp.0 c) (is_moved w.role) both).0) at
+    (fresh 0 w (omega arith)))
     (λ other. moved_above used ws c (λ k d within. fresh (suc k) d (omega arith))) moves
 
 -- a grant of a history moves each component with a number above the floor
-pub moved_above_floor : (floor : ℕ → ℕ) (gs : List Grant) (j c : ℕ) (h : Grant) → IsHistory floor gs → slice_get gs j ≡ Some h → 0 < moved_in h.wants c → floor c < moved_in h.wants c
+pub moved_above_floor : (floor : ℕ → ℕ) (gs : List Grant) (j c : ℕ) (h : Grant) → IsHistory floor gs
+    → slice_get gs j ≡ Some h → 0 < moved_in h.wants c → floor c < moved_in h.wants c
 moved_above_floor floor [] j c h history at moves = cc
 moved_above_floor floor (g ∷ gs) zero c h history at moves =
     let same : g ≡ h = cc in moved_above floor h.wants c (rw (← same) history.0) moves
@@ -65,10 +85,19 @@ moves_once floor [] history i j c g h at_i at_j moves same = cc
 moves_once floor (x ∷ xs) history zero zero c g h at_i at_j moves same = refl
 moves_once floor (x ∷ xs) history zero (suc j) c g h at_i at_j moves same =
     let first : x ≡ g = cc in
-    absurd (omega (arith, moved_above_floor (raised floor x.wants) xs j c h history.1 at_j (omega arith), ap (λ (y : Grant). moved_in y.wants c) first))
+    absurd (omega (
+      arith,
+      moved_above_floor (raised floor
+          x.wants) xs j c h history.1 at_j (omega arith),
+      ap (λ (y : Grant). moved_in y.wants c) first,
+    ))
 moves_once floor (x ∷ xs) history (suc i) zero c g h at_i at_j moves same =
     let first : x ≡ h = cc in
-    absurd (omega (arith, moved_above_floor (raised floor x.wants) xs i c g history.1 at_i moves, ap (λ (y : Grant). moved_in y.wants c) first))
+    absurd (omega (
+      arith,
+      moved_above_floor (raised floor x.wants) xs i c g history.1 at_i moves,
+      ap (λ (y : Grant). moved_in y.wants c) first,
+    ))
 moves_once floor (x ∷ xs) history (suc i) (suc j) c g h at_i at_j moves same =
     ap suc (moves_once (raised floor x.wants) xs history.1 i j c g h at_i at_j moves same)
 
@@ -83,21 +112,30 @@ role_is Seen moved = cc
 moves_by : (ws : List Want) (c n : ℕ) → 0 < n → moved_in ws c ≡ n → MovesBy ws c n
 moves_by [] c n some is = absurd (omega arith)
 moves_by (w ∷ ws) c n some is =
-    cond_both (eqb w.comp.0 c && is_moved w.role) w.number (moved_in ws c) (λ m. m ≡ n → MovesBy (w ∷ ws) c n)
-    (λ both number. let parts = and_parts (eqb w.comp.0 c) (is_moved w.role) both in (0, w, omega arith, refl, (eqb-true w.comp.0 c parts.0, role_is w.role parts.1, number)))
+    cond_both (eqb w.comp.0 c && is_moved w.role) w.number (moved_in ws c)
+    (λ m. m ≡ n → MovesBy (w ∷ ws) c n)
+    (λ both number. let parts = and_parts (eqb w.comp.0 c) (is_moved w.role) both in
+    (0, w, omega arith, refl, (eqb-true w.comp.0 c parts.0, role_is w.role parts.1, number)))
     (λ other at. later w ws c n (moves_by ws c n some at)) is
 
-moved_at : (ws : List Want) (k : ℕ) (w : Want) (c n : ℕ) → IsStrictlyIncreasing (components_of ws) → k < length ws → get_or ws k w ≡ w
+moved_at : (ws : List Want) (k : ℕ) (w : Want) (c n : ℕ) → IsStrictlyIncreasing (components_of ws)
+    → k < length ws → get_or ws k w ≡ w
     → w.comp.0 ≡ c → w.role ≡ Moved → w.number ≡ n → moved_in ws c ≡ n
 moved_at [] k w c n rising within is same moved number = absurd (omega arith)
 moved_at (v ∷ ws) zero w c n rising within is same moved number =
     rw (is, eq-eqb w.comp.0 c same, moved) number
 moved_at (v ∷ ws) (suc k) w c n rising within is same moved number =
-    let less = below_later (λ (u : Want). u.comp.0) (v ∷ ws) rising 0 (suc k) w (omega arith) within in
-    rw (ne_eqb v.comp.0 c (λ e. omega (arith, e, less, ap (λ (u : Want). u.comp.0) is))) (moved_at ws k w c n (increasing_tail v.comp.0 (components_of ws) rising) (omega arith) is same moved number)
+    let less = below_later (λ (u : Want). u.comp.0) (v ∷ ws) rising 0 (suc k) w
+    (omega arith) within in
+    rw (ne_eqb v.comp.0 c (λ e. omega (arith, e, less, ap (λ (u : Want). u.comp.0) is)))
+    (moved_at ws k w c n (increasing_tail v.comp.0 (components_of ws) rising)
+    (omega arith) is same moved number)
 
 pub moved_is_wanted : MovedIsWanted
-moved_is_wanted ws c n wants some = (moves_by ws c n some, λ by. moved_at ws by.0 by.1 c n wants.rising by.2 by.3 by.4.0 by.4.1 by.4.2)
+moved_is_wanted ws c n wants some = (
+  moves_by ws c n some,
+  λ by. moved_at ws by.0 by.1 c n wants.rising by.2 by.3 by.4.0 by.4.1 by.4.2,
+)
 
 -- what is wanted to be moved is moved
 pub parties_move : PartiesMove

@@ -1,12 +1,14 @@
 -- One bit more or less of a number.
-use Rattle.std.proofs.Common.{◌≡◌, ◌≢◌, ℕ, ◌*◌, ◌%◌, ◌^◌, ◌<◌, true, false, eqb, ◌||◌, inl, inr, sym, ap, ◌∙◌, refl, arith}
+use Rattle.std.proofs.Common.{◌≡◌, ◌≢◌, ℕ, ◌*◌, ◌%◌, ◌^◌, ◌<◌, true, false, eqb, ◌||◌, inl, inr}
+use Rattle.std.proofs.Common.{sym, ap, ◌∙◌, refl, arith}
 use Rattle.std.specs.Prelude.{bit_and, bit_or}
 use Rattle.std.specs.Int.{Width, bit_at, bit_not}
 use Rattle.std.proofs.lemmas.Bool.{false≢true}
 use Rattle.std.proofs.lemmas.Bool.Decides.{eqb_tells}
 use Rattle.std.proofs.lemmas.Bool.{cases_lt}
 use Rattle.std.proofs.lemmas.Nat.{and_le_l, le_or_l}
-use Rattle.std.proofs.lemmas.Nat.Bits.{bit_at_above, bit_at_clear_same, bit_at_clear_other, bit_at_set_same, bit_at_set_other}
+use Rattle.std.proofs.lemmas.Nat.Bits.{bit_at_above, bit_at_clear_same, bit_at_clear_other}
+use Rattle.std.proofs.lemmas.Nat.Bits.{bit_at_set_same, bit_at_set_other}
 use Rattle.std.proofs.Math.Nat.{eq-or-lt_of_le}
 use Rattle.bip_model.specs.Numbering.{put}
 use Rattle.bip_model.specs.Sets.{has}
@@ -16,7 +18,8 @@ use mir.Val.{bits}
 abbrev pub with : Width → ℕ → ℕ → ℕ
 with w set k = bit_or set (1 * 2 ^ k % 2 ^ bits w)
 
-pub has_with : (w : Width) (set k : ℕ) → k < bits w → (b : ℕ) → has (with w set k) b ≡ (eqb b k || has set b)
+pub has_with : (w : Width) (set k : ℕ) → k < bits w → (b : ℕ)
+    → has (with w set k) b ≡ (eqb b k || has set b)
 has_with w set k within b =
     elim (eqb_tells b k) [
       | inl same ↦ rw (same.0, same.1, bit_at_set_same w set k within) refl
@@ -36,27 +39,33 @@ grows_with w set k within out =
 abbrev pub without_bit : Width → ℕ → ℕ → ℕ
 without_bit w set k = bit_and set (bit_not w (1 * 2 ^ k % 2 ^ bits w))
 
-other_bit : (w : Width) (set k : ℕ) → set < 2 ^ bits w → k < bits w → (b : ℕ) → b ≢ k → bit_at (without_bit w set k) b ≡ bit_at set b
+other_bit : (w : Width) (set k : ℕ) → set < 2 ^ bits w → k < bits w → (b : ℕ) → b ≢ k
+    → bit_at (without_bit w set k) b ≡ bit_at set b
 other_bit w set k fits within b other =
     elim (cases_lt b (bits w)) [
       | inl inside ↦ bit_at_clear_other w set k within b inside other
       | inr above ↦
-          let less : without_bit w set k < 2 ^ bits w = omega (arith, fits, and_le_l set (bit_not w (1 * 2 ^ k % 2 ^ bits w))) in
-          bit_at_above (without_bit w set k) (bits w) b less above ∙ sym (bit_at_above set (bits w) b fits above)
+          let less : without_bit w set k < 2 ^ bits w =
+          omega (arith, fits, and_le_l set (bit_not w (1 * 2 ^ k % 2 ^ bits w))) in
+          bit_at_above (without_bit w set k) (bits w) b less above
+          ∙ sym (bit_at_above set (bits w) b fits above)
     ]
 
-pub put_without : (w : Width) (set k : ℕ) → set < 2 ^ bits w → k < bits w → (b : ℕ) → has (without_bit w set k) b ≡ put (has set) k false b
+pub put_without : (w : Width) (set k : ℕ) → set < 2 ^ bits w → k < bits w → (b : ℕ)
+    → has (without_bit w set k) b ≡ put (has set) k false b
 put_without w set k fits within b =
     elim (eqb_tells b k) [
       | inl same ↦ rw (same.0, same.1, bit_at_clear_same w set k within) refl
       | inr other ↦ rw (other.0, other_bit w set k fits within b other.1) refl
     ]
 
-pub less_without : (w : Width) (set k : ℕ) → k < bits w → has set k ≡ true → without_bit w set k < set
+pub less_without : (w : Width) (set k : ℕ) → k < bits w → has set k ≡ true
+    → without_bit w set k < set
 less_without w set k within there =
     elim (eq-or-lt_of_le (and_le_l set (bit_not w (1 * 2 ^ k % 2 ^ bits w)))) [
       | inl same ↦
-          let none : has (without_bit w set k) k ≡ false = rw (bit_at_clear_same w set k within) refl in
+          let none : has (without_bit w set k) k ≡ false =
+          rw (bit_at_clear_same w set k within) refl in
           absurd (false≢true (sym none ∙ (ap (λ n. has n k) same ∙ there)))
       | inr less ↦ less
     ]

@@ -1,5 +1,6 @@
 -- Sets of components: what two have together, what they share, and the set of a list.
-use Rattle.std.proofs.Common.{◌≡◌, ◌⊎◌, ℕ, ◌+◌, ◌<◌, ◌^◌, eqb, ◌||◌, List, length, take, get_or, min, refl, sym, ◌∙◌, inl, inr, arith}
+use Rattle.std.proofs.Common.{◌≡◌, ◌⊎◌, ℕ, ◌+◌, ◌<◌, ◌^◌, eqb, ◌||◌, List, length, take, get_or}
+use Rattle.std.proofs.Common.{min, refl, sym, ◌∙◌, inl, inr, arith}
 use Rattle.std.specs.Prelude.{IsTrue, bit_and, bit_or}
 use Rattle.std.specs.Int.{bit_at, trailing_zeros}
 use Rattle.std.specs.List.{list_any}
@@ -8,7 +9,8 @@ use Rattle.std.proofs.lemmas.Bool.{cases_lt, eqb-true}
 use Rattle.std.proofs.lemmas.Bool.Decides.{eqb_tells}
 use Rattle.std.proofs.lemmas.List.Folds.{list_any_more}
 use Rattle.std.proofs.lemmas.Nat.{and_le_l}
-use Rattle.std.proofs.lemmas.Nat.Bits.{bit_at-lt, bit_at-trailing_zeros, bit_at-zero, bit_at_and, bit_at_or}
+use Rattle.std.proofs.lemmas.Nat.Bits.{bit_at-lt, bit_at-trailing_zeros, bit_at-zero, bit_at_and}
+use Rattle.std.proofs.lemmas.Nat.Bits.{bit_at_or}
 use Rattle.bip_model.specs.Sets.{has}
 use mir.Syntax.{w64}
 
@@ -68,8 +70,15 @@ turned a b = elim (eqb_tells a b) [
 ]
 
 -- the set of the first ones of a list, and one more
-pub one_more_in : {X : Type 0} (number : X → ℕ) (xs : List X) (i : ℕ) (x : X) (set more : ℕ) → i < length xs → ((c : ℕ) → has set c ≡ list_any (λ y. eqb (number y) c) (take i xs))
-    → ((c : ℕ) → has more c ≡ (eqb c (number (get_or xs i x)) || has set c)) → (c : ℕ) → has more c ≡ list_any (λ y. eqb (number y) c) (take (i + 1) xs)
+pub one_more_in : {X : Type 0} (number : X → ℕ) (xs : List X) (i : ℕ) (x : X) (set more : ℕ)
+    → i < length xs → ((c : ℕ) → has set c ≡ list_any (λ y. eqb (number y) c) (take i xs))
+    → ((c : ℕ) → has more c ≡ (eqb c (number (get_or xs i x)) || has set c)) → (c : ℕ)
+    → has more c ≡ list_any (λ y. eqb (number y) c) (take (i + 1) xs)
 one_more_in number xs i x set more within before next c =
-    rw (list_any_more (λ y. eqb (number y) c) xs i x within, next c, before c, turned c (number (get_or xs i x)))
+    rw (
+      list_any_more (λ y. eqb (number y) c) xs i x within,
+      next c,
+      before c,
+      turned c (number (get_or xs i x)),
+    )
     (or_comm (eqb (number (get_or xs i x)) c) (list_any (λ y. eqb (number y) c) (take i xs)))

@@ -20,16 +20,22 @@ touched_known m a c valid (inr looked) = looked_known m a c valid.so_far looked
 pub touching_known : (p : Planned) (k c : ℕ) → ClassTouches p k c → k < length p.classes.members
 touching_known p k c at = elim (cases_lt k (length p.classes.members)) [
   | inl within ↦ within
-  | inr past ↦ let none = rw (get_or_past p.classes.members k [] past) at at in absurd (omega (arith, none.2))
+  | inr past ↦ let none = rw (get_or_past p.classes.members k [] past) at at in
+      absurd (omega (arith, none.2))
 ]
 
-above_known : (count a b : ℕ) (pairs : List Pair) → All (IsPairOf count) pairs → IsAbove pairs a b → a < count
-above_known count a b pairs known (declared at) = (All-contains (IsPairOf count) pairs _ known at).low
-above_known count a b pairs known (through at rest) = (All-contains (IsPairOf count) pairs _ known at).low
+above_known : (count a b : ℕ) (pairs : List Pair) → All (IsPairOf count) pairs → IsAbove pairs a b
+    → a < count
+above_known count a b pairs known (declared at) =
+    (All-contains (IsPairOf count) pairs _ known at).low
+above_known count a b pairs known (through at rest) =
+    (All-contains (IsPairOf count) pairs _ known at).low
 
 -- what looks at something is an interaction of the model
-pub looking_known : (m : System) (a c : ℕ) → IsSystem m → IsLookedAt m a c → a < length m.interactions
-looking_known m a c valid looked = above_known (length m.interactions) a looked.higher m.priorities valid.so_far.priorities looked.above
+pub looking_known : (m : System) (a c : ℕ) → IsSystem m → IsLookedAt m a c
+    → a < length m.interactions
+looking_known m a c valid looked = above_known
+    (length m.interactions) a looked.higher m.priorities valid.so_far.priorities looked.above
 
 -- so is what moves something
 moving_known : (m : System) (a c : ℕ) → moves m a c ≡ true → a < length m.interactions
@@ -43,5 +49,6 @@ touches_known m a c valid (inl moved) = moving_known m a c moved
 touches_known m a c valid (inr looked) = looking_known m a c valid looked
 
 -- what a class touches is a component of the model
-pub class_touched_known : (p : Planned) (k c : ℕ) → IsSystem p.model → ClassTouches p k c → c < length p.model.components
+pub class_touched_known : (p : Planned) (k c : ℕ) → IsSystem p.model → ClassTouches p k c
+    → c < length p.model.components
 class_touched_known p k c valid at = touched_known p.model at.1.0 c valid at.4

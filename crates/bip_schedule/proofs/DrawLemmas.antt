@@ -1,5 +1,6 @@
 -- Events that are drawn, as runs of events.
-use Rattle.std.proofs.Common.{◌≡◌, ◌∙◌, ℕ, List, [], ◌++◌, ◌∷◌, ◌+◌, ◌≤◌, length, refl, ap, arith, subst, sym}
+use Rattle.std.proofs.Common.{◌≡◌, ◌∙◌, ℕ, List, [], ◌++◌, ◌∷◌, ◌+◌, ◌≤◌, length, refl, ap, arith}
+use Rattle.std.proofs.Common.{subst, sym}
 use Rattle.std.proofs.lemmas.List.{length-append}
 use Rattle.std.proofs.lemmas.List.Sums.{count_by-le-length}
 use Rattle.rand_pcg.specs.Lcg.{Lcg}
@@ -21,14 +22,16 @@ use Rattle.bip_schedule.specs.declared.exploring.ExploreFault.TheVariants.{Memor
 use Rattle.bip_schedule.specs.Seeding.{AreDrawn, AreSeeded, IsDrawnIn, none_drawn, one_drawn}
 
 -- what is drawn is a run of events
-drawn_run : (start : Lcg) (w : WorldContent) (es : List Event) (v : WorldContent) (words : Lcg) (report : Report)
+drawn_run : (start : Lcg) (w : WorldContent) (es : List Event) (v : WorldContent) (words : Lcg)
+    (report : Report)
     → AreDrawn start w es v words report → IsRunOfEvents es w v report
 drawn_run start w es v words report none_drawn = no_steps w (report_of []) refl
 drawn_run start w es v words report (one_drawn before u g earlier e next later drawn is counted) =
     run_more before w u next earlier later e (drawn_run start w before u g earlier drawn) counted
 
 -- so many events are drawn by a generator, and lead here
-pub record IsDrawing (start : Lcg) (w : WorldContent) (events : List Event) (v : WorldContent) (words : Lcg) (report : Report) (count : ℕ) : Type 0 where
+pub record IsDrawing (start : Lcg) (w : WorldContent) (events : List Event) (v : WorldContent)
+    (words : Lcg) (report : Report) (count : ℕ) : Type 0 where
   pub drawn : AreDrawn start w events v words report
   pub each : length events ≡ count
   pub adds_up : AddsUp report
@@ -36,26 +39,32 @@ pub record IsDrawing (start : Lcg) (w : WorldContent) (events : List Event) (v :
 pub drawing_none : (start : Lcg) (w : WorldContent) (words : Lcg) (report : Report)
     → words ≡ start → report ≡ report_of [] → AddsUp report → IsDrawing start w [] w words report 0
 drawing_none start w words report first is adds_up = record {
-  drawn = subst (λ (g : Lcg). AreDrawn start w [] w g report) (sym first) (subst (λ (r : Report). AreDrawn start w [] w start r) (sym is) none_drawn);
+  drawn = subst (λ (g : Lcg). AreDrawn start w [] w g report) (sym first)
+      (subst (λ (r : Report). AreDrawn start w [] w start r) (sym is) none_drawn);
   each = refl;
   adds_up = adds_up;
 }
 
-pub drawing_more : (start : Lcg) (w : WorldContent) (es : List Event) (v x : WorldContent) (words more : Lcg) (report later : Report) (count : ℕ) (e : Event)
-    → IsDrawing start w es v words report count → IsDrawnIn v (pcg32 words).0 e → more ≡ (pcg32 words).1 → IsEventCounted e v x report later → AddsUp later
+pub drawing_more : (start : Lcg) (w : WorldContent) (es : List Event) (v x : WorldContent)
+    (words more : Lcg) (report later : Report) (count : ℕ) (e : Event)
+    → IsDrawing start w es v words report count → IsDrawnIn v (pcg32 words).0 e
+    → more ≡ (pcg32 words).1 → IsEventCounted e v x report later → AddsUp later
     → IsDrawing start w (es ++ e ∷ []) x more later (count + 1)
 drawing_more start w es v x words more report later count e so drawn word counted adds_up = record {
-  drawn = subst (λ (g : Lcg). AreDrawn start w (es ++ e ∷ []) x g later) (sym word) (one_drawn es v words report e x later so.drawn drawn counted);
+  drawn = subst (λ (g : Lcg). AreDrawn start w (es ++ e ∷ []) x g later) (sym word)
+      (one_drawn es v words report e x later so.drawn drawn counted);
   each = length-append es (e ∷ []) ∙ ap (λ (n : ℕ). n + 1) so.each;
   adds_up = adds_up;
 }
 
-pub drawing_run : (start : Lcg) (w : WorldContent) (es : List Event) (v : WorldContent) (words : Lcg) (report : Report) (count : ℕ)
+pub drawing_run : (start : Lcg) (w : WorldContent) (es : List Event) (v : WorldContent)
+    (words : Lcg) (report : Report) (count : ℕ)
     → IsDrawing start w es v words report count → IsRunOfEvents es w v report
 drawing_run start w es v words report count so = drawn_run start w es v words report so.drawn
 
 -- their report counts them
-pub drawing_counted : (start : Lcg) (w : WorldContent) (es : List Event) (v : WorldContent) (words : Lcg) (report : Report) (count : ℕ)
+pub drawing_counted : (start : Lcg) (w : WorldContent) (es : List Event) (v : WorldContent)
+    (words : Lcg) (report : Report) (count : ℕ)
     → IsDrawing start w es v words report count → report.events ≡ count
 drawing_counted start w es v words report count so =
     events_counted es w v report (drawing_run start w es v words report count so) ∙ so.each
@@ -73,13 +82,15 @@ seeded_few seed count es w v report so fresh =
     omega (arith, few, each, counted, grown.2, so.each)
 
 -- what is drawn keeps the plan, and the bank's base
-pub seeded_keeps : (seed count : ℕ) (es : List Event) (w v : WorldContent) (report : Report) → AreSeeded seed count es w v report → KeepsThePlan w v
+pub seeded_keeps : (seed count : ℕ) (es : List Event) (w v : WorldContent) (report : Report)
+    → AreSeeded seed count es w v report → KeepsThePlan w v
 seeded_keeps seed count es w v report so =
     let run = drawn_run _ w es v so.words report so.drawn in
     worlds_keep_their_plan w v es run.dids run.steps
 
 -- of a run the check finds no fault
-pub run_checks : (m : System) (base seed : ℕ) (trace : List Grant) (fault : ExploreFault) → IsModelRun m base trace → IsCheckFault m base seed trace fault → fault ≡ Memory
+pub run_checks : (m : System) (base seed : ℕ) (trace : List Grant) (fault : ExploreFault)
+    → IsModelRun m base trace → IsCheckFault m base seed trace fault → fault ≡ Memory
 run_checks m base seed trace Memory run is = refl
 run_checks m base seed trace (NotARun number why) run (same, is) =
     absurd (not_next m (state_after m is.front) (used_after base is.front) is.grant why is.why

@@ -1,5 +1,6 @@
 -- The laws of schedules and seeds: one reading, one trace.
-use Rattle.std.proofs.Common.{◌≡◌, ◌≢◌, ℕ, List, [], ◌∷◌, ◌++◌, Option, Some, None, Result, Ok, Err, length, refl, sym, ap, ◌∙◌, subst, inl, inr, arith}
+use Rattle.std.proofs.Common.{◌≡◌, ◌≢◌, ℕ, List, [], ◌∷◌, ◌++◌, Option, Some, None, Result, Ok, Err}
+use Rattle.std.proofs.Common.{length, refl, sym, ap, ◌∙◌, subst, inl, inr, arith}
 use Rattle.std.specs.Prelude.{◌⊎◌}
 use Rattle.std.proofs.lemmas.List.{length-append}
 use Rattle.rand_pcg.specs.Lcg.{Lcg}
@@ -23,7 +24,8 @@ use Rattle.bip_replay.specs.declared.faults.TraceFault.{TraceFault}
 use Rattle.bip_replay.specs.declared.faults.TraceFault.TheVariants.{Memory, Syntax, Unknown}
 use Rattle.bip_schedule.proofs.StationLemmas.{one_stations}
 use Rattle.bip_schedule.specs.Drawing.{IsDrawn}
-use Rattle.bip_schedule.specs.Laws.{EventsOrFault, IsFault, EventsHaveNoFault, OneSchedule, OneScheduleFault, OneSeedTrace}
+use Rattle.bip_schedule.specs.Laws.{EventsOrFault, IsFault, EventsHaveNoFault, OneSchedule}
+use Rattle.bip_schedule.specs.Laws.{OneScheduleFault, OneSeedTrace}
 use Rattle.bip_schedule.specs.Lines.{event_on}
 use Rattle.bip_schedule.specs.Schedules.{IsEventText}
 use Rattle.bip_schedule.specs.Seeding.{AreDrawn, generator_of, none_drawn, one_drawn}
@@ -49,20 +51,25 @@ same_events xs ys r one other =
 
 pub one_schedule : OneSchedule
 one_schedule p text xs ys one other =
-    same_events xs ys (read_by p other.stations text) (ap (λ (s : List InterId). read_by p s text) (sym (one_stations p one.stations other.stations one.are other.are)) ∙ one.reads) other.reads
+    same_events xs ys (read_by p other.stations text)
+    (ap (λ (s : List InterId). read_by p s text)
+    (sym (one_stations p one.stations other.stations one.are other.are)) ∙ one.reads)
+    other.reads
 
 -- the fault of a line as one of a text
 abbrev fault_of : LineFault → TraceFault
 fault_of line_fault.Syntax = Syntax
 fault_of line_fault.Unknown = Unknown
 
-told_fault : (p : Planned) (stations : List InterId) (text : List ℕ) (n : ℕ) (fault : TraceFault) → IsTextFault (event_on p stations) text n fault → (fault ≢ Memory)
+told_fault : (p : Planned) (stations : List InterId) (text : List ℕ) (n : ℕ) (fault : TraceFault)
+    → IsTextFault (event_on p stations) text n fault → (fault ≢ Memory)
     → (line : LineFault) × (read_by p stations text ≡ Err (n, line)) × (fault ≡ fault_of line)
 told_fault p stations text n Syntax is other = (line_fault.Syntax, is, refl)
 told_fault p stations text n Unknown is other = (line_fault.Unknown, is, refl)
 told_fault p stations text n Memory is other = absurd (other refl)
 
-same_fault : (n k : ℕ) (x y : LineFault) (r : Reading) → r ≡ Err (n, x) → r ≡ Err (k, y) → (n ≡ k) × (x ≡ y)
+same_fault : (n k : ℕ) (x y : LineFault) (r : Reading) → r ≡ Err (n, x) → r ≡ Err (k, y) → (n ≡ k)
+    × (x ≡ y)
 same_fault n k x y r one other =
     let both : wrong_at n x ≡ wrong_at k y = sym one ∙ other in
     let parts : (n, x) ≡ (k, y) = cc in
@@ -72,10 +79,14 @@ pub one_schedule_fault : OneScheduleFault
 one_schedule_fault p text n k x y one other =
     let here = told_fault p one.0.stations text n x one.0.why one.1 in
     let there = told_fault p other.0.stations text k y other.0.why other.1 in
-    let both = same_fault n k here.0 there.0 (read_by p other.0.stations text) (ap (λ (s : List InterId). read_by p s text) (sym (one_stations p one.0.stations other.0.stations one.0.are other.0.are)) ∙ here.1) there.1 in
+    let both = same_fault n k here.0 there.0 (read_by p other.0.stations text)
+    (ap (λ (s : List InterId). read_by p s text)
+    (sym (one_stations p one.0.stations other.0.stations one.0.are other.0.are)) ∙ here.1)
+    there.1 in
     (both.0, here.2 ∙ (ap fault_of both.1 ∙ sym there.2))
 
-never_both : (xs : List Event) (n : ℕ) (x : LineFault) (r : Reading) → r ≡ Ok xs → r ≡ Err (n, x) → ⊥
+never_both : (xs : List Event) (n : ℕ) (x : LineFault) (r : Reading) → r ≡ Ok xs → r ≡ Err (n, x)
+    → ⊥
 never_both xs n x r one other =
     let both : read_as xs ≡ wrong_at n x = sym one ∙ other in
     cc
@@ -83,36 +94,53 @@ never_both xs n x r one other =
 pub not_both : EventsHaveNoFault
 not_both p text events n fault is wrong =
     let there = told_fault p wrong.0.stations text n fault wrong.0.why wrong.1 in
-    never_both events n there.0 (read_by p wrong.0.stations text) (ap (λ (s : List InterId). read_by p s text) (sym (one_stations p is.stations wrong.0.stations is.are wrong.0.are)) ∙ is.reads) there.1
+    never_both events n there.0 (read_by p wrong.0.stations text)
+    (ap (λ (s : List InterId). read_by p s text)
+    (sym (one_stations p is.stations wrong.0.stations is.are wrong.0.are)) ∙ is.reads) there.1
 
 pub events_or_fault : EventsOrFault
 events_or_fault p text stations are = by_reading (read_by p stations text) refl
   where
-    by_reading : (r : Reading) → read_by p stations text ≡ r → ((events : List Event) × IsEventText p text events) ⊎ ((n : ℕ) × (fault : TraceFault) × IsFault p text n fault)
+    by_reading : (r : Reading) → read_by p stations text ≡ r
+        → ((events : List Event) × IsEventText p text events)
+        ⊎ ((n : ℕ) × (fault : TraceFault) × IsFault p text n fault)
     by_reading (Ok events) is = inl (events, record { stations = stations; are = are; reads = is })
-    by_reading (Err (n, line_fault.Syntax)) is = inr (n, Syntax, (record { stations = stations; are = are; why = is }, λ same. cc))
-    by_reading (Err (n, line_fault.Unknown)) is = inr (n, Unknown, (record { stations = stations; are = are; why = is }, λ same. cc))
+    by_reading (Err (n, line_fault.Syntax)) is =
+        inr (n, Syntax, (record { stations = stations; are = are; why = is }, λ same. cc))
+    by_reading (Err (n, line_fault.Unknown)) is =
+        inr (n, Unknown, (record { stations = stations; are = are; why = is }, λ same. cc))
 
 -- Seeds.
 
-drawn_alike : (w x : WorldContent) (word : ℕ) (e f : Event) → AreAlike w x → IsDrawn w.plan word (length w.mail) (in_flight w.bank.sharing) e → IsDrawn x.plan word (length x.mail) (in_flight x.bank.sharing) f → e ≡ f
+drawn_alike : (w x : WorldContent) (word : ℕ) (e f : Event) → AreAlike w x
+    → IsDrawn w.plan word (length w.mail) (in_flight w.bank.sharing) e
+    → IsDrawn x.plan word (length x.mail) (in_flight x.bank.sharing) f → e ≡ f
 drawn_alike w x word e f alike one other =
     let plan : w.plan ≡ x.plan = ap (λ (u : WorldContent). u.plan) alike in
-    let flight : in_flight w.bank.sharing ≡ in_flight x.bank.sharing = ap (λ (u : WorldContent). in_flight u.bank.sharing) alike in
-    let stations : one.stations ≡ other.stations = one_stations x.plan one.stations other.stations (subst (λ (p : Planned). AreStations p one.stations) plan one.are) other.are in
+    let flight : in_flight w.bank.sharing ≡ in_flight x.bank.sharing =
+    ap (λ (u : WorldContent). in_flight u.bank.sharing) alike in
+    let stations : one.stations ≡ other.stations =
+    one_stations x.plan one.stations other.stations
+    (subst (λ (p : Planned). AreStations p one.stations) plan one.are) other.are in
     one.drawn ∙ (rw (plan, flight, stations, same_lengths w x alike) refl ∙ sym other.drawn)
 
 abbrev one_done : Event → WorldContent → WorldContent → Type 0
 one_done e v w = (did : Did) × AreSteps (e ∷ []) (Some did ∷ []) v w × (did.lost ≡ 0)
 
 whole_before : (r : Report) (did : Option Did) → IsLossless (report_with r did) → IsLossless r
-whole_before r did whole = record { done = omega (arith, whole.done); sent = omega (arith, whole.sent) }
+whole_before r did whole = record {
+  done = omega (arith, whole.done);
+  sent = omega (arith, whole.sent);
+}
 
-done_whole : (e : Event) (v w : WorldContent) (r later : Report) → IsEventCounted e v w r later → IsLossless later → one_done e v w × IsLossless r
+done_whole : (e : Event) (v w : WorldContent) (r later : Report) → IsEventCounted e v w r later
+    → IsLossless later → one_done e v w × IsLossless r
 done_whole e v w r later is whole = by_did is.did is.steps is.sums
   where
-    by_did : (did : Option Did) → AreSteps (e ∷ []) (did ∷ []) v w → later ≡ report_with r did → one_done e v w × IsLossless r
-    by_did None steps sums = absurd (let none = subst IsLossless sums whole in omega (arith, none.done))
+    by_did : (did : Option Did) → AreSteps (e ∷ []) (did ∷ []) v w → later ≡ report_with r did
+        → one_done e v w × IsLossless r
+    by_did None steps sums = absurd (let none = subst IsLossless sums whole in
+        omega (arith, none.done))
     by_did (Some did) steps sums =
         let sent = subst IsLossless sums whole in
         ((did, steps, omega (arith, sent.sent)), whole_before r (Some did) sent)
@@ -120,37 +148,67 @@ done_whole e v w r later is whole = by_did is.did is.steps is.sums
 abbrev AreOneDrawing : WorldContent → WorldContent → Lcg → Lcg → List Event → List Event → Type 0
 AreOneDrawing v u ws xs es fs = AreAlike v u × MovesInOneWay v.bank.sharing × (ws ≡ xs) × (es ≡ fs)
 
-once_more : (e f : Event) (v u next after : WorldContent) → e ≡ f → AreAlike v u → MovesInOneWay v.bank.sharing → one_done e v next → one_done f u after → AreAlike next after × MovesInOneWay next.bank.sharing
+once_more : (e f : Event) (v u next after : WorldContent) → e ≡ f → AreAlike v u
+    → MovesInOneWay v.bank.sharing → one_done e v next → one_done f u after → AreAlike next after
+    × MovesInOneWay next.bank.sharing
 once_more e f v u next after same alike way one other =
-    let there : AreSteps (e ∷ []) (Some other.0 ∷ []) u after = subst (λ (x : Event). AreSteps (x ∷ []) (Some other.0 ∷ []) u after) (sym same) other.1 in
-    let once = step_once v u one.1.0 there.0 e one.0 other.0 alike way one.1.1 there.1 one.2 other.2 in
-    (subst (λ (y : WorldContent). AreAlike y after) (sym one.1.2) (subst (λ (y : WorldContent). AreAlike one.1.0 y) (sym there.2) once.1), subst (λ (y : WorldContent). MovesInOneWay y.bank.sharing) (sym one.1.2) once.2)
+    let there : AreSteps (e ∷ []) (Some other.0 ∷ []) u after =
+    subst (λ (x : Event). AreSteps (x ∷ []) (Some other.0 ∷ []) u after) (sym same) other.1 in
+    let once = step_once v u one.1.0 there.0 e one.0 other.0 alike way one.1.1 there.1 one.2
+    other.2 in (
+      subst (λ (y : WorldContent). AreAlike y after) (sym one.1.2) (subst (λ (y : WorldContent).
+          AreAlike one.1.0 y) (sym there.2) once.1),
+      subst (λ (y : WorldContent). MovesInOneWay y.bank.sharing) (sym one.1.2) once.2,
+    )
 
-same_ends : (xs ys : List Event) (e f : Event) → length (xs ++ e ∷ []) ≡ length (ys ++ f ∷ []) → length xs ≡ length ys
+same_ends : (xs ys : List Event) (e f : Event) → length (xs ++ e ∷ []) ≡ length (ys ++ f ∷ [])
+    → length xs ≡ length ys
 same_ends xs ys e f same = omega (arith, same, length-append xs (e ∷ []), length-append ys (f ∷ []))
 
 not_ended : (xs : List Event) (e : Event) → length (xs ++ e ∷ []) ≡ 0 → ⊥
 not_ended xs e none = omega (arith, none, length-append xs (e ∷ []))
 
-drawn_once : (start : Lcg) (w x : WorldContent) (es fs : List Event) (v u : WorldContent) (ws xs : Lcg) (r s : Report) → AreAlike w x → MovesInOneWay w.bank.sharing → AreDrawn start w es v ws r → AreDrawn start x fs u xs s → length es ≡ length fs → IsLossless r → IsLossless s
+drawn_once : (start : Lcg) (w x : WorldContent) (es fs : List Event) (v u : WorldContent)
+    (ws xs : Lcg) (r s : Report) → AreAlike w x → MovesInOneWay w.bank.sharing
+    → AreDrawn start w es v ws r → AreDrawn start x fs u xs s → length es ≡ length fs → IsLossless r
+    → IsLossless s
     → AreOneDrawing v u ws xs es fs
-drawn_once start w x _ _ _ _ _ _ _ _ alike way none_drawn none_drawn same whole so = (alike, way, refl, refl)
-drawn_once start w x _ _ _ _ _ _ _ _ alike way none_drawn (one_drawn fs u xs s f after t drawn is counted) same whole so = absurd (not_ended fs f (sym same))
-drawn_once start w x _ _ _ _ _ _ _ _ alike way (one_drawn es v ws r e next later drawn is counted) none_drawn same whole so = absurd (not_ended es e same)
-drawn_once start w x _ _ _ _ _ _ _ _ alike way (one_drawn es v ws r e next later drawn is counted) (one_drawn fs u xs s f after t drew was count) same whole so =
+drawn_once start w x _ _ _ _ _ _ _ _ alike way none_drawn none_drawn same whole so =
+    (alike, way, refl, refl)
+drawn_once start w x _ _ _ _ _ _ _ _ alike way none_drawn
+    (one_drawn fs u xs s f after t drawn is counted) same whole so =
+    absurd (not_ended fs f (sym same))
+drawn_once start w x _ _ _ _ _ _ _ _ alike way
+    (one_drawn es v ws r e next later drawn is counted) none_drawn same whole so =
+    absurd (not_ended es e same)
+drawn_once start w x _ _ _ _ _ _ _ _ alike way (one_drawn es v ws r e next later drawn is counted)
+    (one_drawn fs u xs s f after t drew was count) same whole so =
     let here = done_whole e v next r later counted whole in
     let there = done_whole f u after s t count so in
-    let before = drawn_once start w x es fs v u ws xs r s alike way drawn drew (same_ends es fs e f same) here.1 there.1 in
-    let event : e ≡ f = drawn_alike v u (pcg32 xs).0 e f before.0 (subst (λ (words : Lcg). IsDrawn v.plan (pcg32 words).0 (length v.mail) (in_flight v.bank.sharing) e) before.2 is) was in
-    let once = once_more e f v u next after event before.0 before.1 here.0 there.0 in
-    (once.0, once.1, ap (λ (words : Lcg). (pcg32 words).1) before.2, ap (λ (ds : List Event). ds ++ e ∷ []) before.3 ∙ ap (λ (d : Event). fs ++ d ∷ []) event)
+    let before = drawn_once start w x es fs v u ws xs r s alike way drawn drew
+    (same_ends es fs e f same) here.1 there.1 in
+    let event : e ≡ f = drawn_alike v u (pcg32 xs).0 e f before.0
+    (subst (λ (words : Lcg). IsDrawn v.plan (pcg32 words).0 (length v.mail)
+    (in_flight v.bank.sharing) e) before.2 is) was in
+    let once = once_more e f v u next after event before.0 before.1 here.0 there.0 in (
+      once.0,
+      once.1,
+      ap (λ (words : Lcg). (pcg32 words).1) before.2,
+      ap (λ (ds : List Event). ds ++ e ∷ []) before.3 ∙ ap (λ (d : Event). fs ++ d ∷ []) event,
+    )
 
 pub one_seed_trace : OneSeedTrace
 one_seed_trace sharing p base count seed m n way one other =
     let a = one.of_seed in
     let b = other.of_seed in
-    let worlds : a.first ≡ b.first = one_new_world p base a.first b.first a.new b.new (a.shared ∙ sym b.shared) in
-    let drawn = drawn_once (generator_of seed) b.first b.first a.events b.events a.last b.last a.seeded.words b.seeded.words a.report b.report refl (subst MovesInOneWay (sym b.shared) way)
-    (subst (λ (w : WorldContent). AreDrawn (generator_of seed) w a.events a.last a.seeded.words a.report) worlds a.seeded.drawn) b.seeded.drawn (a.seeded.each ∙ sym b.seeded.each) one.whole other.whole in
-    let trace : one.trace ≡ other.trace = a.is ∙ (ap (λ (w : WorldContent). w.trace) drawn.0 ∙ sym b.is) in
+    let worlds : a.first ≡ b.first = one_new_world p base a.first b.first a.new b.new
+    (a.shared ∙ sym b.shared) in
+    let drawn = drawn_once (generator_of seed) b.first b.first a.events b.events a.last b.last
+    a.seeded.words b.seeded.words a.report b.report refl
+    (subst MovesInOneWay (sym b.shared) way)
+    (subst (λ (w : WorldContent). AreDrawn (generator_of seed) w a.events a.last a.seeded.words
+    a.report) worlds a.seeded.drawn) b.seeded.drawn
+    (a.seeded.each ∙ sym b.seeded.each) one.whole other.whole in
+    let trace : one.trace ≡ other.trace = a.is
+    ∙ (ap (λ (w : WorldContent). w.trace) drawn.0 ∙ sym b.is) in
     (drawn.3, trace, one.counted ∙ (ap length trace ∙ sym other.counted))

@@ -16,15 +16,23 @@ use Rattle.std.specs.Prelude.{None, Some}
 use Rattle.std.specs.contracts.option.Option as O
 
 module _ {M : Type 1} {𝓤 : Ura M} (𝓛 : Logic 𝓤) (X : RattleType) where
-  pub some_of : (x : X.Denot) (v : Val) → ent 𝓤 (sem 𝓛 (X.own_val x (v ∷ []))) (sem 𝓛 ((O.the_row X).own_val (Some x) (live 1 (of_list (v ∷ [])) ∷ [])))
+  pub some_of : (x : X.Denot) (v : Val) → ent 𝓤 (sem 𝓛 (X.own_val x (v ∷ [])))
+      (sem 𝓛 ((O.the_row X).own_val (Some x) (live 1 (of_list (v ∷ [])) ∷ [])))
   some_of x v =
-      qed 𝓛 (‵ (X.own_val x (v ∷ [])) ∷ []) ∵ nothing ! $ move ! (1 ∷ 0 ∷ []) $ fjoin ! $ feq_i ! (List Val) (v ∷ []) (v ∷ []) refl $ fjoin ! $
+      qed 𝓛 (‵ (X.own_val x (v ∷ [])) ∷ []) ∵ nothing ! $ move ! (1 ∷ 0 ∷ []) $ fjoin ! $
+      feq_i ! (List Val) (v ∷ []) (v ∷ []) refl $ fjoin ! $
       fpack ! (Valss (X ∷ [])) (in_a_row (X ∷ []) (owns (X ∷ []) (x, tt)) (v ∷ [])) (v ∷ [], tt) $
-      feq_i ! (List Val) (live 1 (of_list (v ∷ [])) ∷ []) (live 1 (of_list (v ∷ [])) ∷ []) refl $ fjoin ! $
-      fpack ! (List Val) (tagged_with (form_of (shape (O.the_type X))) (form_of (shape (O.the_type X))).payload ((O.the_type X).to (Some x)) (live 1 (of_list (v ∷ [])) ∷ [])) (v ∷ []) $ done !
+      feq_i ! (List Val) (live 1 (of_list (v ∷ [])) ∷ []) (live 1 (of_list (v ∷ [])) ∷ []) refl $
+      fjoin ! $
+      fpack ! (List Val) (tagged_with (form_of (shape (O.the_type X)))
+      (form_of (shape (O.the_type X))).payload ((O.the_type X).to (Some x))
+      (live 1 (of_list (v ∷ [])) ∷ [])) (v ∷ []) $ done !
 
   pub none_of : ent 𝓤 (emp 𝓤) (sem 𝓛 ((O.the_row X).own_val None (live 0 (of_list []) ∷ [])))
   none_of =
-      qed 𝓛 [] ∵ nothing ! $ feq_i ! (List Val) [] [] refl $ fjoin ! $ fpack ! (Valss []) (in_a_row [] (owns [] tt) []) tt $
+      qed 𝓛 [] ∵ nothing ! $ feq_i ! (List Val) [] [] refl $ fjoin ! $
+      fpack ! (Valss []) (in_a_row [] (owns [] tt) []) tt $
       feq_i ! (List Val) (live 0 (of_list []) ∷ []) (live 0 (of_list []) ∷ []) refl $ fjoin ! $
-      fpack ! (List Val) (tagged_with (form_of (shape (O.the_type X))) (form_of (shape (O.the_type X))).payload ((O.the_type X).to None) (live 0 (of_list []) ∷ [])) [] $ done !
+      fpack ! (List Val) (tagged_with (form_of (shape (O.the_type X)))
+      (form_of (shape (O.the_type X))).payload ((O.the_type X).to None)
+      (live 0 (of_list []) ∷ [])) [] $ done !

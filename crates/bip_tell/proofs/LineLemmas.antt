@@ -1,5 +1,6 @@
 -- Lines that are written piece by piece.
-use Rattle.std.proofs.Common.{◌≡◌, ◌∙◌, ◌+◌, ◌++◌, ◌∷◌, ◌<◌, ℕ, List, Option, Some, Result, Ok, Err, [], ap, codes, drop, length, slice_get, subst, sym}
+use Rattle.std.proofs.Common.{◌≡◌, ◌∙◌, ◌+◌, ◌++◌, ◌∷◌, ◌<◌, ℕ, List, Option, Some, Result, Ok, Err}
+use Rattle.std.proofs.Common.{[], ap, codes, drop, length, slice_get, subst, sym}
 use Rattle.std.specs.List.{flat_map}
 use Rattle.std.specs.Prelude.{IfErr}
 use Rattle.std.proofs.lemmas.List.{append_assoc, drop_more}
@@ -14,7 +15,8 @@ use Rattle.bip_model.specs.declared.parts.System.{System}
 use Rattle.bip_model.specs.declared.reasons.Why.{Why}
 use Rattle.bip_model.specs.declared.numbering.InterId.{InterId}
 use Rattle.bip_partition.specs.Plans.{AreStations, Planned}
-use Rattle.bip_tell.specs.Lines.{IsLackedBy, IsToldEvent, count_left, done_text, handed_on, line_head, put_text, told_line}
+use Rattle.bip_tell.specs.Lines.{IsLackedBy, IsToldEvent, count_left, done_text, handed_on}
+use Rattle.bip_tell.specs.Lines.{line_head, put_text, told_line}
 use Rattle.bip_tell.specs.Messages.{message_text}
 use Rattle.bip_tell.specs.Reasons.{told_reason}
 use Rattle.bip_tell.specs.Words.{counted}
@@ -28,10 +30,12 @@ pub put_one : (p : Planned) (place : ℕ) (m : Message) (mail : List Message) (s
 put_one p place m mail start t a b c within found behind number message before =
     let rest = drop (place + 1) mail in
     let here : drop place mail ≡ m ∷ rest =
-    drop_more mail place m within ∙ ap (λ (x : Message). x ∷ rest) (get_or_from_slice_get mail place m m found) in
+    drop_more mail place m within ∙ ap (λ (x : Message). x ∷ rest)
+    (get_or_from_slice_get mail place m m found) in
     let more = put_text p (place + 1) rest in
     let whole : c ≡ ((t ++ codes ",") ++ counted place) ++ message_text p m =
-    message ∙ ap (λ (x : List ℕ). x ++ message_text p m) (number ∙ ap (λ (x : List ℕ). x ++ counted place) behind) in
+    message ∙ ap (λ (x : List ℕ). x ++ message_text p m)
+    (number ∙ ap (λ (x : List ℕ). x ++ counted place) behind) in
     ap (λ (x : List ℕ). x ++ more) whole
     ∙ (append_assoc ((t ++ codes ",") ++ counted place) (message_text p m) more
     ∙ (append_assoc (t ++ codes ",") (counted place) (message_text p m ++ more)
@@ -46,20 +50,24 @@ pub reason_one : (m : System) (place : ℕ) (y : Why) (reasons : List Why) (star
 reason_one m place y reasons start t c within found written before =
     let rest = drop (place + 1) reasons in
     let here : drop place reasons ≡ y ∷ rest =
-    drop_more reasons place y within ∙ ap (λ (x : Why). x ∷ rest) (get_or_from_slice_get reasons place y y found) in
+    drop_more reasons place y within ∙ ap (λ (x : Why). x ∷ rest)
+    (get_or_from_slice_get reasons place y y found) in
     let more = flat_map (told_reason m) rest in
     ap (λ (x : List ℕ). x ++ more) written
     ∙ (append_assoc t (told_reason m y) more
     ∙ (sym (ap (λ (x : List Why). t ++ flat_map (told_reason m) x) here) ∙ before))
 
 -- the head of a line, what was done, and a line feed
-pub event_told : (p : Planned) (w v : WorldContent) (number left : ℕ) (event : Event) (above : Option InterId) (did : Option Did) (stations : List InterId) (t a b c : List ℕ)
-    → p ≡ w.plan → AreSteps (event ∷ []) (did ∷ []) w v → AreStations p stations → IsLackedBy w event above
+pub event_told : (p : Planned) (w v : WorldContent) (number left : ℕ) (event : Event)
+    (above : Option InterId) (did : Option Did) (stations : List InterId) (t a b c : List ℕ)
+    → p ≡ w.plan → AreSteps (event ∷ []) (did ∷ []) w v → AreStations p stations
+    → IsLackedBy w event above
     → a ≡ t ++ line_head p stations number event (handed_on event w.mail)
     → left ≡ count_left (handed_on event w.mail) (length w.mail)
     → b ≡ a ++ done_text p above left did v.mail → c ≡ b ++ line_feed ∷ []
     → (line : List ℕ) × IsToldEvent number event did w v line × (c ≡ t ++ line)
-event_told p w v number left event above did stations t a b c same steps are lacks begun count done ended =
+event_told p w v number left event above did stations t a b c same steps are lacks begun count done
+    ended =
     let handed = handed_on event w.mail in
     let head = line_head p stations number event handed in
     let tail = done_text p above (count_left handed (length w.mail)) did v.mail in
@@ -74,8 +82,11 @@ event_told p w v number left event above did stations t a b c same steps are lac
         told = ap (λ (q : Planned). told_line q stations number event above did w.mail v.mail) same;
       },
       ended
-          ∙ (ap (λ (x : List ℕ). x ++ line_feed ∷ []) (done ∙ (ap (λ (n : ℕ). a ++ done_text p above n did v.mail) count ∙ ap (λ (x : List ℕ). x ++ tail) begun))
-          ∙ (append_assoc (t ++ head) tail (line_feed ∷ []) ∙ append_assoc t head (tail ++ line_feed ∷ []))),
+          ∙ (ap (λ (x : List ℕ). x ++ line_feed ∷ [])
+          (done ∙ (ap (λ (n : ℕ). a ++ done_text p above n did v.mail) count
+          ∙ ap (λ (x : List ℕ). x ++ tail) begun))
+          ∙ (append_assoc (t ++ head) tail (line_feed ∷ [])
+          ∙ append_assoc t head (tail ++ line_feed ∷ []))),
     )
 
 -- what holds whatever the error is

@@ -1,5 +1,6 @@
 -- What a central bank does, as the second bank does it; and which stations lack a request.
-use Rattle.std.proofs.Common.{◌≡◌, ℕ, suc, ◌+◌, List, [], ◌∷◌, Bool, true, false, Contains, slice_index_or, refl, sym, ap, ◌∙◌, subst, inl, inr, zero, arith}
+use Rattle.std.proofs.Common.{◌≡◌, ℕ, suc, ◌+◌, List, [], ◌∷◌, Bool, true, false, Contains}
+use Rattle.std.proofs.Common.{slice_index_or, refl, sym, ap, ◌∙◌, subst, inl, inr, zero, arith}
 use Rattle.std.proofs.lemmas.Bool.{true≢false}
 use Rattle.bip_model.proofs.ListLemmas.{Contains-cases, Contains-head, Contains-none, Contains-tail}
 use Rattle.bip_bank.specs.Banks.{BankContent, CanWantMemory, DoesStep, HasOldest, IsActed}
@@ -12,12 +13,14 @@ use Rattle.bip_table.specs.declared.reservations.Decision.TheVariants.{Granted, 
 use Rattle.bip_tests.specs.Second.{lacking_from}
 
 -- a station that lacks a request is listed, by the number from which the list counts
-pub listed : (s : ℕ) (lacks : List Bool) (k n : ℕ) → n ≡ s + k → slice_index_or lacks k false ≡ true → Contains (lacking_from s lacks) n
+pub listed : (s : ℕ) (lacks : List Bool) (k n : ℕ) → n ≡ s + k → slice_index_or lacks k false ≡ true
+    → Contains (lacking_from s lacks) n
 unfolding lacking_from
 listed s [] k n is e = absurd (true≢false (sym e))
 listed s (true ∷ rest) zero n is e =
     let same : s ≡ n = omega (arith, is) in
-    subst (λ (x : ℕ). Contains (s ∷ lacking_from (suc s) rest) x) same (Contains-head s (lacking_from (suc s) rest))
+    subst (λ (x : ℕ). Contains (s ∷ lacking_from (suc s) rest) x) same
+    (Contains-head s (lacking_from (suc s) rest))
 listed s (false ∷ rest) zero n is e = absurd (true≢false (sym e))
 listed s (true ∷ rest) (suc k) n is e =
     let later : n ≡ suc s + k = omega (arith, is) in
@@ -27,11 +30,15 @@ listed s (false ∷ rest) (suc k) n is e =
     listed (suc s) rest k n later e
 
 -- what is so from the next number on is so from this one
-further : (s : ℕ) (first : Bool) (rest : List Bool) (n : ℕ) → (k : ℕ) × (n ≡ suc s + k) × (slice_index_or rest k false ≡ true) → (k : ℕ) × (n ≡ s + k) × (slice_index_or (first ∷ rest) k false ≡ true)
-further s first rest n it = let later : n ≡ s + suc it.0 = omega (arith, it.1) in (suc it.0, later, it.2)
+further : (s : ℕ) (first : Bool) (rest : List Bool) (n : ℕ) → (k : ℕ) × (n ≡ suc s + k)
+    × (slice_index_or rest k false ≡ true) → (k : ℕ) × (n ≡ s + k)
+    × (slice_index_or (first ∷ rest) k false ≡ true)
+further s first rest n it = let later : n ≡ s + suc it.0 = omega (arith, it.1) in
+    (suc it.0, later, it.2)
 
 -- and only those are
-pub lacks_it : (s : ℕ) (lacks : List Bool) (n : ℕ) → Contains (lacking_from s lacks) n → (k : ℕ) × (n ≡ s + k) × (slice_index_or lacks k false ≡ true)
+pub lacks_it : (s : ℕ) (lacks : List Bool) (n : ℕ) → Contains (lacking_from s lacks) n → (k : ℕ)
+    × (n ≡ s + k) × (slice_index_or lacks k false ≡ true)
 unfolding lacking_from
 lacks_it s [] n has = absurd (Contains-none n has)
 lacks_it s (true ∷ rest) n has =
@@ -42,7 +49,8 @@ lacks_it s (true ∷ rest) n has =
 lacks_it s (false ∷ rest) n has = further s false rest n (lacks_it (suc s) rest n has)
 
 -- a station that doesn't lack a request isn't listed
-pub complete : (lacks : List Bool) (k : ℕ) → slice_index_or lacks k false ≡ false → ¬ Contains (lacking_from 0 lacks) k
+pub complete : (lacks : List Bool) (k : ℕ) → slice_index_or lacks k false ≡ false
+    → ¬ Contains (lacking_from 0 lacks) k
 complete lacks k e has =
     let it = lacks_it 0 lacks k has in
     let same : it.0 ≡ k = omega (arith, it.1) in
@@ -52,11 +60,13 @@ complete lacks k e has =
 abbrev pub lacking_as : List Bool → BankContent → BankContent
 lacking_as lacks b = record b { sharing = otherwise (lacking_from 0 lacks) 0 }
 
-pub cannot_yet : (b later : BankContent) (lacks : List Bool) (s : StationId) → slice_index_or lacks s.0 false ≡ true → DoesStep (lacking_as lacks b) (Serve s) Nothing later
+pub cannot_yet : (b later : BankContent) (lacks : List Bool) (s : StationId)
+    → slice_index_or lacks s.0 false ≡ true → DoesStep (lacking_as lacks b) (Serve s) Nothing later
 cannot_yet b later lacks s e can = can.complete (listed 0 lacks s.0 s.0 (omega arith) e)
 
 -- what has the oldest request has it, whatever stations lack
-abbrev oldest_so : (b : BankContent) (share other : Sharing) (s : ℕ) → HasOldest (record b { sharing = share }) s → HasOldest (record b { sharing = other }) s
+abbrev oldest_so : (b : BankContent) (share other : Sharing) (s : ℕ)
+    → HasOldest (record b { sharing = share }) s → HasOldest (record b { sharing = other }) s
 oldest_so b share other s old =
     record {
       number = old.number;
@@ -66,7 +76,9 @@ oldest_so b share other s old =
       first = old.first;
     }
 
-pub does_so : (b later after : BankContent) (lacks : List Bool) (s : StationId) (did : Acted) → b.sharing ≡ alone → slice_index_or lacks s.0 false ≡ false → DoesStep b (Serve s) did later → DoesStep (lacking_as lacks b) (Serve s) did after
+pub does_so : (b later after : BankContent) (lacks : List Bool) (s : StationId) (did : Acted)
+    → b.sharing ≡ alone → slice_index_or lacks s.0 false ≡ false → DoesStep b (Serve s) did later
+    → DoesStep (lacking_as lacks b) (Serve s) did after
 does_so b later after lacks s Nothing alone' e does = λ can.
     does (record {
       complete = subst (λ (x : Sharing). LacksNothing x s.0) (sym alone') tt;
@@ -76,8 +88,11 @@ does_so b later after lacks s Nothing alone' e does = λ can.
 does_so b later after lacks s Moved alone' e does = absurd does
 does_so b later after lacks s (Answered q d) alone' e does = (complete lacks s.0 e, does.1)
 
-pub acted_so : (b later : BankContent) (lacks after : List Bool) (did : Acted) → (did ≡ Nothing → after ≡ lacks) → IsActed did b later → IsActed did (lacking_as lacks b) (lacking_as after later)
-acted_so b later lacks after Nothing same is = ap (λ (x : List Bool). lacking_as x later) (same refl) ∙ ap (lacking_as lacks) is
+pub acted_so : (b later : BankContent) (lacks after : List Bool) (did : Acted)
+    → (did ≡ Nothing → after ≡ lacks) → IsActed did b later
+    → IsActed did (lacking_as lacks b) (lacking_as after later)
+acted_so b later lacks after Nothing same is =
+    ap (λ (x : List Bool). lacking_as x later) (same refl) ∙ ap (lacking_as lacks) is
 acted_so b later lacks after Moved same is = ap (lacking_as after) is
 acted_so b later lacks after (Answered q (Granted serial)) same is = record {
   rest = is.rest;
@@ -96,5 +111,10 @@ acted_so b later lacks after (Answered q (Refused c n)) same is = record {
   after = ap (lacking_as after) is.after;
 }
 
-pub wants_so : (b : BankContent) (lacks : List Bool) (s : StationId) → slice_index_or lacks s.0 false ≡ false → CanWantMemory b (Serve s) → CanWantMemory (lacking_as lacks b) (Serve s)
-wants_so b lacks s e wants = (complete lacks s.0 e, oldest_so b b.sharing (otherwise (lacking_from 0 lacks) 0) s.0 wants.1)
+pub wants_so : (b : BankContent) (lacks : List Bool) (s : StationId)
+    → slice_index_or lacks s.0 false ≡ false → CanWantMemory b (Serve s)
+    → CanWantMemory (lacking_as lacks b) (Serve s)
+wants_so b lacks s e wants = (
+  complete lacks s.0 e,
+  oldest_so b b.sharing (otherwise (lacking_from 0 lacks) 0) s.0 wants.1,
+)

@@ -10,5 +10,7 @@ none_first (q ∷ rest) none = absurd (cc)
 
 pub unreachable-requires : goal.unreachable-requires
 unreachable-requires c =
-    let queue : c.index.result.now ≡ get_or c.args.queues.now.items c.args.place [] = read_is c.args.queues.now.items c.args.place c.index.result.now [] c.requires.known c.index.ensures in
+    let queue : c.index.result.now ≡ get_or c.args.queues.now.items c.args.place [] =
+    read_is c.args.queues.now.items c.args.place c.index.result.now
+    [] c.requires.known c.index.ensures in
     c.requires.waits (sym queue ∙ none_first c.index.result.now (sym c.in_default.ensures))

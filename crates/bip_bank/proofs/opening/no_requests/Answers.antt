@@ -9,4 +9,5 @@ none = []
 pub loop-preserved : goal.loop-preserved
 loop-preserved c =
     let more : c.push.new.self.items ≡ c.loop.queues.items ++ none ∷ [] = search rules in
-    more ∙ (ap (λ (qs : List (List Request)). qs ++ none ∷ []) c.loop.invariant ∙ replicate_more c.loop.counter none)
+    more ∙ (ap (λ (qs : List (List Request)). qs ++ none ∷ []) c.loop.invariant
+    ∙ replicate_more c.loop.counter none)

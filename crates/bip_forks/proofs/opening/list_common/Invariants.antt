@@ -4,4 +4,5 @@ use Rattle.bip_forks.specs.Opening.{BothTouch}
 use Rattle.bip_forks.proofs.opening.list_common.Given as goal
 
 abbrev pub invariant-loop-number : goal.invariant-loop-number
-invariant-loop-number l = IsListBelow (λ (c : CompId). c.0) comp (BothTouch l.plan l.inter.0 l.other.0) l.number l.list
+invariant-loop-number l = IsListBelow (λ (c : CompId). c.0) comp
+    (BothTouch l.plan l.inter.0 l.other.0) l.number l.list

@@ -6,7 +6,8 @@ use Rattle.bip_forks.proofs.stations.raise_all.Given as goal
 abbrev pub invariant-loop-side : goal.invariant-loop-side
 invariant-loop-side l =
     record {
-      used : used_at l.table.rows ≡ raised_by (rows_here (take l.side-index l.sides)) (has_row l.initial.table.rows) (used_at l.initial.table.rows);
+      used : used_at l.table.rows ≡ raised_by (rows_here (take l.side-index l.sides))
+          (has_row l.initial.table.rows) (used_at l.initial.table.rows);
       tabled : has_row l.table.rows ≡ has_row l.initial.table.rows;
       journal : l.table.journal ≡ [];
       serial : l.table.serial ≡ l.initial.table.serial;

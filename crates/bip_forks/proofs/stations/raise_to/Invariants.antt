@@ -6,7 +6,8 @@ use Rattle.bip_forks.proofs.stations.raise_to.Given as goal
 abbrev pub invariant-loop-row : goal.invariant-loop-row
 invariant-loop-row l =
     record {
-      used : used_at l.table.rows ≡ raised_by (take l.row-index l.rows) (has_row l.initial.table.rows) (used_at l.initial.table.rows);
+      used : used_at l.table.rows ≡ raised_by (take l.row-index l.rows)
+          (has_row l.initial.table.rows) (used_at l.initial.table.rows);
       tabled : has_row l.table.rows ≡ has_row l.initial.table.rows;
       journal : l.table.journal ≡ [];
       serial : l.table.serial ≡ l.initial.table.serial;

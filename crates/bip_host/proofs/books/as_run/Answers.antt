@@ -19,7 +19,8 @@ returns-in_err-append-clause-none c =
     let road = YieldsList-from_vec all items count in
     let so_far = YieldsList-so_far road done c.loop-grant.grant-iterator
     c.loop-grant.yielded_by in
-    let turn = YieldsList-turn road done c.loop-grant.grant-iterator c.loop-grant.yielded_by c.next.result c.next.new.self c.in-Some.grant c.in-Some.is
+    let turn = YieldsList-turn road done c.loop-grant.grant-iterator c.loop-grant.yielded_by
+    c.next.result c.next.new.self c.in-Some.grant c.in-Some.is
     c.next.ensures.steps in
     let whole = taken all done c.in-Some.grant so_far turn.0 turn.1 in
     rw (p.1, whole)

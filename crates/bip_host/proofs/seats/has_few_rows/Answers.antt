@@ -8,6 +8,7 @@ returns c = (
       let few : c.count_tabled.result ≤ 32 = search (rules, yes) in
       (c.count_tabled.result, c.count_tabled.ensures, few),
   λ few.
-      let counted : c.count_tabled.result ≤ 32 = few_counted c.args.plan.now c.count_tabled.result c.count_tabled.ensures few in
+      let counted : c.count_tabled.result ≤ 32 =
+      few_counted c.args.plan.now c.count_tabled.result c.count_tabled.ensures few in
       search (rules, counted),
 )

@@ -10,8 +10,10 @@ loop-intake-preserved g c =
     let old = form_of_layers c.loop-intake.layers in
     let same = c.of_class.ensures.form in
     let made = rw c.in-Some-2.is at c.in_ok-layer.ensures.layer in
-    let long : c.loop-intake.nodes.len ≡ length c.loop-intake.nodes.items = omega (arith, c.loop-intake.nodes.ok.0) in
-    let first = subst (λ k. IsFirstClassActor p k (most_of old) c.in_ok-new.field-0) (c.len-number.ensures ∙ long)
+    let long : c.loop-intake.nodes.len ≡ length c.loop-intake.nodes.items =
+    omega (arith, c.loop-intake.nodes.ok.0) in
+    let first = subst (λ k. IsFirstClassActor p k (most_of old) c.in_ok-new.field-0)
+    (c.len-number.ensures ∙ long)
     (subst (λ n. IsFirstClassActor p c.len-number.result n c.in_ok-new.field-0)
     c.loop-intake.invariant.2 c.in_ok-new.ensures) in (
       classes_grow p old (form_of_layers c.of_class.new.self) c.loop-intake.nodes.items

@@ -3,7 +3,9 @@ use Rattle.bip_forks.proofs.OpeningLemmas.{few_stations}
 use Rattle.bip_host.specs.Starting.{AreNeighbours}
 use Rattle.bip_host.proofs.NeighbourLemmas.{no_neighbour, one_neighbour}
 use Rattle.bip_host.proofs.starting_stations.neighbours.Goals as goal
-use Rattle.bip_host.proofs.starting_stations.neighbours.Goals.{then-are_neighbours+in-Ok+in_ok-push, then-are_neighbours+in_default, else-are_neighbours}
+use Rattle.bip_host.proofs.starting_stations.neighbours.Goals.{then-are_neighbours+in-Ok+in_ok-push}
+use Rattle.bip_host.proofs.starting_stations.neighbours.Goals.{then-are_neighbours+in_default}
+use Rattle.bip_host.proofs.starting_stations.neighbours.Goals.{else-are_neighbours}
 
 pub loop-other-preserved : goal.loop-other-preserved
 loop-other-preserved c =

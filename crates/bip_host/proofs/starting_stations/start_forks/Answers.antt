@@ -6,7 +6,9 @@ use Rattle.bip_host.proofs.starting_stations.start_forks.Goals as goal
 pub loop-intake-preserved : goal.loop-intake-preserved
 loop-intake-preserved c =
     let p = c.args.plan.now in
-    let long : c.loop-intake.nodes.len ≡ length c.loop-intake.nodes.items = omega (arith, c.loop-intake.nodes.ok.0) in
-    let first = subst (λ k. IsForkActor p k c.in_ok-fork_actor.field-0) (c.len-place.ensures ∙ long) c.in_ok-fork_actor.ensures in
+    let long : c.loop-intake.nodes.len ≡ length c.loop-intake.nodes.items =
+    omega (arith, c.loop-intake.nodes.ok.0) in
+    let first = subst (λ k. IsForkActor p k c.in_ok-fork_actor.field-0)
+    (c.len-place.ensures ∙ long) c.in_ok-fork_actor.ensures in
     subst (AreForkNodes p) (sym c.in_ok-push.ensures.items)
     (fork_behind p c.loop-intake.nodes.items _ c.loop-intake.invariant first)

@@ -5,4 +5,5 @@ use Rattle.bip_ip.proofs.asking.is_named.Given as goal
 
 abbrev pub invariant-loop-place : goal.invariant-loop-place
 invariant-loop-place l =
-    (k : ℕ) (y : Why) → k < l.place → slice_get l.reasons k ≡ Some y → names l.model y.inter.0 y.cause l.comp.0 ≡ false
+    (k : ℕ) (y : Why) → k < l.place → slice_get l.reasons k ≡ Some y
+    → names l.model y.inter.0 y.cause l.comp.0 ≡ false

@@ -15,10 +15,15 @@ unreachable-requires c =
     let v = observed c.args.offers.now in
     let cs = c.touches-touched.result.now in
     let reasons = c.args.reasons.now in
-    let all = wants_put v.plan.model (offers_of v) c.args.inter.0 reasons cs c.loop-comp.wants c.loop-comp.comp-index c.loop-comp.count c.loop-comp-test.false c.loop-comp.auto.comp-index-end c.loop-comp.invariant.2 in
-    let valid : IsSystem v.plan.model = rw c.plan-plan.ensures.plan at c.recall.ensures.planned.valid in
-    let list : IsListTouched v.plan.model c.args.inter.0 cs = rw c.plan-plan.ensures.plan at c.touches-touched.ensures.touches in
-    let are = wants_are v c.args.inter.0 reasons cs valid c.requires.declared c.requires.counted c.requires.sound list c.touches-touched.ensures.few in
+    let all = wants_put v.plan.model (offers_of v) c.args.inter.0 reasons cs c.loop-comp.wants
+    c.loop-comp.comp-index c.loop-comp.count c.loop-comp-test.false
+    c.loop-comp.auto.comp-index-end c.loop-comp.invariant.2 in
+    let valid : IsSystem v.plan.model = rw c.plan-plan.ensures.plan at
+    c.recall.ensures.planned.valid in
+    let list : IsListTouched v.plan.model c.args.inter.0 cs =
+    rw c.plan-plan.ensures.plan at c.touches-touched.ensures.touches in
+    let are = wants_are v c.args.inter.0 reasons cs valid c.requires.declared c.requires.counted
+    c.requires.sound list c.touches-touched.ensures.few in
     false≢true (c.in-None.ensures.exact.1 (subst IsWants (sym all) are))
 
 pub returns : goal.returns
@@ -26,6 +31,11 @@ returns c =
     let v = observed c.args.offers.now in
     let cs = c.touches-touched.result.now in
     let reasons = c.args.reasons.now in
-    let all = wants_put v.plan.model (offers_of v) c.args.inter.0 reasons cs c.loop-comp.wants c.loop-comp.comp-index c.loop-comp.count c.loop-comp-test.false c.loop-comp.auto.comp-index-end c.loop-comp.invariant.2 in
-    let list : IsListTouched v.plan.model c.args.inter.0 cs = rw c.plan-plan.ensures.plan at c.touches-touched.ensures.touches in
-    subst (λ (ws : List Want). AreWantsBy v.plan.model (offers_of v) c.args.inter.0 reasons ws) (sym (c.in-Some.ensures.wants ∙ all)) (wants_by_offers v c.args.inter.0 reasons cs c.requires.sound list)
+    let all = wants_put v.plan.model (offers_of v) c.args.inter.0 reasons cs c.loop-comp.wants
+    c.loop-comp.comp-index c.loop-comp.count c.loop-comp-test.false
+    c.loop-comp.auto.comp-index-end c.loop-comp.invariant.2 in
+    let list : IsListTouched v.plan.model c.args.inter.0 cs =
+    rw c.plan-plan.ensures.plan at c.touches-touched.ensures.touches in
+    subst (λ (ws : List Want). AreWantsBy v.plan.model (offers_of v) c.args.inter.0 reasons ws)
+    (sym (c.in-Some.ensures.wants ∙ all))
+    (wants_by_offers v c.args.inter.0 reasons cs c.requires.sound list)

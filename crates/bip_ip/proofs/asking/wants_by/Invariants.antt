@@ -6,4 +6,6 @@ use Rattle.bip_ip.proofs.asking.wants_by.Given as goal
 
 abbrev pub invariant-loop-comp : goal.invariant-loop-comp
 invariant-loop-comp l =
-    (length l.wants ≡ 32) × (l.count ≤ l.comp-index) × (take l.count l.wants ≡ named_wants l.offers.plan.model (offers_of (observed l.offers)) l.inter.0 l.reasons (take l.comp-index l.touched))
+    (length l.wants ≡ 32) × (l.count ≤ l.comp-index)
+    × (take l.count l.wants ≡ named_wants l.offers.plan.model
+    (offers_of (observed l.offers)) l.inter.0 l.reasons (take l.comp-index l.touched))

@@ -16,10 +16,16 @@ loop-want-preserved c =
     let i = c.loop-want.want-index in
     let v = observed c.args.offers.now in
     let u = observed c.loop-want.offers in
-    let same : v ≡ record u { known = v.known } = ap (λ (x : Observed). record x { known = v.known }) (sym c.loop-want.invariant) in
+    let same : v ≡ record u { known = v.known } =
+    ap (λ (x : Observed). record x { known = v.known }) (sym c.loop-want.invariant) in
     let want = get_or c.args.wants.now i no_want in
-    let touched : ClassTouches u.plan u.class want.comp.0 = subst (λ (x : Observed). ClassTouches x.plan x.class want.comp.0) same (c.requires.touched i no_want c.loop-want-test.true) in
+    let touched : ClassTouches u.plan u.class want.comp.0 =
+    subst (λ (x : Observed). ClassTouches x.plan x.class want.comp.0) same
+    (c.requires.touched i no_want c.loop-want-test.true) in
     elim c.match-want.branch [
-      | in-Moved w ↦ rw w.offers-is (w.spend.ensures.touched touched ∙ learned_moved u v c.args.wants.now i no_want c.requires.rising c.loop-want-test.true c.loop-want.invariant (ap is_moved w.in-Moved.is))
-      | in-Seen w ↦ rw w.offers-is (learned_seen u v c.args.wants.now i no_want c.requires.rising c.loop-want-test.true c.loop-want.invariant (ap is_moved w.in-Seen.is))
+      | in-Moved w ↦ rw w.offers-is (w.spend.ensures.touched touched
+          ∙ learned_moved u v c.args.wants.now i no_want c.requires.rising c.loop-want-test.true
+          c.loop-want.invariant (ap is_moved w.in-Moved.is))
+      | in-Seen w ↦ rw w.offers-is (learned_seen u v c.args.wants.now i no_want c.requires.rising
+          c.loop-want-test.true c.loop-want.invariant (ap is_moved w.in-Seen.is))
     ]

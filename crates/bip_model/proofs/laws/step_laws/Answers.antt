@@ -1,6 +1,8 @@
 use Rattle.std.proofs.Common.{refl}
 use Rattle.bip_model.specs.Steps.{start_of}
-use Rattle.bip_model.proofs.LawLemmas.{after-member, commute, enabled_where, ends_after, goes_on, is_local, offers_where, one_transition, others_stay, participants_go}
+use Rattle.bip_model.proofs.LawLemmas.{after-member, commute, enabled_where, ends_after, goes_on}
+use Rattle.bip_model.proofs.LawLemmas.{is_local, offers_where, one_transition, others_stay}
+use Rattle.bip_model.proofs.LawLemmas.{participants_go}
 use Rattle.bip_model.proofs.StateLemmas.{start_is_state, states_lead_to_states}
 use Rattle.bip_model.proofs.laws.step_laws.Goals as goal
 

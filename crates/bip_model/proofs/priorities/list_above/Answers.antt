@@ -6,6 +6,8 @@ use Rattle.bip_model.proofs.priorities.list_above.Goals as goal
 
 pub returns : goal.returns
 returns c =
-    IfOk-weaker c.inters_in.result (λ v. v.items ≡ inters_in c.args.count c.set_above.result) (λ v. IsListAbove c.args.pairs.now c.args.inter.0 v.items)
-    (λ v is. rw is (list-above c.args.pairs.now c.args.count c.args.inter.0 c.set_above.result c.requires.known c.set_above.ensures))
+    IfOk-weaker c.inters_in.result (λ v. v.items ≡ inters_in c.args.count c.set_above.result)
+    (λ v. IsListAbove c.args.pairs.now c.args.inter.0 v.items)
+    (λ v is. rw is (list-above c.args.pairs.now c.args.count c.args.inter.0 c.set_above.result
+    c.requires.known c.set_above.ensures))
     c.inters_in.ensures

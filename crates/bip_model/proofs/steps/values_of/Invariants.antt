@@ -5,4 +5,5 @@ use Rattle.bip_model.proofs.steps.values_of.Given as goal
 
 abbrev pub invariant-loop-place : goal.invariant-loop-place
 invariant-loop-place l =
-    (length l.values ≡ 8) × (take l.place l.values ≡ map (values_at (state_of l.state)) (take l.place l.participants))
+    (length l.values ≡ 8) × (take l.place l.values ≡ map (values_at (state_of l.state))
+    (take l.place l.participants))

@@ -5,4 +5,5 @@ use Rattle.bip_model.specs.declared.numbering.CompId.{CompId}
 use Rattle.bip_partition.proofs.footprints.set_of.Given as goal
 
 abbrev pub invariant-loop-comp : goal.invariant-loop-comp
-invariant-loop-comp l = (c : ℕ) → has l.set c ≡ list_any (λ (d : CompId). eqb d.0 c) (take l.comp-index l.comps)
+invariant-loop-comp l = (c : ℕ) → has l.set c ≡ list_any (λ (d : CompId). eqb d.0 c)
+    (take l.comp-index l.comps)

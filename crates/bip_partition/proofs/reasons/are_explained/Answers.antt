@@ -10,7 +10,10 @@ returns c =
     let wants = c.args.wants.now in
     let reasons = c.args.reasons.now in
     let above = c.above.result.now in
-    let is = explained_by m a wants reasons (λ none. false≢true (sym c.if-is_empty.false ∙ c.is_empty.ensures.1 none)) in (
-      λ test. is.1 (for_from_turn m a wants reasons above c.above.ensures.above (c.are_in_turn.ensures.exact.0 test)),
-      λ are. c.are_in_turn.ensures.exact.1 (turn_from_for m a wants reasons above c.above.ensures.above c.are_in_turn.ensures.valid.rising (is.0 are)),
+    let is = explained_by m a wants reasons (λ none. false≢true
+    (sym c.if-is_empty.false ∙ c.is_empty.ensures.1 none)) in (
+      λ test. is.1 (for_from_turn m a wants reasons above c.above.ensures.above
+          (c.are_in_turn.ensures.exact.0 test)),
+      λ are. c.are_in_turn.ensures.exact.1 (turn_from_for m a wants reasons above
+          c.above.ensures.above c.are_in_turn.ensures.valid.rising (is.0 are)),
     )

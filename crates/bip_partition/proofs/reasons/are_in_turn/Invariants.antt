@@ -5,4 +5,5 @@ use Rattle.bip_partition.proofs.reasons.are_in_turn.Given as goal
 
 abbrev pub invariant-loop-place : goal.invariant-loop-place
 invariant-loop-place l =
-    (k : ℕ) (b : InterId) → k < l.place → slice_get l.above k ≡ Some b → IsReasonFor l.model l.wants b.0 (slice_get l.reasons k)
+    (k : ℕ) (b : InterId) → k < l.place → slice_get l.above k ≡ Some b
+    → IsReasonFor l.model l.wants b.0 (slice_get l.reasons k)

@@ -5,6 +5,13 @@ use Rattle.bip_partition.proofs.sets.overlap.Goals as goal
 
 pub returns : goal.returns
 returns c = elim (eqb_tells (bit_and c.args.set c.args.other) 0) [
-  | inl none ↦ rw none.0 ((λ some. absurd (cc)), (λ at. absurd (omega (arith, none.1, shared_some c.args.set c.args.other at))))
-  | inr some ↦ rw some.0 ((λ _. share c.args.set c.args.other c.ranges.set.fits (omega (arith, some.1))), (λ _. refl))
+  | inl none ↦ rw none.0 (
+    (λ some. absurd (cc)),
+    (λ at. absurd (omega (arith, none.1, shared_some c.args.set c.args.other at))),
+  )
+  | inr some ↦ rw some.0 (
+    (λ _. share c.args.set c.args.other c.ranges.set.fits
+        (omega (arith, some.1))),
+    (λ _. refl),
+  )
 ]

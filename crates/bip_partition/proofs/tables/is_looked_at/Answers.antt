@@ -19,5 +19,11 @@ pub returns : goal.returns
 returns c = (
   λ none. absurd (false≢true none),
   λ some. absurd (c.loop-number.invariant some.0
-      (omega (arith, looking_known c.args.model.now some.0 c.args.comp.0 c.interactions-number-end.ensures.valid some.1, c.loop-number-test.false, ap length c.interactions-number-end.ensures.interactions)) some.1),
+      (omega (
+        arith,
+        looking_known c.args.model.now some.0 c.args.comp.0
+            c.interactions-number-end.ensures.valid some.1,
+        c.loop-number-test.false,
+        ap length c.interactions-number-end.ensures.interactions,
+      )) some.1),
 )

@@ -1,5 +1,6 @@
 use Rattle.bip_model.specs.Steps.{start_of}
-use Rattle.bip_replay.proofs.RunLemmas.{IsHistory-from_run, IsRun-from_grants, IsRunFrom-parts, by_steps, counts_moves, end_of-push, grants-back, numbered}
+use Rattle.bip_replay.proofs.RunLemmas.{IsHistory-from_run, IsRun-from_grants, IsRunFrom-parts}
+use Rattle.bip_replay.proofs.RunLemmas.{by_steps, counts_moves, end_of-push, grants-back, numbered}
 use Rattle.bip_replay.proofs.FaultLemmas.{run_of_model}
 use Rattle.bip_replay.proofs.laws.run_laws.Goals as goal
 
@@ -16,7 +17,8 @@ returns c =
       steps = λ m base. IsRun-from_grants m (start_of m) (λ _. base);
       of_model = λ m base. run_of_model m (start_of m) (λ _. base);
       histories = λ m base. IsHistory-from_run m (start_of m) (λ _. base);
-      once = λ m base gs run. c.history_laws.ensures.once (λ _. base) gs (IsHistory-from_run m (start_of m) (λ _. base) gs run);
+      once = λ m base gs run. c.history_laws.ensures.once (λ _. base) gs
+          (IsHistory-from_run m (start_of m) (λ _. base) gs run);
       counts = λ m base. counts_moves m (start_of m) (λ _. base);
       numbered = numbered;
     }

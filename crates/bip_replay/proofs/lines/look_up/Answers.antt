@@ -13,7 +13,13 @@ returns c =
     let items : List Want = c.loop-want.wants.items in
     let sorted : List Want = c.sort_unstable_by_key.new.self in
     let known : wants_known names [] c.args.named.now ≡ Some (wants_by_component items) =
-    sym c.loop-want.invariant.known ∙ ap (wants_known names items) (drop_all c.loop-want.want-index c.args.named.now c.loop-want-test.false) in
-    let up = IsNonDecreasingBy-from_sort_by_key comp_of sorted c.sort_unstable_by_key.ensures.sorted (λ a r q k. search rules) in
-    let same = sorted_wants names c.args.named.now items sorted c.requires.apart known (rw c.deref_mut.ensures.value at c.sort_unstable_by_key.ensures.permutation) up in
-    record { known = known ∙ ap (λ (ws : List Want). Some ws) (same ∙ sym (items-with_items c.loop-want.wants sorted (search rules))) }
+    sym c.loop-want.invariant.known ∙ ap (wants_known names items)
+    (drop_all c.loop-want.want-index c.args.named.now c.loop-want-test.false) in
+    let up = IsNonDecreasingBy-from_sort_by_key comp_of sorted c.sort_unstable_by_key.ensures.sorted
+    (λ a r q k. search rules) in
+    let same = sorted_wants names c.args.named.now items sorted c.requires.apart known
+    (rw c.deref_mut.ensures.value at c.sort_unstable_by_key.ensures.permutation) up in
+    record {
+      known = known ∙ ap (λ (ws : List Want). Some ws) (same
+          ∙ sym (items-with_items c.loop-want.wants sorted (search rules)));
+    }

@@ -6,6 +6,7 @@ use Rattle.bip_replay.proofs.runs.use_up.Given as goal
 abbrev pub invariant-loop-want : goal.invariant-loop-want
 invariant-loop-want l =
     record {
-      used : (base c : ℕ) → slice_index_or l.used c base ≡ max (slice_index_or l.initial.used c base) (moved_in (take l.want-index l.wants) c);
+      used : (base c : ℕ) → slice_index_or l.used c base ≡ max
+          (slice_index_or l.initial.used c base) (moved_in (take l.want-index l.wants) c);
       counted : length l.used ≡ length l.initial.used;
     }

@@ -8,5 +8,6 @@ pub loop-want-preserved : goal.loop-want-preserved
 loop-want-preserved c =
     record {
       text = grind (arith, common_steps);
-      spelled = All-more (IsSpelled c.args.model.now) c.args.wants.now c.loop-want.want-index _ c.loop-want-test.true c.loop-want.invariant.spelled c.write_want.ensures.spelled;
+      spelled = All-more (IsSpelled c.args.model.now) c.args.wants.now c.loop-want.want-index _
+          c.loop-want-test.true c.loop-want.invariant.spelled c.write_want.ensures.spelled;
     }

@@ -7,6 +7,7 @@ use Rattle.bip_replay.proofs.writing.write_wants.Given as goal
 abbrev pub invariant-loop-want : goal.invariant-loop-want
 invariant-loop-want l =
     record {
-      text : l.text.items ≡ l.initial.text.items ++ flat_map spaced (want_words l.model l.role (take l.want-index l.wants));
+      text : l.text.items ≡ l.initial.text.items ++ flat_map spaced
+          (want_words l.model l.role (take l.want-index l.wants));
       spelled : All (IsSpelled l.model) (take l.want-index l.wants);
     }

@@ -7,4 +7,6 @@ loop-number-init c = none
 
 pub loop-number-preserved : goal.loop-number-preserved
 loop-number-preserved c =
-    lines_more (IsComponentLine c.args.plan.now) c.args.text.now.items c.loop-number.number c.loop-number.text.items c.write_component.new.text.items c.loop-number.invariant c.in_ok-write_component.ensures
+    lines_more (IsComponentLine c.args.plan.now) c.args.text.now.items c.loop-number.number
+    c.loop-number.text.items c.write_component.new.text.items c.loop-number.invariant
+    c.in_ok-write_component.ensures

@@ -11,6 +11,7 @@ invariant-loop-comp l =
     record {
       looks : List Look;
       listed : map (λ (look : Look). look.comp) looks ≡ take l.comp-index l.seen;
-      causes : All (λ (look : Look). IsLowest (MovesFromAbove l.plan.model l.inter.0 look.comp.0) look.cause.0) looks;
+      causes : All (λ (look : Look). IsLowest
+          (MovesFromAbove l.plan.model l.inter.0 look.comp.0) look.cause.0) looks;
       added : l.text.items ≡ l.initial.text.items ++ flat_map (look_text l.plan.model) looks;
     }

@@ -12,7 +12,9 @@ use Rattle.bip_schedule.proofs.exploring.explore_seed.Goals as goal
 pub returns-clause-few : goal.returns-clause-few
 returns-clause-few g c =
     rw (c.in_ok-checked.ensures.counted, c.trace.ensures.trace)
-    (seeded_few c.from.result c.args.count _ (world_of c.in_ok-world.world) (world_of c.run_seed-report.new.world) _ c.run_seed-report.ensures.1 c.in_ok-world.ensures.new.trace)
+    (seeded_few c.from.result c.args.count _ (world_of c.in_ok-world.world)
+    (world_of c.run_seed-report.new.world) _ c.run_seed-report.ensures.1
+    c.in_ok-world.ensures.new.trace)
 
 pub returns-clause-run : goal.returns-clause-run
 returns-clause-run g c = record {
@@ -36,13 +38,20 @@ pub returns-in_err-checked-clause-fault : goal.returns-in_err-checked-clause-fau
 returns-in_err-checked-clause-fault g c =
     let first = world_of c.in_ok-world.world in
     let last = world_of c.run_seed-report.new.world in
-    let keeps = seeded_keeps c.from.result c.args.count c.run_seed-report.ensures.0 first last _ c.run_seed-report.ensures.1 in
+    let keeps = seeded_keeps c.from.result c.args.count c.run_seed-report.ensures.0 first last _
+    c.run_seed-report.ensures.1 in
     let new = c.in_ok-world.ensures.new in
-    let model : last.plan.model ≡ c.args.plan.now.model = ap (λ (p : Planned). p.model) (keeps.plan ∙ new.plan) in
-    let base : last.bank.base ≡ c.args.base = keeps.base ∙ ap (λ (b : BankContent). b.base) new.bank in
-    let run : IsModelRun c.model.result.now c.args.base c.trace.result.now = rw (c.model.ensures, ← model, ← base) c.trace.ensures.run in
-    passed_on c.from_residual-in_err-checked.result c.in_err-checked.field-0.0 (run_checks _ _ _ _ _ run c.in_err-checked.ensures.fault) c.from_residual-in_err-checked.ensures.1
+    let model : last.plan.model ≡ c.args.plan.now.model =
+    ap (λ (p : Planned). p.model) (keeps.plan ∙ new.plan) in
+    let base : last.bank.base ≡ c.args.base = keeps.base
+    ∙ ap (λ (b : BankContent). b.base) new.bank in
+    let run : IsModelRun c.model.result.now c.args.base c.trace.result.now =
+    rw (c.model.ensures, ← model, ← base) c.trace.ensures.run in
+    passed_on c.from_residual-in_err-checked.result c.in_err-checked.field-0.0
+    (run_checks _ _ _ _ _ run c.in_err-checked.ensures.fault)
+    c.from_residual-in_err-checked.ensures.1
   where
-    passed_on : (r : Result ℕ ExploreFault) (e : ExploreFault) → e ≡ Memory → IsErrAnd r (λ f. f ≡ e) → IfErr r (λ f. f ≡ Memory)
+    passed_on : (r : Result ℕ ExploreFault) (e : ExploreFault) → e ≡ Memory
+        → IsErrAnd r (λ f. f ≡ e) → IfErr r (λ f. f ≡ Memory)
     passed_on (Ok n) e is same = tt
     passed_on (Err f) e is same = same ∙ is

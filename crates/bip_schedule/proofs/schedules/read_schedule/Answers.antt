@@ -11,12 +11,14 @@ returns-in-Err-clause-fault c =
     record {
       stations = c.stations-stations.result.now;
       are = c.stations-stations.ensures;
-      why = has_read-fault _ _ _ _ _ _ _ c.read_one.new.events.items c.in-Err.fault c.loop-number.invariant.0 c.in-Some.ensures.steps c.in-Err.ensures.reads;
+      why = has_read-fault _ _ _ _ _ _ _ c.read_one.new.events.items c.in-Err.fault
+          c.loop-number.invariant.0 c.in-Some.ensures.steps c.in-Err.ensures.reads;
     }
 
 pub loop-number-preserved : goal.loop-number-preserved
 loop-number-preserved c = (
-  has_read-more _ _ _ _ _ _ _ c.read_one.new.events.items _ c.loop-number.invariant.0 c.in-Some.ensures.steps c.in_default.ensures.reads,
+  has_read-more _ _ _ _ _ _ _ c.read_one.new.events.items _ c.loop-number.invariant.0
+      c.in-Some.ensures.steps c.in_default.ensures.reads,
   c.in_default.ensures.spelled c.loop-number.invariant.1,
 )
 
@@ -31,5 +33,6 @@ returns-clause-events c =
 pub returns-clause-spelled : goal.returns-clause-spelled
 returns-clause-spelled c = λ stations are.
     subst (λ (all : List InterId). All (HasSpelling c.args.plan.now all) c.loop-number.events.items)
-    (one_stations c.args.plan.now c.stations-stations.result.now stations c.stations-stations.ensures are)
+    (one_stations c.args.plan.now c.stations-stations.result.now stations
+    c.stations-stations.ensures are)
     c.loop-number.invariant.1

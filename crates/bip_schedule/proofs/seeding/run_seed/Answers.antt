@@ -7,7 +7,8 @@ use Rattle.bip_schedule.proofs.seeding.run_seed.Goals as goal
 pub loop-init : goal.loop-init
 loop-init g c = (
   [],
-  drawing_none (generator_of c.args.seed) (world_of c.args.world.now) _ _ c.words_of-words.ensures c.empty-report.ensures.sums c.empty-report.ensures.adds_up,
+  drawing_none (generator_of c.args.seed) (world_of c.args.world.now) _ _ c.words_of-words.ensures
+      c.empty-report.ensures.sums c.empty-report.ensures.adds_up,
 )
 
 pub draw-requires-clause-room : goal.draw-requires-clause-room
@@ -19,5 +20,6 @@ draw-requires-clause-room g c =
 pub loop-preserved : goal.loop-preserved
 loop-preserved g c = (
   c.loop.invariant.0 ++ c.draw.result ∷ [],
-  drawing_more _ _ _ (world_of c.loop.world) _ _ _ _ _ _ _ c.loop.invariant.1 c.draw.ensures.drawn c.draw.ensures.word c.draw.ensures.done c.draw.ensures.adds_up,
+  drawing_more _ _ _ (world_of c.loop.world) _ _ _ _ _ _ _ c.loop.invariant.1 c.draw.ensures.drawn
+      c.draw.ensures.word c.draw.ensures.done c.draw.ensures.adds_up,
 )

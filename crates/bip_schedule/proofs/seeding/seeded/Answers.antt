@@ -6,7 +6,9 @@ use Rattle.bip_schedule.proofs.seeding.seeded.Goals as goal
 
 pub loop-init : goal.loop-init
 loop-init g c = (
-  rw c.in_ok-events.ensures.items (drawing_none (generator_of c.args.seed) (world_of c.args.world.now) _ _ c.words_of-words.ensures c.empty-report.ensures.sums c.empty-report.ensures.adds_up),
+  rw c.in_ok-events.ensures.items (drawing_none (generator_of c.args.seed)
+      (world_of c.args.world.now) _ _ c.words_of-words.ensures c.empty-report.ensures.sums
+      c.empty-report.ensures.adds_up),
   c.in_ok-events.ensures.len,
   c.in_ok-events.ensures.capacity,
 )
@@ -19,7 +21,9 @@ draw-event-requires-clause-room g c =
 
 pub loop-preserved : goal.loop-preserved
 loop-preserved g c = (
-  rw c.push_reserved.ensures.items (drawing_more _ _ _ (world_of c.loop.world) _ _ _ _ _ _ _ c.loop.invariant.0 c.draw-event.ensures.drawn c.draw-event.ensures.word c.draw-event.ensures.done c.draw-event.ensures.adds_up),
+  rw c.push_reserved.ensures.items (drawing_more _ _ _
+      (world_of c.loop.world) _ _ _ _ _ _ _ c.loop.invariant.0 c.draw-event.ensures.drawn
+      c.draw-event.ensures.word c.draw-event.ensures.done c.draw-event.ensures.adds_up),
   (let more = c.push_reserved.ensures.len in omega (arith, more, c.loop.invariant.1)),
   (let same = c.push_reserved.ensures.capacity in omega (arith, same, c.loop.invariant.2)),
 )

@@ -8,5 +8,6 @@ abbrev pub invariant-loop-event : goal.invariant-loop-event
 invariant-loop-event l =
     record {
       text : l.text.items ≡ schedule_text l.plan l.stations (take l.event-index l.events);
-      read : All (ReadsBack (event_on l.plan l.stations) (event_line l.plan l.stations)) (take l.event-index l.events);
+      read : All (ReadsBack (event_on l.plan l.stations) (event_line l.plan l.stations))
+          (take l.event-index l.events);
     }

@@ -4,4 +4,7 @@ use Rattle.bip_table.specs.Passes.{tally_after_grant}
 use Rattle.bip_table.proofs.passes.note_grant.Goals as goal
 
 pub loop-place-preserved : goal.loop-place-preserved
-loop-place-preserved c = c.set.ensures ∙ written (tally_after_grant c.args.wants.now) c.args.tallies.now c.loop-place.tallies c.as_slice.result.now c.loop-place.place c.len-place-end.result _ _ c.loop-place-test.true c.len-place-end.ensures c.loop-place.invariant c.as_slice.ensures c.noted_grant-tally.ensures
+loop-place-preserved c = c.set.ensures ∙ written
+    (tally_after_grant c.args.wants.now) c.args.tallies.now c.loop-place.tallies
+    c.as_slice.result.now c.loop-place.place c.len-place-end.result _ _ c.loop-place-test.true
+    c.len-place-end.ensures c.loop-place.invariant c.as_slice.ensures c.noted_grant-tally.ensures

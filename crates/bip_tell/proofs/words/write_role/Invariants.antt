@@ -6,4 +6,5 @@ use Rattle.bip_tell.proofs.words.write_role.Given as goal
 
 abbrev pub invariant-loop-want : goal.invariant-loop-want
 invariant-loop-want l =
-    l.text.items ≡ l.initial.text.items ++ flat_map spaced (want_words l.model l.role (take l.want-index l.wants))
+    l.text.items ≡ l.initial.text.items ++ flat_map spaced
+    (want_words l.model l.role (take l.want-index l.wants))

@@ -12,4 +12,6 @@ returns-then-eq-clause-row c =
     row_found c.args.rows.now c.loop-row.row no_entry c.args.comp.0 c.loop-row-test.true is
 
 pub returns-clause-none : goal.returns-clause-none
-returns-clause-none c = subst (All (λ (e : CompId × ℕ). e.0.0 ≢ c.args.comp.0)) (take_all c.loop-row.row c.args.rows.now (omega (arith, c.loop-row-test.false))) c.loop-row.invariant
+returns-clause-none c = subst (All (λ (e : CompId × ℕ). e.0.0 ≢ c.args.comp.0))
+    (take_all c.loop-row.row c.args.rows.now (omega (arith, c.loop-row-test.false)))
+    c.loop-row.invariant

@@ -44,7 +44,13 @@ invariant_of-self c =
         grants = c.self.inside.grants.items;
       };
     } in
-    acted_kept k (record { stations = c.do_step.new.stations.items; flight = c.do_step.new.flight.items; grants = c.do_step.new.grants.items }) c.args.step c.do_step.result c.self.invariant c.do_step.ensures.does c.do_step.ensures.stations c.do_step.ensures.flight c.do_step.ensures.grants
+    acted_kept k (record {
+      stations = c.do_step.new.stations.items;
+      flight = c.do_step.new.flight.items;
+      grants = c.do_step.new.grants.items;
+    }) c.args.step
+    c.do_step.result c.self.invariant c.do_step.ensures.does c.do_step.ensures.stations
+    c.do_step.ensures.flight c.do_step.ensures.grants
 
 pub returns-clause-does : goal.returns-clause-does
 returns-clause-does c =
@@ -57,8 +63,22 @@ returns-clause-does c =
         grants = c.self.inside.grants.items;
       };
     } in
-    subst (λ (j : KeptForks). IfOk c.do_step.result (λ did. DoesStep (content_of (kept_forks j)) c.args.step did (content_of (kept_forks (record k { parts = (record { stations = c.do_step.new.stations.items; flight = c.do_step.new.flight.items; grants = c.do_step.new.grants.items }) }))))) c.self.view_is
-    (acted_does k (record { stations = c.do_step.new.stations.items; flight = c.do_step.new.flight.items; grants = c.do_step.new.grants.items }) c.args.step c.do_step.result c.self.invariant c.do_step.ensures.does)
+    subst (λ (j : KeptForks). IfOk c.do_step.result
+    (λ did. DoesStep (content_of (kept_forks j)) c.args.step did
+    (content_of (kept_forks (record k {
+      parts = (record {
+        stations = c.do_step.new.stations.items;
+        flight = c.do_step.new.flight.items;
+        grants =
+            c.do_step.new.grants.items;
+      });
+    }))))) c.self.view_is
+    (acted_does k (record {
+      stations = c.do_step.new.stations.items;
+      flight = c.do_step.new.flight.items;
+      grants = c.do_step.new.grants.items;
+    }) c.args.step
+    c.do_step.result c.self.invariant c.do_step.ensures.does)
 
 pub returns-clause-acted : goal.returns-clause-acted
 returns-clause-acted c =
@@ -71,8 +91,22 @@ returns-clause-acted c =
         grants = c.self.inside.grants.items;
       };
     } in
-    subst (λ (j : KeptForks). IfOk c.do_step.result (λ did. IsActed did (content_of (kept_forks j)) (content_of (kept_forks (record k { parts = (record { stations = c.do_step.new.stations.items; flight = c.do_step.new.flight.items; grants = c.do_step.new.grants.items }) }))))) c.self.view_is
-    (acted_is k (record { stations = c.do_step.new.stations.items; flight = c.do_step.new.flight.items; grants = c.do_step.new.grants.items }) c.args.step c.do_step.result c.self.invariant c.do_step.ensures.does)
+    subst (λ (j : KeptForks). IfOk c.do_step.result
+    (λ did. IsActed did (content_of (kept_forks j))
+    (content_of (kept_forks (record k {
+      parts = (record {
+        stations = c.do_step.new.stations.items;
+        flight = c.do_step.new.flight.items;
+        grants =
+            c.do_step.new.grants.items;
+      });
+    }))))) c.self.view_is
+    (acted_is k (record {
+      stations = c.do_step.new.stations.items;
+      flight = c.do_step.new.flight.items;
+      grants = c.do_step.new.grants.items;
+    }) c.args.step
+    c.do_step.result c.self.invariant c.do_step.ensures.does)
 
 pub returns-clause-machine : goal.returns-clause-machine
 returns-clause-machine c =
@@ -85,8 +119,22 @@ returns-clause-machine c =
         grants = c.self.inside.grants.items;
       };
     } in
-    subst (λ (j : KeptForks). IfOk c.do_step.result (λ did. IsForkStep (machine_of j) c.args.step did (machine_of (record k { parts = (record { stations = c.do_step.new.stations.items; flight = c.do_step.new.flight.items; grants = c.do_step.new.grants.items }) })))) c.self.view_is
-    (acted_machine k (record { stations = c.do_step.new.stations.items; flight = c.do_step.new.flight.items; grants = c.do_step.new.grants.items }) c.args.step c.do_step.result c.self.invariant c.do_step.ensures.does)
+    subst (λ (j : KeptForks). IfOk c.do_step.result
+    (λ did. IsForkStep (machine_of j) c.args.step did
+    (machine_of (record k {
+      parts = (record {
+        stations = c.do_step.new.stations.items;
+        flight = c.do_step.new.flight.items;
+        grants = c.do_step.new.grants.items;
+      });
+    }))))
+    c.self.view_is
+    (acted_machine k (record {
+      stations = c.do_step.new.stations.items;
+      flight = c.do_step.new.flight.items;
+      grants = c.do_step.new.grants.items;
+    }) c.args.step
+    c.do_step.result c.self.invariant c.do_step.ensures.does)
 
 pub returns-clause-memory : goal.returns-clause-memory
 returns-clause-memory c =
@@ -99,7 +147,8 @@ returns-clause-memory c =
         grants = c.self.inside.grants.items;
       };
     } in
-    subst (λ (j : KeptForks). IfErr c.do_step.result (λ e. CanWantMemory (content_of (kept_forks j)) c.args.step)) c.self.view_is
+    subst (λ (j : KeptForks). IfErr c.do_step.result
+    (λ e. CanWantMemory (content_of (kept_forks j)) c.args.step)) c.self.view_is
     (acted_wants k c.args.step c.do_step.result c.self.invariant c.do_step.ensures.memory)
 
 pub returns-clause-err : goal.returns-clause-err
@@ -113,8 +162,21 @@ returns-clause-err c =
         grants = c.self.inside.grants.items;
       };
     } in
-    subst (λ (j : KeptForks). OnErr c.do_step.result (content_of (kept_forks (record k { parts = (record { stations = c.do_step.new.stations.items; flight = c.do_step.new.flight.items; grants = c.do_step.new.grants.items }) })) ≡ content_of (kept_forks j))) c.self.view_is
-    (acted_stays k (record { stations = c.do_step.new.stations.items; flight = c.do_step.new.flight.items; grants = c.do_step.new.grants.items }) c.do_step.result c.do_step.ensures.stations c.do_step.ensures.flight c.do_step.ensures.grants)
+    subst (λ (j : KeptForks). OnErr c.do_step.result
+    (content_of (kept_forks (record k {
+      parts = (record {
+        stations = c.do_step.new.stations.items;
+        flight = c.do_step.new.flight.items;
+        grants =
+            c.do_step.new.grants.items;
+      });
+    })) ≡ content_of (kept_forks j))) c.self.view_is
+    (acted_stays k (record {
+      stations = c.do_step.new.stations.items;
+      flight = c.do_step.new.flight.items;
+      grants = c.do_step.new.grants.items;
+    }) c.do_step.result
+    c.do_step.ensures.stations c.do_step.ensures.flight c.do_step.ensures.grants)
 
 pub returns-clause-same : goal.returns-clause-same
 returns-clause-same c =
@@ -127,5 +189,18 @@ returns-clause-same c =
         grants = c.self.inside.grants.items;
       };
     } in
-    subst (λ (j : KeptForks). OnErr c.do_step.result ((record k { parts = (record { stations = c.do_step.new.stations.items; flight = c.do_step.new.flight.items; grants = c.do_step.new.grants.items }) }) ≡ j)) c.self.view_is
-    (acted_same k (record { stations = c.do_step.new.stations.items; flight = c.do_step.new.flight.items; grants = c.do_step.new.grants.items }) c.do_step.result c.do_step.ensures.stations c.do_step.ensures.flight c.do_step.ensures.grants)
+    subst (λ (j : KeptForks). OnErr c.do_step.result
+    ((record k {
+      parts = (record {
+        stations = c.do_step.new.stations.items;
+        flight = c.do_step.new.flight.items;
+        grants = c.do_step.new.grants.items;
+      });
+    }) ≡ j))
+    c.self.view_is
+    (acted_same k (record {
+      stations = c.do_step.new.stations.items;
+      flight = c.do_step.new.flight.items;
+      grants = c.do_step.new.grants.items;
+    }) c.do_step.result
+    c.do_step.ensures.stations c.do_step.ensures.flight c.do_step.ensures.grants)

@@ -15,4 +15,5 @@ returns-clause-unused c = λ none.
         grants = c.self.inside.grants.items;
       };
     } in
-    subst (λ (j : KeptForks). used_above j.base (kept_forks j).rows ≡ (λ a. j.base)) c.self.view_is (unused k c.self.invariant (sym c.as_slice.ensures.value ∙ none))
+    subst (λ (j : KeptForks). used_above j.base (kept_forks j).rows ≡ (λ a. j.base)) c.self.view_is
+    (unused k c.self.invariant (sym c.as_slice.ensures.value ∙ none))

@@ -20,8 +20,12 @@ unreachable-requires c =
         grants = c.self.inside.grants.items;
       };
     } in
-    let fit = subst (λ (j : KeptForks). IsFit j.plan c.args.request) (sym c.self.view_is) c.requires in
-    has_place k c.args.request c.self.invariant fit (subst (λ (xs : List KeptStation). (s : ℕ) → s < length xs → (station_at xs s).inter.0 ≡ c.args.request.inter.0 → ⊥) c.deref.ensures.value c.in_default.ensures.none)
+    let fit = subst (λ (j : KeptForks). IsFit j.plan c.args.request)
+    (sym c.self.view_is) c.requires in
+    has_place k c.args.request c.self.invariant fit
+    (subst (λ (xs : List KeptStation). (s : ℕ) → s < length xs
+    → (station_at xs s).inter.0 ≡ c.args.request.inter.0 → ⊥) c.deref.ensures.value
+    c.in_default.ensures.none)
 
 pub invariant_of-self : goal.invariant_of-self
 invariant_of-self c =
@@ -34,9 +38,16 @@ invariant_of-self c =
         grants = c.self.inside.grants.items;
       };
     } in
-    let fit = subst (λ (j : KeptForks). IsFit j.plan c.args.request) (sym c.self.view_is) c.requires in
-    let place : (c.in-Some.place < length c.self.inside.stations.items) × ((station_at c.self.inside.stations.items c.in-Some.place).inter.0 ≡ c.args.request.inter.0) = subst (λ (xs : List KeptStation). (c.in-Some.place < length xs) × ((station_at xs c.in-Some.place).inter.0 ≡ c.args.request.inter.0)) c.deref.ensures.value c.in-Some.ensures.some in
-    submitted_kept k c.in-Some.place c.args.request c.index_mut.result.now c.submit.new.self c.submit.result c.self.invariant fit place.0 place.1 c.index_mut.ensures.value c.submit.ensures.ok c.submit.ensures.err
+    let fit = subst (λ (j : KeptForks). IsFit j.plan c.args.request)
+    (sym c.self.view_is) c.requires in
+    let place : (c.in-Some.place < length c.self.inside.stations.items)
+    × ((station_at c.self.inside.stations.items c.in-Some.place).inter.0
+    ≡ c.args.request.inter.0) = subst (λ (xs : List KeptStation). (c.in-Some.place < length xs)
+    × ((station_at xs c.in-Some.place).inter.0 ≡ c.args.request.inter.0)) c.deref.ensures.value
+    c.in-Some.ensures.some in
+    submitted_kept k c.in-Some.place c.args.request c.index_mut.result.now c.submit.new.self
+    c.submit.result c.self.invariant fit place.0 place.1 c.index_mut.ensures.value
+    c.submit.ensures.ok c.submit.ensures.err
 
 pub returns-clause-ok : goal.returns-clause-ok
 returns-clause-ok c =
@@ -49,10 +60,26 @@ returns-clause-ok c =
         grants = c.self.inside.grants.items;
       };
     } in
-    let fit = subst (λ (j : KeptForks). IsFit j.plan c.args.request) (sym c.self.view_is) c.requires in
-    let place : (c.in-Some.place < length c.self.inside.stations.items) × ((station_at c.self.inside.stations.items c.in-Some.place).inter.0 ≡ c.args.request.inter.0) = subst (λ (xs : List KeptStation). (c.in-Some.place < length xs) × ((station_at xs c.in-Some.place).inter.0 ≡ c.args.request.inter.0)) c.deref.ensures.value c.in-Some.ensures.some in
-    subst (λ (j : KeptForks). OnOk c.submit.result (content_of (kept_forks (record k { parts = record { stations = set c.self.inside.stations.items c.in-Some.place c.submit.new.self; flight = c.self.inside.flight.items; grants = c.self.inside.grants.items } })) ≡ with_request c.args.request (content_of (kept_forks j)))) c.self.view_is
-    (submitted_is k c.in-Some.place c.args.request c.index_mut.result.now c.submit.new.self c.submit.result c.self.invariant fit place.0 place.1 c.index_mut.ensures.value c.submit.ensures.ok)
+    let fit = subst (λ (j : KeptForks). IsFit j.plan c.args.request)
+    (sym c.self.view_is) c.requires in
+    let place : (c.in-Some.place < length c.self.inside.stations.items)
+    × ((station_at c.self.inside.stations.items c.in-Some.place).inter.0
+    ≡ c.args.request.inter.0) = subst (λ (xs : List KeptStation). (c.in-Some.place < length xs)
+    × ((station_at xs c.in-Some.place).inter.0 ≡ c.args.request.inter.0)) c.deref.ensures.value
+    c.in-Some.ensures.some in
+    subst (λ (j : KeptForks). OnOk c.submit.result
+    (content_of (kept_forks (record k {
+      parts = record {
+        stations = set c.self.inside.stations.items c.in-Some.place c.submit.new.self;
+        flight =
+            c.self.inside.flight.items;
+        grants = c.self.inside.grants.items;
+      };
+    }))
+    ≡ with_request c.args.request (content_of (kept_forks j)))) c.self.view_is
+    (submitted_is k c.in-Some.place c.args.request c.index_mut.result.now c.submit.new.self
+    c.submit.result c.self.invariant fit place.0 place.1 c.index_mut.ensures.value
+    c.submit.ensures.ok)
 
 pub returns-clause-err : goal.returns-clause-err
 returns-clause-err c =
@@ -65,9 +92,21 @@ returns-clause-err c =
         grants = c.self.inside.grants.items;
       };
     } in
-    let within : c.in-Some.place < length c.self.inside.stations.items = subst (λ (xs : List KeptStation). c.in-Some.place < length xs) c.deref.ensures.value c.in-Some.ensures.some.0 in
-    subst (λ (j : KeptForks). OnErr c.submit.result (content_of (kept_forks (record k { parts = record { stations = set c.self.inside.stations.items c.in-Some.place c.submit.new.self; flight = c.self.inside.flight.items; grants = c.self.inside.grants.items } })) ≡ content_of (kept_forks j))) c.self.view_is
-    (submitted_stays k c.in-Some.place c.index_mut.result.now c.submit.new.self c.submit.result within c.index_mut.ensures.value c.submit.ensures.err)
+    let within : c.in-Some.place < length c.self.inside.stations.items =
+    subst (λ (xs : List KeptStation). c.in-Some.place < length xs) c.deref.ensures.value
+    c.in-Some.ensures.some.0 in
+    subst (λ (j : KeptForks). OnErr c.submit.result
+    (content_of (kept_forks (record k {
+      parts = record {
+        stations = set c.self.inside.stations.items c.in-Some.place c.submit.new.self;
+        flight =
+            c.self.inside.flight.items;
+        grants = c.self.inside.grants.items;
+      };
+    })) ≡ content_of
+    (kept_forks j))) c.self.view_is
+    (submitted_stays k c.in-Some.place c.index_mut.result.now c.submit.new.self c.submit.result
+    within c.index_mut.ensures.value c.submit.ensures.err)
 
 pub returns-clause-machine : goal.returns-clause-machine
 returns-clause-machine c =
@@ -80,10 +119,26 @@ returns-clause-machine c =
         grants = c.self.inside.grants.items;
       };
     } in
-    let fit = subst (λ (j : KeptForks). IsFit j.plan c.args.request) (sym c.self.view_is) c.requires in
-    let place : (c.in-Some.place < length c.self.inside.stations.items) × ((station_at c.self.inside.stations.items c.in-Some.place).inter.0 ≡ c.args.request.inter.0) = subst (λ (xs : List KeptStation). (c.in-Some.place < length xs) × ((station_at xs c.in-Some.place).inter.0 ≡ c.args.request.inter.0)) c.deref.ensures.value c.in-Some.ensures.some in
-    subst (λ (j : KeptForks). OnOk c.submit.result (machine_of (record k { parts = record { stations = set c.self.inside.stations.items c.in-Some.place c.submit.new.self; flight = c.self.inside.flight.items; grants = c.self.inside.grants.items } }) ≡ waiting_for c.args.request (machine_of j))) c.self.view_is
-    (submitted_machine k c.in-Some.place c.args.request c.index_mut.result.now c.submit.new.self c.submit.result c.self.invariant fit place.0 place.1 c.index_mut.ensures.value c.submit.ensures.ok)
+    let fit = subst (λ (j : KeptForks). IsFit j.plan c.args.request)
+    (sym c.self.view_is) c.requires in
+    let place : (c.in-Some.place < length c.self.inside.stations.items)
+    × ((station_at c.self.inside.stations.items c.in-Some.place).inter.0
+    ≡ c.args.request.inter.0) = subst (λ (xs : List KeptStation). (c.in-Some.place < length xs)
+    × ((station_at xs c.in-Some.place).inter.0 ≡ c.args.request.inter.0)) c.deref.ensures.value
+    c.in-Some.ensures.some in
+    subst (λ (j : KeptForks). OnOk c.submit.result
+    (machine_of (record k {
+      parts = record {
+        stations = set c.self.inside.stations.items c.in-Some.place c.submit.new.self;
+        flight =
+            c.self.inside.flight.items;
+        grants = c.self.inside.grants.items;
+      };
+    })
+    ≡ waiting_for c.args.request (machine_of j))) c.self.view_is
+    (submitted_machine k c.in-Some.place c.args.request c.index_mut.result.now c.submit.new.self
+    c.submit.result c.self.invariant fit place.0 place.1 c.index_mut.ensures.value
+    c.submit.ensures.ok)
 
 pub returns-clause-same : goal.returns-clause-same
 returns-clause-same c =
@@ -96,6 +151,17 @@ returns-clause-same c =
         grants = c.self.inside.grants.items;
       };
     } in
-    let within : c.in-Some.place < length c.self.inside.stations.items = subst (λ (xs : List KeptStation). c.in-Some.place < length xs) c.deref.ensures.value c.in-Some.ensures.some.0 in
-    subst (λ (j : KeptForks). OnErr c.submit.result ((record k { parts = record { stations = set c.self.inside.stations.items c.in-Some.place c.submit.new.self; flight = c.self.inside.flight.items; grants = c.self.inside.grants.items } }) ≡ j)) c.self.view_is
-    (submitted_same k c.in-Some.place c.index_mut.result.now c.submit.new.self c.submit.result within c.index_mut.ensures.value c.submit.ensures.err)
+    let within : c.in-Some.place < length c.self.inside.stations.items =
+    subst (λ (xs : List KeptStation). c.in-Some.place < length xs) c.deref.ensures.value
+    c.in-Some.ensures.some.0 in
+    subst (λ (j : KeptForks). OnErr c.submit.result
+    ((record k {
+      parts = record {
+        stations = set c.self.inside.stations.items c.in-Some.place c.submit.new.self;
+        flight =
+            c.self.inside.flight.items;
+        grants = c.self.inside.grants.items;
+      };
+    }) ≡ j)) c.self.view_is
+    (submitted_same k c.in-Some.place c.index_mut.result.now c.submit.new.self c.submit.result
+    within c.index_mut.ensures.value c.submit.ensures.err)

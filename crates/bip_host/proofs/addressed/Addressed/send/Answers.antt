@@ -9,7 +9,8 @@ use Rattle.bip_host.proofs.addressed.Addressed.send.Goals as goal
 pub returns-in-Some-clause-sent : goal.returns-in-Some-clause-sent
 returns-in-Some-clause-sent g c =
     let at = there _ c.in-Some.ensures.some in
-    let read = c.index_mut.ensures.value ∙ read_at c.args.self.now.outlets.items c.in-Some.place at.0
+    let read = c.index_mut.ensures.value ∙ read_at c.args.self.now.outlets.items c.in-Some.place
+    at.0
     c.index_mut.result.now at.1 in
     none_of _ c.send.result c.send.ensures.put
     (λ put. (
@@ -29,7 +30,8 @@ returns-in-Some-clause-sent g c =
 pub returns-in-Some-clause-back : goal.returns-in-Some-clause-back
 returns-in-Some-clause-back g c =
     let at = there _ c.in-Some.ensures.some in
-    let read = c.index_mut.ensures.value ∙ read_at c.args.self.now.outlets.items c.in-Some.place at.0
+    let read = c.index_mut.ensures.value ∙ read_at c.args.self.now.outlets.items c.in-Some.place
+    at.0
     c.index_mut.result.now at.1 in
     some_of _ c.send.result c.send.ensures.put
     (λ back put. (
@@ -42,7 +44,8 @@ returns-in-Some-clause-back g c =
 pub invariant_of-self : goal.invariant_of-self
 invariant_of-self g c =
     let at = there _ c.in-Some.ensures.some in
-    let read = c.index_mut.ensures.value ∙ read_at c.args.self.now.outlets.items c.in-Some.place at.0
+    let read = c.index_mut.ensures.value ∙ read_at c.args.self.now.outlets.items c.in-Some.place
+    at.0
     c.index_mut.result.now at.1 in
     let inboxes = c.args.self.now.inboxes.now in
     let kept = at_all (λ o. slice_get inboxes o.number ≡ Some o.outlet.inbox.now)

@@ -10,7 +10,9 @@ use Rattle.bip_ip.proofs.nodes.IpNode.in_the_way.Goals as goal
 
 pub loop-other-init : goal.loop-other-init
 loop-other-init c =
-    let asked : (b : ℕ) → has c.self.inside.asked b ≡ is_some ((node_of c.args.self.now).pending b) = λ b. c.self.invariant.asked b ∙ ap (λ (n : KeptNode). is_some (get_or n.pending b None)) c.self.view_is in
+    let asked : (b : ℕ) → has c.self.inside.asked b ≡ is_some
+    ((node_of c.args.self.now).pending b) = λ b. c.self.invariant.asked b
+    ∙ ap (λ (n : KeptNode). is_some (get_or n.pending b None)) c.self.view_is in
     record {
       asked = λ b on. sym (asked b) ∙ on;
       none = λ b off stands. absurd (false≢true (sym off ∙ (asked b ∙ stands.0)));
@@ -22,14 +24,18 @@ loop-other-preserved c =
     let m = c.args.self.now.offers.plan.model in
     record {
       asked = λ b on. elim (eqb_tells b c.in-Some.other.0) [
-        | inl same ↦ absurd (false≢true (sym (rw same.0 at (c.without_inter-left.ensures.has b)) ∙ on))
-        | inr apart ↦ c.loop-other.invariant.asked b (sym (rw apart.0 at (c.without_inter-left.ensures.has b)) ∙ on)
+        | inl same ↦ absurd (false≢true (sym (rw same.0 at (c.without_inter-left.ensures.has b))
+            ∙ on))
+        | inr apart ↦ c.loop-other.invariant.asked b
+            (sym (rw apart.0 at (c.without_inter-left.ensures.has b)) ∙ on)
       ];
       none = λ b off stands. elim (eqb_tells b c.in-Some.other.0) [
         | inl same ↦
-            let kept = c.keeps_out.ensures.1 (subst (λ (n : ℕ). (n ≡ a) ⊎ InConflict m a n) same.1 stands.1) in
+            let kept = c.keeps_out.ensures.1 (subst (λ (n : ℕ). (n ≡ a) ⊎ InConflict m a n) same.1
+            stands.1) in
             absurd (false≢true (sym c.if-keeps_out.false ∙ kept))
-        | inr apart ↦ c.loop-other.invariant.none b (sym (rw apart.0 at (c.without_inter-left.ensures.has b)) ∙ off) stands
+        | inr apart ↦ c.loop-other.invariant.none b
+            (sym (rw apart.0 at (c.without_inter-left.ensures.has b)) ∙ off) stands
       ];
     }
 
@@ -40,11 +46,16 @@ pub returns-then-keeps_out-clause-some : goal.returns-then-keeps_out-clause-some
 returns-then-keeps_out-clause-some c =
     let lowest = c.in-Some.ensures.some in
     record {
-      here = (c.loop-other.invariant.asked c.in-Some.other.0 lowest.here, c.keeps_out.ensures.0 c.if-keeps_out.true);
-      lower = λ b less. c.loop-other.invariant.none b (false_from_ne_true (has c.loop-other.left b) (lowest.lower b less));
+      here = (
+        c.loop-other.invariant.asked c.in-Some.other.0 lowest.here,
+        c.keeps_out.ensures.0 c.if-keeps_out.true,
+      );
+      lower = λ b less. c.loop-other.invariant.none b
+          (false_from_ne_true (has c.loop-other.left b) (lowest.lower b less));
     }
 
 pub returns-clause-none : goal.returns-clause-none
 returns-clause-none c = λ b.
-    let off : has c.loop-other.left b ≡ false = rw (c.in_default.ensures.none, bit_at-zero b) refl in
+    let off : has c.loop-other.left b ≡ false =
+    rw (c.in_default.ensures.none, bit_at-zero b) refl in
     c.loop-other.invariant.none b off

@@ -9,7 +9,8 @@ returns-in_default-decide c = record {
   some = (
     c.is_own.ensures.0 c.if-not-is_own.false,
     c.in_default.ensures.none,
-    subst (λ (k : KeptNode). IsVerdict (observed k.offers) c.args.inter.0 c.decide.result) c.self.view_is c.decide.ensures,
+    subst (λ (k : KeptNode). IsVerdict (observed k.offers) c.args.inter.0 c.decide.result)
+        c.self.view_is c.decide.ensures,
     c.in_default-decide.not-Ready,
   );
   none = tt;

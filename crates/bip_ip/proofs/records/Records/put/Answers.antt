@@ -12,7 +12,10 @@ returns c =
     let place = c.place_of-place.result in
     let declared : a < length p.model.interactions = rw (← c.self.view_is) at c.requires.declared in
     let own : class_in p.classes a ≡ k = rw (← c.self.view_is) at c.requires.own in
-    let here : place_among (members_of p k) a ≡ Some place = own_place p a place k c.recall.ensures.planned declared own c.place_of-place.ensures in
-    let within : place < length c.self.inside.places.items = omega (arith, place_within (members_of p k) a place here, c.self.invariant) in
+    let here : place_among (members_of p k) a ≡ Some place =
+    own_place p a place k c.recall.ensures.planned declared own c.place_of-place.ensures in
+    let within : place < length c.self.inside.places.items =
+    omega (arith, place_within (members_of p k) a place here, c.self.invariant) in
     rw (← c.self.view_is)
-    (ap (records_by p k) (spread_set (members_of p k) c.self.inside.places.items (length p.model.interactions) a place (Some c.args.entry) declared within here))
+    (ap (records_by p k) (spread_set (members_of p k) c.self.inside.places.items
+    (length p.model.interactions) a place (Some c.args.entry) declared within here))

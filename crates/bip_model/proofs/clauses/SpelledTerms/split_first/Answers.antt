@@ -15,8 +15,10 @@ returns-in_err-first-clause-none c =
     let x = f c.in_ok-sign.sign.now c.in_ok-term.term.now in
     let rest : Terms = pairs_form f c.in_ok-term.words in
     let whole : Terms = pairs_form f c.self.inside.words in
-    let is : whole ≡ first_of x rest = rw (c.in_ok-sign.ensures.some, c.in_ok-term.ensures.some) refl in
-    absurd (some_first x rest whole is c.self.invariant (sym c.signed_term.ensures ∙ c.in_err-first.was))
+    let is : whole ≡ first_of x rest = rw (c.in_ok-sign.ensures.some, c.in_ok-term.ensures.some)
+    refl in
+    absurd (some_first x rest whole is c.self.invariant
+    (sym c.signed_term.ensures ∙ c.in_err-first.was))
 
 pub invariant_of-rest : goal.invariant_of-rest
 invariant_of-rest c =
@@ -24,7 +26,8 @@ invariant_of-rest c =
     let x = f c.in_ok-sign.sign.now c.in_ok-term.term.now in
     let rest : Terms = pairs_form f c.in_ok-term.words in
     let whole : Terms = pairs_form f c.self.inside.words in
-    let is : whole ≡ first_of x rest = rw (c.in_ok-sign.ensures.some, c.in_ok-term.ensures.some) refl in
+    let is : whole ≡ first_of x rest = rw (c.in_ok-sign.ensures.some, c.in_ok-term.ensures.some)
+    refl in
     rest_lent x rest whole is c.self.invariant
 
 pub returns-clause-some : goal.returns-clause-some
@@ -33,5 +36,7 @@ returns-clause-some c =
     let x = f c.in_ok-sign.sign.now c.in_ok-term.term.now in
     let rest : Terms = pairs_form f c.in_ok-term.words in
     let whole : Terms = pairs_form f c.self.inside.words in
-    let is : whole ≡ first_of x rest = rw (c.in_ok-sign.ensures.some, c.in_ok-term.ensures.some) refl in
-    sym c.self.view_is ∙ first_lent x rest whole is c.self.invariant c.in_ok-first.first (sym c.signed_term.ensures ∙ c.in_ok-first.was)
+    let is : whole ≡ first_of x rest = rw (c.in_ok-sign.ensures.some, c.in_ok-term.ensures.some)
+    refl in
+    sym c.self.view_is ∙ first_lent x rest whole is c.self.invariant c.in_ok-first.first
+    (sym c.signed_term.ensures ∙ c.in_ok-first.was)

@@ -4,7 +4,10 @@ use Rattle.bip_model.proofs.models.Model.above.Goals as goal
 
 pub returns-clause-above : goal.returns-clause-above
 returns-clause-above c =
-    let within : c.args.inter.0 < length c.self.inside.system.interactions = rw c.self.view_is c.requires in
+    let within : c.args.inter.0 < length c.self.inside.system.interactions =
+    rw c.self.view_is c.requires in
     let lists = c.self.invariant.lists_above in
-    let at = read_row c.self.inside.above c.as_slice.result.now c.args.inter.0 c.index-as_slice-inter.result c.as_slice.ensures (rw lists.each within) c.index-as_slice-inter.is in
+    let at = read_row c.self.inside.above c.as_slice.result.now c.args.inter.0
+    c.index-as_slice-inter.result c.as_slice.ensures
+    (rw lists.each within) c.index-as_slice-inter.is in
     rw (c.as_slice-2.ensures, at, ← c.self.view_is) (lists.list c.args.inter.0 within)

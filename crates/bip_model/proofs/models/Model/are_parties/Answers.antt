@@ -7,6 +7,8 @@ returns c =
     let a = c.args.inter.0 in
     let ws = c.args.wants.now in
     rw c.are_parties.ensures (
-      parties_from_test m a ws c.participants.result.now c.looks.result.now c.participants.ensures.participants c.looks.ensures.looks,
-      test_from_parties m a ws c.participants.result.now c.looks.result.now c.participants.ensures.participants c.looks.ensures.looks,
+      parties_from_test m a ws c.participants.result.now c.looks.result.now
+          c.participants.ensures.participants c.looks.ensures.looks,
+      test_from_parties m a ws c.participants.result.now c.looks.result.now
+          c.participants.ensures.participants c.looks.ensures.looks,
     )

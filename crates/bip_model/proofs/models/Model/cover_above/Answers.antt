@@ -3,7 +3,8 @@ use Rattle.bip_model.proofs.PartyLemmas.{above_declared, cover_from_test, test_f
 use Rattle.bip_model.proofs.models.Model.cover_above.Goals as goal
 
 pub cover_all-requires : goal.cover_all-requires
-cover_all-requires c = above_declared c.args.self.now c.args.inter.0 c.above.result.now c.above.ensures.valid c.above.ensures.above
+cover_all-requires c = above_declared c.args.self.now c.args.inter.0 c.above.result.now
+    c.above.ensures.valid c.above.ensures.above
 
 pub returns : goal.returns
 returns c =

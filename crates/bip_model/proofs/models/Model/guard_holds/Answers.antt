@@ -4,5 +4,7 @@ use Rattle.bip_model.proofs.models.Model.guard_holds.Goals as goal
 
 pub holds-requires : goal.holds-requires
 holds-requires c =
-    let same = counts_offered c.args.self.now (state_of c.args.state.now) c.args.interaction.now.participants c.requires.offered in
-    rw (c.values_of-values.ensures, c.as_slice-participants.ensures, c.as_slice.ensures, same) c.requires.interaction.guard.there
+    let same = counts_offered c.args.self.now
+    (state_of c.args.state.now) c.args.interaction.now.participants c.requires.offered in
+    rw (c.values_of-values.ensures, c.as_slice-participants.ensures, c.as_slice.ensures, same)
+    c.requires.interaction.guard.there

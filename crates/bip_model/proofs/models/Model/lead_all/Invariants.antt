@@ -5,4 +5,5 @@ use Rattle.bip_model.proofs.models.Model.lead_all.Given as goal
 
 abbrev pub invariant-loop-participant : goal.invariant-loop-participant
 invariant-loop-participant l =
-    (c : ℕ) → state_of l.state c ≡ led_all l.self (state_of l.initial.state) (take l.participant-index l.participants) c
+    (c : ℕ) → state_of l.state c ≡ led_all l.self (state_of l.initial.state)
+    (take l.participant-index l.participants) c

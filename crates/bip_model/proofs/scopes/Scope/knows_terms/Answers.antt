@@ -9,4 +9,6 @@ use Rattle.bip_model.specs.Scopes.{variable_in}
 use Rattle.bip_model.proofs.scopes.Scope.knows_terms.Goals as goal
 
 pub returns : goal.returns
-returns c = all_from_yields_List (λ (t : Sign × Term VariableName). knows_term (variable_in c.args.self.now) t.1) _ _ _ c.all.ensures.ran (YieldsList-from_first (λ x. x) (λ left. left) c.args.terms refl) (λ x b q k. search rules)
+returns c = all_from_yields_List (λ (t : Sign × Term VariableName). knows_term
+    (variable_in c.args.self.now) t.1) _ _ _ c.all.ensures.ran
+    (YieldsList-from_first (λ x. x) (λ left. left) c.args.terms refl) (λ x b q k. search rules)

@@ -7,5 +7,9 @@ use Rattle.bip_model.proofs.scopes.Scope.terms.Given as goal
 
 abbrev pub invariant-loop-term : goal.invariant-loop-term
 invariant-loop-term l =
-    l.all.items ++ map (λ (t : Sign × Term VariableName). (t.0, term_with (variable_of (variable_in l.self)) t.1)) l.term-iterator
-    ≡ map (λ (t : Sign × Term VariableName). (t.0, term_with (variable_of (variable_in l.self)) t.1)) l.fn.terms
+    l.all.items ++ map (λ (t : Sign × Term VariableName).
+    (t.0, term_with (variable_of (variable_in l.self)) t.1)) l.term-iterator
+    ≡ map (λ (t : Sign × Term VariableName). (
+      t.0,
+      term_with (variable_of (variable_in l.self)) t.1,
+    )) l.fn.terms

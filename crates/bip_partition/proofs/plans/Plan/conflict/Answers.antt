@@ -8,13 +8,23 @@ use Rattle.bip_partition.proofs.plans.Plan.conflict.Goals as goal
 pub returns-in_default : goal.returns-in_default
 returns-in_default c = (
   λ none. absurd (false≢true none),
-  λ is. absurd (omega (arith, conflict_known c.args.self.now.model c.args.inter.0 c.args.other.0 c.in_default.ensures.valid is, c.in_default.ensures.none)),
+  λ is. absurd (omega (
+    arith,
+    conflict_known c.args.self.now.model c.args.inter.0 c.args.other.0 c.in_default.ensures.valid
+        is,
+    c.in_default.ensures.none,
+  )),
 )
 
 pub returns-in_default-footprint : goal.returns-in_default-footprint
 returns-in_default-footprint c = (
   λ none. absurd (false≢true none),
-  λ is. absurd (omega (arith, touches_known c.args.self.now.model c.args.other.0 is.0 c.in_default-footprint.ensures.valid is.1.1, c.in_default-footprint.ensures.none)),
+  λ is. absurd (omega (
+    arith,
+    touches_known c.args.self.now.model c.args.other.0 is.0 c.in_default-footprint.ensures.valid
+        is.1.1,
+    c.in_default-footprint.ensures.none,
+  )),
 )
 
 pub returns-else-overlap : goal.returns-else-overlap

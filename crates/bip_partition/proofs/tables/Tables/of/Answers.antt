@@ -7,16 +7,22 @@ use Rattle.bip_partition.proofs.tables.Tables.of.Goals as goal
 pub linked-tabled-requires : goal.linked-tabled-requires
 linked-tabled-requires c =
     let p : Planned = record { model = c.args.model.now; classes = c.args.classes.now } in
-    rw c.as_slice.ensures (have_bits p c.lists_touched.ensures.valid c.in_ok-touches.touches c.in_ok-touches.ensures.lists)
+    rw c.as_slice.ensures (have_bits p c.lists_touched.ensures.valid c.in_ok-touches.touches
+    c.in_ok-touches.ensures.lists)
 
 pub list_reserved-requires-clause-bits : goal.list_reserved-requires-clause-bits
 list_reserved-requires-clause-bits c =
     let p : Planned = record { model = c.args.model.now; classes = c.args.classes.now } in
-    rw c.as_slice-3.ensures (have_bits p c.lists_touched.ensures.valid c.in_ok-touches.touches c.in_ok-touches.ensures.lists)
+    rw c.as_slice-3.ensures (have_bits p c.lists_touched.ensures.valid c.in_ok-touches.touches
+    c.in_ok-touches.ensures.lists)
 
 pub list_reserved-requires-clause-few : goal.list_reserved-requires-clause-few
 list_reserved-requires-clause-few c =
-    rw c.as_slice-3.ensures (omega (arith, c.in_ok-touches.ensures.lists.each, c.lists_touched.ensures.valid.so_far.few_interactions))
+    rw c.as_slice-3.ensures (omega (
+      arith,
+      c.in_ok-touches.ensures.lists.each,
+      c.lists_touched.ensures.valid.so_far.few_interactions,
+    ))
 
 pub returns : goal.returns
 returns c =
@@ -32,8 +38,12 @@ returns c =
     record {
       lists_touched = lists;
       lists_touching = c.in_ok-touching.ensures;
-      rows = are_tabled p valid touches lists touching c.in_ok-touching.ensures c.seeds.result first c.linked-tabled.result linked;
-      stations = are_stations p valid touches lists touching c.in_ok-touching.ensures c.seeds.result first c.linked-tabled.result linked c.in_ok-stations.stations reserved;
+      rows = are_tabled p valid touches lists touching c.in_ok-touching.ensures c.seeds.result first
+          c.linked-tabled.result linked;
+      stations = are_stations p valid touches lists touching c.in_ok-touching.ensures c.seeds.result
+          first c.linked-tabled.result linked c.in_ok-stations.stations reserved;
       footprints = c.in_ok-footprints.ensures;
-      class_sets = are_class_sets p c.list_class_sets.ensures.valid c.requires c.in_ok-footprints.footprints c.in_ok-footprints.ensures c.in_ok-class_sets.class_sets sets;
+      class_sets = are_class_sets p c.list_class_sets.ensures.valid c.requires
+          c.in_ok-footprints.footprints c.in_ok-footprints.ensures c.in_ok-class_sets.class_sets
+          sets;
     }

@@ -13,8 +13,10 @@ loop-grant-preserved c =
     let grant = c.grant-item.result in
     let more = take_more c.args.trace.now i grant c.loop-grant-test.true in
     rw more
-    (subst (λ (g : Grant). StandsAfter c.args.model.now c.args.base (take i c.args.trace.now ++ g ∷ []) (standing_of c.step.new.self)) c.grant-item.is
-    (leads_on _ _ _ _ _ grant c.loop-grant.invariant (rw c.of.ensures at c.in_default.ensures.next) (rw c.of.ensures at c.in_default.ensures.on)))
+    (subst (λ (g : Grant). StandsAfter c.args.model.now c.args.base
+    (take i c.args.trace.now ++ g ∷ []) (standing_of c.step.new.self)) c.grant-item.is
+    (leads_on _ _ _ _ _ grant c.loop-grant.invariant (rw c.of.ensures at c.in_default.ensures.next)
+    (rw c.of.ensures at c.in_default.ensures.on)))
 
 pub returns-in-Err-clause-fault : goal.returns-in-Err-clause-fault
 returns-in-Err-clause-fault c =
@@ -28,8 +30,10 @@ returns-in-Err-clause-fault c =
         front = take i trace;
         grant = grant;
         rest = drop (suc i) trace;
-        whole = sym (take-append-drop i trace) ∙ ap (λ (gs : List Grant). take i trace ++ gs) (first ∙ there);
+        whole = sym (take-append-drop i trace)
+            ∙ ap (λ (gs : List Grant). take i trace ++ gs) (first ∙ there);
         run = c.loop-grant.invariant.run;
-        why = subst (λ (p : Standing). IsFaultAt p grant c.in-Err.fault) c.loop-grant.invariant.there (rw c.of.ensures at c.in-Err.ensures.fault);
+        why = subst (λ (p : Standing). IsFaultAt p grant c.in-Err.fault)
+            c.loop-grant.invariant.there (rw c.of.ensures at c.in-Err.ensures.fault);
       },
     )

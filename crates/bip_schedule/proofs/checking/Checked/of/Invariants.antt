@@ -3,4 +3,5 @@ use Rattle.bip_replay.specs.Runs.{StandsAfter, standing_of}
 use Rattle.bip_schedule.proofs.checking.Checked.of.Given as goal
 
 abbrev pub invariant-loop-grant : goal.invariant-loop-grant
-invariant-loop-grant l = StandsAfter l.model l.base (take l.grant-index l.trace) (standing_of l.position)
+invariant-loop-grant l = StandsAfter l.model l.base (take l.grant-index l.trace)
+    (standing_of l.position)

@@ -5,4 +5,5 @@ use Rattle.bip_schedule.specs.Lines.{event_on}
 use Rattle.bip_schedule.proofs.following.Schedule.of.Given as goal
 
 abbrev pub invariant-loop-number : goal.invariant-loop-number
-invariant-loop-number l = (events : List Event) × HasRead (event_on l.plan l.stations) l.text events l.number-iterator
+invariant-loop-number l = (events : List Event)
+    × HasRead (event_on l.plan l.stations) l.text events l.number-iterator

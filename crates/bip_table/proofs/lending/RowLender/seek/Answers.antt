@@ -6,4 +6,5 @@ use Rattle.bip_table.proofs.lending.RowLender.seek.Goals as goal
 
 pub put_rows-requires : goal.put_rows-requires
 put_rows-requires c =
-    subst (λ (rows : MutBor (List Row)). IsStrictlyIncreasing (row_components rows.now)) (sym c.take_rows-rows.ensures.rows) c.args.self.now.rising
+    subst (λ (rows : MutBor (List Row)). IsStrictlyIncreasing (row_components rows.now))
+    (sym c.take_rows-rows.ensures.rows) c.args.self.now.rising

@@ -7,7 +7,8 @@ use Rattle.bip_tests.proofs.second.SecondBank.submit.Goals as goal
 pub returns-in-Ok-clause-ok : goal.returns-in-Ok-clause-ok
 returns-in-Ok-clause-ok c =
     ap (lacking_as c.self.inside.lacks.items) c.in-Ok.ensures.ok
-    ∙ ap (λ (k : KeptSecond). with_request c.args.request (content_of (kept_second k))) c.self.view_is
+    ∙ ap (λ (k : KeptSecond). with_request c.args.request (content_of (kept_second k)))
+    c.self.view_is
 
 pub returns-in-Err-clause-err : goal.returns-in-Err-clause-err
 returns-in-Err-clause-err c =

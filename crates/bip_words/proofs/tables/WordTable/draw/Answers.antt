@@ -16,5 +16,8 @@ fetch_add-requires c =
     let wants = c.args.token.now.me.0.asked.wants in (
       c.requires.seat ∙ sym (ap (λ (v : Tabled). v.id) is),
       omega (arith, count),
-      rw c.self.invariant.0 (draws t.rows _ _ m.0 m.1 _ c.requires.idle (subst (λ (cs : List ℕ). AllByRecursion (IsCovered cs c.args.token.now.me.0.claims) wants) comps c.requires.covers) c.requires.small (subst (λ (cs : List ℕ). IsRowOf cs m.0 m.1) comps m.2) m.3),
+      rw c.self.invariant.0 (draws t.rows _ _ m.0 m.1 _ c.requires.idle
+          (subst (λ (cs : List ℕ). AllByRecursion (IsCovered cs c.args.token.now.me.0.claims) wants)
+          comps c.requires.covers) c.requires.small
+          (subst (λ (cs : List ℕ). IsRowOf cs m.0 m.1) comps m.2) m.3),
     )

@@ -15,7 +15,9 @@ store-requires c =
     let m = c.requires.claim in (
       c.requires.seat ∙ sym (ap (λ (v : Tabled). v.id) is),
       omega (arith, row, same, count),
-      rw (c.self.invariant.0, add-one c.args.row) (gives t.rows _ _ c.args.row m.2 c.args.number m.0 m.1 _ m.3 m.4 (subst (λ (cs : List ℕ). IsRowOf cs c.args.row m.2) comps m.5) m.6),
+      rw (c.self.invariant.0, add-one c.args.row)
+          (gives t.rows _ _ c.args.row m.2 c.args.number m.0 m.1 _ m.3 m.4
+          (subst (λ (cs : List ℕ). IsRowOf cs c.args.row m.2) comps m.5) m.6),
     )
 
 pub returns-clause-given : goal.returns-clause-given

@@ -9,8 +9,11 @@ load-requires c =
     let is = c.self.view_is in
     let row = c.requires.row in
     let same = ap (λ (v : Tabled). length v.rows) is in
-    let count = c.self.invariant.1 in
-    (c.requires.seat ∙ sym (ap (λ (v : Tabled). v.id) is), omega (arith, row, same, count), rw (c.self.invariant.0, add-one c.args.row) (looks t.rows _ _ c.args.row _))
+    let count = c.self.invariant.1 in (
+      c.requires.seat ∙ sym (ap (λ (v : Tabled). v.id) is),
+      omega (arith, row, same, count),
+      rw (c.self.invariant.0, add-one c.args.row) (looks t.rows _ _ c.args.row _),
+    )
 
 pub returns-clause-noted : goal.returns-clause-noted
 returns-clause-noted c = rw (row_back c.args.row) at c.load.ensures.2.0
