@@ -8,7 +8,8 @@ use Rattle.bip_model.specs.Parts.{Participant}
 use Rattle.bip_model.specs.Steps.{participants_of}
 use Rattle.bip_model.proofs.ClimbLemmas.{Decided, IsAbove-decided}
 use Rattle.bip_observe.specs.Offers.{Observed}
-use Rattle.bip_observe.specs.Verdicts.{OfferCounts, Exclude, IsOpenAbove, excludes, guard_holds, is_counted, is_known_off, offers_of, port_on}
+use Rattle.bip_observe.specs.Verdicts.{OfferCounts, Exclude, IsOpenAbove, excludes, guard_holds}
+use Rattle.bip_observe.specs.Verdicts.{is_counted, is_known_off, offers_of, port_on}
 
 or_true : (b : Bool) → (b || true) ≡ true
 or_true true = refl
@@ -19,21 +20,28 @@ module _ (v : Observed) (b : ℕ) where
   counted q = is_counted v q.0.0
 
   pub exclude_from : excludes v b ≡ true → Exclude v.plan.model (offers_of v) (OfferCounts v) b
-  exclude_from test = elim (or_cases (list_any (is_known_off v) (participants_of v.plan.model b)) (list_all counted (participants_of v.plan.model b) && not (guard_holds v.plan.model (offers_of v) b)) test) [
-    | inl some ↦
-        let at = Any-from_list_any (is_known_off v) (participants_of v.plan.model b) some in
-        let both = and_parts (is_counted v at.1.0.0) (not (port_on (offers_of v) at.1)) at.4 in
-        inl (at.0, at.1, at.2, at.3, (both.0, not-true (port_on (offers_of v) at.1) both.1))
-    | inr rest ↦
-        let both = and_parts (list_all counted (participants_of v.plan.model b)) (not (guard_holds v.plan.model (offers_of v) b)) rest in
-        inr (AllPass-from_list_all counted (participants_of v.plan.model b) both.0, not-true (guard_holds v.plan.model (offers_of v) b) both.1)
-  ]
+  exclude_from test = elim (or_cases (list_any (is_known_off v) (participants_of v.plan.model b))
+      (list_all counted (participants_of v.plan.model b) && not
+      (guard_holds v.plan.model (offers_of v) b)) test) [
+        | inl some ↦
+            let at = Any-from_list_any (is_known_off v) (participants_of v.plan.model b) some in
+            let both = and_parts (is_counted v at.1.0.0) (not (port_on (offers_of v) at.1)) at.4 in
+            inl (at.0, at.1, at.2, at.3, (both.0, not-true (port_on (offers_of v) at.1) both.1))
+        | inr rest ↦
+            let both = and_parts (list_all counted (participants_of v.plan.model b))
+            (not (guard_holds v.plan.model (offers_of v) b)) rest in
+            inr (
+              AllPass-from_list_all counted (participants_of v.plan.model b) both.0,
+              not-true (guard_holds v.plan.model (offers_of v) b) both.1,
+            )
+      ]
 
   pub exclude_to : Exclude v.plan.model (offers_of v) (OfferCounts v) b → excludes v b ≡ true
   exclude_to exclude = elim exclude [
     | inl at ↦
         let here : is_known_off v at.1 ≡ true = rw (at.4.0, at.4.1) refl in
-        rw (list_any-from_Any (is_known_off v) (participants_of v.plan.model b) (at.0, at.1, at.2, at.3, here)) refl
+        rw (list_any-from_Any (is_known_off v) (participants_of v.plan.model b)
+        (at.0, at.1, at.2, at.3, here)) refl
     | inr both ↦
         rw (list_all-from_AllPass counted (participants_of v.plan.model b) both.0, both.1)
         (or_true (list_any (is_known_off v) (participants_of v.plan.model b)))

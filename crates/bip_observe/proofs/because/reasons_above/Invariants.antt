@@ -5,4 +5,5 @@ use Rattle.bip_observe.proofs.because.reasons_above.Given as goal
 
 abbrev pub invariant-loop-place : goal.invariant-loop-place
 invariant-loop-place l =
-    (length l.whys ≡ 127) × (take l.place l.whys ≡ whys_by (observed l.offers) l.inter.0 (take l.place l.above))
+    (length l.whys ≡ 127) × (take l.place l.whys ≡ whys_by (observed l.offers) l.inter.0
+    (take l.place l.above))

@@ -4,4 +4,15 @@ use Rattle.bip_observe.proofs.VerdictLemmas.{one_verdict, some_verdict, verdicts
 use Rattle.bip_observe.proofs.laws.verdict_laws.Goals as goal
 
 pub returns : goal.returns
-returns c = record { ready = ready_means; may = may_run_ready; values = offered_values; sound = reasons_sound; suffice = reasons_suffice; reasons = one_reasons_each; true_of = verdicts_true; one = one_verdict; some = some_verdict }
+returns c = record {
+  ready = ready_means;
+  may = may_run_ready;
+  values = offered_values;
+  sound = reasons_sound;
+  suffice = reasons_suffice;
+  reasons = one_reasons_each;
+  true_of =
+      verdicts_true;
+  one = one_verdict;
+  some = some_verdict;
+}

@@ -7,7 +7,8 @@ use Rattle.bip_observe.proofs.offers.are_ports.Goals as goal
 pub loop-port-preserved : goal.loop-port-preserved
 loop-port-preserved c = λ p from below. elim (cases_lt p c.loop-port.port) [
   | inl early ↦ c.loop-port.invariant p from early
-  | inr last ↦ let here : p ≡ c.loop-port.port = omega arith in rw here (sym c.has_port.ensures ∙ c.if-has_port.false)
+  | inr last ↦ let here : p ≡ c.loop-port.port = omega arith in
+      rw here (sym c.has_port.ensures ∙ c.if-has_port.false)
 ]
 
 pub returns : goal.returns
@@ -17,7 +18,9 @@ returns c = (
     | inr past ↦ elim (cases_lt p c.loop-port.port) [
       | inl early ↦ absurd (false≢true (sym (c.loop-port.invariant p past early) ∙ on))
       | inr late ↦
-          let off : has c.args.ports p ≡ false = rw (bit_at_above c.args.ports 16 p c.ranges.ports.fits (omega (arith, c.loop-port-test.false))) refl in
+          let off : has c.args.ports p ≡ false =
+          rw (bit_at_above c.args.ports 16 p c.ranges.ports.fits
+          (omega (arith, c.loop-port-test.false))) refl in
           absurd (false≢true (sym off ∙ on))
     ]
   ],
