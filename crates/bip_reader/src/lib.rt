@@ -12,4 +12,4 @@ mod writing;
 pub use faults::{ReadFault, Why};
 pub use laws::{line_laws, meaning_laws};
 pub use texts::read_model;
-pub use writing::write_model;
+pub use writing::{Speller, write_model};

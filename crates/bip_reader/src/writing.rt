@@ -35,9 +35,10 @@ use bip_model::{
 use itoa::Buffer;
 use std::alloc::{AllocError, Global};
 
-/// How variables are spelled: inside of a component, or in an interaction of participants.
+/// How variables are spelled: `v` inside of a component, `C.v` in an interaction of participants
+/// (docs/ANSWERS.md, "Canonical texts").
 #[derive(Clone, Copy)]
-pub(crate) enum Speller<'a> {
+pub enum Speller<'a> {
     Own(&'a Component),
     Shared(&'a Model, &'a [(CompId, PortId)]),
 }
@@ -138,7 +139,9 @@ impl<'a> Speller<'a> {
         Ok(())
     }
 
-    fn write_comparison(
+    /// Puts a comparison last in a text, each word behind a space. Without memory what was put
+    /// there is no comparison.
+    pub fn write_comparison(
         &self,
         text: &mut Vec<u8>,
         comparison: &Comparison<Variable>,
@@ -153,7 +156,8 @@ impl<'a> Speller<'a> {
         self.write_sum(text, &comparison.right)
     }
 
-    fn write_assignment(
+    /// The same of an assignment.
+    pub fn write_assignment(
         &self,
         text: &mut Vec<u8>,
         assignment: &Assignment<Variable>,

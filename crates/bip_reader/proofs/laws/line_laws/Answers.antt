@@ -1,4 +1,5 @@
-use Rattle.bip_reader.proofs.LineLawLemmas.{lines_are_read, one_statement, says_its_statement, syntax_is_no_line}
+use Rattle.bip_reader.proofs.LineLawLemmas.{lines_are_read, one_statement, says_its_statement}
+use Rattle.bip_reader.proofs.LineLawLemmas.{syntax_is_no_line}
 use Rattle.bip_reader.proofs.FirstLineLemmas.{first_line_is_told}
 use Rattle.bip_reader.proofs.LineFaultLemmas.{faults_in_order}
 use Rattle.bip_reader.proofs.laws.line_laws.Goals as goal

@@ -27,4 +27,5 @@ pub returns-clause-valid : goal.returns-clause-valid
 returns-clause-valid c = means_valid
 
 pub returns-clause-canonical : goal.returns-clause-canonical
-returns-clause-canonical c = λ m classes valid are of_model spelled. canonical m classes valid are of_model spelled
+returns-clause-canonical c = λ m classes valid are of_model spelled. canonical m classes valid are
+    of_model spelled

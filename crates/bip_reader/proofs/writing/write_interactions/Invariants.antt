@@ -9,4 +9,8 @@ use Rattle.bip_reader.specs.Writing.{interaction_in, line_of_interaction}
 use Rattle.bip_reader.proofs.writing.write_interactions.Given as goal
 
 abbrev pub invariant-loop-number : goal.invariant-loop-number
-invariant-loop-number l = (l.text.items ≡ l.initial.text.items ++ flat_map (λ a. line_of_interaction l.model (name_in l.model.interaction_names a) (interaction_in l.model a)) (range_with_len 0 l.number)) × All IsName (take l.number l.model.interaction_names) × All IsSpelledInteraction (take l.number l.model.interactions)
+invariant-loop-number l = (l.text.items ≡ l.initial.text.items ++ flat_map
+    (λ a. line_of_interaction l.model (name_in l.model.interaction_names a)
+    (interaction_in l.model a)) (range_with_len 0 l.number))
+    × All IsName (take l.number l.model.interaction_names)
+    × All IsSpelledInteraction (take l.number l.model.interactions)

@@ -5,4 +5,5 @@ use Rattle.bip_reader.specs.Writing.{participant_word}
 use Rattle.bip_reader.proofs.writing.write_participants.Given as goal
 
 abbrev pub invariant-loop-participant : goal.invariant-loop-participant
-invariant-loop-participant l = l.text.items ≡ l.initial.text.items ++ flat_map spaced (map (participant_word l.model) (take l.participant-index l.participants))
+invariant-loop-participant l = l.text.items ≡ l.initial.text.items ++ flat_map spaced
+    (map (participant_word l.model) (take l.participant-index l.participants))

@@ -7,4 +7,7 @@ use Rattle.bip_reader.specs.Writing.{line_of_variable}
 use Rattle.bip_reader.proofs.writing.write_starts.Given as goal
 
 abbrev pub invariant-loop-number : goal.invariant-loop-number
-invariant-loop-number l = (l.text.items ≡ l.initial.text.items ++ flat_map (line_of_variable l.component) (range_with_len 0 l.number)) × All IsName (take l.number l.component.variables) × All (λ n. n < 2 ^ 32) (take l.number l.component.start)
+invariant-loop-number l = (l.text.items ≡ l.initial.text.items ++ flat_map
+    (line_of_variable l.component) (range_with_len 0 l.number))
+    × All IsName (take l.number l.component.variables)
+    × All (λ n. n < 2 ^ 32) (take l.number l.component.start)

@@ -9,6 +9,12 @@ use Rattle.bip_reader.proofs.writing.Speller.write_assignments.Goals as goal
 pub loop-index-preserved : goal.loop-index-preserved
 loop-index-preserved c = (
   rw (c.in_ok-write_assignment.ensures.text, c.in_ok-write_mark.ensures, c.loop-index.invariant.0)
-      (rw c.index-assignments-index.is (sym (list_more (codes "do") (codes ";") (words_of_assignment (variable_word c.args.self.now)) c.args.text.now.items c.args.assignments.now c.loop-index.index c.index-assignments-index.result c.loop-index-test.true))),
-  one_more (λ (a : Assignment Variable). IsSpelledSum a.sum) c.args.assignments.now c.loop-index.index c.index-assignments-index.result c.loop-index-test.true c.loop-index.invariant.1 (rw (← c.index-assignments-index.is) c.in_ok-write_assignment.ensures.spelled),
+      (rw c.index-assignments-index.is (sym (list_more (codes "do") (codes ";")
+      (words_of_assignment (variable_word c.args.self.now)) c.args.text.now.items
+      c.args.assignments.now c.loop-index.index c.index-assignments-index.result
+      c.loop-index-test.true))),
+  one_more (λ (a : Assignment Variable). IsSpelledSum a.sum) c.args.assignments.now
+      c.loop-index.index c.index-assignments-index.result c.loop-index-test.true
+      c.loop-index.invariant.1 (rw (← c.index-assignments-index.is)
+      c.in_ok-write_assignment.ensures.spelled),
 )

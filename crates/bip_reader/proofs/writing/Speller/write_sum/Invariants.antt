@@ -10,4 +10,6 @@ use Rattle.bip_reader.specs.Writing.{variable_word, words_of_signed}
 use Rattle.bip_reader.proofs.writing.Speller.write_sum.Given as goal
 
 abbrev pub invariant-loop-term : goal.invariant-loop-term
-invariant-loop-term l = (l.text.items ≡ l.initial.text.items ++ flat_map spaced (flat_map (words_of_signed (variable_word l.self)) (take l.term-index l.term-items))) × All (λ (t : Sign × Term Variable). IsSpelledTerm t.1) (take l.term-index l.term-items)
+invariant-loop-term l = (l.text.items ≡ l.initial.text.items ++ flat_map spaced
+    (flat_map (words_of_signed (variable_word l.self)) (take l.term-index l.term-items)))
+    × All (λ (t : Sign × Term Variable). IsSpelledTerm t.1) (take l.term-index l.term-items)
