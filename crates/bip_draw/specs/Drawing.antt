@@ -15,7 +15,6 @@ use Rattle.bip_model.specs.declared.parts.Transition.{Transition}
 use Rattle.bip_model.specs.declared.partitions.Partition.{Partition}
 use Rattle.bip_reader.specs.Writing.{component_in, interaction_in, own_word, shared_word}
 use Rattle.bip_draw.specs.Clauses.{clauses_text}
-use Rattle.bip_draw.specs.Escaping.{quoted}
 use Rattle.bip_draw.specs.Hues.{hue}
 
 -- `c0l1`, a location of a component, and `c0p1`, a port
@@ -62,7 +61,7 @@ label_end = codes "\"];\n"
 -- on a line of the component's label: `VARIABLE = START`
 abbrev pub variable_text : Component → ℕ → List ℕ
 variable_text k v =
-    codes "\\n" ++ (quoted (name_in k.variables v)
+    codes "\\n" ++ (name_in k.variables v
     ++ (codes " = " ++ decimal (slice_index k.start v)))
 
 -- the front of a component, with its label
@@ -72,19 +71,19 @@ cluster_front c = codes "subgraph cluster_c" ++ (decimal c ++ codes " {\nlabel=\
 unfoldable pub head_text : ℕ → List ℕ → Component → List ℕ
 head_text c name k =
     cluster_front c
-    ++ (quoted name
+    ++ (name
     ++ (flat_map (variable_text k) (range_with_len 0 (length k.variables)) ++ codes "\";\n"))
 
 -- a location
 abbrev pub location_text : ℕ → Component → ℕ → List ℕ
 location_text c k l =
     location_node c l
-    ++ (ellipse_front ++ (quoted (name_in k.locations l) ++ label_end))
+    ++ (ellipse_front ++ (name_in k.locations l ++ label_end))
 
 -- a port
 abbrev pub port_text : ℕ → Component → ℕ → List ℕ
 port_text c k p =
-    port_node c p ++ (label_front ++ (quoted (name_in k.ports p) ++ label_end))
+    port_node c p ++ (label_front ++ (name_in k.ports p ++ label_end))
 
 -- a transition: an edge from its source to its target, with its port, guard and update
 unfoldable pub ends_text : ℕ → Transition → List ℕ
@@ -94,7 +93,7 @@ ends_text c t =
 abbrev pub transition_text : ℕ → Component → Transition → List ℕ
 transition_text c k t =
     ends_text c t
-    ++ (quoted (name_in k.ports t.port.0) ++ clauses_text (own_word k) t.guard t.update)
+    ++ (name_in k.ports t.port.0 ++ clauses_text (own_word k) t.guard t.update)
 
 -- the location in which a component starts
 unfoldable pub start_text : ℕ → List ℕ
@@ -117,7 +116,7 @@ clusters_text m =
 -- a class: a box with its colour
 abbrev pub class_text : Partition → ℕ → List ℕ
 class_text classes k =
-    codes "k" ++ (decimal k ++ (box_text k ++ (quoted (name_in classes.names k) ++ label_end)))
+    codes "k" ++ (decimal k ++ (box_text k ++ (name_in classes.names k ++ label_end)))
 
 -- the classes, in a cluster of their own
 unfoldable pub legend_front : List ℕ
@@ -140,7 +139,7 @@ unfoldable pub box_of : System → Partition → ℕ → List ℕ → Interactio
 box_of m classes a name i =
     interaction_node a
     ++ (box_text (class_in classes a)
-    ++ (quoted name ++ clauses_text (shared_word m i.participants) i.guard i.transfer))
+    ++ (name ++ clauses_text (shared_word m i.participants) i.guard i.transfer))
 
 abbrev pub node_text : System → Partition → ℕ → List ℕ → Interaction → List ℕ
 node_text m classes a name i =

@@ -2,9 +2,9 @@
 use Rattle.std.specs.Prelude.{ℕ, ◌+◌, ◌*◌, ◌<◌, ◌≤◌, ◌==◌, ◌||◌, ◌&&◌, Bool, List, true, ◌≡◌}
 use Rattle.std.specs.Prelude.{length, nat_le, not}
 use Rattle.std.specs.List.{list_all}
-use Rattle.bip_model.specs.Naming.{name_in}
+use Rattle.bip_model.specs.Naming.{IsName, name_in}
 use Rattle.bip_model.specs.declared.parts.System.{System}
-use Rattle.bip_draw.specs.Escaping.{escaped, quoted}
+use Rattle.bip_draw.specs.Escaping.{escaped}
 use Rattle.bip_draw.specs.Hues.{hue}
 use Rattle.bip_draw.specs.Layout.{lane_x, layout_of, row_y}
 use Rattle.bip_draw.specs.declared.layout.Layout.{Layout}
@@ -51,6 +51,10 @@ EscapedTextsAreKept =
     (a b : List ℕ) → list_all is_printable a ≡ true → list_all is_printable b ≡ true
     → escaped a ≡ escaped b → a ≡ b
 
--- texts that are written alike in a drawing are the same
-abbrev pub QuotedTextsAreKept : Type 0
-QuotedTextsAreKept = (a b : List ℕ) → quoted a ≡ quoted b → a ≡ b
+-- a printable byte that is no quote and no backslash
+abbrev pub is_label_byte : ℕ → Bool
+is_label_byte b = is_printable b && not (b == 34 || b == 92)
+
+-- the names of a model, which stand in drawings as they are, end no label there
+abbrev pub NamesAreInert : Type 0
+NamesAreInert = (name : List ℕ) → IsName name → list_all is_label_byte name ≡ true

@@ -13,12 +13,13 @@ ghost use Rattle.bip_draw.specs.Drawing.{label_end, label_front, location_text, 
 ghost use Rattle.bip_draw.specs.Drawing.{part_node, participant_text, port_text, priority_text};
 ghost use Rattle.bip_draw.specs.Drawing.{start_text, transition_text, two_borders, variable_text};
 
-use crate::clauses::Owners;
-use crate::escaping::{write_number, write_quoted};
+use crate::clauses::write_clauses;
+use crate::escaping::write_number;
 use crate::hues::{class_of, hue_of};
 use bip_model::{
     Classes, CompId, Component, InterId, Interaction, Model, Name, Pair, PortId, Transition,
 };
+use bip_reader::Speller;
 use std::alloc::{AllocError, Global};
 
 /// The drawing of a model and its classes in the language of Graphviz: a cluster for each component
@@ -88,7 +89,7 @@ fn write_head(
         (text.new.items ≡ text.old.items ++ head_text comp name.now component.now) }
 {
     write_cluster_front(text, comp)?;
-    write_quoted(text, name.as_bytes())?;
+    text.extend_from_slice(name.as_bytes())?;
     write_variables(text, component)?;
     text.extend_from_slice(b"\";\n")
 }
@@ -125,7 +126,7 @@ fn write_variable(
         (text.new.items ≡ text.old.items ++ variable_text component.now number) }
 {
     text.extend_from_slice(b"\\n")?;
-    write_quoted(text, component.variables.as_slice()[number].as_bytes())?;
+    text.extend_from_slice(component.variables.as_slice()[number].as_bytes())?;
     text.extend_from_slice(b" = ")?;
     write_number(text, component.start.as_slice()[number] as u64)
 }
@@ -170,7 +171,7 @@ fn write_location(
 {
     write_part_node(text, comp, b"l", number)?;
     write_ellipse(text)?;
-    write_quoted(text, component.locations.as_slice()[number].as_bytes())?;
+    text.extend_from_slice(component.locations.as_slice()[number].as_bytes())?;
     write_label_end(text)
 }
 
@@ -197,7 +198,7 @@ fn write_port(
 {
     write_part_node(text, comp, b"p", number)?;
     write_label(text)?;
-    write_quoted(text, component.ports.as_slice()[number].as_bytes())?;
+    text.extend_from_slice(component.ports.as_slice()[number].as_bytes())?;
     write_label_end(text)
 }
 
@@ -226,14 +227,12 @@ fn write_transition(
     ensures { OnOk result (text.new.items
         ≡ text.old.items ++ transition_text comp component.now transition.now) }
 {
-    let owner = Owners::Itself(component);
+    let speller = Speller::Own(component);
     write_ends(text, comp, transition)?;
-    write_quoted(
+    text.extend_from_slice(component.ports.as_slice()[transition.port.0 as usize].as_bytes())?;
+    write_clauses(
         text,
-        component.ports.as_slice()[transition.port.0 as usize].as_bytes(),
-    )?;
-    owner.write_clauses(
-        text,
+        &speller,
         transition.guard.as_slice(),
         transition.update.as_slice(),
     )?;
@@ -286,7 +285,7 @@ fn write_class(text: &mut Vec<u8>, classes: &Classes, number: u16) -> Result<(),
     text.extend_from_slice(b"k")?;
     write_number(text, number as u64)?;
     write_box(text, number)?;
-    write_quoted(text, classes.names()[number as usize].as_bytes())?;
+    text.extend_from_slice(classes.names()[number as usize].as_bytes())?;
     write_label_end(text)
 }
 
@@ -343,12 +342,13 @@ fn write_interaction_box(
         ++ box_of model.now classes.now inter.0 name.now interaction.now) }
 {
     let participants = interaction.participants.as_slice();
-    let owners = Owners::Participants(model, participants);
+    let speller = Speller::Shared(model, participants);
     write_interaction_node(text, inter)?;
     write_box(text, class_of(classes, inter))?;
-    write_quoted(text, name.as_bytes())?;
-    owners.write_clauses(
+    text.extend_from_slice(name.as_bytes())?;
+    write_clauses(
         text,
+        &speller,
         interaction.guard.as_slice(),
         interaction.transfer.as_slice(),
     )?;

@@ -1,33 +1,11 @@
-//! Texts inside of pictures: a byte that would end them there, or begin something else, stands as
-//! what means it.
-ghost use Rattle.std.specs.Prelude.{◌≡◌, ◌∷◌, ◌++◌, OnOk};
+//! Texts in charts: a byte that would end them there, or begin something else, stands as what
+//! means it.
+ghost use Rattle.std.specs.Prelude.{◌≡◌, ◌++◌, OnOk};
 ghost use Rattle.std.specs.Fmt.{decimal};
-ghost use Rattle.bip_model.specs.Texts.{spaced};
-ghost use Rattle.bip_draw.specs.Escaping.{escaped, escaped_byte, quoted, quoted_byte};
+ghost use Rattle.bip_draw.specs.Escaping.{escaped, escaped_byte};
 
 use itoa::Buffer;
 use std::alloc::AllocError;
-
-/// Puts a text last inside of a quoted one of Graphviz.
-#[tactic(auto, unfolding(crate::specs::Escaping::quoted))]
-pub(crate) fn write_quoted(text: &mut Vec<u8>, part: &[u8]) -> Result<(), AllocError>
-    ensures { OnOk result (text.new.items ≡ text.old.items ++ quoted part.now) }
-{
-    for byte in part {
-        write_quoted_byte(text, *byte)?;
-    }
-    Ok(())
-}
-
-fn write_quoted_byte(text: &mut Vec<u8>, byte: u8) -> Result<(), AllocError>
-    ensures { OnOk result (text.new.items ≡ text.old.items ++ quoted_byte byte) }
-{
-    if byte == b'"' || byte == b'\\' {
-        text.extend_from_slice(&[b'\\', byte])
-    } else {
-        text.extend_from_slice(&[byte])
-    }
-}
 
 /// Puts a text last inside of one of XML.
 #[tactic(auto, unfolding(crate::specs::Escaping::escaped))]
@@ -52,14 +30,6 @@ fn write_escaped_byte(text: &mut Vec<u8>, byte: u8) -> Result<(), AllocError>
         b' '..=b'~' => text.extend_from_slice(&[byte]),
         _ => text.extend_from_slice(b"?"),
     }
-}
-
-/// The same of a word, behind a space.
-pub(crate) fn write_quoted_word(text: &mut Vec<u8>, word: &[u8]) -> Result<(), AllocError>
-    ensures { OnOk result (text.new.items ≡ text.old.items ++ spaced (quoted word.now)) }
-{
-    text.push(b' ')?;
-    write_quoted(text, word)
 }
 
 /// Puts a number last in a text.

@@ -1,16 +1,16 @@
 //! What pictures keep.
 ghost use Rattle.bip_draw.specs.Laws.{ColoursDiffer, EscapedTextsAreKept, LanesAreApart, NoneIsRed};
-ghost use Rattle.bip_draw.specs.Laws.{QuotedTextsAreKept, RowsAreApart, TextsAreInert};
+ghost use Rattle.bip_draw.specs.Laws.{NamesAreInert, RowsAreApart, TextsAreInert};
 
-/// Classes have colours of their own, none of them near red (docs/DRAW.md, "Colours"), and texts
-/// that are written alike in a drawing are the same. In a chart lanes stand side by side in the
-/// order of their components, with room for the names on them; rows stand below one another in the
-/// order of their grants; no text of a model or of a caller begins or ends anything; and printable
-/// texts that are written alike are the same (docs/DRAW.md, "Charts").
+/// Classes have colours of their own, none of them near red (docs/DRAW.md, "Colours"), and names
+/// stand in a drawing as they are, and end no label there. In a chart lanes stand side by side in
+/// the order of their components, with room for the names on them; rows stand below one another in
+/// the order of their grants; no text of a model or of a caller begins or ends anything; and
+/// printable texts that are written alike are the same (docs/DRAW.md, "Charts").
 pub fn picture_laws()
     ensures colours { ColoursDiffer }
     ensures red { NoneIsRed }
-    ensures quoted { QuotedTextsAreKept }
+    ensures names { NamesAreInert }
     ensures lanes { LanesAreApart }
     ensures rows { RowsAreApart }
     ensures inert { TextsAreInert }

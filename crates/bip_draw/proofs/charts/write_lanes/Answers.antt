@@ -4,4 +4,7 @@ use Rattle.bip_draw.specs.Charts.{lane_text}
 use Rattle.bip_draw.proofs.charts.write_lanes.Goals as goal
 
 pub loop-comp-preserved : goal.loop-comp-preserved
-loop-comp-preserved c = c.in_ok-write_lane.ensures ∙ more_written (lane_text c.args.layout.now c.args.model.now.component_names) c.loop-comp.comp c.args.text.now.items c.loop-comp.text.items _ c.loop-comp.invariant (rw c.component_names-names.ensures.names refl)
+loop-comp-preserved c = c.in_ok-write_lane.ensures
+    ∙ more_written (lane_text c.args.layout.now c.args.model.now.component_names) c.loop-comp.comp
+    c.args.text.now.items c.loop-comp.text.items _ c.loop-comp.invariant
+    (rw c.component_names-names.ensures.names refl)

@@ -4,4 +4,5 @@ use Rattle.bip_draw.specs.Charts.{legend_entry}
 use Rattle.bip_draw.proofs.charts.write_legend.Given as goal
 
 abbrev pub invariant-loop-number : goal.invariant-loop-number
-invariant-loop-number l = l.text.items ≡ l.initial.text.items ++ flat_map (legend_entry l.classes) (range_with_len 0 l.number)
+invariant-loop-number l = l.text.items ≡ l.initial.text.items ++ flat_map (legend_entry l.classes)
+    (range_with_len 0 l.number)

@@ -9,7 +9,15 @@ loop-row-preserved c =
     let row = c.loop-row.row in
     let on : first + row + 1 ≡ first + (row + 1) = omega arith in
     record {
-      text = c.in_ok-write_row.ensures ∙ more_written (numbered_row c.args.chart.now c.args.layout.now) row c.args.text.now.items c.loop-row.text.items _ c.loop-row.invariant.text (rw (c.loop-row.invariant.before, c.go_on.ensures, c.grant_at.ensures, c.grants-grants.ensures.grants) refl);
+      text = c.in_ok-write_row.ensures ∙ more_written
+          (numbered_row c.args.chart.now c.args.layout.now) row c.args.text.now.items
+          c.loop-row.text.items _ c.loop-row.invariant.text
+          (rw (
+            c.loop-row.invariant.before,
+            c.go_on.ensures,
+            c.grant_at.ensures,
+            c.grants-grants.ensures.grants,
+          ) refl);
       before = rw (← on) c.go_on-in-loop-row.ensures;
       after = rw (← on) c.go_on.ensures;
     }

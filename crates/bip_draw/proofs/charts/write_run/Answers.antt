@@ -10,4 +10,6 @@ returns c =
     let p = c.args.chart.now in
     let l = c.args.layout.now in
     rw (c.in_ok-write_rows.ensures, c.in_ok-write_state.ensures, c.in_ok-before.ensures)
-    (append_assoc c.args.text.now.items (state_text l p.model.now (state_at p.model.now p.book.now.grants p.first)) (flat_map (numbered_row p l) (range_with_len 0 l.rows)))
+    (append_assoc c.args.text.now.items (state_text l p.model.now
+    (state_at p.model.now p.book.now.grants p.first))
+    (flat_map (numbered_row p l) (range_with_len 0 l.rows)))

@@ -4,4 +4,5 @@ use Rattle.bip_draw.specs.Drawing.{class_text}
 use Rattle.bip_draw.proofs.drawing.write_each_class.Given as goal
 
 abbrev pub invariant-loop-number : goal.invariant-loop-number
-invariant-loop-number l = l.text.items ≡ l.initial.text.items ++ flat_map (class_text l.classes) (range_with_len 0 l.number)
+invariant-loop-number l = l.text.items ≡ l.initial.text.items ++ flat_map (class_text l.classes)
+    (range_with_len 0 l.number)

@@ -4,7 +4,6 @@ use Rattle.bip_model.specs.Naming.{name_in}
 use Rattle.bip_reader.specs.Writing.{own_word}
 use Rattle.bip_draw.specs.Clauses.{clauses_text}
 use Rattle.bip_draw.specs.Drawing.{ends_text}
-use Rattle.bip_draw.specs.Escaping.{quoted}
 use Rattle.bip_draw.proofs.drawing.write_transition.Goals as goal
 
 three_parts : (o a b d : List ℕ) → ((o ++ a) ++ b) ++ d ≡ o ++ (a ++ (b ++ d))
@@ -16,6 +15,17 @@ returns c =
     let t = c.args.transition.now in
     let same = c.as_slice.ensures.names in
     let within : t.port.0 < length c.as_slice.result.now = rw same c.requires.port in
-    let name : name_in k.ports t.port.0 ≡ c.index-as_slice-transition.result = rw (← same) (sym (get_or_read c.as_slice.result.now t.port.0 c.index-as_slice-transition.result within c.index-as_slice-transition.is [])) in
-    rw (c.in_ok-write_clauses.ensures, c.in_ok-write_quoted.ensures, c.in_ok-write_ends.ensures, c.as_bytes.ensures.bytes, ← name, c.as_slice-2.ensures, c.as_slice-3.ensures)
-    (three_parts c.args.text.now.items (ends_text c.args.comp t) (quoted (name_in k.ports t.port.0)) (clauses_text (own_word k) t.guard t.update))
+    let name : name_in k.ports t.port.0 ≡ c.index-as_slice-transition.result =
+    rw (← same) (sym (get_or_read c.as_slice.result.now t.port.0
+    c.index-as_slice-transition.result within c.index-as_slice-transition.is [])) in
+    rw (
+      c.in_ok-write_clauses.ensures,
+      c.in_ok-extend_from_slice.ensures.items,
+      c.in_ok-write_ends.ensures,
+      c.as_bytes.ensures.bytes,
+      ← name,
+      c.as_slice-2.ensures,
+      c.as_slice-3.ensures,
+    )
+    (three_parts c.args.text.now.items (ends_text c.args.comp t) (name_in k.ports t.port.0)
+    (clauses_text (own_word k) t.guard t.update))

@@ -4,4 +4,5 @@ use Rattle.bip_draw.specs.Drawing.{variable_text}
 use Rattle.bip_draw.proofs.drawing.write_variables.Given as goal
 
 abbrev pub invariant-loop-number : goal.invariant-loop-number
-invariant-loop-number l = l.text.items ≡ l.initial.text.items ++ flat_map (variable_text l.component) (range_with_len 0 l.number)
+invariant-loop-number l = l.text.items ≡ l.initial.text.items ++ flat_map
+    (variable_text l.component) (range_with_len 0 l.number)

@@ -6,6 +6,7 @@ use Rattle.bip_draw.proofs.layout.most_variables.Given as goal
 abbrev pub invariant-loop-component : goal.invariant-loop-component
 invariant-loop-component l =
     record {
-      most : l.most ≡ most_by (λ (k : Component). length k.variables) (take l.component-index l.components);
+      most : l.most ≡ most_by (λ (k : Component). length k.variables)
+          (take l.component-index l.components);
       few : l.most ≤ 8;
     }

@@ -5,4 +5,6 @@ use Rattle.bip_draw.specs.Locals.{value_at, value_label}
 use Rattle.bip_draw.proofs.locals.write_values.Given as goal
 
 abbrev pub invariant-loop-number : goal.invariant-loop-number
-invariant-loop-number l = l.text.items ≡ l.initial.text.items ++ flat_map (λ v. value_label l.layout l.component l.comp v (value_at (state_of l.state) l.comp v)) (range_with_len 0 l.number)
+invariant-loop-number l = l.text.items ≡ l.initial.text.items ++ flat_map
+    (λ v. value_label l.layout l.component l.comp v (value_at (state_of l.state) l.comp v))
+    (range_with_len 0 l.number)

@@ -1,6 +1,0 @@
-use Rattle.std.proofs.Common.{◌≡◌, ◌++◌, take}
-use Rattle.bip_draw.specs.Clauses.{guard_text, word_of}
-use Rattle.bip_draw.proofs.clauses.Owners.write_guard.Given as goal
-
-abbrev pub invariant-loop-index : goal.invariant-loop-index
-invariant-loop-index l = l.text.items ≡ l.initial.text.items ++ guard_text (word_of l.self) (take l.index l.guard)
