@@ -26,9 +26,11 @@ pub not_dropped : (p : Planned) (to : Address) (bytes : List ℕ) (m : Message) 
     → IsFrame m bytes → IsAccepted p to m → IsDropped p to bytes fault → ⊥
 not_dropped p to bytes m (Frame fault) frame accepted dropped = not_both m fault bytes frame dropped
 not_dropped p to bytes m Unknown frame accepted dropped =
-    dropped.2 (subst (λ x. IsKnown p to x) (one_message m dropped.0 bytes frame dropped.1) accepted.known)
+    dropped.2 (subst (λ x. IsKnown p to x) (one_message m dropped.0 bytes frame dropped.1)
+    accepted.known)
 not_dropped p to bytes m Misfit frame accepted dropped =
-    dropped.3 (subst (λ x. FitsAddressee p to x) (one_message m dropped.0 bytes frame dropped.1) accepted.fits)
+    dropped.3 (subst (λ x. FitsAddressee p to x)
+    (one_message m dropped.0 bytes frame dropped.1) accepted.fits)
 
 -- a message that isn't accepted is dropped
 pub judged_dropped : (p : Planned) (to : Address) (bytes : List ℕ) (m : Message) (fault : DropFault)
@@ -67,7 +69,11 @@ ports_few x count small many p on =
 -- nothing is on from a number on where nothing is left behind that many ports
 pub ports_within : (x count : ℕ) → x / 2 ^ count ≡ 0 → (p : ℕ) → has x p ≡ true → p < count
 ports_within x count none p on =
-    let low : x < 2 ^ count = omega (arith, rw none at (div-add-mod' x (2 ^ count)), pow_pos count) in
+    let low : x < 2 ^ count = omega (
+      arith,
+      rw none at (div-add-mod' x (2 ^ count)),
+      pow_pos count,
+    ) in
     elim (cases_lt p count) [
       | inl within ↦ within
       | inr past ↦ absurd (off x p (bit_at_above x count p low past) on)
@@ -91,7 +97,8 @@ ports_none x count within = same_from_bits (x / 2 ^ count) 0 (λ i. behind i ∙
         let small : x % 2 ^ count < 2 ^ count = omega (arith, pow_pos count) in
         let whole : x / 2 ^ count * 2 ^ count + x % 2 ^ count ≡ x = div-add-mod' x (2 ^ count) in
         let cut : count + i - count ≡ i = omega arith in
-        let same = bit_at_cat_high (x / 2 ^ count) count (x % 2 ^ count) (count + i) small (omega arith) in
+        let same = bit_at_cat_high (x / 2 ^ count) count (x % 2 ^ count) (count + i) small
+        (omega arith) in
         sym (rw (whole, cut) at same) ∙ none (count + i) (omega arith)
 
 -- the bytes that a view lends are four for each value

@@ -47,7 +47,8 @@ use Rattle.bip_ip.proofs.LawLemmas.{refusals_teach}
 use Rattle.bip_bank.specs.Banks.{BankContent, IsActed, with_request}
 use Rattle.bip_bank.specs.declared.banks.Acted.{Acted}
 use Rattle.bip_bank.specs.declared.banks.Acted.TheVariants as acted
-use Rattle.bip_core.specs.Events.{AreSent, IsDelivered, IsDone, IsHandedOn, IsStep, are_notified, class_named}
+use Rattle.bip_core.specs.Events.{AreSent, IsDelivered, IsDone, IsHandedOn, IsStep, are_notified}
+use Rattle.bip_core.specs.Events.{class_named}
 use Rattle.bip_core.specs.Events.{grant_in, trace_with}
 use Rattle.bip_core.specs.Worlds.{WorldContent, with_class_node, with_component_node}
 use Rattle.bip_core.specs.declared.events.Did.{Did}

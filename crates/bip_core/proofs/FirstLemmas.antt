@@ -198,7 +198,8 @@ first_offers_are_sent p base w new = (
   λ m. (
     λ at.
         let its =
-        below_are p base w.components new.components n w.mail new.mail m (Contains-in w.mail m at) in
+        below_are p base w.components new.components n w.mail new.mail m
+        (Contains-in w.mail m at) in
         record {
           class = its.class;
           offer = its.offer;

@@ -1,5 +1,6 @@
 -- Letters and the messages that they are; what is sent is accepted by those for whom it is.
-use Rattle.std.proofs.Common.{◌≡◌, ℕ, ◌≤◌, ◌<◌, true, List, [], ◌∷◌, ap, get_or, inl, inr, length, map, refl, slice_get, subst, sym}
+use Rattle.std.proofs.Common.{◌≡◌, ℕ, ◌≤◌, ◌<◌, true, List, [], ◌∷◌, ap, get_or, inl, inr, length}
+use Rattle.std.proofs.Common.{map, refl, slice_get, subst, sym}
 use Rattle.std.specs.Prelude.{All, Contains, IsSomeAnd}
 use Rattle.std.proofs.lemmas.List.{get_or_default}
 use Rattle.std.proofs.lemmas.List.Elements.{All-cons, All-map, All-nil, Contains-get_or}
@@ -38,13 +39,17 @@ use Rattle.bip_frame.specs.Frames.{IsFrame, of_notify, of_offer, of_reply, of_re
 use Rattle.bip_frame.proofs.ReadingLemmas.{whole_again}
 use Rattle.bip_core.specs.Accepting.{HasCause, HasReason}
 use Rattle.bip_core.specs.Events.{AreSent, SendsWhatFits, class_named}
-use Rattle.bip_core.specs.Letters.{CanBeHandedOn, CanBeOffered, CanBeSubmitted, CanBeTold, IsLetterOf, IsNumberedRequest, address_of, as_spelled, message_at, message_in}
+use Rattle.bip_core.specs.Letters.{CanBeHandedOn, CanBeOffered, CanBeSubmitted, CanBeTold}
+use Rattle.bip_core.specs.Letters.{IsLetterOf, IsNumberedRequest, address_of, as_spelled}
+use Rattle.bip_core.specs.Letters.{message_at, message_in}
 use Rattle.bip_core.specs.Worlds.{AreOffersOf}
 use Rattle.bip_core.specs.declared.accepting.Address.{Address}
 use Rattle.bip_core.specs.declared.events.What.{What}
-use Rattle.bip_core.specs.declared.events.What.TheVariants.{Acts, Hears, Learns, Moves, Nothing, Submits, Tries}
+use Rattle.bip_core.specs.declared.events.What.TheVariants.{Acts, Hears, Learns, Moves, Nothing}
+use Rattle.bip_core.specs.declared.events.What.TheVariants.{Submits, Tries}
 use Rattle.bip_core.specs.declared.messages.Message.{Message}
-use Rattle.bip_core.specs.declared.messages.Message.TheVariants.{NotifyComponent, OfferTo, ReplyToClass, RequestToBank}
+use Rattle.bip_core.specs.declared.messages.Message.TheVariants.{NotifyComponent, OfferTo}
+use Rattle.bip_core.specs.declared.messages.Message.TheVariants.{ReplyToClass, RequestToBank}
 
 -- a frame with its address is the message that it spells
 placed : (m : Message) → message_at (address_of m) (as_spelled m) ≡ m
@@ -54,15 +59,23 @@ placed (ReplyToClass r) = refl
 placed (NotifyComponent n) = refl
 
 -- bytes with an address are the letter of one message, which is read off them
-pub letter_is : (m : Message) (to : Address) (bytes : List ℕ) → IsLetterOf m to bytes → message_in to bytes ≡ m
-letter_is m to bytes letter = rw (letter.address, letter.frame.is, whole_again (as_spelled m) letter.frame.can) (placed m)
+pub letter_is : (m : Message) (to : Address) (bytes : List ℕ) → IsLetterOf m to bytes
+    → message_in to bytes ≡ m
+letter_is m to bytes letter = rw (
+  letter.address,
+  letter.frame.is,
+  whole_again (as_spelled m) letter.frame.can,
+) (placed m)
 
 -- so they are the letter of what is read
-pub letter_read : (m : Message) (to : Address) (bytes : List ℕ) → IsLetterOf m to bytes → IsLetterOf (message_in to bytes) to bytes
-letter_read m to bytes letter = subst (λ (x : Message). IsLetterOf x to bytes) (sym (letter_is m to bytes letter)) letter
+pub letter_read : (m : Message) (to : Address) (bytes : List ℕ) → IsLetterOf m to bytes
+    → IsLetterOf (message_in to bytes) to bytes
+letter_read m to bytes letter = subst (λ (x : Message). IsLetterOf x to bytes)
+    (sym (letter_is m to bytes letter)) letter
 
 -- which message it is, by what its frame spells
-pub is_offer : (m : Message) (o : Offer) → of_offer o ≡ as_spelled m → (k : ClassId) × (m ≡ OfferTo k o)
+pub is_offer : (m : Message) (o : Offer) → of_offer o ≡ as_spelled m → (k : ClassId)
+    × (m ≡ OfferTo k o)
 is_offer (OfferTo k x) o is = let same : x ≡ o = cc in (k, ap (OfferTo k) same)
 is_offer (RequestToBank q) o is = absurd (cc)
 is_offer (ReplyToClass r) o is = absurd (cc)
@@ -87,7 +100,8 @@ is_notify (ReplyToClass r) n is = absurd (cc)
 is_notify (NotifyComponent x) n is = let same : x ≡ n = cc in ap NotifyComponent same
 
 -- a request that is accepted, and can be framed
-pub numbered : (p : Planned) (m : Message) (q : Request) (bytes : List ℕ) → m ≡ RequestToBank q → CanBeHandedOn p m → IsFrame (as_spelled m) bytes → IsNumberedRequest p q
+pub numbered : (p : Planned) (m : Message) (q : Request) (bytes : List ℕ) → m ≡ RequestToBank q
+    → CanBeHandedOn p m → IsFrame (as_spelled m) bytes → IsNumberedRequest p q
 numbered p m q bytes is accepted frame =
     let its = subst (CanBeHandedOn p) is accepted in
     let spelled = subst (λ (x : Message). IsFrame (as_spelled x) bytes) is frame in
@@ -99,17 +113,21 @@ class_is (reply.Granted k q a s) = refl
 class_is (reply.Refused k q a c n) = refl
 
 -- a component that is read is there
-some_within : (xs : List Component) (c : ℕ) (P : Component → Type 0) → IsSomeAnd (slice_get xs c) P → c < length xs
+some_within : (xs : List Component) (c : ℕ) (P : Component → Type 0) → IsSomeAnd (slice_get xs c) P
+    → c < length xs
 some_within xs c P so = elim (slice_get_cases xs c).1 [
   | inl here ↦ here.1
   | inr past ↦ absurd (rw past.1 at so)
 ]
 
-pub offered_here : (p : Planned) (offer : Offer) → CanBeOffered p offer → offer.comp.0 < length p.model.components
-offered_here p offer can = some_within p.model.components offer.comp.0 (λ component. IsOfferOf component offer) can.made
+pub offered_here : (p : Planned) (offer : Offer) → CanBeOffered p offer
+    → offer.comp.0 < length p.model.components
+offered_here p offer can = some_within p.model.components offer.comp.0
+    (λ component. IsOfferOf component offer) can.made
 
 -- an offer to a class that touches its component
-pub offered_accepted : (p : Planned) (offer : Offer) (k : ClassId) → k.0 < length p.classes.members → CanBeOffered p offer → CanBeHandedOn p (OfferTo k offer)
+pub offered_accepted : (p : Planned) (offer : Offer) (k : ClassId) → k.0 < length p.classes.members
+    → CanBeOffered p offer → CanBeHandedOn p (OfferTo k offer)
 offered_accepted p offer k known can = record {
   known = record {
     address = known;
@@ -118,12 +136,16 @@ offered_accepted p offer k known can = record {
   fits = can.made;
 }
 
-pub offers_accepted : (p : Planned) (offer : Offer) (sent : List Message) → CanBeOffered p offer → AreOffersOf p offer sent → All (CanBeHandedOn p) sent
+pub offers_accepted : (p : Planned) (offer : Offer) (sent : List Message) → CanBeOffered p offer
+    → AreOffersOf p offer sent → All (CanBeHandedOn p) sent
 offers_accepted p offer sent can of_all =
-    rw of_all.each (All-map (CanBeHandedOn p) (λ (k : ClassId). OfferTo k offer) of_all.classes (λ i d within. each (get_or of_all.classes i d) (i, within, get_or_default of_all.classes i (get_or of_all.classes i d) d within)))
+    rw of_all.each (All-map (CanBeHandedOn p) (λ (k : ClassId). OfferTo k offer) of_all.classes
+    (λ i d within. each (get_or of_all.classes i d)
+    (i, within, get_or_default of_all.classes i (get_or of_all.classes i d) d within)))
   where
     each : (k : ClassId) → Contains of_all.classes k → CanBeHandedOn p (OfferTo k offer)
-    each k at = offered_accepted p offer k (touching_known p k.0 offer.comp.0 ((of_all.touching.exact k.0).0 at)) can
+    each k at = offered_accepted p offer k (touching_known p k.0 offer.comp.0
+        ((of_all.touching.exact k.0).0 at)) can
 
 -- what is told
 told_accepted : (p : Planned) (n : Notify) → CanBeTold p n → CanBeHandedOn p (NotifyComponent n)
@@ -132,28 +154,37 @@ told_accepted p n can =
     record { known = record { address = known; names = known }; fits = can.taken }
 
 -- and it can be written
-pub told_numbered : (p : Planned) (notifies : List Notify) → All (CanBeTold p) notifies → All (λ (n : Notify). (1 ≤ n.number) × (n.port.0 < 16)) notifies
+pub told_numbered : (p : Planned) (notifies : List Notify) → All (CanBeTold p) notifies
+    → All (λ (n : Notify). (1 ≤ n.number) × (n.port.0 < 16)) notifies
 told_numbered p notifies all = λ k d within. let can = all k d within in (can.some, can.port)
 
-all_told : (p : Planned) (notifies : List Notify) → All (CanBeTold p) notifies → All (CanBeHandedOn p) (map (λ n. NotifyComponent n) notifies)
-all_told p notifies all = All-map (CanBeHandedOn p) (λ n. NotifyComponent n) notifies (λ i d within. told_accepted p _ (all i d within))
+all_told : (p : Planned) (notifies : List Notify) → All (CanBeTold p) notifies
+    → All (CanBeHandedOn p) (map (λ n. NotifyComponent n) notifies)
+all_told p notifies all = All-map (CanBeHandedOn p) (λ n. NotifyComponent n) notifies
+    (λ i d within. told_accepted p _ (all i d within))
 
 -- what reasons name is there
-cause_known : (p : Planned) (b : ℕ) (cause : Cause) (wants : List Want) → IsSystem p.model → ((c : ℕ) → IsNamedBy p.model b cause c → (moves p.model b c ≡ true) × HasWantOf wants c) → HasCause p cause
-cause_known p b (Port c) wants valid borne = moves_known p.model b c.0 valid.so_far (borne c.0 refl).0
+cause_known : (p : Planned) (b : ℕ) (cause : Cause) (wants : List Want) → IsSystem p.model
+    → ((c : ℕ) → IsNamedBy p.model b cause c → (moves p.model b c ≡ true) × HasWantOf wants c)
+    → HasCause p cause
+cause_known p b (Port c) wants valid borne = moves_known p.model b c.0 valid.so_far
+    (borne c.0 refl).0
 cause_known p b Guard wants valid borne = tt
 
-reasons_known : (p : Planned) (a : ℕ) (wants : List Want) (reasons : List Why) → IsSystem p.model → AreExplained p.model a wants reasons → All (HasReason p) reasons
+reasons_known : (p : Planned) (a : ℕ) (wants : List Want) (reasons : List Why) → IsSystem p.model
+    → AreExplained p.model a wants reasons → All (HasReason p) reasons
 reasons_known p a wants [] valid are = All-nil (HasReason p)
 reasons_known p a wants (y ∷ ys) valid are = λ k d within.
     let z = get_or (y ∷ ys) k d in
     let at = Contains-get_or (y ∷ ys) k d within in (
-      IsAbove-high (length p.model.interactions) p.model.priorities a z.inter.0 valid.so_far.priorities ((are.each z.inter.0).0 (at.0, z, at.1, at.2, refl)),
+      IsAbove-high (length p.model.interactions) p.model.priorities a z.inter.0
+          valid.so_far.priorities ((are.each z.inter.0).0 (at.0, z, at.1, at.2, refl)),
       cause_known p z.inter.0 z.cause wants valid (are.borne k d within),
     )
 
 -- a request
-pub asked_accepted : (p : Planned) (q : Request) → IsPlanned p → CanBeSubmitted p q → CanBeHandedOn p (RequestToBank q)
+pub asked_accepted : (p : Planned) (q : Request) → IsPlanned p → CanBeSubmitted p q
+    → CanBeHandedOn p (RequestToBank q)
 asked_accepted p q planned can =
     let declared = reserved_known p q.inter.0 planned.valid can.fit.reserved in
     record {
@@ -162,7 +193,8 @@ asked_accepted p q planned can =
         names = (
           rw can.fit.class (class_known p q.inter.0 planned declared),
           declared,
-          λ i d within. party_known p.model q.inter.0 q.wants _ planned.valid can.fit.parties (i, within, get_or_default q.wants i _ d within),
+          λ i d within. party_known p.model q.inter.0 q.wants _ planned.valid can.fit.parties
+              (i, within, get_or_default q.wants i _ d within),
           reasons_known p q.inter.0 q.wants q.reasons planned.valid can.fit.explained,
         );
       };
@@ -170,22 +202,35 @@ asked_accepted p q planned can =
     }
 
 -- what an answer sends is accepted
-pub sent_accepted : (p : Planned) (what : What) (sent : List Message) → IsPlanned p → SendsWhatFits p what → AreSent p what sent → All (CanBeHandedOn p) sent
+pub sent_accepted : (p : Planned) (what : What) (sent : List Message) → IsPlanned p
+    → SendsWhatFits p what → AreSent p what sent → All (CanBeHandedOn p) sent
 sent_accepted p Nothing sent planned fits sends = rw sends (All-nil (CanBeHandedOn p))
 sent_accepted p (Hears r) sent planned fits sends = rw sends (All-nil (CanBeHandedOn p))
 sent_accepted p Submits sent planned fits sends = rw sends (All-nil (CanBeHandedOn p))
-sent_accepted p (Learns (answered.Told notifies)) sent planned fits sends = rw sends (all_told p notifies fits)
-sent_accepted p (Learns answered.Dropped) sent planned fits sends = rw sends (All-nil (CanBeHandedOn p))
-sent_accepted p (Learns answered.Stale) sent planned fits sends = rw sends (All-nil (CanBeHandedOn p))
-sent_accepted p (Moves (notified.Moved offer)) sent planned fits sends = offers_accepted p offer sent fits sends
-sent_accepted p (Moves notified.Spent) sent planned fits sends = rw sends (All-nil (CanBeHandedOn p))
-sent_accepted p (Moves notified.Stale) sent planned fits sends = rw sends (All-nil (CanBeHandedOn p))
+sent_accepted p (Learns (answered.Told notifies)) sent planned fits sends =
+    rw sends (all_told p notifies fits)
+sent_accepted p (Learns answered.Dropped) sent planned fits sends =
+    rw sends (All-nil (CanBeHandedOn p))
+sent_accepted p (Learns answered.Stale) sent planned fits sends =
+    rw sends (All-nil (CanBeHandedOn p))
+sent_accepted p (Moves (notified.Moved offer)) sent planned fits sends =
+    offers_accepted p offer sent fits sends
+sent_accepted p (Moves notified.Spent) sent planned fits sends =
+    rw sends (All-nil (CanBeHandedOn p))
+sent_accepted p (Moves notified.Stale) sent planned fits sends =
+    rw sends (All-nil (CanBeHandedOn p))
 sent_accepted p (Tries tried.Foreign) sent planned fits sends = rw sends (All-nil (CanBeHandedOn p))
-sent_accepted p (Tries (tried.Pending b)) sent planned fits sends = rw sends (All-nil (CanBeHandedOn p))
+sent_accepted p (Tries (tried.Pending b)) sent planned fits sends =
+    rw sends (All-nil (CanBeHandedOn p))
 sent_accepted p (Tries (tried.Not x)) sent planned fits sends = rw sends (All-nil (CanBeHandedOn p))
-sent_accepted p (Tries (tried.Local g notifies)) sent planned fits sends = rw sends (all_told p notifies fits)
+sent_accepted p (Tries (tried.Local g notifies)) sent planned fits sends =
+    rw sends (all_told p notifies fits)
 sent_accepted p (Tries tried.Ended) sent planned fits sends = rw sends (All-nil (CanBeHandedOn p))
-sent_accepted p (Tries (tried.Sent q)) sent planned fits sends = rw sends (All-cons (CanBeHandedOn p) (RequestToBank q) [] (asked_accepted p q planned fits) (All-nil (CanBeHandedOn p)))
+sent_accepted p (Tries (tried.Sent q)) sent planned fits sends =
+    rw sends (All-cons (CanBeHandedOn p) (RequestToBank q) [] (asked_accepted p q planned fits)
+    (All-nil (CanBeHandedOn p)))
 sent_accepted p (Acts acted.Nothing) sent planned fits sends = rw sends (All-nil (CanBeHandedOn p))
 sent_accepted p (Acts acted.Moved) sent planned fits sends = rw sends (All-nil (CanBeHandedOn p))
-sent_accepted p (Acts (acted.Answered q d)) sent planned fits sends = rw sends (All-cons (CanBeHandedOn p) (ReplyToClass (reply_to q d)) [] fits.accepted (All-nil (CanBeHandedOn p)))
+sent_accepted p (Acts (acted.Answered q d)) sent planned fits sends =
+    rw sends (All-cons (CanBeHandedOn p) (ReplyToClass (reply_to q d)) [] fits.accepted
+    (All-nil (CanBeHandedOn p)))

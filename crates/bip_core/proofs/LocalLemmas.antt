@@ -60,12 +60,14 @@ shown {u = u} {wants = wants} made fresh c has =
 
 -- what was made of offers tells what they told
 made_told : {m : System} {u : ℕ → ℕ} {s : State} {a : ℕ} {reasons : List Why} {wants : List Want}
-    {ns : List Notify} (made : Made m u s a reasons wants ns) (n : Notify) → In n ns → In n (told_by m made.offers a)
+    {ns : List Notify} (made : Made m u s a reasons wants ns) (n : Notify) → In n ns
+    → In n (told_by m made.offers a)
 made_told made n at = subst (λ (xs : List Notify). In n xs) made.tells_are at
 
 -- and that moves what they want to be moved
 pub made_tells : {m : System} {u : ℕ → ℕ} {s : State} {a : ℕ} {reasons : List Why}
-    {wants : List Want} {ns : List Notify} → Made m u s a reasons wants ns → (n : Notify) → In n ns → TellsMove m a wants n
+    {wants : List Want} {ns : List Notify} → Made m u s a reasons wants ns → (n : Notify) → In n ns
+    → TellsMove m a wants n
 made_tells made n at = tells_move made.wants_are n (made_told made n at)
 
 -- a notification has the next number as its component's own, and leads it to this state

@@ -141,21 +141,30 @@ module _ {p : Planned} {base : ℕ} {u : ℕ → ℕ} {s : State} {w : View}
   owed_by_one j k a b e f n x owes other same =
       let made = h.locals.made j a e owes.is in
       let also = h.locals.made k b f other.is in
-      let told : In n (told_by p.model made.offers e.request.inter.0) = subst (In n) made.tells_are owes.tells in
-      let again : In x (told_by p.model also.offers f.request.inter.0) = subst (In x) also.tells_are other.tells in
+      let told : In n (told_by p.model made.offers e.request.inter.0) =
+      subst (In n) made.tells_are owes.tells in
+      let again : In x (told_by p.model also.offers f.request.inter.0) =
+      subst (In x) also.tells_are other.tells in
       let moves_e = tells_move made.wants_are n told in
       let moves_f = tells_move also.wants_are x again in
       let v = moves_e.has in
-      let numbers : x.number ≡ n.number = (h.numbers.owed k b f x other).0.own ∙ (ap w.number (sym same) ∙ sym (h.numbers.owed j a e n owes).0.own) in
-      let by_e : moved_in e.request.wants v.want.comp.0 ≡ v.want.number = ap (moved_in e.request.wants) v.comp ∙ (moves_e.moved ∙ sym v.number) in
-      let by_f : moved_in f.request.wants v.want.comp.0 ≡ v.want.number = ap (moved_in f.request.wants) (v.comp ∙ same) ∙ (moves_f.moved ∙ (numbers ∙ sym v.number)) in
-      let one = granted_once (λ c. base) w.trace (grant_of e.request) (grant_of f.request) v.want h.books.history owes.granted other.granted v.among by_e by_f in
+      let numbers : x.number ≡ n.number = (h.numbers.owed k b f x other).0.own
+      ∙ (ap w.number (sym same) ∙ sym (h.numbers.owed j a e n owes).0.own) in
+      let by_e : moved_in e.request.wants v.want.comp.0 ≡ v.want.number =
+      ap (moved_in e.request.wants) v.comp ∙ (moves_e.moved ∙ sym v.number) in
+      let by_f : moved_in f.request.wants v.want.comp.0 ≡ v.want.number =
+      ap (moved_in f.request.wants) (v.comp ∙ same)
+      ∙ (moves_f.moved ∙ (numbers ∙ sym v.number)) in
+      let one = granted_once (λ c. base) w.trace (grant_of e.request)
+      (grant_of f.request) v.want h.books.history owes.granted other.granted v.among by_e
+      by_f in
       let its = h.books.records j a e owes.is in
       let others = h.books.records k b f other.is in
       let inter : a ≡ b = sym its.number ∙ (ap (λ (g : Grant). g.inter.0) one ∙ others.number) in
       let class : j ≡ k = sym its.home ∙ (ap (class_in p.classes) inter ∙ others.home) in
       let entry : e ≡ f = same_some e f (sym owes.is ∙ (ap₂ w.pending class inter ∙ other.is)) in
-      let among : In x e.notifies = subst (λ (r : OpenRecord). In x r.notifies) (sym entry) other.tells in (
+      let among : In x e.notifies = subst (λ (r : OpenRecord). In x r.notifies)
+      (sym entry) other.tells in (
         class,
         inter,
         count-same (λ (m : Notify). m.comp.0 == n.comp.0) n x e.notifies
@@ -265,7 +274,8 @@ pub one_offer_out : OneOfferOut
 one_offer_out p base u s w six x y out also comp number unused =
     let mine = (six.offers x out).shows unused in
     let other = (six.offers y also).shows (omega (arith, unused, number, ap u comp)) in
-    by_local (s x.comp.0) refl mine (subst (λ (c : ℕ). IsSomeAnd (s c) (Shows p.model y)) (sym comp) other)
+    by_local (s x.comp.0) refl mine (subst (λ (c : ℕ). IsSomeAnd (s c) (Shows p.model y))
+    (sym comp) other)
   where
     by_local : (local : Option LocalState) → s x.comp.0 ≡ local → IsSomeAnd local (Shows p.model x)
         → IsSomeAnd local (Shows p.model y) → x ≡ y

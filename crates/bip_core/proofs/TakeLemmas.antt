@@ -39,7 +39,8 @@ length_at xs ys i same within =
     ∙ ap (λ (l : List ℕ). get_or l i 0) same
     ∙ get_or-map length ys i [] 0 (omega (arith, within, each))
 
--- a port that is on offer is so in a local state with a value for each variable, and as many are told
+-- a port that is on offer is so in a local state with a value for each variable, and as many are
+-- told
 can_from : (x : Option Component) (local : LocalState) (port : PortId) (values : List ℕ)
     → option_map_or (λ component. offers_at component local port) x false ≡ true
     → length values ≡ length local.values
@@ -52,10 +53,12 @@ can_from (Some component) local port values on each =
 
 -- what is told by offers that show a state can be taken there
 pub told_taken : (m : System) (o : ℕ → Offer) (of : ℕ → Type 0) (s : State) (a : ℕ)
-    → IsReady m o of a → AllShow m o of s → (n : Notify) → Contains (told_by m o a) n → CanBeTaken m n (s n.comp.0)
+    → IsReady m o of a → AllShow m o of s → (n : Notify) → Contains (told_by m o a) n
+    → CanBeTaken m n (s n.comp.0)
 told_taken m o of s a ready show n at =
     by_place (s n.comp.0) refl
-    (subst (λ (c : ℕ). IsSomeAnd (s c) (Shows m (o n.comp.0))) (ready.own n.comp.0 (ready.moved n.comp.0 moved))
+    (subst (λ (c : ℕ). IsSomeAnd (s c) (Shows m (o n.comp.0)))
+    (ready.own n.comp.0 (ready.moved n.comp.0 moved))
     (show n.comp.0 (ready.moved n.comp.0 moved)))
   where
     q : Participant

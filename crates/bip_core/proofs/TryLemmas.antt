@@ -47,7 +47,8 @@ use Rattle.bip_core.proofs.UsedLemmas.{learning, learns_more, learns_within}
 use Rattle.bip_core.proofs.WantLemmas.{has_want, moved_as_offered, offered_number}
 use Rattle.bip_core.proofs.WantLemmas.{touched, untouched_so}
 
--- a class takes an interaction up with wants: it has no record of it, and of what is wanted its held
+-- a class takes an interaction up with wants: it has no record of it, and of what is wanted its
+-- held
 -- offers count, and make it ready
 pub record Takes (p : Planned) (w : View) (k a : ℕ) (o : ℕ → Offer) (wants : List Want)
     : Type 0 where

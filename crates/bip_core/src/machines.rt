@@ -44,13 +44,13 @@ use std::marker;
 /// All nodes of a plan, the messages in flight between them, and a bank.
 #[derive(Drop)]
 pub(crate) struct Machine<'p, B: bip_bank::Bank> {
-    plan: &'p Plan,
+    pub plan: &'p Plan,
     components: Vec<SrComponent<'p>>,
-    classes: Vec<IpNode<'p>>,
-    mail: Mailbag,
+    pub classes: Vec<IpNode<'p>>,
+    pub mail: Mailbag,
     /// All grants, from the first local one on. Before, it has none, and the bank's list has all.
-    own: Vec<Grant>,
-    bank: B,
+    pub own: Vec<Grant>,
+    pub bank: B,
 }
 
 impl<'p, B: bip_bank::Bank> marker::Model for Machine<'p, B> {
@@ -118,70 +118,6 @@ impl<'p, B: bip_bank::Bank> Machine<'p, B> {
         ensures { IsKeptWorld self.now }
     {
         let _opened = &self.plan;
-    }
-
-    /// The plan.
-    pub fn plan(&self) -> &'p Plan
-        ensures { result.now ≡ self.now.plan }
-    {
-        self.plan
-    }
-
-    /// The grants, in order.
-    pub fn trace(&self) -> &[Grant]
-        ensures trace { result.now ≡ self.now.trace }
-        ensures known { All (IsKnownGrant self.now.plan.model) result.now }
-    {
-        trace_by(&self.own, self.bank.grants())
-    }
-
-    /// How many messages are in flight.
-    pub fn mails(&self) -> usize
-        ensures { result ≡ length self.now.mail }
-    {
-        self.mail.len()
-    }
-
-    /// For whom the message at a place among those in flight is, from 0, and its frame; none past
-    /// the last.
-    pub fn mail(&self, place: usize) -> Option<(Address, &[u8])>
-        ensures some { IfSome result (λ letter. (m : Message)
-            × (slice_get self.now.mail place ≡ Some m) × IsLetterOf m letter.0 letter.1.now) }
-        ensures none { IfNone result (length self.now.mail ≤ place) }
-        ensures accepted { All (CanBeHandedOn self.now.plan) self.now.mail }
-    {
-        if place >= self.mail.len() {
-            return None;
-        }
-        let letter = self.mail.get(place);
-        Some((letter.to(), letter.frame()))
-    }
-
-    /// That message; none past the last.
-    pub fn message(&self, place: usize) -> Option<Message>
-        ensures { result ≡ slice_get self.now.mail place }
-    {
-        if place >= self.mail.len() {
-            return None;
-        }
-        Some(self.mail.get(place).message())
-    }
-
-    pub fn bank(&self) -> &B
-        ensures { B.kept result.now ≡ self.now.bank }
-    {
-        &self.bank
-    }
-
-    /// The interaction above one for whose sake that one isn't ready in its class, if it is so.
-    pub fn lacking_above(&self, class: ClassId, inter: InterId) -> Option<InterId>
-        ensures above { IsLackingIn (world_of self.now) class.0 inter.0 result }
-        ensures none { IsNoneOf (world_of self.now) class.0 inter.0 → result ≡ None }
-    {
-        if class.0 as usize >= self.classes.len() {
-            return None;
-        }
-        self.classes[class.0 as usize].lacking_above(inter)
     }
 
     /// Hands an offer on to a class.
@@ -309,7 +245,7 @@ impl<'p, B: bip_bank::Bank> Machine<'p, B> {
         ensures skipped { IfErr result (λ e. CanBeSkipped (world_of self.old) (Mail place)) }
         ensures err { OnErr result (world_of self.new ≡ world_of self.old) }
     {
-        if place >= self.mails() {
+        if place >= self.mail.len() {
             witness.see(What::Nothing);
             return Ok(Outcome::of(Effect::Idle));
         }

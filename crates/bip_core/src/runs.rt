@@ -1,17 +1,18 @@
 //! Runs of events, and their reports.
-ghost use Rattle.std.specs.Prelude.{◌≡◌, ◌<◌, ◌++◌, ◌∷◌, List, [], None, length};
+ghost use Rattle.std.specs.Prelude.{◌≡◌, ◌<◌, ◌++◌, ◌∷◌, List, [], IfNone, IfSome, None, length};
 ghost use Rattle.bip_model.specs.Numbering.{last_number};
 ghost use Rattle.bip_model.specs.declared.grants.Grant.{Grant};
 ghost use Rattle.bip_model.specs.Grants.{MovesOnceEach};
 ghost use Rattle.bip_replay.specs.Runs.{IsModelRun};
 ghost use Rattle.bip_core.specs.Agreement.{Agrees};
+ghost use Rattle.bip_core.specs.Events.{IsCounted};
 ghost use Rattle.bip_core.specs.Laws.{KeepsThePlan};
 ghost use Rattle.bip_core.specs.Runs.{AddsUp, AreSteps, IsEventCounted, IsRunOfEvents};
 ghost use Rattle.bip_core.specs.Runs.{report_counted, report_of, report_with};
 ghost use Rattle.bip_core.specs.Worlds.{world_of};
 
-use crate::outcomes::{Effect, Outcome};
-use crate::{Did, Event, World};
+use crate::outcomes::{Effect, NoOne, Outcome, Witness};
+use crate::{Did, Event, What, World};
 
 /// The sums of a run of events (docs/PROTOCOL.md, "The world and its events").
 #[derive(Clone, Copy, Debug, PartialEq, Eq)]
@@ -86,10 +87,7 @@ pub fn run_event<'p, B: bip_bank::Bank>(world: &mut World<'p, B>, event: Event, 
         report.new }
     ensures adds_up { AddsUp report.new }
 {
-    match world.count(event) {
-        Ok(outcome) => report.count(outcome),
-        Err(_) => report.count_skipped(),
-    }
+    let _outcome = count_event(world, event, &mut NoOne, report);
 }
 
 /// Does one event and counts it, as `run_event` does, and gives what it did; none where it was
@@ -105,13 +103,36 @@ pub fn watch_event<'p, B: bip_bank::Bank>(
     ensures counted { report.new ≡ report_with report.old result }
     ensures adds_up { AddsUp report.new }
 {
-    match world.watch(event) {
-        Ok((what, outcome)) => {
+    let mut what = What::Nothing;
+    let outcome = count_event(world, event, &mut what, report)?;
+    Some(Did {
+        what,
+        lost: outcome.lost,
+    })
+}
+
+/// Does one event before a witness, and counts it; none where it was skipped.
+fn count_event<'p, B: bip_bank::Bank, W: Witness>(
+    world: &mut World<'p, B>,
+    event: Event,
+    witness: &mut W,
+    report: &mut Report,
+) -> Option<Outcome>
+    requires room { report.old.events < last_number }
+    requires adds_up { AddsUp report.old }
+    ensures some { IfSome result (λ outcome. IsCounted (λ what. W.saw what witness.new)
+        (world_of world.old) event outcome (world_of world.new)) }
+    ensures counted { IfSome result (λ outcome.
+        report.new ≡ report_counted report.old outcome) }
+    ensures none { IfNone result (AreSteps (event ∷ []) (None ∷ []) (world_of world.old)
+        (world_of world.new)) }
+    ensures skipped { IfNone result (report.new ≡ report_with report.old None) }
+    ensures adds_up { AddsUp report.new }
+{
+    match world.step_before(event, witness) {
+        Ok(outcome) => {
             report.count(outcome);
-            Some(Did {
-                what,
-                lost: outcome.lost,
-            })
+            Some(outcome)
         }
         Err(_) => {
             report.count_skipped();

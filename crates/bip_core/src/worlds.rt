@@ -1,6 +1,6 @@
 //! The world: a machine of nodes, messages and a bank.
 ghost use Rattle.std.specs.Prelude.{◌≡◌, ◌<◌, ◌≤◌, All, IfErr, IfNone, IfOk, IfSome, None};
-ghost use Rattle.std.specs.Prelude.{OnErr, Some, length, slice_get, ⊤};
+ghost use Rattle.std.specs.Prelude.{OnErr, Some, length, slice_get};
 ghost use Rattle.bip_model.specs.Numbering.{last_number};
 ghost use Rattle.bip_model.specs.Grants.{MovesOnceEach};
 ghost use Rattle.bip_replay.specs.Runs.{IsModelRun};
@@ -13,7 +13,8 @@ ghost use Rattle.bip_core.specs.Worlds.{IsKeptWorld, IsKnownGrant, IsLackingIn, 
 ghost use Rattle.bip_core.specs.Worlds.{world_of};
 
 use crate::machines::Machine;
-use crate::outcomes::{NoOne, Outcome};
+use crate::outcomes::{Outcome, Witness};
+use crate::traces::trace_by;
 use crate::{Address, Did, Event, Message, What};
 use bip_model::{ClassId, Grant, InterId, Number};
 use bip_partition::Plan;
@@ -76,36 +77,28 @@ impl<'p, B: bip_bank::Bank> World<'p, B> {
         ensures err { OnErr result (world_of self.new ≡ world_of self.old) }
         ensures agrees { Agrees (world_of self.new) }
     {
-        let (what, outcome) = self.watch(event)?;
+        let mut what = What::Nothing;
+        let outcome = self.step_before(event, &mut what)?;
         Ok(Did {
             what,
             lost: outcome.lost,
         })
     }
 
-    /// Does one event as `step` does, and says what it did and what it comes to.
-    pub(crate) fn watch(&mut self, event: Event) -> Result<(What, Outcome), AllocError>
-        ensures counted { IfOk result (λ seen. IsCounted (λ what. seen.0 ≡ what)
-            (world_of self.old) event seen.1 (world_of self.new)) }
+    /// Does one event as `step` does, before a witness, and says what it comes to.
+    pub(crate) fn step_before<W: Witness>(
+        &mut self,
+        event: Event,
+        witness: &mut W,
+    ) -> Result<Outcome, AllocError>
+        ensures counted { IfOk result (λ outcome. IsCounted (λ what. W.saw what witness.new)
+            (world_of self.old) event outcome (world_of self.new)) }
         ensures skipped { IfErr result (λ e. CanBeSkipped (world_of self.old) event) }
         ensures full { IfErr result (λ e. IsFullFor self.old event) }
         ensures err { OnErr result (world_of self.new ≡ world_of self.old) }
         ensures agrees { Agrees (world_of self.new) }
     {
-        let mut what = What::Nothing;
-        let outcome = self.machine.step(event, &mut what)?;
-        Ok((what, outcome))
-    }
-
-    /// Does one event as `step` does, and says what it comes to.
-    pub(crate) fn count(&mut self, event: Event) -> Result<Outcome, AllocError>
-        ensures counted { IfOk result (λ outcome. IsCounted (λ what. ⊤) (world_of self.old) event
-            outcome (world_of self.new)) }
-        ensures skipped { IfErr result (λ e. CanBeSkipped (world_of self.old) event) }
-        ensures full { IfErr result (λ e. IsFullFor self.old event) }
-        ensures err { OnErr result (world_of self.new ≡ world_of self.old) }
-    {
-        self.machine.step(event, &mut NoOne)
+        self.machine.step(event, witness)
     }
 
     /// Does nothing, and costs nothing: it reminds the prover of what holds of each world. There is
@@ -127,7 +120,7 @@ impl<'p, B: bip_bank::Bank> World<'p, B> {
     pub fn plan(&self) -> &'p Plan
         ensures { result.now ≡ self.now.plan }
     {
-        self.machine.plan()
+        self.machine.plan
     }
 
     /// The grants, in order. Each is of an interaction and of components of the plan's model.
@@ -138,14 +131,15 @@ impl<'p, B: bip_bank::Bank> World<'p, B> {
         ensures once { MovesOnceEach result.now }
         ensures agrees { Agrees (world_of self.now) }
     {
-        self.machine.trace()
+        self.machine.recall();
+        trace_by(&self.machine.own, self.machine.bank.grants())
     }
 
     /// How many messages are in flight.
     pub fn mails(&self) -> usize
         ensures { result ≡ length self.now.mail }
     {
-        self.machine.mails()
+        self.machine.mail.len()
     }
 
     /// For whom the message at a place among those in flight is, in order of sending from 0, and
@@ -157,14 +151,22 @@ impl<'p, B: bip_bank::Bank> World<'p, B> {
         ensures none { IfNone result (length self.now.mail ≤ place) }
         ensures accepted { All (CanBeHandedOn self.now.plan) self.now.mail }
     {
-        self.machine.mail(place)
+        self.machine.recall();
+        if place >= self.machine.mail.len() {
+            return None;
+        }
+        let letter = self.machine.mail.get(place);
+        Some((letter.to(), letter.frame()))
     }
 
     /// That message, read off its frame.
     pub fn message(&self, place: usize) -> Option<Message>
         ensures { result ≡ slice_get self.now.mail place }
     {
-        self.machine.message(place)
+        if place >= self.machine.mail.len() {
+            return None;
+        }
+        Some(self.machine.mail.get(place).message())
     }
 
     /// The interaction above another for whose sake that one isn't ready in its class, by the
@@ -175,13 +177,16 @@ impl<'p, B: bip_bank::Bank> World<'p, B> {
         ensures above { IsLackingIn (world_of self.now) class.0 inter.0 result }
         ensures none { IsNoneOf (world_of self.now) class.0 inter.0 → result ≡ None }
     {
-        self.machine.lacking_above(class, inter)
+        if class.0 as usize >= self.machine.classes.len() {
+            return None;
+        }
+        self.machine.classes[class.0 as usize].lacking_above(inter)
     }
 
     /// The bank, which no event hands out.
     pub fn bank(&self) -> &B
         ensures { B.kept result.now ≡ self.now.bank }
     {
-        self.machine.bank()
+        &self.machine.bank
     }
 }

@@ -1,7 +1,8 @@
 use Rattle.bip_core.proofs.FirstLemmas.{first_offers_are_sent}
 use Rattle.bip_core.proofs.TakeLemmas.{told_can_be_taken}
 use Rattle.bip_core.proofs.KeepLemmas.{worlds_keep_their_plan}
-use Rattle.bip_core.proofs.RunLemmas.{messages_counted, messages_once, messages_sent, step_trace, steps_grow}
+use Rattle.bip_core.proofs.RunLemmas.{messages_counted, messages_once, messages_sent, step_trace}
+use Rattle.bip_core.proofs.RunLemmas.{steps_grow}
 use Rattle.bip_core.proofs.laws.world_laws.Goals as goal
 
 pub returns-clause-join : goal.returns-clause-join

@@ -8,5 +8,6 @@ pub returns-then-len-eq0 : goal.returns-then-len-eq0
 returns-then-len-eq0 c =
     let groups = c.args.groups.now.items in
     let group = c.index.result.now in
-    let none : get_or groups c.args.piece group ≡ [] = sym c.index.ensures ∙ nil_from_length group (omega arith) in
+    let none : get_or groups c.args.piece group ≡ [] = sym c.index.ensures
+    ∙ nil_from_length group (omega arith) in
     rw c.remove-empty.ensures.items (left_out of_group groups c.args.piece group c.requires none)

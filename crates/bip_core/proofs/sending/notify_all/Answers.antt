@@ -10,5 +10,9 @@ loop-notify-init c = none_put c.args.mail.now
 
 pub loop-notify-preserved : goal.loop-notify-preserved
 loop-notify-preserved c =
-    let one = subst (λ (n : Notify). ArePut (NotifyComponent n ∷ []) c.put_notify-lost.result c.loop-notify.mail c.put_notify-lost.new.mail) c.notify-item.is c.put_notify-lost.ensures in
-    put_one_more (λ (n : Notify). NotifyComponent n) c.args.notifies.now c.loop-notify.notify-index c.notify-item.result c.loop-notify.lost c.put_notify-lost.result c.args.mail.now c.loop-notify.mail c.put_notify-lost.new.mail c.loop-notify-test.true c.loop-notify.invariant one
+    let one = subst (λ (n : Notify). ArePut (NotifyComponent n ∷ []) c.put_notify-lost.result
+    c.loop-notify.mail c.put_notify-lost.new.mail) c.notify-item.is c.put_notify-lost.ensures in
+    put_one_more (λ (n : Notify). NotifyComponent n) c.args.notifies.now c.loop-notify.notify-index
+    c.notify-item.result c.loop-notify.lost c.put_notify-lost.result c.args.mail.now
+    c.loop-notify.mail c.put_notify-lost.new.mail c.loop-notify-test.true
+    c.loop-notify.invariant one

@@ -3,4 +3,5 @@ use Rattle.bip_core.specs.Events.{ArePut, are_notified}
 use Rattle.bip_core.proofs.sending.notify_all.Given as goal
 
 abbrev pub invariant-loop-notify : goal.invariant-loop-notify
-invariant-loop-notify l = ArePut (are_notified (take l.notify-index l.notifies)) l.lost l.initial.mail l.mail
+invariant-loop-notify l = ArePut (are_notified (take l.notify-index l.notifies)) l.lost
+    l.initial.mail l.mail

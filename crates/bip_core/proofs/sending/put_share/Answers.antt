@@ -13,8 +13,10 @@ of-requires c =
 pub returns-in-Ok : goal.returns-in-Ok
 returns-in-Ok c = λ offer frame.
     let same : c.in-Ok.share ≡ c.args.frame.now = search rules in
-    let is = c.of.ensures (OfferTo c.args.class offer) (record { address = refl; frame = rw same frame }) in
-    subst (λ (m : Message). ArePut (m ∷ []) c.put_last.result c.args.mail.now c.put_last.new.mail) is c.put_last.ensures
+    let is = c.of.ensures (OfferTo c.args.class offer)
+    (record { address = refl; frame = rw same frame }) in
+    subst (λ (m : Message). ArePut (m ∷ []) c.put_last.result c.args.mail.now c.put_last.new.mail)
+    is c.put_last.ensures
 
 pub returns-in-Err : goal.returns-in-Err
 returns-in-Err c = λ offer frame. one_missed (OfferTo c.args.class offer) c.args.mail.now

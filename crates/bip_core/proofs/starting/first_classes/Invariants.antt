@@ -5,4 +5,5 @@ use Rattle.bip_core.proofs.StartLemmas.{AreEach}
 use Rattle.bip_core.proofs.starting.first_classes.Given as goal
 
 abbrev pub invariant-loop-number : goal.invariant-loop-number
-invariant-loop-number l = AreEach (λ k node. node_of node ≡ first_node l.plan k l.base first_request) l.number l.nodes.items
+invariant-loop-number l = AreEach (λ k node. node_of node
+    ≡ first_node l.plan k l.base first_request) l.number l.nodes.items

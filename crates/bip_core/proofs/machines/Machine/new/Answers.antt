@@ -20,19 +20,26 @@ invariant_of-result g c = record {
   classes = λ k node read.
       let first = c.in_ok-classes.ensures.first k node read in
       (ap (λ (v : ClassNode). v.offers.plan) first, ap (λ (v : ClassNode). v.offers.class) first);
-  fits = λ k node read. subst (KeepsWhatFits c.args.plan.now) (sym (c.in_ok-classes.ensures.first k node read)) (first_keeps c.args.plan.now k c.args.base);
+  fits = λ k node read. subst (KeepsWhatFits c.args.plan.now)
+      (sym (c.in_ok-classes.ensures.first k node read)) (first_keeps c.args.plan.now k c.args.base);
   bank = c.requires.unasked.plan;
   mail = c.in_ok-mail.ensures.accepted;
-  waiting = λ a. rw (ap (λ (f : ℕ → List Request). f a) c.requires.unasked.waiting) (All-nil (IsNumberedRequest c.args.plan.now));
-  grants = rw (no_trace c.new.result.items _ c.new.ensures.items c.requires.unasked.grants) (All-nil (IsKnownGrant c.args.plan.now.model));
+  waiting = λ a. rw (ap (λ (f : ℕ → List Request). f a) c.requires.unasked.waiting)
+      (All-nil (IsNumberedRequest c.args.plan.now));
+  grants = rw (no_trace c.new.result.items _ c.new.ensures.items c.requires.unasked.grants)
+      (All-nil (IsKnownGrant c.args.plan.now.model));
 }
 
 pub returns-clause-new : goal.returns-clause-new
 returns-clause-new g c = record {
   plan = refl;
-  components = λ k. component_at c.args.plan.now c.args.base c.in_ok-components.components.items k c.in_ok-components.ensures;
-  classes = λ k. class_at c.args.plan.now c.args.base c.in_ok-classes.classes.items k c.in_ok-classes.ensures;
+  components = λ k. component_at c.args.plan.now c.args.base c.in_ok-components.components.items k
+      c.in_ok-components.ensures;
+  classes = λ k. class_at c.args.plan.now c.args.base c.in_ok-classes.classes.items k
+      c.in_ok-classes.ensures;
   mail = rw (← c.deref.ensures.value) c.in_ok-mail.ensures.offers;
   trace = no_trace c.new.result.items _ c.new.ensures.items c.requires.unasked.grants;
-  bank = unasked_content c.args.plan.now c.args.base (content_of (g.B.Bank.kept c.args.bank)) c.requires.unasked (c.recall_unused.ensures c.requires.unasked.grants);
+  bank = unasked_content c.args.plan.now c.args.base
+      (content_of (g.B.Bank.kept c.args.bank)) c.requires.unasked
+      (c.recall_unused.ensures c.requires.unasked.grants);
 }

@@ -10,15 +10,26 @@ invariant_of-self-2 c =
     let groups = c.ready_last_group.new.groups.items in
     let last = c.len-last.result - 1 in
     let is_last : last + 1 ≡ length groups = search rules in
-    let more = c.in_ok-push.ensures.ok ∙ ap (λ (u : List Message). u ++ c.args.message ∷ []) c.index_mut.ensures.value in
-    let whole = put_in of_group groups last c.push.new.self c.index_mut.result.now c.args.message is_last more ∙ ap (λ (ms : List Message). ms ++ c.args.message ∷ []) c.ready_last_group.ensures.same in
-    let counted : c.self.inside.count ≡ length (in_groups c.self.inside.groups.items) = c.self.invariant in
-    rw whole (omega (arith, length-append (in_groups c.self.inside.groups.items) (c.args.message ∷ [])))
+    let more = c.in_ok-push.ensures.ok ∙ ap (λ (u : List Message). u ++ c.args.message ∷ [])
+    c.index_mut.ensures.value in
+    let whole = put_in of_group groups last c.push.new.self c.index_mut.result.now c.args.message
+    is_last more ∙ ap (λ (ms : List Message). ms ++ c.args.message ∷ [])
+    c.ready_last_group.ensures.same in
+    let counted : c.self.inside.count ≡ length (in_groups c.self.inside.groups.items) =
+    c.self.invariant in
+    rw whole (omega (
+      arith,
+      length-append (in_groups c.self.inside.groups.items) (c.args.message
+          ∷ []),
+    ))
 
 pub returns-clause-ok : goal.returns-clause-ok
 returns-clause-ok c =
     let groups = c.ready_last_group.new.groups.items in
     let last = c.len-last.result - 1 in
     let is_last : last + 1 ≡ length groups = search rules in
-    let more = c.in_ok-push.ensures.ok ∙ ap (λ (u : List Message). u ++ c.args.message ∷ []) c.index_mut.ensures.value in
-    put_in of_group groups last c.push.new.self c.index_mut.result.now c.args.message is_last more ∙ ap (λ (ms : List Message). ms ++ c.args.message ∷ []) (c.ready_last_group.ensures.same ∙ c.self.view_is)
+    let more = c.in_ok-push.ensures.ok ∙ ap (λ (u : List Message). u ++ c.args.message ∷ [])
+    c.index_mut.ensures.value in
+    put_in of_group groups last c.push.new.self c.index_mut.result.now c.args.message is_last more
+    ∙ ap (λ (ms : List Message). ms ++ c.args.message ∷ [])
+    (c.ready_last_group.ensures.same ∙ c.self.view_is)
