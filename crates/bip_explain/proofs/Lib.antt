@@ -11,6 +11,7 @@ pub mod SaidLemmas
 pub mod SayLemmas
 pub mod ScopeLemmas
 pub mod TakenLemmas
+pub mod TakenLineLemmas
 pub mod TraceLemmas
 pub mod TwiceLemmas
 pub mod UnknownLemmas

@@ -9,5 +9,6 @@ Declares text name n = IsInnerLine text n name
 
 abbrev pub invariant-loop-number : goal.invariant-loop-number
 invariant-loop-number l =
-    (m : ℕ) × IsAtLine l.text m l.number-iterator × IfSome l.found (IsFound (Declares l.text l.name) l.text l.line m)
+    (m : ℕ) × IsAtLine l.text m l.number-iterator
+    × IfSome l.found (IsFound (Declares l.text l.name) l.text l.line m)
     × IfNone l.found (AreOver (Declares l.text l.name) l.text l.line m)

@@ -5,7 +5,8 @@ use Rattle.bip_model.specs.Texts.{line_at}
 use Rattle.bip_explain.specs.Placed.{said_words}
 use Rattle.bip_explain.proofs.LineLemmas.{at_end, at_first, at_next, line_zero}
 use Rattle.bip_explain.proofs.declarations.later_line_with.Goals as goal
-use Rattle.bip_explain.proofs.declarations.later_line_with.Goals.{else-line-number-via-then-line-number+else-begins_with, else-line-number-via-else-line-number}
+use Rattle.bip_explain.proofs.declarations.later_line_with.Goals.{else-line-number-via-then-line-number+else-begins_with}
+use Rattle.bip_explain.proofs.declarations.later_line_with.Goals.{else-line-number-via-else-line-number}
 
 pub loop-number-init : goal.loop-number-init
 loop-number-init c = (
@@ -21,8 +22,10 @@ loop-number-preserved c =
       m + 1,
       next.later,
       below_more _ _ c.loop-number.invariant.2 (λ above. elim c.else-line-number.branch [
-        | else-line-number-via-then-line-number+else-begins_with w ↦ rw (← next.number) (rw next.line_is (search rules))
-        | else-line-number-via-else-line-number w ↦ absurd (omega (arith, w.if-line-number.false, next.number))
+        | else-line-number-via-then-line-number+else-begins_with w ↦
+            rw (← next.number) (rw next.line_is (search rules))
+        | else-line-number-via-else-line-number w ↦
+            absurd (omega (arith, w.if-line-number.false, next.number))
       ]),
     )
 
@@ -34,5 +37,7 @@ returns-then-begins_with c =
 pub returns : goal.returns
 returns c =
     let none = at_end _ _ _ c.loop-number.invariant.1 c.in-None.ensures.steps.0 in
-    λ n h. elim (cases_lt n c.loop-number.invariant.0) as (λ _. begins_with c.args.keyword.now c.args.name.now (said_words (line_at c.args.text.now n)) ≡ false)
+    λ n h. elim (cases_lt n c.loop-number.invariant.0) as
+    (λ _. begins_with c.args.keyword.now c.args.name.now
+    (said_words (line_at c.args.text.now n)) ≡ false)
     [ inl less ↦ c.loop-number.invariant.2 n less h | inr more ↦ rw (none n more) refl ]

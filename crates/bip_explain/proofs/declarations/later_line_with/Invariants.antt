@@ -8,4 +8,5 @@ use Rattle.bip_explain.proofs.declarations.later_line_with.Given as goal
 abbrev pub invariant-loop-number : goal.invariant-loop-number
 invariant-loop-number l =
     (m : ℕ) × IsAtLine l.text m l.number-iterator
-    × ((n : ℕ) → n < m → l.line < n → begins_with l.keyword l.name (said_words (line_at l.text n)) ≡ false)
+    × ((n : ℕ) → n < m → l.line < n → begins_with l.keyword l.name (said_words (line_at l.text n))
+    ≡ false)

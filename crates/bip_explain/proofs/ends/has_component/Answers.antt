@@ -25,11 +25,16 @@ returns-then-begins_component-clause-some c =
 
 pub loop-number-preserved : goal.loop-number-preserved
 loop-number-preserved c =
-    let next = at_next _ _ _ _ _ _ c.loop-number.invariant.1 c.in-Some.ensures.steps in
-    (c.loop-number.invariant.0 + 1, next.later, below_more _ _ c.loop-number.invariant.2 (rw (← next.number) (rw next.line_is (search rules))))
+    let next = at_next _ _ _ _ _ _ c.loop-number.invariant.1 c.in-Some.ensures.steps in (
+      c.loop-number.invariant.0 + 1,
+      next.later,
+      below_more _ _ c.loop-number.invariant.2
+          (rw (← next.number) (rw next.line_is (search rules))),
+    )
 
 pub returns-clause-none : goal.returns-clause-none
 returns-clause-none c =
     let none = at_end _ _ _ c.loop-number.invariant.1 c.in-None.ensures.steps.0 in
-    λ _ n h. elim (cases_lt n c.loop-number.invariant.0) as (λ _. begins_component (said_words (line_at c.args.text.now n)) ≡ false)
+    λ _ n h. elim (cases_lt n c.loop-number.invariant.0) as
+    (λ _. begins_component (said_words (line_at c.args.text.now n)) ≡ false)
     [ inl less ↦ c.loop-number.invariant.2 n less | inr more ↦ rw (none n more) refl ]

@@ -19,7 +19,9 @@ loop-before-preserved c =
     let t = c.in-Some-before in
     record {
       line = t.ensures.steps.0 ∙ l.invariant.line;
-      left = left_more AreTwo AreTwo c.args.line.now t.before.word.now (words l.before-iterator.rest.now) (words c.next.new.self.rest.now) (two_more t.before.word.now) l.invariant.left t.ensures.steps.1.0;
+      left = left_more AreTwo AreTwo c.args.line.now t.before.word.now
+          (words l.before-iterator.rest.now) (words c.next.new.self.rest.now)
+          (two_more t.before.word.now) l.invariant.left t.ensures.steps.1.0;
     }
 
 pub returns-then-is_text : goal.returns-then-is_text
@@ -27,5 +29,10 @@ returns-then-is_text c = λ _.
     let l = c.loop-before in
     let t = c.in-Some-before in
     let step = rw l.invariant.line at t.ensures.steps.1 in
-    let two = left_there AreTwo c.args.line.now t.before c.next.new.self.rest.now (words l.before-iterator.rest.now) l.invariant.left step.0 step.1 step.2 in
-    (t.before.column, c.if-member-before.false, same_member c.args.line.now c.args.member.word.now t.before.column t.before.word.now (step.1, two) (sym c.is_text.ensures ∙ c.if-is_text.true))
+    let two = left_there AreTwo c.args.line.now t.before c.next.new.self.rest.now
+    (words l.before-iterator.rest.now) l.invariant.left step.0 step.1 step.2 in (
+      t.before.column,
+      c.if-member-before.false,
+      same_member c.args.line.now c.args.member.word.now t.before.column t.before.word.now
+          (step.1, two) (sym c.is_text.ensures ∙ c.if-is_text.true),
+    )

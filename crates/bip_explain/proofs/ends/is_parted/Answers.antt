@@ -11,5 +11,9 @@ loop-number-init c = (
 
 pub loop-number-preserved : goal.loop-number-preserved
 loop-number-preserved c =
-    let next = at_next _ _ _ _ _ _ c.loop-number.invariant.1 c.in-Some.ensures.steps in
-    (c.loop-number.invariant.0 + 1, next.later, below_more _ _ c.loop-number.invariant.2 (rw (← next.number) (rw next.line_is (search rules))))
+    let next = at_next _ _ _ _ _ _ c.loop-number.invariant.1 c.in-Some.ensures.steps in (
+      c.loop-number.invariant.0 + 1,
+      next.later,
+      below_more _ _ c.loop-number.invariant.2
+          (rw (← next.number) (rw next.line_is (search rules))),
+    )

@@ -18,7 +18,9 @@ loop-member-preserved c =
     let word = c.in-Some.member.word.now in
     record {
       line = c.in-Some.ensures.steps.0 ∙ l.invariant.line;
-      left = left_more AreTwo AreTwo c.args.line.now word (words l.member-iterator.rest.now) (words c.next.new.self.rest.now) (two_more word) l.invariant.left c.in-Some.ensures.steps.1.0;
+      left = left_more AreTwo AreTwo c.args.line.now word (words l.member-iterator.rest.now)
+          (words c.next.new.self.rest.now) (two_more word) l.invariant.left
+          c.in-Some.ensures.steps.1.0;
     }
 
 pub loop-member-preserved-then-is_text : goal.loop-member-preserved-then-is_text
@@ -27,11 +29,16 @@ loop-member-preserved-then-is_text c =
     let word = c.in-Some.member.word.now in
     record {
       line = c.in-Some.ensures.steps.0 ∙ l.invariant.line;
-      left = left_more AreTwo AreTwo c.args.line.now word (words l.member-iterator.rest.now) (words c.next.new.self.rest.now) (two_more word) l.invariant.left c.in-Some.ensures.steps.1.0;
+      left = left_more AreTwo AreTwo c.args.line.now word (words l.member-iterator.rest.now)
+          (words c.next.new.self.rest.now) (two_more word) l.invariant.left
+          c.in-Some.ensures.steps.1.0;
     }
 
 pub returns-then-is_seen : goal.returns-then-is_seen
 returns-then-is_seen c =
     let l = c.loop-member in
-    let step = rw l.invariant.line at c.in-Some.ensures.steps.1 in
-    (step.1, left_there AreTwo c.args.line.now c.in-Some.member c.next.new.self.rest.now (words l.member-iterator.rest.now) l.invariant.left step.0 step.1 step.2)
+    let step = rw l.invariant.line at c.in-Some.ensures.steps.1 in (
+      step.1,
+      left_there AreTwo c.args.line.now c.in-Some.member c.next.new.self.rest.now (words
+          l.member-iterator.rest.now) l.invariant.left step.0 step.1 step.2,
+    )

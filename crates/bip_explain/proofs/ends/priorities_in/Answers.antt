@@ -10,7 +10,9 @@ loop-number-preserved-in-Continue-1 c =
     let next = at_next _ _ _ _ _ _ l.invariant.at.1 c.in-Some.ensures.steps in
     record {
       at = (l.invariant.at.0 + 1, next.later);
-      all = rw c.in_ok-push.ensures.items (All-push (IsSaidIn c.args.text.now) l.said.items c.in-Some-priority_on.priority l.invariant.all (c.in-Some._number, rw next.line_is c.in-Some-priority_on.ensures));
+      all = rw c.in_ok-push.ensures.items (All-push
+          (IsSaidIn c.args.text.now) l.said.items c.in-Some-priority_on.priority l.invariant.all
+          (c.in-Some._number, rw next.line_is c.in-Some-priority_on.ensures));
     }
 
 pub loop-number-preserved : goal.loop-number-preserved

@@ -14,13 +14,16 @@ returns-then-not-relates-clause-some c =
       front = take i xs;
       comparison = x;
       behind = drop (suc i) xs;
-      split = sym (parted xs i x c.loop-place-test.true) ∙ ap (λ (y : Comparison Variable). take i xs ++ y ∷ drop (suc i) xs) (sym c.index-guard-place.is);
+      split = sym (parted xs i x c.loop-place-test.true)
+          ∙ ap (λ (y : Comparison Variable). take i xs ++ y ∷ drop (suc i) xs)
+          (sym c.index-guard-place.is);
       numbered = omega (arith, length-take-le i xs (omega arith));
       before = c.loop-place.invariant;
       here = record {
         left = c.eval-left.ensures;
         relation = refl;
         right = c.eval-right.ensures;
-        fails = rw (← c.eval-left.ensures, ← c.eval-right.ensures) (sym c.relates.ensures ∙ c.if-not-relates.true);
+        fails = rw (← c.eval-left.ensures, ← c.eval-right.ensures)
+            (sym c.relates.ensures ∙ c.if-not-relates.true);
       };
     }

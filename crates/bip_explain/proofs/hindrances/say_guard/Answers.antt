@@ -11,5 +11,8 @@ pub returns : goal.returns
 returns c =
     let m = c.args.model.now in
     let failed = failed_parts c.args.failed in
-    then_said (codes "each port is offered, and the guard doesn't hold" ∷ failed) (places_parts m (state_of c.args.state.now) (codes "; ") (participants_of m c.args.inter.0)) c.args.explanation.now c.say-2.new.explanation c.say_places.new.explanation
-    (c.say-2.ensures ∙ ap (λ (e : Telling). with_parts failed e) c.say.ensures) (rw c.participants_of.ensures at c.say_places.ensures)
+    then_said (codes "each port is offered, and the guard doesn't hold" ∷ failed)
+    (places_parts m (state_of c.args.state.now) (codes "; ") (participants_of m c.args.inter.0))
+    c.args.explanation.now c.say-2.new.explanation c.say_places.new.explanation
+    (c.say-2.ensures ∙ ap (λ (e : Telling). with_parts failed e) c.say.ensures)
+    (rw c.participants_of.ensures at c.say_places.ensures)

@@ -11,7 +11,11 @@ loop-comp-preserved c =
     let i = c.loop-comp.comp-index in
     let d : Participant = (record { 0 = 0 }, record { 0 = 0 }) in
     let s = state_of c.args.state.now in
-    rw (take_more qs i d c.loop-comp-test.true, map-append (values_at s) (take i qs) (get_or qs i d ∷ []))
+    rw (
+      take_more qs i d c.loop-comp-test.true,
+      map-append (values_at s) (take i qs) (get_or qs i d ∷ []),
+    )
     (c.push.ensures.items
     ∙ (ap (λ (vs : List (List ℕ)). vs ++ c.values_at.result ∷ []) c.loop-comp.invariant
-    ∙ ap (λ (v : List ℕ). map (values_at s) (take i qs) ++ v ∷ []) (c.values_at.ensures (get_or qs i d).1)))
+    ∙ ap (λ (v : List ℕ). map (values_at s) (take i qs) ++ v ∷ [])
+    (c.values_at.ensures (get_or qs i d).1)))

@@ -6,4 +6,6 @@ use Rattle.bip_explain.proofs.hints.say_signed.Goals as goal
 pub returns : goal.returns
 returns c =
     c.say-2.ensures
-    ∙ ap (λ (e : Telling). with_part (codes ", modulo 4294967296") e) (c.say_word.ensures ∙ ap (λ (e : Telling). with_part (marked c.args.term.now) e) c.say.ensures)
+    ∙ ap (λ (e : Telling). with_part (codes ", modulo 4294967296") e)
+    (c.say_word.ensures ∙ ap (λ (e : Telling). with_part (marked c.args.term.now) e)
+    c.say.ensures)

@@ -7,4 +7,5 @@ find_list-requires c =
     rw k.ensures.line (words_from_said c.line_at.result.now k.keyword.word.now _ k.ensures.words)
 
 pub returns-in-Some-clause-some : goal.returns-in-Some-clause-some
-returns-in-Some-clause-some c = rw (c.in_ok-keyword.ensures.line, c.line_at.ensures) at (c.in-Some.ensures.some c.args.text.now c.args.number)
+returns-in-Some-clause-some c = rw (c.in_ok-keyword.ensures.line, c.line_at.ensures) at
+    (c.in-Some.ensures.some c.args.text.now c.args.number)

@@ -10,6 +10,9 @@ abbrev pub invariant-loop-placed : goal.invariant-loop-placed
 invariant-loop-placed l = record {
   line : l.placed-iterator.line.now ≡ l.fn.left.line.now;
   within : AreFewYet l.counted;
-  counted : (front : List (List ℕ)) → IsBehind front l.fn.left.line.now l.fn.left.rest.now → list_any begins_list front ≡ false → AreCounted l.fn.left.line.now l.counted (words l.placed-iterator.rest.now);
-  short : AreShort l.counted (words l.placed-iterator.rest.now) → AreShort none_counted (words l.fn.left.rest.now);
+  counted : (front : List (List ℕ)) → IsBehind front l.fn.left.line.now l.fn.left.rest.now
+      → list_any begins_list front ≡ false → AreCounted l.fn.left.line.now l.counted
+      (words l.placed-iterator.rest.now);
+  short : AreShort l.counted (words l.placed-iterator.rest.now)
+      → AreShort none_counted (words l.fn.left.rest.now);
 }

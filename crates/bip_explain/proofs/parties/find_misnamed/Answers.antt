@@ -8,7 +8,9 @@ returns-then-not-is_right-clause-some c =
     let named = c.named_by-named in (
       record {
         known = omega (arith, c.loop-number-test.true, ap length c.components.ensures.components);
-        wrong = wrong_from_test m c.args.inter.0 c.loop-number.number c.args.wants.now named.result named.ensures (rw (← c.is_moving.ensures, ← c.is_seeing.ensures) (sym c.is_right.ensures ∙ c.if-not-is_right.true));
+        wrong = wrong_from_test m c.args.inter.0 c.loop-number.number c.args.wants.now named.result
+            named.ensures (rw (← c.is_moving.ensures, ← c.is_seeing.ensures)
+            (sym c.is_right.ensures ∙ c.if-not-is_right.true));
         lower = c.loop-number.invariant;
       },
       named.ensures,
@@ -19,4 +21,6 @@ loop-number-preserved c =
     let m = c.args.model.now in
     let named = c.named_by-named in
     below_more _ _ c.loop-number.invariant
-    (right_from_test m c.args.inter.0 c.loop-number.number c.args.wants.now named.result named.ensures (rw (← c.is_moving.ensures, ← c.is_seeing.ensures) (sym c.is_right.ensures ∙ c.if-not-is_right.false)))
+    (right_from_test m c.args.inter.0 c.loop-number.number c.args.wants.now named.result
+    named.ensures (rw (← c.is_moving.ensures, ← c.is_seeing.ensures)
+    (sym c.is_right.ensures ∙ c.if-not-is_right.false)))

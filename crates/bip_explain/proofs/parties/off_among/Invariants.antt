@@ -4,4 +4,5 @@ use Rattle.bip_explain.specs.Parties.{off_among}
 use Rattle.bip_explain.proofs.parties.off_among.Given as goal
 
 abbrev pub invariant-loop-comp : goal.invariant-loop-comp
-invariant-loop-comp l = l.off.items ≡ off_among l.model (state_of l.state) (take l.comp-index l.participants)
+invariant-loop-comp l = l.off.items ≡ off_among l.model (state_of l.state)
+    (take l.comp-index l.participants)

@@ -9,6 +9,8 @@ returns-in_ok-first-in-Words-clause-first c =
     let line = c.args.line.now in
     let first = c.in_ok-first-in-Words.first in
     let new = c.next.new.self.rest.now in
-    let step : TakesWord line line (Some first) new = rw (c.of-words.ensures.line, c.of-words.ensures.rest) at c.in_ok-first-in-Words.ensures.steps.1 in
+    let step : TakesWord line line (Some first) new =
+    rw (c.of-words.ensures.line, c.of-words.ensures.rest) at
+    c.in_ok-first-in-Words.ensures.steps.1 in
     let says : said_words line ≡ first.word.now ∷ words new = search rules in
     first_on line new first (words new) step says

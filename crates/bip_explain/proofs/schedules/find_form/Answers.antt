@@ -9,7 +9,9 @@ returns-in_ok-find_word-in-Some-behind_verb-clause-some c = λ plan.
         verb,
         c.in-Some-behind_verb.start,
         sym c.behind_verb.ensures ∙ c.in-Some-behind_verb.is,
-        rw c.in-Some.ensures.line at (c.in_ok-find_word-in-Some-behind_verb.ensures.some (verb ∷ []) (rw c.in-Some.ensures.line (words_from_said c.args.line.now verb _ c.in-Some.ensures.words))),
+        rw c.in-Some.ensures.line at (c.in_ok-find_word-in-Some-behind_verb.ensures.some (verb ∷ [])
+            (rw c.in-Some.ensures.line (words_from_said c.args.line.now verb _
+            c.in-Some.ensures.words))),
       ),
       refl,
     )

@@ -9,10 +9,12 @@ pub returns-in-Memory-clause-told : goal.returns-in-Memory-clause-told
 returns-in-Memory-clause-told c = rw c.in-Memory.is (λ told. c.say-in-Memory.ensures)
 
 pub returns-in-NotEnabled-clause-told : goal.returns-in-NotEnabled-clause-told
-returns-in-NotEnabled-clause-told c = rw c.in-NotEnabled.is (rw c.in-NotEnabled.is at (c.explain_hindered.ensures c.args.base))
+returns-in-NotEnabled-clause-told c = rw c.in-NotEnabled.is
+    (rw c.in-NotEnabled.is at (c.explain_hindered.ensures c.args.base))
 
 pub returns-in-Below-clause-told : goal.returns-in-Below-clause-told
-returns-in-Below-clause-told c = rw c.in-Below.is (rw c.in-Below.is at (c.explain_hindered-in-Below.ensures c.args.base))
+returns-in-Below-clause-told c = rw c.in-Below.is
+    (rw c.in-Below.is at (c.explain_hindered-in-Below.ensures c.args.base))
 
 pub returns-in-Number-clause-told : goal.returns-in-Number-clause-told
 returns-in-Number-clause-told c =
@@ -20,10 +22,14 @@ returns-in-Number-clause-told c =
     let line = line_at c.args.text.now c.args.number in
     let n = c.in-Number in
     let told = counted model c.args.base c.args.text.now c.args.number n.comp n.expected in
-    rw n.is (tells ⊥ (λ wrong. IsWrongNumber model line n.comp n.expected wrong × IsCountOf model c.args.base c.args.text.now c.args.number n.comp n.expected) (number_parts model c.args.base) c.args.explanation.now c.say.new.explanation
+    rw n.is (tells ⊥ (λ wrong. IsWrongNumber model line n.comp n.expected wrong
+    × IsCountOf model c.args.base c.args.text.now c.args.number n.comp n.expected)
+    (number_parts model c.args.base) c.args.explanation.now c.say.new.explanation
     (record { placed = c.want_on.result; comp = n.comp; expected = n.expected })
-    (sym c.is_open.ensures ∙ c.if-not-is_open.false)
-    (record { placed = rw c.line_at.ensures at c.want_on.ensures; comp = refl; expected = refl }, told)
+    (sym c.is_open.ensures ∙ c.if-not-is_open.false) (
+      record { placed = rw c.line_at.ensures at c.want_on.ensures; comp = refl; expected = refl },
+      told,
+    )
     c.say.ensures)
 
 pub returns-in-Parties-clause-told : goal.returns-in-Parties-clause-told

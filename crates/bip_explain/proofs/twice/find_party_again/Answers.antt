@@ -17,12 +17,17 @@ loop-placed-preserved c =
     let word = c.in-Some.placed.word.now in
     record {
       line = c.in-Some.ensures.steps.0 ∙ l.invariant.line;
-      left = left_more (HeadSo true) (HeadSo true) c.args.words.line.now word (words l.placed-iterator.rest.now) (words c.next.new.self.rest.now) (head_word true word (sym c.begins_list.ensures ∙ c.if-begins_list.false)) l.invariant.left c.in-Some.ensures.steps.1.0;
+      left = left_more (HeadSo true) (HeadSo true) c.args.words.line.now word
+          (words l.placed-iterator.rest.now) (words c.next.new.self.rest.now)
+          (head_word true word (sym c.begins_list.ensures ∙ c.if-begins_list.false))
+          l.invariant.left c.in-Some.ensures.steps.1.0;
     }
 
 pub returns-then-is_party_again-clause-is : goal.returns-then-is_party_again-clause-is
 returns-then-is_party_again-clause-is c = λ text number.
     let l = c.loop-placed in
     let step = rw l.invariant.line at c.in-Some.ensures.steps.1 in
-    let head = left_there (HeadSo true) c.args.words.line.now c.in-Some.placed c.next.new.self.rest.now (words l.placed-iterator.rest.now) l.invariant.left step.0 step.1 step.2 in
+    let head = left_there (HeadSo true) c.args.words.line.now c.in-Some.placed
+    c.next.new.self.rest.now (words l.placed-iterator.rest.now) l.invariant.left step.0 step.1
+    step.2 in
     (step.1, head.so, c.is_party_again.ensures c.if-is_party_again.true)

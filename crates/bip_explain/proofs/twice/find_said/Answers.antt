@@ -26,11 +26,20 @@ returns-then-say_same-clause-is c =
 
 pub loop-other-preserved : goal.loop-other-preserved
 loop-other-preserved c =
-    let next = at_next _ _ _ _ _ _ c.loop-other.invariant.1 c.in-Some.ensures.steps in
-    (c.loop-other.invariant.0 + 1, next.later, below_more _ _ c.loop-other.invariant.2 (rw (← next.number) (rw next.line_is (search rules))))
+    let next = at_next _ _ _ _ _ _ c.loop-other.invariant.1 c.in-Some.ensures.steps in (
+      c.loop-other.invariant.0 + 1,
+      next.later,
+      below_more _ _ c.loop-other.invariant.2
+          (rw (← next.number) (rw next.line_is (search rules))),
+    )
 
 pub returns-clause-none : goal.returns-clause-none
 returns-clause-none c =
     let none = at_end _ _ _ c.loop-other.invariant.1 c.in-None.ensures.steps.0 in
-    λ n h. elim (cases_lt n c.loop-other.invariant.0) as (λ _. say_same (said_words c.args.line.now) (said_words (line_at c.args.text.now n)) ≡ false)
-    [ inl less ↦ c.loop-other.invariant.2 n less | inr more ↦ rw (none n more) (nothing_same (said_words c.args.line.now)) ]
+    λ n h. elim (cases_lt n c.loop-other.invariant.0) as
+    (λ _. say_same (said_words c.args.line.now) (said_words (line_at c.args.text.now n))
+    ≡ false) [
+      | inl less ↦ c.loop-other.invariant.2 n less
+      | inr more ↦
+          rw (none n more) (nothing_same (said_words c.args.line.now))
+    ]

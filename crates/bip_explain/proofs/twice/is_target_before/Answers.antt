@@ -7,8 +7,14 @@ returns-then-is_text-2 c = λ _.
     let l = c.loop-placed in
     let other = c.in-Some-before.other in
     let before = rw c.in-Some-before.is at l.invariant.before in
-    let at = is_target c.args.line.now l.placed-iterator.rest.now c.in-Some.placed.word.now c.next.new.self.rest.now other before c.in-Some.ensures.steps.1.0 (sym c.is_text.ensures ∙ c.if-is_text.true) in
-    (other.column, c.if-other-target.true, same_target c.args.line.now c.args.target.word.now other.column other.word.now at (sym c.is_text-then-other-target.ensures ∙ c.if-is_text-2.true))
+    let at = is_target c.args.line.now l.placed-iterator.rest.now c.in-Some.placed.word.now
+    c.next.new.self.rest.now other before c.in-Some.ensures.steps.1.0
+    (sym c.is_text.ensures ∙ c.if-is_text.true) in (
+      other.column,
+      c.if-other-target.true,
+      same_target c.args.line.now c.args.target.word.now other.column other.word.now at
+          (sym c.is_text-then-other-target.ensures ∙ c.if-is_text-2.true),
+    )
 
 pub loop-placed-preserved : goal.loop-placed-preserved
 loop-placed-preserved c =

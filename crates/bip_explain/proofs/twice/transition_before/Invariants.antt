@@ -12,5 +12,6 @@ LeavesSame text line n = IsTrue (leave_same (said_words line) (said_words (line_
 
 abbrev pub invariant-loop-other : goal.invariant-loop-other
 invariant-loop-other l =
-    (m : ℕ) × IsAtLine l.text m l.other-iterator × IfSome l.found (IsFound (LeavesSame l.text l.line) l.text l.number m)
+    (m : ℕ) × IsAtLine l.text m l.other-iterator
+    × IfSome l.found (IsFound (LeavesSame l.text l.line) l.text l.number m)
     × IfNone l.found (AreOver (LeavesSame l.text l.line) l.text l.number m)

@@ -17,13 +17,22 @@ loop-placed-preserved c =
     let word = c.in-Some.placed.word.now in
     record {
       line = c.in-Some.ensures.steps.0 ∙ l.invariant.line;
-      left = left_more (IsPlaceOf l.place) (IsPlaceOf c.next_place-place.result) c.args.words.line.now word (words l.placed-iterator.rest.now) (words c.next.new.self.rest.now) (place_more word l.place c.next_place-place.result c.next_place-place.ensures) l.invariant.left c.in-Some.ensures.steps.1.0;
+      left = left_more (IsPlaceOf l.place) (IsPlaceOf c.next_place-place.result)
+          c.args.words.line.now word (words l.placed-iterator.rest.now)
+          (words c.next.new.self.rest.now) (place_more word l.place c.next_place-place.result
+          c.next_place-place.ensures) l.invariant.left c.in-Some.ensures.steps.1.0;
     }
 
 pub returns-in-Some-lack_of : goal.returns-in-Some-lack_of
 returns-in-Some-lack_of c =
     let l = c.loop-placed in
     let step = rw l.invariant.line at c.in-Some.ensures.steps.1 in
-    let place = left_there (IsPlaceOf l.place) c.args.words.line.now c.in-Some.placed c.next.new.self.rest.now (words l.placed-iterator.rest.now) l.invariant.left step.0 step.1 step.2 in
-    let found = c.in-Some-lack_of.ensures in
-    (step.1, found.kind ∙ (c.kind_at-kind.ensures ∙ kind_of_place l.place step.1.front place), inl (search rules), found.lacks)
+    let place = left_there (IsPlaceOf l.place) c.args.words.line.now c.in-Some.placed
+    c.next.new.self.rest.now (words l.placed-iterator.rest.now) l.invariant.left step.0 step.1
+    step.2 in
+    let found = c.in-Some-lack_of.ensures in (
+      step.1,
+      found.kind ∙ (c.kind_at-kind.ensures ∙ kind_of_place l.place step.1.front place),
+      inl (search rules),
+      found.lacks,
+    )

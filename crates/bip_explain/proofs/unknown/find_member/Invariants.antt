@@ -8,6 +8,7 @@ use Rattle.bip_explain.proofs.unknown.find_member.Given as goal
 abbrev pub invariant-loop-placed : goal.invariant-loop-placed
 invariant-loop-placed l = record {
   line : l.placed-iterator.line.now ≡ l.fn.left.line.now;
-  known : AreDeclared l.text l.number (words l.placed-iterator.rest.now) → AreDeclared l.text l.number (words l.fn.left.rest.now);
+  known : AreDeclared l.text l.number (words l.placed-iterator.rest.now)
+      → AreDeclared l.text l.number (words l.fn.left.rest.now);
   left : IsLeft NameInteractions l.fn.left.line.now (words l.placed-iterator.rest.now);
 }

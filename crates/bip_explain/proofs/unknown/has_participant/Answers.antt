@@ -8,4 +8,7 @@ pub returns : goal.returns
 returns c =
     let ws = words c.args.line.now in
     let head = ap (λ (us : List (List ℕ)). has_participant c.args.component.now us) in
-    c.is_in_head.ensures ∙ head (c.behind_first-2.ensures.rest ∙ (ap (λ (us : List (List ℕ)). drop 1 us) (c.behind_first.ensures.rest ∙ ap (λ (l : List ℕ). drop 1 (words l)) c.of.ensures.rest) ∙ drop_two ws))
+    c.is_in_head.ensures ∙ head (c.behind_first-2.ensures.rest
+    ∙ (ap (λ (us : List (List ℕ)). drop 1 us)
+    (c.behind_first.ensures.rest ∙ ap (λ (l : List ℕ). drop 1 (words l)) c.of.ensures.rest)
+    ∙ drop_two ws))
