@@ -4,7 +4,7 @@ use Rattle.std.proofs.Math.Nat.{div-mul-le_self, eq-or-lt_of_le, mod-eq-sub-div-
 use Rattle.bip_partition.specs.Plans.{Planned}
 use Rattle.bipr.specs.Ahead.{AreAhead, AreExploredBehind, IsAhead, IsExplored}
 use Rattle.bipr.specs.declared.ahead.Ahead.{Ahead}
-use Rattle.bipr.specs.declared.command_line.ExploreArguments.{ExploreArguments}
+use Rattle.bipr.specs.declared.commands.explore.ExploreArguments.{ExploreArguments}
 
 -- where nothing is, each is
 pub none_ahead : (p : Planned) (asked : ExploreArguments) (ahead : Ahead) → length ahead.explored.items ≡ 0 → 0 < ahead.size → ahead.from ≡ 0 → AreAhead p asked ahead

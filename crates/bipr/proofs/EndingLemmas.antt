@@ -5,10 +5,10 @@ use Rattle.bipr.specs.Endings.{AllOutcomes, AllOutcomesTelling, Ends, EndsExplai
 use Rattle.bipr.specs.Streams.{Put, Puts, none_put, nothing}
 use Rattle.bipr.specs.declared.answers.Status.{Status}
 use Rattle.bipr.specs.declared.answers.Status.TheVariants.{Done, Refused, BadCommandLine, NoMemory, NoThread, NotARun}
-use Rattle.bipr.specs.Stops.{answer_of_stop, out_of_memory}
+use Rattle.bipr.specs.Stops.{answer_of_stop, bad_base, out_of_memory}
 use Rattle.bipr.specs.declared.answers.Answer.{Answer}
 use Rattle.bipr.specs.declared.stops.Stop.{Stop}
-use Rattle.bipr.specs.declared.stops.Stop.TheVariants.{CannotRead, CannotWrite, GrantRefused, OutOfMemory, SeedNotARun, ThreadRefused, TooManyRows, WordsNeedCentral}
+use Rattle.bipr.specs.declared.stops.Stop.TheVariants.{BaseOutOfRange, CannotRead, CannotWrite, GrantRefused, OutOfMemory, RowsOutOfOrder, SeedNotARun, ThreadRefused, TooManyRows, WordsNeedCentral}
 
 -- an answer is said as it is
 pub outcome_answered : (P : Answer → Type 0) (given : Answer) → P given → (answer : Answer) → answer ≡ given → P answer
@@ -24,6 +24,8 @@ outcome_stopped (Err why) P given is told lacking = λ answer said. by_why why a
     by_why (CannotRead path) answer held (inl same) = subst P (sym same) held
     by_why (CannotRead path) answer held (inr same) = subst P (sym same) lacking
     by_why CannotWrite answer held same = subst P (sym same) held
+    by_why BaseOutOfRange answer held same = subst P (sym same) held
+    by_why RowsOutOfOrder answer held same = subst P (sym same) held
     by_why WordsNeedCentral answer held same = subst P (sym same) held
     by_why TooManyRows answer held same = subst P (sym same) held
     by_why GrantRefused answer held same = subst P (sym same) held
@@ -31,36 +33,30 @@ outcome_stopped (Err why) P given is told lacking = λ answer said. by_why why a
     by_why (SeedNotARun seed) answer held same = subst P (sym same) held
     by_why OutOfMemory answer held same = subst P (sym same) held
 
--- that a line can't be written is said, with no memory
-pub outcome_unwritten : (P : Answer → Type 0) → P (answer_of_stop CannotWrite) → AllOutcomes (Err CannotWrite) P
-outcome_unwritten P told = λ answer same. subst P (sym same) told
-
--- nor does it take any that a host's grant was refused, or a thread
-pub outcome_grant_refused : (P : Answer → Type 0) → P (answer_of_stop GrantRefused) → AllOutcomes (Err GrantRefused) P
-outcome_grant_refused P told = λ answer same. subst P (sym same) told
-
-pub outcome_thread_refused : (P : Answer → Type 0) → P (answer_of_stop ThreadRefused) → AllOutcomes (Err ThreadRefused) P
-outcome_thread_refused P told = λ answer same. subst P (sym same) told
-
--- nor that row words can't be had
-pub outcome_words_need_central : (P : Answer → Type 0) → P (answer_of_stop WordsNeedCentral) → AllOutcomes (Err WordsNeedCentral) P
-outcome_words_need_central P told = λ answer same. subst P (sym same) told
-
-pub outcome_too_many_rows : (P : Answer → Type 0) → P (answer_of_stop TooManyRows) → AllOutcomes (Err TooManyRows) P
-outcome_too_many_rows P told = λ answer same. subst P (sym same) told
+-- that the base is out of range is said, with no memory
+pub outcome_out_of_range : (result : Result Answer Stop) (P : Answer → Type 0)
+    → IsErrAnd result (λ why. why ≡ BaseOutOfRange) → P bad_base → AllOutcomes result P
+outcome_out_of_range (Ok answer) P is held = absurd is
+outcome_out_of_range (Err why) P is held = λ answer said.
+    subst P (sym (subst (λ (w : Stop). IsOutcome (Err w) answer) is said)) held
 
 -- want of memory is said
 pub outcome_lacking : (result : Result Answer Stop) (P : Answer → Type 0) → IsErrAnd result (λ why. why ≡ OutOfMemory)
     → P out_of_memory → AllOutcomes result P
 outcome_lacking result P is lacking = outcome_stopped result P OutOfMemory is lacking lacking
 
-pub outcome_lacks : (P : Answer → Type 0) → P out_of_memory → AllOutcomes (Err OutOfMemory) P
-outcome_lacks P lacking = λ answer same. subst P (sym same) lacking
-
 -- and so it is where nothing was told before
 pub lacks_quietly : {S : Type 0} (writes : S → List ℕ → Bool → S → Type 0) (stream : S) (result : Result Answer Stop) (P : List Put → Answer → Type 0)
     → IsErrAnd result (λ why. why ≡ OutOfMemory) → P [] out_of_memory → AllOutcomesTelling writes stream stream result P
 lacks_quietly writes stream result P is lacking = record { told = []; on_the_way = none_put; outcomes = outcome_lacking result (P []) is lacking }
+
+-- nothing is told where the stream stays as it was
+pub outcomes_quiet : {S : Type 0} (writes : S → List ℕ → Bool → S → Type 0) (before after : S)
+    (given : Result Answer Stop) (P : List Put → Answer → Type 0) → after ≡ before
+    → AllOutcomes given (P []) → AllOutcomesTelling writes before after given P
+outcomes_quiet writes before after given P same all =
+    subst (λ s. AllOutcomesTelling writes before s given P) (sym same)
+    (record { told = []; on_the_way = none_put; outcomes = all })
 
 -- a command that tells nothing on its way
 pub ends_quietly : {S : Type 0} (may : Answer → Type 0) (may_telling : List Put → Answer → Type 0) (says : List ℕ → Bool → Type 0) (writes : S → List ℕ → Bool → S → Type 0) (before after : S) (status : Status)

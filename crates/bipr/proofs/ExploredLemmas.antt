@@ -6,17 +6,13 @@ use Rattle.bip_bank.specs.Sharing.{Sharing}
 use Rattle.bip_schedule.specs.Exploring.{AreExplored, IsSeedRun}
 use Rattle.bip_schedule.specs.declared.exploring.ExploreFault.{ExploreFault}
 use Rattle.bipr.specs.Answers.{saying}
-use Rattle.bipr.specs.Commands.Explore.{IsExplore, of_no_text}
 use Rattle.bipr.specs.Explored.{IsExploreAnswer, IsProgressAt, IsProgressUntil, by_count, ends_hundredth, explored, more_progress, told_at}
 use Rattle.bipr.specs.Resolvers.{IsSharedAtFirst}
-use Rattle.bipr.specs.Stops.{answer_of_stop, unread}
 use Rattle.bipr.specs.Streams.{Put, texts}
 use Rattle.bipr.specs.Wording.{progress_text, seeds_text}
 use Rattle.bipr.specs.declared.answers.Answer.{Answer}
 use Rattle.bipr.specs.declared.answers.Status.TheVariants.{Done}
-use Rattle.bipr.specs.declared.command_line.ExploreArguments.{ExploreArguments}
-use Rattle.bipr.specs.declared.inputs.InputFault.{InputFault}
-use Rattle.bipr.specs.declared.stops.Stop.{Stop}
+use Rattle.bipr.specs.declared.commands.explore.ExploreArguments.{ExploreArguments}
 
 -- the line of a hundredth, or none
 told_line : (asked : ExploreArguments) (seed : ℕ) → asked.is_told ≡ true → true ≡ ends_hundredth asked.seeds seed → told_at asked seed ≡ progress_text seed asked.seeds ∷ []
@@ -49,12 +45,6 @@ pub explored_said : (p : Planned) (asked : ExploreArguments) (grants : ℕ) (tol
     → answer ≡ saying Done text → text ≡ seeds_text asked.seeds → IsExploreAnswer p asked told answer
 explored_said p asked grants told answer text so lines said spelled =
     subst (IsExploreAnswer p asked told) (sym (said ∙ ap (saying Done) spelled)) (explored grants told so lines)
-
--- what is said where the text isn't read
-pub stopped_at_explored : (gives : List ℕ → Result (List ℕ) InputFault → Type 0) (asked : ExploreArguments) (why : Stop)
-    → (fault : InputFault) × gives asked.model.now (Err fault) × (answer_of_stop why ≡ unread asked.model.now fault)
-    → IsExplore gives asked [] (answer_of_stop why)
-stopped_at_explored gives asked why (fault, given, same) = subst (IsExplore gives asked []) (sym same) (of_no_text fault given)
 
 -- the run of a seed with a bank that may be made is one with what its stations share
 pub shared_run : (shares others : Sharing → Type 0) (p : Planned) (count seed : ℕ) (result : Result ℕ ExploreFault) → ((x : Sharing) → shares x → others x)

@@ -1,34 +1,21 @@
 -- Answers to running nodes as threads that were written out are those that the text has.
-use Rattle.std.proofs.Common.{◌≡◌, ℕ, Bool, List, Result, Ok, Err, length, subst, sym}
+use Rattle.std.proofs.Common.{◌≡◌, ◌∙◌, Bool, false, Result, Ok, length, subst, sym}
+use Rattle.std.proofs.lemmas.Bool.{false≢true}
+use Rattle.std.specs.Prelude.{◌↔◌, IsTrue}
 use Rattle.bip_host.specs.declared.faults.HostFault.{HostFault}
 use Rattle.bip_partition.specs.Plans.{Planned}
 use Rattle.bip_replay.specs.Replays.{IsRunOf}
 use Rattle.bip_replay.specs.Writing.{text_of}
 use Rattle.bipr.specs.Answers.{IsAnswer, run, saying}
-use Rattle.bipr.specs.Commands.Run.{IsThreadedRun, of_no_text}
 use Rattle.bipr.specs.Hosted.{IsHostAnswer, host_lacking, hosted, no_thread, refused_grant, stats_told, text_lacking}
 use Rattle.bipr.specs.Laws.{HostsReplay}
 use Rattle.bipr.specs.Resolvers.{NeedsCentral}
 use Rattle.bipr.specs.Scheduled.{reporting}
-use Rattle.bipr.specs.Stops.{answer_of_stop, unread}
 use Rattle.bipr.specs.Wording.{run_text}
 use Rattle.bipr.specs.declared.answers.Answer.{Answer}
 use Rattle.bipr.specs.declared.answers.Status.TheVariants.{Done}
-use Rattle.bipr.specs.declared.command_line.RunArguments.{RunArguments}
 use Rattle.bipr.specs.declared.hosted.Hosted.{Hosted}
-use Rattle.bipr.specs.declared.inputs.InputFault.{InputFault}
 use Rattle.bipr.specs.declared.resolvers.HostForm.{HostForm}
-use Rattle.bipr.specs.declared.stops.Stop.{Stop}
-
--- what is said where the text isn't read
-pub stopped_at_run : (gives : List ℕ → Result (List ℕ) InputFault → Type 0)
-    (hosts : Planned → HostForm → ℕ → Result Hosted HostFault → Type 0) (asked : RunArguments) (why : Stop)
-    → ¬ NeedsCentral asked.form
-    → (fault : InputFault) × gives asked.model.now (Err fault)
-    × (answer_of_stop why ≡ unread asked.model.now fault)
-    → IsThreadedRun gives hosts asked (answer_of_stop why)
-stopped_at_run gives hosts asked why fits (fault, given, same) =
-    subst (IsThreadedRun gives hosts asked) (sym same) (of_no_text fault fits given)
 
 -- what is written of a host is replayed as a run
 pub hosts_replay : HostsReplay
@@ -54,3 +41,8 @@ host_answered gives p with_stats given answer gave is of_run =
     subst (IsHostAnswer gives p with_stats) (sym is)
     (hosted given gave
     (subst (λ (a : Answer). IsRunOf p.model 0 a.output (length given.report.grants.items)) is of_run))
+
+-- words that need no central bank
+pub needs_none : (needs : Bool) (form : HostForm) → IsTrue needs ↔ NeedsCentral form
+    → needs ≡ false → NeedsCentral form → ⊥
+needs_none needs form either off needed = absurd (false≢true (sym off ∙ either.1 needed))

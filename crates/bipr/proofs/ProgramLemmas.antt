@@ -2,7 +2,7 @@
 use Rattle.std.proofs.Common.{◌≡◌, ◌∷◌, ◌++◌, ◌||◌, ◌∙◌, List, [], Option, Some, None, true, ap, ap₂, option_map, refl, subst}
 use Rattle.std.specs.Box.{box_value}
 use Rattle.std.specs.Prelude.{Box}
-use Rattle.clap.specs.Words.{AddsArg, AddsSubcommand, App, HasKind, HasMatchesOf, Row, Rule, Shape, Text, app_of, fault_of, first_of, first_value, found_of, is_simple, is_simple_and_free, one_of, one_text, rows_of, subcommand_name_of, subcommand_of, subcommand_rows, subcommand_rows_of, with_rule, with_subcommand}
+use Rattle.clap.specs.Words.{AddsArg, AddsSubcommand, App, HasKind, HasMatchesOf, Row, Rule, Shape, Text, app_of, fault_of, first_of, first_value, found_of, is_simple, is_simple_and_free, matches_of, one_of, one_text, rows_of, subcommand_name_of, subcommand_of, subcommand_rows, subcommand_rows_of, with_rule, with_subcommand}
 use Rattle.clap.specs.declared.builder.arg.Arg.{Arg}
 use Rattle.clap.specs.declared.builder.command.Command.{Command}
 use Rattle.clap.specs.declared.error.Error.{Error}
@@ -11,7 +11,7 @@ use Rattle.clap.specs.declared.parser.matches.ArgMatches.TheViews.{out-ArgMatche
 use Rattle.clap.specs.declared.parser.matches.SubCommand.{SubCommand}
 use Rattle.clap.proofs.OnLiterals.{clap_on_literals}
 use Rattle.clap.proofs.WalkLemmas.{first_value-rows, one_text-rows}
-use Rattle.bipr.specs.Program.{HasRule, HasShape, AreChoices, IsNoParse, IsParse, program}
+use Rattle.bipr.specs.Program.{HasRule, HasShape, AreChoices, IsNoParse, IsParse, parsed_of, program}
 use Rattle.bipr.specs.declared.program.Choices.{Choices}
 
 -- a command with one more argument
@@ -36,15 +36,19 @@ unfolding clap_on_literals
 program_free choices = refl
 
 -- words that the library takes
-pub parses : (choices : Choices) (app : App) (words : List Text) (m : ArgMatches) → app ≡ program choices
-    → AreChoices choices → HasMatchesOf app words m → (is_simple_and_free app ≡ true → fault_of app words ≡ [])
-    → IsParse words (subcommand_rows_of m)
-parses choices app words m is alone matches faultless = (
-  choices,
-  alone,
-  subst (λ (a : App). fault_of a words ≡ []) is (faultless (ap is_simple_and_free is ∙ program_free choices)),
-  (matches (ap is_simple is ∙ program_simple choices)).1 ∙ ap (λ (a : App). subcommand_of a words) is,
-)
+pub parses : (choices : Choices) (app : App) (words : List Text) (m : ArgMatches)
+    → app ≡ program choices → AreChoices choices → HasMatchesOf app words m
+    → (is_simple_and_free app ≡ true → fault_of app words ≡ []) → IsParse words (parsed_of m)
+parses choices app words m is alone matches faultless =
+    let all = matches (ap is_simple is ∙ program_simple choices) in
+    record {
+      choices = choices;
+      names = alone;
+      faultless = subst (λ (a : App). fault_of a words ≡ []) is
+          (faultless (ap is_simple_and_free is ∙ program_free choices));
+      above = all.0 ∙ ap (λ (a : App). matches_of a words) is;
+      command = all.1 ∙ ap (λ (a : App). subcommand_of a words) is;
+    }
 
 -- words that it doesn't take
 pub does_not_parse : (choices : Choices) (app : App) (words : List Text) (error : Error) → app ≡ program choices

@@ -4,7 +4,7 @@ use Rattle.bip_partition.specs.Plans.{Planned}
 use Rattle.bip_schedule.specs.Exploring.{IsSeedRun}
 use Rattle.bipr.specs.Resolvers.{IsSharedAtFirst}
 use Rattle.bipr.specs.declared.ahead.Ahead.{Ahead}
-use Rattle.bipr.specs.declared.command_line.ExploreArguments.{ExploreArguments}
+use Rattle.bipr.specs.declared.commands.explore.ExploreArguments.{ExploreArguments}
 
 -- a seed is explored, with a resolver's bank: its trace is a run of the model
 abbrev pub IsExplored : Planned → ExploreArguments → ℕ → Type 0

@@ -1,6 +1,6 @@
 -- The answer to a chart: the picture of the run with which a trace begins, beside its verdict.
 use Rattle.std.specs.Prelude.{◌≡◌, ◌<◌, ◌≤◌, ◌-◌, ◌&&◌, ℕ, Bool, true, List, length, nat_le, nat_lt}
-use Rattle.std.specs.Prelude.{Option, None, Some, if◌then◌else◌, take}
+use Rattle.std.specs.Prelude.{Option, None, Some, if◌then◌else◌, take, ⊤}
 use Rattle.std.specs.Option.{option_map, option_map_or}
 use Rattle.bip_draw.specs.Charts.{chart_of}
 use Rattle.bip_draw.specs.declared.charts.Chart.{Chart}
@@ -17,6 +17,21 @@ use Rattle.bipr.specs.declared.answers.Answer.{Answer}
 use Rattle.bipr.specs.declared.answers.Status.{Status}
 use Rattle.bipr.specs.declared.answers.Status.TheVariants.{Done, NotARun, Refused}
 use Rattle.bipr.specs.declared.charted.Shown.{Shown}
+
+-- the rows that are shown end where they begin, or later; or before that
+abbrev pub AreRowsInOrder : Shown → Type 0
+AreRowsInOrder shown = in_order shown.to
+  where
+    in_order : Option ℕ → Type 0
+    in_order None = ⊤
+    in_order (Some last) = shown.from ≤ last
+
+abbrev pub AreRowsDisordered : Shown → Type 0
+AreRowsDisordered shown = out_of_order shown.to
+  where
+    out_of_order : Option ℕ → Type 0
+    out_of_order None = ⊥
+    out_of_order (Some last) = last < shown.from
 
 -- how many rows a chart has at most
 abbrev pub most_rows : ℕ

@@ -1,21 +1,24 @@
 -- What a command line asks.
-use Rattle.std.specs.Prelude.{◌≡◌, ℕ, ◌<◌, ◌≤◌, ◌^◌, Bool, false, true, List, None, Some, codes}
-use Rattle.std.specs.Prelude.{IfNone, IfSome, Option}
+use Rattle.std.specs.Prelude.{◌≡◌, ℕ, ◌<◌, ◌≤◌, ◌^◌, ◌||◌, Bool, false, true, List, None, Some}
+use Rattle.std.specs.Prelude.{IfNone, IfSome, Option, codes}
 use Rattle.std.specs.Str.Parse.{IsNumeral, digits_value, without_leading_plus}
 use Rattle.clap.specs.Words.{Row, Text, first_of, one_of}
 use Rattle.bip_host.specs.declared.hosts.Tables.{Tables}
 use Rattle.bipr.specs.Program.{Parsed}
 use Rattle.bipr.specs.Resolvers.{resolver_name, tables_name}
-use Rattle.bipr.specs.declared.command_line.Asked.{Asked}
-use Rattle.bipr.specs.declared.command_line.Asked.TheVariants as asks
-use Rattle.bipr.specs.declared.command_line.ChartArguments.{ChartArguments}
-use Rattle.bipr.specs.declared.command_line.CheckArguments.{CheckArguments}
-use Rattle.bipr.specs.declared.command_line.DrawArguments.{DrawArguments}
-use Rattle.bipr.specs.declared.command_line.ExploreArguments.{ExploreArguments}
-use Rattle.bipr.specs.declared.command_line.ReplayArguments.{ReplayArguments}
-use Rattle.bipr.specs.declared.command_line.RunArguments.{RunArguments}
-use Rattle.bipr.specs.declared.command_line.StepsArguments.{StepsArguments}
+use Rattle.bipr.specs.declared.commands.chart.ChartArguments.{ChartArguments}
+use Rattle.bipr.specs.declared.commands.check.CheckArguments.{CheckArguments}
+use Rattle.bipr.specs.declared.commands.draw.DrawArguments.{DrawArguments}
+use Rattle.bipr.specs.declared.commands.explore.ExploreArguments.{ExploreArguments}
+use Rattle.bipr.specs.declared.commands.replay.ReplayArguments.{ReplayArguments}
+use Rattle.bipr.specs.declared.commands.run.RunArguments.{RunArguments}
+use Rattle.bipr.specs.declared.commands.steps.StepsArguments.{StepsArguments}
 use Rattle.bipr.specs.declared.resolvers.Resolver.{Resolver}
+
+-- what is read is asked, and nothing is where nothing is read
+abbrev pub IsReadAs : {A : Type 0} → (A → Type 0) → Option A → Type 0
+IsReadAs asks None = (asked : _) → ¬ asks asked
+IsReadAs asks (Some asked) = asks asked
 
 -- the greatest base: one number at least is left above it
 abbrev pub greatest_base : ℕ
@@ -55,11 +58,18 @@ pub record IsFlagAsked (values : List Row) (option : Text) (is_set : Bool) : Typ
   pub off : one_of option values ≡ Some (codes "false") → is_set ≡ false
   pub absent : one_of option values ≡ None → is_set ≡ false
 
--- words ask to explain what is refused, or don't: by what stands behind the command
-pub data IsExplainAsked (parsed : Parsed) : Bool → Type 0 where
-  of_command : (name : Text) (values : List Row) (is_set : Bool) → parsed ≡ Some (name, values)
-      → IsFlagAsked values (codes "explain") is_set → IsExplainAsked parsed is_set
-  of_none : parsed ≡ None → IsExplainAsked parsed false
+-- the values behind a command, if there is one, set such an option, or don't
+abbrev pub IsFlagBehind : Option (Text × List Row) → Text → Bool → Type 0
+IsFlagBehind None option is_set = is_set ≡ false
+IsFlagBehind (Some command) option is_set = IsFlagAsked command.1 option is_set
+
+-- words ask to explain what is refused, before the command or behind it, or don't
+pub record IsExplainAsked (parsed : Parsed) (is_asked : Bool) : Type 0 where
+  pub above : Bool
+  pub behind : Bool
+  pub before : IsFlagAsked parsed.above (codes "explain") above
+  pub after : IsFlagBehind parsed.command (codes "explain") behind
+  pub either : is_asked ≡ (above || behind)
 
 -- the values behind `check` ask
 pub record IsCheckAsked (values : List Row) (arguments : CheckArguments) : Type 0 where
@@ -71,14 +81,14 @@ pub record IsDrawAsked (values : List Row) (arguments : DrawArguments) : Type 0 
   pub model : first_of (codes "model") values ≡ Some arguments.model.now
 
 -- the values behind `replay` ask: the paths are the first values of their arguments
-pub record IsAsked (values : List Row) (arguments : ReplayArguments) : Type 0 where
+pub record IsReplayAsked (values : List Row) (arguments : ReplayArguments) : Type 0 where
   pub model : first_of (codes "model") values ≡ Some arguments.model.now
   pub trace : first_of (codes "trace") values ≡ Some arguments.trace.now
   pub base : IsBaseAsked values arguments.base
 
 -- the values behind `chart` ask
 pub record IsChartAsked (values : List Row) (arguments : ChartArguments) : Type 0 where
-  pub replay : IsAsked values arguments.replay
+  pub replay : IsReplayAsked values arguments.replay
   pub from : IsNumberAsked values (codes "from") 64 arguments.shown.from
   pub to : MayAskNumber values (codes "to") 64 arguments.shown.to
   pub shows_values : IsFlagAsked values (codes "values") arguments.shown.values
@@ -107,59 +117,3 @@ pub record IsRunAsked (values : List Row) (arguments : RunArguments) : Type 0 wh
   pub tables : AreTablesAsked values arguments.form.tables
   pub turns : IsNumberAsked values (codes "turns") 32 arguments.turns
   pub stats : IsFlagAsked values (codes "stats") arguments.with_stats
-
--- words ask to check a model
-pub record AsksToCheck (parsed : Parsed) (arguments : CheckArguments) : Type 0 where
-  pub values : List Row
-  pub named : parsed ≡ Some (codes "check", values)
-  pub asked : IsCheckAsked values arguments
-
--- words ask to draw a model
-pub record AsksToDraw (parsed : Parsed) (arguments : DrawArguments) : Type 0 where
-  pub values : List Row
-  pub named : parsed ≡ Some (codes "draw", values)
-  pub asked : IsDrawAsked values arguments
-
--- words ask for a replay
-pub record AsksToReplay (parsed : Parsed) (arguments : ReplayArguments) : Type 0 where
-  pub values : List Row
-  pub named : parsed ≡ Some (codes "replay", values)
-  pub asked : IsAsked values arguments
-
--- words ask for the chart of one
-pub record AsksToChart (parsed : Parsed) (arguments : ChartArguments) : Type 0 where
-  pub values : List Row
-  pub named : parsed ≡ Some (codes "chart", values)
-  pub asked : IsChartAsked values arguments
-
--- words ask for the steps of a schedule
-pub record AsksForSteps (parsed : Parsed) (arguments : StepsArguments) : Type 0 where
-  pub values : List Row
-  pub named : parsed ≡ Some (codes "steps", values)
-  pub asked : AreStepsAsked values arguments
-
--- words ask to explore
-pub record AsksToExplore (parsed : Parsed) (arguments : ExploreArguments) : Type 0 where
-  pub values : List Row
-  pub named : parsed ≡ Some (codes "explore", values)
-  pub asked : IsExploreAsked values arguments
-
--- words ask to run nodes as threads
-pub record AsksToRun (parsed : Parsed) (arguments : RunArguments) : Type 0 where
-  pub values : List Row
-  pub named : parsed ≡ Some (codes "run", values)
-  pub asked : IsRunAsked values arguments
-
--- what words ask
-abbrev pub Asks : Parsed → Asked → Type 0
-Asks parsed (asks.Chart arguments) = AsksToChart parsed arguments
-Asks parsed (asks.Check arguments) = AsksToCheck parsed arguments
-Asks parsed (asks.Draw arguments) = AsksToDraw parsed arguments
-Asks parsed (asks.Replay arguments) = AsksToReplay parsed arguments
-Asks parsed (asks.Steps arguments) = AsksForSteps parsed arguments
-Asks parsed (asks.Explore arguments) = AsksToExplore parsed arguments
-Asks parsed (asks.Run arguments) = AsksToRun parsed arguments
-
--- words ask for nothing that can be done
-abbrev pub AsksNothing : Parsed → Type 0
-AsksNothing parsed = (asked : Asked) → ¬ Asks parsed asked

@@ -1,79 +1,157 @@
 -- What the program may answer to the words of a command line.
-pub mod Chart
-pub mod Check
-pub mod Draw
-pub mod Explore
-pub mod Replay
-pub mod Run
-pub mod Steps
-use Rattle.std.specs.Prelude.{◌≡◌, Bool, false, List, [], ℕ, Result, Ok, Err}
+use Rattle.std.specs.Prelude.{◌≡◌, ◌≢◌, Bool, List, [], ℕ, Option, Some, false, Result, Ok, Err}
+use Rattle.std.specs.Prelude.{codes}
 use Rattle.std.specs.declared.io.Error as io_error
-use Rattle.clap.specs.Words.{Text}
+use Rattle.clap.specs.Words.{Row, Text}
 use Rattle.clap.specs.declared.error.Error.{Error}
 use Rattle.bip_host.specs.declared.faults.HostFault.{HostFault}
 use Rattle.bip_partition.specs.Plans.{Planned}
-use Rattle.bipr.specs.Answers.{code_of}
-use Rattle.bipr.specs.CommandLine.{AsksForSteps, AsksNothing, AsksToChart, AsksToCheck, AsksToDraw}
-use Rattle.bipr.specs.CommandLine.{AsksToExplore, AsksToReplay, AsksToRun, IsExplainAsked}
-use Rattle.bipr.specs.Commands.Chart.{IsChart}
-use Rattle.bipr.specs.Commands.Check.{IsCheck}
-use Rattle.bipr.specs.Commands.Draw.{IsDraw}
-use Rattle.bipr.specs.Commands.Explore.{IsExplore}
-use Rattle.bipr.specs.Commands.Replay.{IsReplay}
-use Rattle.bipr.specs.Commands.Run.{IsThreadedRun}
-use Rattle.bipr.specs.Commands.Steps.{IsSteps}
+use Rattle.bipr.specs.Answers.{IsAnswer, IsCheckShowing, IsRefusedModel, code_of}
+use Rattle.bipr.specs.Charted.{AreRowsDisordered, AreRowsInOrder, IsChartAnswer}
+use Rattle.bipr.specs.CommandLine.{AreStepsAsked, IsChartAsked, IsCheckAsked, IsDrawAsked}
+use Rattle.bipr.specs.CommandLine.{IsExplainAsked, IsExploreAsked, IsReplayAsked, IsRunAsked}
+use Rattle.bipr.specs.Drawn.{IsDrawingAnswer}
 use Rattle.bipr.specs.Endings.{Ends, EndsExplaining}
+use Rattle.bipr.specs.Explored.{IsExploreAnswer}
+use Rattle.bipr.specs.Hosted.{IsPlanHosted}
+use Rattle.bipr.specs.Loading.{IsModelText, IsNoModel, IsPlannedText, OfPlan, OfText, OfTexts}
+use Rattle.bipr.specs.Loading.{Silently}
 use Rattle.bipr.specs.Program.{IsNoParse, IsParse, Parsed}
-use Rattle.bipr.specs.Refusals.{IsErrorAnswer, IsWordsAnswer, bad_base}
-use Rattle.bipr.specs.Stops.{out_of_memory}
+use Rattle.bipr.specs.Refusals.{IsErrorAnswer, IsWordsAnswer}
+use Rattle.bipr.specs.Resolvers.{NeedsCentral}
+use Rattle.bipr.specs.Scheduled.{IsScheduleAnswered}
+use Rattle.bipr.specs.Stops.{bad_base, bad_range, out_of_memory, words_need_central}
 use Rattle.bipr.specs.Streams.{Put, Puts}
 use Rattle.bipr.specs.declared.answers.Answer.{Answer}
 use Rattle.bipr.specs.declared.answers.Status.{Status}
-use Rattle.bipr.specs.declared.command_line.ChartArguments.{ChartArguments}
-use Rattle.bipr.specs.declared.command_line.DrawArguments.{DrawArguments}
-use Rattle.bipr.specs.declared.command_line.ExploreArguments.{ExploreArguments}
-use Rattle.bipr.specs.declared.command_line.ReplayArguments.{ReplayArguments}
-use Rattle.bipr.specs.declared.command_line.CheckArguments.{CheckArguments}
-use Rattle.bipr.specs.declared.command_line.RunArguments.{RunArguments}
-use Rattle.bipr.specs.declared.command_line.StepsArguments.{StepsArguments}
+use Rattle.bipr.specs.declared.commands.Command.{Command}
+use Rattle.bipr.specs.declared.commands.Command.TheVariants as command
+use Rattle.bipr.specs.declared.commands.chart.ChartArguments.{ChartArguments}
+use Rattle.bipr.specs.declared.commands.check.CheckArguments.{CheckArguments}
+use Rattle.bipr.specs.declared.commands.draw.DrawArguments.{DrawArguments}
+use Rattle.bipr.specs.declared.commands.explore.ExploreArguments.{ExploreArguments}
+use Rattle.bipr.specs.declared.commands.replay.ReplayArguments.{ReplayArguments}
+use Rattle.bipr.specs.declared.commands.run.RunArguments.{RunArguments}
+use Rattle.bipr.specs.declared.commands.steps.StepsArguments.{StepsArguments}
 use Rattle.bipr.specs.declared.hosted.Hosted.{Hosted}
-use Rattle.bipr.specs.declared.resolvers.HostForm.{HostForm}
 use Rattle.bipr.specs.declared.inputs.InputFault.{InputFault}
+use Rattle.bipr.specs.declared.resolvers.HostForm.{HostForm}
 
--- what words that are parsed may tell on the way and answer, where reading a path may give these
--- texts and running the nodes of a plan may give that: what they ask for, or, where they ask for
--- nothing, that the base is out of range
-pub data IsCarriedOutBy (parsed : Parsed)
+-- Below, reading the text that a path names may give what `gives` says, and running the nodes of a
+-- plan in a form, for so many turns each, what `hosts` says.
+
+-- what the check that is asked for may tell on the way and answer
+abbrev pub IsCheck : (List ℕ → Result (List ℕ) InputFault → Type 0) → CheckArguments → List Put
+    → Answer → Type 0
+IsCheck gives asked =
+    OfText gives asked.model.now (λ model. Silently (IsCheckShowing model asked.with_plan))
+
+-- the drawing
+abbrev pub IsDraw : (List ℕ → Result (List ℕ) InputFault → Type 0) → DrawArguments → List Put
+    → Answer → Type 0
+IsDraw gives asked = OfText gives asked.model.now (λ model. Silently (IsDrawingAnswer model))
+
+-- what may be answered to a model's text and a trace's, where this answers both
+abbrev pub IsReplayBy : (List ℕ → List ℕ → Answer → Type 0)
+    → (List ℕ → Result (List ℕ) InputFault → Type 0) → ReplayArguments → List Put → Answer → Type 0
+IsReplayBy answers gives asked =
+    OfTexts IsModelText IsNoModel (λ model trace. Silently (answers model trace)) gives
+    asked.model.now asked.trace.now
+
+-- the replay: the verdict on the two texts
+abbrev pub IsReplay : (List ℕ → Result (List ℕ) InputFault → Type 0) → ReplayArguments → List Put
+    → Answer → Type 0
+IsReplay gives asked = IsReplayBy (IsAnswer asked.base) gives asked
+
+-- the chart
+pub data IsChart (gives : List ℕ → Result (List ℕ) InputFault → Type 0) (asked : ChartArguments) :
+    List Put → Answer → Type 0 where
+  -- the rows are out of order: no path is read
+  disordered : AreRowsDisordered asked.shown → IsChart gives asked [] bad_range
+  -- the chart of the two texts
+  charted : (told : List Put) (answer : Answer) → AreRowsInOrder asked.shown
+      → IsReplayBy (IsChartAnswer asked.replay.base asked.shown) gives asked.replay told answer
+      → IsChart gives asked told answer
+
+-- the steps of a schedule
+abbrev pub IsSteps : (List ℕ → Result (List ℕ) InputFault → Type 0) → StepsArguments → List Put
+    → Answer → Type 0
+IsSteps gives asked =
+    OfTexts IsPlannedText IsRefusedModel
+    (λ model schedule. OfPlan model (λ p. IsScheduleAnswered p asked.base asked.resolver
+    asked.is_told schedule)) gives asked.model.now asked.schedule.now
+
+-- the exploring
+abbrev pub IsExplore : (List ℕ → Result (List ℕ) InputFault → Type 0) → ExploreArguments
+    → List Put → Answer → Type 0
+IsExplore gives asked =
+    OfText gives asked.model.now (λ model. OfPlan model (λ p. IsExploreAnswer p asked))
+
+-- the run of nodes as threads
+pub data IsThreadedRun (gives : List ℕ → Result (List ℕ) InputFault → Type 0)
+    (hosts : Planned → HostForm → ℕ → Result Hosted HostFault → Type 0) (asked : RunArguments)
+    : List Put → Answer → Type 0 where
+  -- row words are asked for without the central bank: nothing is read
+  of_no_bank : NeedsCentral asked.form → IsThreadedRun gives hosts asked [] words_need_central
+  -- the plan of the text that the path names is run
+  of_bank : (told : List Put) (answer : Answer) → ¬ NeedsCentral asked.form
+      → OfText gives asked.model.now
+      (λ model. OfPlan model (λ p. Silently (IsPlanHosted p hosts asked))) told answer
+      → IsThreadedRun gives hosts asked told answer
+
+-- ---- the commands
+
+-- their names
+abbrev pub spelled : Command → Text
+spelled command.Chart = codes "chart"
+spelled command.Check = codes "check"
+spelled command.Draw = codes "draw"
+spelled command.Replay = codes "replay"
+spelled command.Steps = codes "steps"
+spelled command.Explore = codes "explore"
+spelled command.Run = codes "run"
+
+-- what may be told on the way and then answered to a command that is asked for by some arguments;
+-- or it is asked by none: the base is out of range
+pub data IsAnsweredTo {A : Type 0} (asks : A → Type 0) (does : A → List Put → Answer → Type 0) :
+    List Put → Answer → Type 0 where
+  asked : (arguments : A) (told : List Put) (answer : Answer) → asks arguments
+      → does arguments told answer → IsAnsweredTo asks does told answer
+  unasked : ((arguments : A) → ¬ asks arguments) → IsAnsweredTo asks does [] bad_base
+
+-- the same of each command, by the values behind it
+abbrev pub IsSaidTo : Command → List Row → (List ℕ → Result (List ℕ) InputFault → Type 0)
+    → (Planned → HostForm → ℕ → Result Hosted HostFault → Type 0) → List Put → Answer → Type 0
+IsSaidTo command.Chart values gives hosts = IsAnsweredTo (IsChartAsked values) (IsChart gives)
+IsSaidTo command.Check values gives hosts = IsAnsweredTo (IsCheckAsked values) (IsCheck gives)
+IsSaidTo command.Draw values gives hosts = IsAnsweredTo (IsDrawAsked values) (IsDraw gives)
+IsSaidTo command.Replay values gives hosts = IsAnsweredTo (IsReplayAsked values) (IsReplay gives)
+IsSaidTo command.Steps values gives hosts = IsAnsweredTo (AreStepsAsked values) (IsSteps gives)
+IsSaidTo command.Explore values gives hosts = IsAnsweredTo (IsExploreAsked values) (IsExplore gives)
+IsSaidTo command.Run values gives hosts =
+    IsAnsweredTo (IsRunAsked values) (IsThreadedRun gives hosts)
+
+-- what words that name a command, with the values behind it, may tell on the way and answer; those
+-- that name none are refused as if the base were out of range
+pub data IsCarriedOutBy (parsed : Option (Text × List Row))
     (gives : List ℕ → Result (List ℕ) InputFault → Type 0)
     (hosts : Planned → HostForm → ℕ → Result Hosted HostFault → Type 0)
     : List Put → Answer → Type 0 where
-  chart_asked : (arguments : ChartArguments) (answer : Answer) → AsksToChart parsed arguments
-      → IsChart gives arguments answer → IsCarriedOutBy parsed gives hosts [] answer
-  check_asked : (arguments : CheckArguments) (answer : Answer) → AsksToCheck parsed arguments
-      → IsCheck gives arguments answer → IsCarriedOutBy parsed gives hosts [] answer
-  draw_asked : (arguments : DrawArguments) (answer : Answer) → AsksToDraw parsed arguments
-      → IsDraw gives arguments answer → IsCarriedOutBy parsed gives hosts [] answer
-  asked : (arguments : ReplayArguments) (answer : Answer) → AsksToReplay parsed arguments
-      → IsReplay gives arguments answer → IsCarriedOutBy parsed gives hosts [] answer
-  steps_asked : (arguments : StepsArguments) (told : List Put) (answer : Answer)
-      → AsksForSteps parsed arguments → IsSteps gives arguments told answer
+  named : (command : Command) (values : List Row) (told : List Put) (answer : Answer)
+      → parsed ≡ Some (spelled command, values) → IsSaidTo command values gives hosts told answer
       → IsCarriedOutBy parsed gives hosts told answer
-  explore_asked : (arguments : ExploreArguments) (told : List Put) (answer : Answer)
-      → AsksToExplore parsed arguments → IsExplore gives arguments told answer
-      → IsCarriedOutBy parsed gives hosts told answer
-  run_asked : (arguments : RunArguments) (answer : Answer) → AsksToRun parsed arguments
-      → IsThreadedRun gives hosts arguments answer → IsCarriedOutBy parsed gives hosts [] answer
-  unasked : AsksNothing parsed → IsCarriedOutBy parsed gives hosts [] bad_base
+  unnamed : ((command : Command) (values : List Row) → parsed ≢ Some (spelled command, values))
+      → IsCarriedOutBy parsed gives hosts [] bad_base
 
--- what the program may tell on the way and answer to words, where reading a path may give these
--- texts; and whether it is asked to explain what it refuses
+-- what the program may tell on the way and answer to words; and whether it is asked to explain what
+-- it refuses
 pub data IsCarriedOut (words : List Text)
     (gives : List ℕ → Result (List ℕ) InputFault → Type 0)
     (hosts : Planned → HostForm → ℕ → Result Hosted HostFault → Type 0) :
     Bool → List Put → Answer → Type 0 where
   parsed : (said : Parsed) (is_asked : Bool) (told : List Put) (answer : Answer)
       → IsParse words said → IsExplainAsked said is_asked
-      → IsCarriedOutBy said gives hosts told answer
+      → IsCarriedOutBy said.command gives hosts told answer
       → IsCarriedOut words gives hosts is_asked told answer
   unparsed : (error : Error) (answer : Answer) → IsNoParse words error
       → IsErrorAnswer error answer → IsCarriedOut words gives hosts false [] answer

@@ -12,7 +12,7 @@ use Rattle.bipr.specs.Streams.{Put, texts}
 use Rattle.bipr.specs.Wording.{progress_text, seeds_text, timed_text}
 use Rattle.bipr.specs.declared.answers.Answer.{Answer}
 use Rattle.bipr.specs.declared.answers.Status.TheVariants.{Done}
-use Rattle.bipr.specs.declared.command_line.ExploreArguments.{ExploreArguments}
+use Rattle.bipr.specs.declared.commands.explore.ExploreArguments.{ExploreArguments}
 use Rattle.bipr.specs.declared.stops.Stop.TheVariants as stop
 use Rattle.bipr.specs.declared.stops.Stop.{Stop}
 

@@ -3,6 +3,7 @@ use Rattle.std.specs.Prelude.{Bool, true, false, List, [], ℕ, Result, Ok, Err,
 use Rattle.bip_host.specs.declared.faults.HostFault.TheVariants as host_fault
 use Rattle.bip_host.specs.declared.faults.HostFault.{HostFault}
 use Rattle.bip_host.specs.Reports.{AreFiguresOf}
+use Rattle.bip_host.specs.Seats.{CanHave}
 use Rattle.bip_partition.specs.Plans.{Planned}
 use Rattle.bip_replay.specs.Replays.{IsRunOf}
 use Rattle.bip_replay.specs.Runs.{IsModelRun}
@@ -11,10 +12,11 @@ use Rattle.bip_replay.specs.declared.faults.BookFault.{BookFault}
 use Rattle.bipr.specs.Answers.{complaining}
 use Rattle.bipr.specs.Resolvers.{kind_named}
 use Rattle.bipr.specs.Scheduled.{reporting}
-use Rattle.bipr.specs.Stops.{out_of_memory}
+use Rattle.bipr.specs.Stops.{out_of_memory, too_many_rows}
 use Rattle.bipr.specs.Wording.{host_refusal, no_thread_text, stats_text}
 use Rattle.bipr.specs.declared.answers.Answer.{Answer}
 use Rattle.bipr.specs.declared.answers.Status.TheVariants.{NoThread, NotARun}
+use Rattle.bipr.specs.declared.commands.run.RunArguments.{RunArguments}
 use Rattle.bipr.specs.declared.hosted.Hosted.{Hosted}
 use Rattle.bipr.specs.declared.resolvers.HostForm.{HostForm}
 
@@ -49,3 +51,19 @@ pub data IsHostAnswer (gives : Result Hosted HostFault → Type 0) (p : Planned)
   host_lacking : gives (Err host_fault.Memory) → IsHostAnswer gives p with_stats out_of_memory
   text_lacking : (given : Hosted) → gives (Ok given)
       → IsHostAnswer gives p with_stats out_of_memory
+
+-- a plan can have the form of host that is asked for
+abbrev pub FitsPlan : Planned → HostForm → Type 0
+FitsPlan p form = CanHave p (kind_named form.resolver) form.tables
+
+-- what may be answered where running the nodes of a plan in a form, for so many turns each, may
+-- give that
+pub data IsPlanHosted (p : Planned)
+    (hosts : Planned → HostForm → ℕ → Result Hosted HostFault → Type 0) (asked : RunArguments)
+    : Answer → Type 0 where
+  -- the plan can have the form that is asked for
+  of_host : (answer : Answer) → FitsPlan p asked.form
+      → IsHostAnswer (hosts p asked.form asked.turns) p asked.with_stats answer
+      → IsPlanHosted p hosts asked answer
+  -- more of its components have a row than row words can
+  of_many_rows : ¬ FitsPlan p asked.form → IsPlanHosted p hosts asked too_many_rows

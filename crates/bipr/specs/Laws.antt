@@ -18,11 +18,12 @@ use Rattle.bip_schedule.specs.Laws.{IsFault}
 use Rattle.bip_schedule.specs.Schedules.{IsEventText}
 use Rattle.bipr.specs.Answers.{HasPlan, IsAnswer, IsCheckAnswer, IsRefusedModel, complaining}
 use Rattle.bipr.specs.Answers.{saying}
-use Rattle.bipr.specs.Commands.Replay.{IsModelText, IsReplay, is_joined}
+use Rattle.bipr.specs.Commands.{IsReplay}
 use Rattle.bipr.specs.Dividing.{AreParts, after_mark, before_mark}
 use Rattle.bipr.specs.Drawn.{IsDrawingAnswer}
 use Rattle.bipr.specs.Hosted.{IsHostAnswer}
 use Rattle.bipr.specs.Inputs.{IsReading, Named, bytes, most_bytes}
+use Rattle.bipr.specs.Loading.{IsModelText, are_joined}
 use Rattle.bipr.specs.Resolvers.{IsSharedAtFirst}
 use Rattle.bipr.specs.Scheduled.{IsScheduleAnswered, IsStepped, IsToldStepped}
 use Rattle.bipr.specs.Stops.{out_of_memory, unread_text}
@@ -31,7 +32,7 @@ use Rattle.bipr.specs.Wording.{report_text, run_text}
 use Rattle.bipr.specs.declared.answers.Answer.{Answer}
 use Rattle.bipr.specs.declared.answers.Status.{Status}
 use Rattle.bipr.specs.declared.answers.Status.TheVariants.{Done, NotARun, Refused}
-use Rattle.bipr.specs.declared.command_line.ReplayArguments.{ReplayArguments}
+use Rattle.bipr.specs.declared.commands.replay.ReplayArguments.{ReplayArguments}
 use Rattle.bipr.specs.declared.hosted.Hosted.{Hosted}
 use Rattle.bipr.specs.declared.resolvers.Resolver.{Resolver}
 
@@ -169,14 +170,15 @@ pub data IsOfOne (asked : ReplayArguments) (text : List ℕ) : Answer → Type 0
 -- what paths name decides what is answered: the first path names the model, the second the trace
 abbrev pub TwoTextsDecide : Type 0
 TwoTextsDecide =
-    (named : List ℕ → Named) (asked : ReplayArguments) (model trace : List ℕ) (answer : Answer)
-    → is_joined asked ≡ false
+    (named : List ℕ → Named) (asked : ReplayArguments) (model trace : List ℕ) (told : List Put)
+    (answer : Answer) → are_joined asked.model.now asked.trace.now ≡ false
     → named asked.model.now ≡ bytes model → named asked.trace.now ≡ bytes trace
-    → IsReplay (λ path. IsReading (named path)) asked answer → IsOfTwo asked model trace answer
+    → IsReplay (λ path. IsReading (named path)) asked told answer → IsOfTwo asked model trace answer
 
 -- and so does the text of one input
 abbrev pub OneTextDecides : Type 0
 OneTextDecides =
-    (named : List ℕ → Named) (asked : ReplayArguments) (text : List ℕ) (answer : Answer)
-    → is_joined asked ≡ true → named asked.model.now ≡ bytes text
-    → IsReplay (λ path. IsReading (named path)) asked answer → IsOfOne asked text answer
+    (named : List ℕ → Named) (asked : ReplayArguments) (text : List ℕ) (told : List Put)
+    (answer : Answer) → are_joined asked.model.now asked.trace.now ≡ true
+    → named asked.model.now ≡ bytes text
+    → IsReplay (λ path. IsReading (named path)) asked told answer → IsOfOne asked text answer

@@ -10,6 +10,7 @@ pub mod Explored
 pub mod Hosted
 pub mod Inputs
 pub mod Laws
+pub mod Loading
 pub mod Program
 pub mod Refusals
 pub mod Resolvers

@@ -1,8 +1,9 @@
 -- The program's command line: its commands with their arguments, and what words say to it.
 use Rattle.std.specs.Prelude.{◌≡◌, ℕ, pos, true, false, List, [], ◌∷◌, Option, Some, codes, map}
 use Rattle.std.specs.Borrow.{Bor}
-use Rattle.clap.specs.Words.{App, HasKind, Row, Rule, Shape, Text, app_of, fault_of}
-use Rattle.clap.specs.Words.{new_rule, rule_of, subcommand_of}
+use Rattle.clap.specs.Words.{App, HasKind, Row, Rule, Shape, Text, app_of, fault_of, found_of}
+use Rattle.clap.specs.Words.{matches_of, new_rule, rows_of, rule_of, subcommand_of}
+use Rattle.clap.specs.Words.{subcommand_rows_of}
 use Rattle.clap.specs.Simple.{new_shape}
 use Rattle.clap.specs.declared.builder.action.ArgAction.TheVariants.{SetTrue}
 use Rattle.clap.specs.declared.builder.arg.Arg.{Arg}
@@ -12,6 +13,7 @@ use Rattle.clap.specs.declared.builder.value_parser.ValueParser.{ValueParser}
 use Rattle.clap.specs.declared.builder.value_parser.ValueParser.TheVariants.{Names, Signed}
 use Rattle.clap.specs.declared.builder.value_parser.ValueParser.TheVariants.{Unsigned}
 use Rattle.clap.specs.declared.error.Error.{Error}
+use Rattle.clap.specs.declared.parser.matches.ArgMatches.{ArgMatches}
 use Rattle.bipr.specs.declared.program.Choices.{Choices}
 
 -- ---- arguments
@@ -106,20 +108,16 @@ run_command resolvers tables = with_arguments (codes "run")
     ∷ flag (codes "explain") ∷ [])
 
 -- the program without its commands
-abbrev pub bare_program : App
-bare_program = record {
-  top = record (new_shape (codes "bipr")) {
-    has_version = true;
-    disable_help_subcommand = true;
-    subcommand_required = true;
-  };
-  subs = [];
+abbrev pub bare_program : Shape
+bare_program = record (with_arguments (codes "bipr") (flag (codes "explain") ∷ [])) {
+  has_version = true;
+  subcommand_required = true;
 }
 
 -- the program: words name one of seven commands, or ask for help or the version
 abbrev pub program : Choices → App
 program choices = record {
-  top = record bare_program.top { is_leaf = false };
+  top = record bare_program { is_leaf = false };
   subs = chart_command ∷ check_command ∷ draw_command ∷ replay_command
       ∷ steps_command choices.resolvers ∷ explore_command choices.resolvers
       ∷ run_command choices.resolvers choices.tables ∷ [];
@@ -145,15 +143,23 @@ pub record AreChoices (choices : Choices) : Type 0 where
       ≡ codes "central" ∷ codes "ring" ∷ codes "forks" ∷ []
   pub tables : names_in choices.tables ≡ codes "locked" ∷ codes "words" ∷ []
 
--- what words are parsed to: the command that they name, with the values that each of its arguments
--- has
-abbrev pub Parsed : Type 0
-Parsed = Option (Text × List Row)
+-- what words are parsed to: the values of the program's own options, and the command that is
+-- named, with the values that each of its arguments has
+pub record Parsed : Type 0 where
+  pub above : List Row
+  pub command : Option (Text × List Row)
+
+-- what the library has of words that it parsed
+abbrev pub parsed_of : ArgMatches → Parsed
+parsed_of m = record { above = rows_of (found_of m); command = subcommand_rows_of m }
 
 -- words, of which the first is the program's own name, have no fault, and say this
-abbrev pub IsParse : List Text → Parsed → Type 0
-IsParse words parsed = (choices : Choices) × AreChoices choices
-    × (fault_of (program choices) words ≡ []) × (parsed ≡ subcommand_of (program choices) words)
+pub record IsParse (words : List Text) (parsed : Parsed) : Type 0 where
+  pub choices : Choices
+  pub names : AreChoices choices
+  pub faultless : fault_of (program choices) words ≡ []
+  pub above : parsed.above ≡ matches_of (program choices) words
+  pub command : parsed.command ≡ subcommand_of (program choices) words
 
 -- words have a fault, or ask for help or the version, of which the library's error tells; or memory
 -- is out

@@ -7,23 +7,10 @@ use Rattle.std.specs.IoError.{error_kind}
 use Rattle.std.specs.declared.io.Error as io_error
 use Rattle.std.specs.declared.io.ErrorKind.TheVariants as io
 use Rattle.bip_model.specs.Texts.{line_feed}
-use Rattle.bipr.specs.Answers.{complaining, saying}
-use Rattle.bipr.specs.Stops.{out_of_memory}
-use Rattle.bipr.specs.Wording.{complaint_text}
+use Rattle.bipr.specs.Answers.{saying}
+use Rattle.bipr.specs.Stops.{bad_command_line, out_of_memory}
 use Rattle.bipr.specs.declared.answers.Answer.{Answer}
-use Rattle.bipr.specs.declared.answers.Status.TheVariants.{BadCommandLine, Done}
-
--- a bad command line, and why
-abbrev pub bad_command_line : List ℕ → Answer
-bad_command_line why = complaining BadCommandLine (complaint_text (codes "bad command line") ++ why)
-
--- what is said where the base is out of range
-abbrev pub bad_base : Answer
-bad_base = bad_command_line (codes "error: --base is 0 to 18446744073709551614" ++ line_feed ∷ [])
-
--- what is said where the rows of a chart end before they begin
-abbrev pub bad_range : Answer
-bad_range = bad_command_line (codes "error: --from is 1 to --to" ++ line_feed ∷ [])
+use Rattle.bipr.specs.declared.answers.Status.TheVariants.{Done}
 
 -- what is said of an argument that is no text
 abbrev pub not_text : Answer

@@ -22,6 +22,7 @@ use Rattle.bipr.specs.Streams.{AreOut, IsLastUnheard, Put, texts}
 use Rattle.bipr.specs.Wording.{report_text, schedule_refusal}
 use Rattle.bipr.specs.declared.answers.Answer.{Answer}
 use Rattle.bipr.specs.declared.answers.Status.TheVariants.{Done, Refused}
+use Rattle.bipr.specs.declared.commands.steps.StepsArguments.{StepsArguments}
 use Rattle.bipr.specs.declared.resolvers.Resolver.{Resolver}
 
 -- a trace on standard output, and a report on standard error
@@ -113,6 +114,11 @@ pub data IsScheduleAnswered (p : Planned) (base : ℕ) (resolver : Resolver) (is
   lacking : IsScheduleAnswered p base resolver is_told schedule [] out_of_memory
 
 -- What contracts of private functions say.
+
+-- the answer to a schedule by what is asked of it
+abbrev pub IsScheduleOf : Planned → StepsArguments → List ℕ → List Put → Answer → Type 0
+IsScheduleOf p asked schedule told answer =
+    IsScheduleAnswered p asked.base asked.resolver asked.is_told schedule told answer
 
 -- of the events that are left none is done, or the first one is, or was skipped
 pub data IsAtMostOneDone (rest : List Event) (w v : WorldContent) : Type 0 where

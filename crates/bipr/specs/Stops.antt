@@ -1,6 +1,7 @@
 -- What stops a command before it has an answer, and what is said of it.
-use Rattle.std.specs.Prelude.{ℕ, Bool, List, ◌++◌, ◌&&◌, ◌||◌, codes, if◌then◌else◌, map, nat_le}
-use Rattle.std.specs.Prelude.{chars, encode_utf8_all}
+use Rattle.std.specs.Prelude.{ℕ, Bool, List, [], ◌∷◌, ◌++◌, ◌&&◌, ◌||◌, codes, if◌then◌else◌, map}
+use Rattle.std.specs.Prelude.{nat_le, chars, encode_utf8_all}
+use Rattle.bip_model.specs.Texts.{line_feed}
 use Rattle.bipr.specs.Answers.{complaining, saying}
 use Rattle.bipr.specs.Wording.{complaint_text, host_refusal, no_thread_text, seed_verdict}
 use Rattle.bipr.specs.Wording.{too_many_rows_text, words_need_central_text}
@@ -53,6 +54,18 @@ unread path input_fault.Failed = complaining Refused (unread_text path)
 unread path input_fault.TooLong = complaining Refused (unread_text path)
 unread path input_fault.NoMemory = out_of_memory
 
+-- a bad command line, and why
+abbrev pub bad_command_line : List ℕ → Answer
+bad_command_line why = complaining BadCommandLine (complaint_text (codes "bad command line") ++ why)
+
+-- what is said where the base is out of range
+abbrev pub bad_base : Answer
+bad_base = bad_command_line (codes "error: --base is 0 to 18446744073709551614" ++ line_feed ∷ [])
+
+-- what is said where the rows of a chart end before they begin
+abbrev pub bad_range : Answer
+bad_range = bad_command_line (codes "error: --from is 1 to --to" ++ line_feed ∷ [])
+
 -- what is said where row words are asked for without the central bank, and where more components
 -- have a row than these can
 abbrev pub words_need_central : Answer
@@ -65,6 +78,8 @@ too_many_rows = complaining Refused too_many_rows_text
 abbrev pub answer_of_stop : Stop → Answer
 answer_of_stop (stop.CannotRead path) = complaining Refused (unread_text path.now)
 answer_of_stop stop.CannotWrite = complaining Refused unwritten_text
+answer_of_stop stop.BaseOutOfRange = bad_base
+answer_of_stop stop.RowsOutOfOrder = bad_range
 answer_of_stop stop.WordsNeedCentral = words_need_central
 answer_of_stop stop.TooManyRows = too_many_rows
 answer_of_stop stop.GrantRefused = complaining NotARun host_refusal

@@ -7,7 +7,7 @@ ghost use Rattle.bipr.specs.Ahead.{AreAhead, AreExploredBehind, IsAhead, IsExplo
 ghost use Rattle.bipr.specs.Ahead.{block_size, round_end};
 ghost use Rattle.bipr.specs.Resolvers.{IsSharedAtFirst};
 
-use crate::command_line::ExploreArguments;
+use crate::commands::explore::ExploreArguments;
 use crate::resolvers::Resolver;
 use bip_bank::Central;
 use bip_forks::Forks;

@@ -1,13 +1,12 @@
 //! The commands, and what they have in common.
-ghost use Rattle.std.specs.Prelude.{◌≡◌, Ok, Err, IfErr, IfOk, map};
+ghost use Rattle.std.specs.Prelude.{◌≡◌, ◌≢◌, IfErr, IfNone, IfOk, IfSome, None, Some, map};
 ghost use Rattle.std.specs.String.{string_bytes};
-ghost use Rattle.clap.specs.Words.{subcommand_rows_of};
-ghost use Rattle.bipr.specs.Commands.{IsCarriedOut, IsCarriedOutBy};
-ghost use Rattle.bipr.specs.Endings.{EndsExplaining, EndsTelling};
-ghost use Rattle.bipr.specs.Program.{IsParse};
-ghost use Rattle.bipr.specs.Stops.{answer_of_stop, unread};
+ghost use Rattle.clap.specs.Words.{found_of, rows_of, subcommand_rows_of};
+ghost use Rattle.bipr.specs.Commands.{IsCarriedOut, IsCarriedOutBy, spelled};
+ghost use Rattle.bipr.specs.Endings.{AllOutcomesTelling, EndsExplaining};
+ghost use Rattle.bipr.specs.Program.{IsParse, parsed_of};
 ghost use Rattle.bipr.specs.Streams.{Puts};
-ghost use Rattle.bipr.specs.declared.inputs.InputFault.{InputFault};
+ghost use Rattle.bipr.specs.declared.stops.Stop.TheVariants.{BaseOutOfRange};
 
 pub mod chart;
 pub mod check;
@@ -17,30 +16,28 @@ pub mod replay;
 pub mod run;
 pub mod steps;
 
-use crate::answers::Status;
-use crate::command_line::{Asked, is_explained, read_arguments};
-use crate::endings::{complain, explain};
+use crate::answers::{Answer, Status};
+use crate::command_line::is_explained;
 use crate::hosting::Hosting;
 use crate::inputs::Inputs;
+use crate::invocations::Invocation;
 use crate::program::{Choices, program};
-use crate::refusals::{refuse_base, refuse_parse};
+use crate::refusals::answer_error;
 use crate::resolvers::{HOSTED_TABLES, RESOLVERS};
 use crate::stops::{NO_MEMORY, Stop};
 use crate::streams::Stream;
 use bip_explain::Explanation;
-use bip_model::Seq;
-use chart::chart;
-use check::check;
+use chart::ChartArguments;
+use check::CheckArguments;
 use clap::ArgMatches;
-use draw::draw;
-use explore::explore;
-use replay::replay;
-use run::run;
-use std::alloc::Global;
+use draw::DrawArguments;
+use explore::ExploreArguments;
+use replay::ReplayArguments;
+use run::RunArguments;
 use std::sync::Wait;
 use std::thread::Threads;
 use std::time::Clock;
-use steps::steps;
+use steps::StepsArguments;
 
 /// What the options of the program have to choose from.
 const CHOICES: Choices<'static> = Choices {
@@ -48,124 +45,121 @@ const CHOICES: Choices<'static> = Choices {
     tables: HOSTED_TABLES,
 };
 
-/// Carries out what the words of a command line ask, or says why they ask for nothing, and says
-/// with which status the program ends (docs/ANSWERS.md, "Endings").
-pub fn carry_out<'a, R: Threads + Wait + Clock + Sync, I: Inputs, H: Hosting, O: Stream, E: Stream>(
-    rt: &R,
-    alloc: Global,
-    words: &'a [String],
-    inputs: &I,
-    hosting: &H,
-    output: &mut O,
-    errors: &mut E,
-) -> Status
-    ensures { EndsExplaining
-        (IsCarriedOut (map string_bytes words.now) (I.gives inputs.now) (H.hosts hosting.now))
-        (Puts O.writes output.old output.new) E.writes errors.old errors.new result }
+/// What the program can be asked to do.
+#[derive(Clone, Copy, Debug, PartialEq, Eq)]
+pub enum Command {
+    Chart,
+    Check,
+    Draw,
+    Replay,
+    Steps,
+    Explore,
+    Run,
+}
+
+// The command of a name, if it has one.
+fn command_named(name: &str) -> Option<Command>
+    ensures some { IfSome result (λ command. name.now ≡ spelled command) }
+    ensures none { IfNone result ((command : Command) → name.now ≢ spelled command) }
 {
-    let Ok(program) = program(alloc, CHOICES) else {
-        return complain(output, errors, Status::NoMemory, NO_MEMORY);
-    };
-    match program.try_get_matches_from(words) {
-        Ok(matches) => carry_out_matches(rt, alloc, &matches, inputs, hosting, output, errors),
-        Err(error) => refuse_parse(alloc, output, errors, &error),
+    match name.as_bytes() {
+        b"chart" => Some(Command::Chart),
+        b"check" => Some(Command::Check),
+        b"draw" => Some(Command::Draw),
+        b"replay" => Some(Command::Replay),
+        b"steps" => Some(Command::Steps),
+        b"explore" => Some(Command::Explore),
+        b"run" => Some(Command::Run),
+        _ => None,
     }
 }
 
-// Carries out what a parsed command line asks, and explains what is refused if it asks that too.
-fn carry_out_matches<R: Threads + Wait + Clock + Sync, I: Inputs, H: Hosting, O: Stream, E: Stream>(
-    rt: &R,
-    alloc: Global,
-    matches: &ArgMatches<'_>,
-    inputs: &I,
-    hosting: &H,
-    output: &mut O,
-    errors: &mut E,
-) -> Status
-    ensures { (words : _) → IsParse words (subcommand_rows_of matches.now)
-        → EndsExplaining (IsCarriedOut words (I.gives inputs.now) (H.hosts hosting.now))
-        (Puts O.writes output.old output.new) E.writes errors.old errors.new result }
+// What the words behind a command ask, where they ask something.
+fn asked<T>(read: Option<T>) -> Result<T, Stop<'static>>
+    ensures ok { IfOk result (λ arguments. read ≡ Some arguments) }
+    ensures err { IfErr result (λ why. (read ≡ None) × (why ≡ BaseOutOfRange)) }
 {
-    if !is_explained(matches) {
-        let mut unasked = Explanation::new(false);
-        return carry_out_asked(
-            rt,
-            alloc,
-            &mut unasked,
-            matches,
-            inputs,
-            hosting,
-            output,
-            errors,
-        );
+    match read {
+        Some(arguments) => Ok(arguments),
+        None => Err(Stop::BaseOutOfRange),
     }
-    let mut explanation = Explanation::new(true);
-    let status = carry_out_asked(
-        rt,
-        alloc,
-        &mut explanation,
-        matches,
-        inputs,
-        hosting,
-        output,
-        errors,
-    );
-    explain(errors, status, &explanation);
-    status
 }
 
-// Carries out what a parsed command line asks.
-fn carry_out_asked<R: Threads + Wait + Clock + Sync, I: Inputs, H: Hosting, O: Stream, E: Stream>(
-    rt: &R,
-    alloc: Global,
-    explanation: &mut Explanation,
-    matches: &ArgMatches<'_>,
-    inputs: &I,
-    hosting: &H,
-    output: &mut O,
-    errors: &mut E,
-) -> Status
-    ensures { EndsTelling
-        (IsCarriedOutBy (subcommand_rows_of matches.now) (I.gives inputs.now) (H.hosts hosting.now))
-        (Puts O.writes output.old output.new) E.writes errors.old errors.new result }
-{
-    match read_arguments(matches) {
-        Some(Asked::Chart(asked)) => chart(alloc, explanation, inputs, &asked, output, errors),
-        Some(Asked::Check(asked)) => check(alloc, explanation, inputs, &asked, output, errors),
-        Some(Asked::Draw(asked)) => draw(alloc, explanation, inputs, &asked, output, errors),
-        Some(Asked::Replay(asked)) => replay(alloc, explanation, inputs, &asked, output, errors),
-        Some(Asked::Steps(asked)) => steps(alloc, explanation, inputs, &asked, output, errors),
-        Some(Asked::Explore(asked)) => {
-            explore(rt, alloc, explanation, inputs, &asked, output, errors)
+impl<R: Threads + Wait + Clock + Sync, I: Inputs, H: Hosting, O: Stream, E: Stream> Invocation<
+    '_,
+    R,
+    I,
+    H,
+    O,
+    E,
+> {
+    /// Carries out what the words of a command line ask, or says why they ask for nothing, and says
+    /// with which status the program ends (docs/ANSWERS.md, "Endings").
+    pub fn carry_out(&mut self, words: &[String]) -> Status
+        ensures { EndsExplaining (IsCarriedOut (map string_bytes words.now)
+            (I.gives self.old.inputs.now) (H.hosts self.old.hosting.now))
+            (Puts O.writes self.old.output self.new.output) E.writes self.old.errors
+            self.new.errors result }
+    {
+        let Ok(program) = program(self.alloc, CHOICES) else {
+            return self.complain(Status::NoMemory, NO_MEMORY);
+        };
+        match program.try_get_matches_from(words) {
+            Ok(matches) => self.carry_out_parsed(&matches),
+            Err(error) => {
+                let answer = answer_error(self.alloc, &error);
+                self.end(answer)
+            }
         }
-        Some(Asked::Run(asked)) => run(
-            rt,
-            alloc,
-            explanation,
-            inputs,
-            hosting,
-            &asked,
-            output,
-            errors,
-        ),
-        None => refuse_base(output, errors),
     }
-}
 
-/// The text that a path names, or why it isn't read.
-fn read_input<'a, I: Inputs>(
-    alloc: Global,
-    explanation: &mut Explanation,
-    inputs: &I,
-    path: &'a str,
-) -> Result<Seq<u8>, Stop<'a>>
-    ensures read { IfOk result (λ text. I.gives inputs.now path.now (Ok text)) }
-    ensures unread { IfErr result (λ why. (fault : InputFault)
-        × I.gives inputs.now path.now (Err fault)
-        × (answer_of_stop why ≡ unread path.now fault)) }
-{
-    match inputs.read(alloc, explanation, path) {
-        Ok(text) => Ok(text),
-        Err(fault) => Err(Stop::unread(path, fault)),
+    // Carries out what a parsed command line asks, and explains what is refused if it asks that
+    // too.
+    fn carry_out_parsed(&mut self, matches: &ArgMatches<'_>) -> Status
+        ensures { (words : _) → IsParse words (parsed_of matches.now) → EndsExplaining
+            (IsCarriedOut words (I.gives self.old.inputs.now) (H.hosts self.old.hosting.now))
+            (Puts O.writes self.old.output self.new.output) E.writes self.old.errors
+            self.new.errors result }
+    {
+        let is_asked = is_explained(matches);
+        self.explanation = Explanation::new(is_asked);
+        let answer = self.answer(matches);
+        let status = self.end(answer);
+        if is_asked {
+            self.explain(status);
+        }
+        status
+    }
+
+    // The answer to what a parsed command line asks.
+    fn answer<'p>(&mut self, matches: &ArgMatches<'p>) -> Result<Answer, Stop<'p>>
+        ensures says { AllOutcomesTelling E.writes self.old.errors self.new.errors result
+            (IsCarriedOutBy (subcommand_rows_of matches.now) (I.gives self.old.inputs.now)
+            (H.hosts self.old.hosting.now)) }
+        ensures output { self.new.output ≡ self.old.output }
+    {
+        match matches.subcommand() {
+            Some((name, behind)) => self.answer_named(name, behind),
+            None => Err(Stop::BaseOutOfRange),
+        }
+    }
+
+    // The answer to a command of this name, with the words behind it.
+    fn answer_named<'p>(&mut self, name: &str, behind: &ArgMatches<'p>) -> Result<Answer, Stop<'p>>
+        ensures says { AllOutcomesTelling E.writes self.old.errors self.new.errors result
+            (IsCarriedOutBy (Some (name.now, rows_of (found_of behind.now)))
+            (I.gives self.old.inputs.now) (H.hosts self.old.hosting.now)) }
+        ensures output { self.new.output ≡ self.old.output }
+    {
+        match command_named(name) {
+            Some(Command::Chart) => self.chart(&asked(ChartArguments::read(behind))?),
+            Some(Command::Check) => self.check(&asked(CheckArguments::read(behind))?),
+            Some(Command::Draw) => self.draw(&asked(DrawArguments::read(behind))?),
+            Some(Command::Replay) => self.replay(&asked(ReplayArguments::read(behind))?),
+            Some(Command::Steps) => self.steps(&asked(StepsArguments::read(behind))?),
+            Some(Command::Explore) => self.explore(&asked(ExploreArguments::read(behind))?),
+            Some(Command::Run) => self.run(&asked(RunArguments::read(behind))?),
+            None => Err(Stop::BaseOutOfRange),
+        }
     }
 }

@@ -1,5 +1,5 @@
 //! Two texts in one: the line `---` parts them.
-ghost use Rattle.std.specs.Prelude.{◌≡◌, ◌<◌, ◌≤◌, ◌+◌, Bool, true, length, IfSome};
+ghost use Rattle.std.specs.Prelude.{◌≡◌, ◌<◌, ◌≤◌, ◌+◌, true, length, IfSome};
 ghost use Rattle.bipr.specs.Dividing.{after_mark, before_mark, begins_with_mark, mark_in};
 
 use bip_model::split_line;

@@ -5,7 +5,7 @@ ghost use Rattle.bipr.specs.Explored.{IsExploreAnswer, stop_of_fault};
 
 use crate::ahead::{Ahead, jobs_of, keep_ahead, outcome};
 use crate::answers::{Answer, Status, said};
-use crate::command_line::ExploreArguments;
+use crate::commands::explore::ExploreArguments;
 use crate::progress::Progress;
 use crate::stops::Stop;
 use crate::streams::Stream;

@@ -10,7 +10,7 @@ ghost use Rattle.bipr.specs.Resolvers.{kind_named};
 ghost use Rattle.bipr.specs.Scheduled.{reporting};
 
 use crate::answers::Answer;
-use crate::command_line::RunArguments;
+use crate::commands::run::RunArguments;
 use crate::hosting::Hosting;
 use crate::scheduled::reported;
 use crate::stops::Stop;

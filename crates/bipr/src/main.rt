@@ -13,7 +13,9 @@ mod explored;
 mod hosted;
 mod hosting;
 mod inputs;
+mod invocations;
 mod laws;
+mod loading;
 mod program;
 mod progress;
 mod refusals;
@@ -30,12 +32,11 @@ ghost use Rattle.bipr.specs.Commands.{IsExit, IsProgramEnd};
 ghost use Rattle.bipr.specs.Streams.{Puts};
 
 use answers::Status;
-use commands::carry_out;
+use bip_explain::Explanation;
 use hosting::{Hosting, Threaded};
 use inputs::Inputs;
-use refusals::refuse_words;
+use invocations::Invocation;
 use sources::Sources;
-use std::alloc::Global;
 use std::io;
 use std::process::ExitCode;
 use std::sync::Wait;
@@ -45,55 +46,52 @@ use streams::Stream;
 use words::{Started, Words};
 
 fn main(rt: HostRuntime) -> ExitCode {
-    ExitCode::from(exit_code(
-        &rt,
-        rt.alloc(),
-        &Started::new(&rt),
-        &Sources::new(&rt),
-        &Threaded,
-        &mut io::writer(&rt),
-        &mut rt.stderr(),
-    ))
+    let mut invocation = Invocation {
+        rt: &rt,
+        alloc: rt.alloc(),
+        inputs: &Sources::new(&rt),
+        hosting: &Threaded,
+        explanation: Explanation::new(false),
+        output: io::writer(&rt),
+        errors: rt.stderr(),
+    };
+    ExitCode::from(exit_code(&Started::new(&rt), &mut invocation))
 }
 
 // Carries out what words ask, and says the code with which the process ends (docs/ANSWERS.md,
 // "Words").
 fn exit_code<
-    R: Threads + Wait + Clock + Sync,
     W: Words,
+    R: Threads + Wait + Clock + Sync,
     I: Inputs,
     H: Hosting,
     O: Stream,
     E: Stream,
->(rt: &R, alloc: Global, words: &W, inputs: &I, hosting: &H, output: &mut O, errors: &mut E) -> u8
-    ensures { IsExit (IsProgramEnd (W.says words.now) (I.gives inputs.now) (H.hosts hosting.now)
-        (Puts O.writes output.old output.new) E.writes errors.old errors.new) result }
+>(words: &W, invocation: &mut Invocation<'_, R, I, H, O, E>) -> u8
+    ensures { IsExit (IsProgramEnd (W.says words.now) (I.gives invocation.old.inputs.now)
+        (H.hosts invocation.old.hosting.now)
+        (Puts O.writes invocation.old.output invocation.new.output) E.writes
+        invocation.old.errors invocation.new.errors) result }
 {
-    end_program(rt, alloc, words, inputs, hosting, output, errors).code()
+    end_program(words, invocation).code()
 }
 
 // Carries out what words ask, or says that they can't be had.
 fn end_program<
-    R: Threads + Wait + Clock + Sync,
     W: Words,
+    R: Threads + Wait + Clock + Sync,
     I: Inputs,
     H: Hosting,
     O: Stream,
     E: Stream,
->(
-    rt: &R,
-    alloc: Global,
-    words: &W,
-    inputs: &I,
-    hosting: &H,
-    output: &mut O,
-    errors: &mut E,
-) -> Status
-    ensures { IsProgramEnd (W.says words.now) (I.gives inputs.now) (H.hosts hosting.now)
-        (Puts O.writes output.old output.new) E.writes errors.old errors.new result }
+>(words: &W, invocation: &mut Invocation<'_, R, I, H, O, E>) -> Status
+    ensures { IsProgramEnd (W.says words.now) (I.gives invocation.old.inputs.now)
+        (H.hosts invocation.old.hosting.now)
+        (Puts O.writes invocation.old.output invocation.new.output) E.writes
+        invocation.old.errors invocation.new.errors result }
 {
-    match words.words(alloc) {
-        Ok(words) => carry_out(rt, alloc, words.as_slice(), inputs, hosting, output, errors),
-        Err(error) => refuse_words(output, errors, &error),
+    match words.words(invocation.alloc) {
+        Ok(words) => invocation.carry_out(words.as_slice()),
+        Err(error) => invocation.refuse_words(&error),
     }
 }

@@ -1,5 +1,5 @@
 //! The program's commands, their arguments and their help, as the library takes them.
-ghost use Rattle.std.specs.Prelude.{◌≡◌, IfOk, codes, map};
+ghost use Rattle.std.specs.Prelude.{◌≡◌, IfOk, codes};
 ghost use Rattle.clap.specs.Words.{app_of};
 ghost use Rattle.bipr.specs.Program.{HasRule, HasShape, bare_program, base_option};
 ghost use Rattle.bipr.specs.Program.{chart_command, check_command, draw_command, from_option};
@@ -213,7 +213,7 @@ pub struct Choices<'a> {
 pub fn program<'a>(alloc: Global, choices: Choices<'a>) -> Result<Command<'a>, AllocError>
     ensures { IfOk result (λ command. app_of command ≡ program choices.entry) }
 {
-    bare(alloc)
+    bare(alloc)?
         .subcommand(chart(alloc)?)?
         .subcommand(check(alloc)?)?
         .subcommand(draw(alloc)?)?
@@ -224,15 +224,15 @@ pub fn program<'a>(alloc: Global, choices: Choices<'a>) -> Result<Command<'a>, A
 }
 
 // The program without its commands.
-fn bare<'a>(alloc: Global) -> Command<'a>
-    ensures { app_of result ≡ bare_program }
+fn bare<'a>(alloc: Global) -> Result<Command<'a>, AllocError>
+    ensures { IfOk result (HasShape bare_program) }
 {
     Command::new(alloc, "bipr")
-        .version("0.1.0")
+        .version("0.2.0")
         .about(ABOUT)
         .after_help(HELP)
-        .disable_help_subcommand(true)
         .subcommand_required(true)
+        .arg(explain(alloc))
 }
 
 fn chart<'a>(alloc: Global) -> Result<Command<'a>, AllocError>
@@ -370,11 +370,8 @@ fn resolver<'a>(alloc: Global, resolvers: &'a [&'a str]) -> Arg<'a>
 fn seeds<'a>(alloc: Global) -> Arg<'a>
     ensures { HasRule (needed (codes "seeds") (numbers 1 1000000)) result }
 {
-    Arg::new(alloc, "seeds")
-        .long("seeds")
-        .value_name("K")
+    number(alloc, "seeds", "K", 1, 1_000_000)
         .required(true)
-        .value_parser(value_parser!(u32).range(1..=1_000_000))
         .help("how many seeds, from 1 on: 1 to 1000000")
 }
 
@@ -382,11 +379,8 @@ fn seeds<'a>(alloc: Global) -> Arg<'a>
 fn events<'a>(alloc: Global) -> Arg<'a>
     ensures { HasRule (needed (codes "events") (numbers 0 1000000)) result }
 {
-    Arg::new(alloc, "events")
-        .long("events")
-        .value_name("N")
+    number(alloc, "events", "N", 0, 1_000_000)
         .required(true)
-        .value_parser(value_parser!(u32).range(0..=1_000_000))
         .help("how many steps of each seed: 0 to 1000000")
 }
 
@@ -394,11 +388,8 @@ fn events<'a>(alloc: Global) -> Arg<'a>
 fn turns<'a>(alloc: Global) -> Arg<'a>
     ensures { HasRule (needed (codes "turns") (numbers 1 1000000)) result }
 {
-    Arg::new(alloc, "turns")
-        .long("turns")
-        .value_name("N")
+    number(alloc, "turns", "N", 1, 1_000_000)
         .required(true)
-        .value_parser(value_parser!(u32).range(1..=1_000_000))
         .help("how many turns each thread makes: 1 to 1000000")
 }
 
@@ -418,10 +409,7 @@ fn table<'a>(alloc: Global, tables: &'a [&'a str]) -> Arg<'a>
 fn from<'a>(alloc: Global) -> Arg<'a>
     ensures { HasRule from_option result }
 {
-    Arg::new(alloc, "from")
-        .long("from")
-        .value_name("K")
-        .value_parser(value_parser!(u64).range(1..))
+    row(alloc, "from")
         .default_value("1")
         .help("the first row that is shown")
 }
@@ -429,11 +417,28 @@ fn from<'a>(alloc: Global) -> Arg<'a>
 fn to<'a>(alloc: Global) -> Arg<'a>
     ensures { HasRule (option (codes "to") rows) result }
 {
-    Arg::new(alloc, "to")
-        .long("to")
+    row(alloc, "to").help("the last row that is shown; else that of the last grant")
+}
+
+// An option that takes the number of a row.
+fn row<'a>(alloc: Global, name: &'a str) -> Arg<'a>
+    ensures { HasRule (option name.entry.now rows) result }
+{
+    Arg::new(alloc, name)
+        .long(name)
         .value_name("K")
         .value_parser(value_parser!(u64).range(1..))
-        .help("the last row that is shown; else that of the last grant")
+}
+
+// An option that takes a number from one to another.
+fn number<'a>(alloc: Global, name: &'a str, shown: &'a str, low: u32, high: u32) -> Arg<'a>
+    ensures { HasRule (option name.entry.now (numbers low high)) result }
+{
+    let range = i64::from(low)..=i64::from(high);
+    Arg::new(alloc, name)
+        .long(name)
+        .value_name(shown)
+        .value_parser(value_parser!(u32).range(range))
 }
 
 // The option that shows the values of variables.
@@ -478,14 +483,12 @@ fn progress<'a>(alloc: Global) -> Arg<'a>
 fn jobs<'a>(alloc: Global) -> Arg<'a>
     ensures { HasRule (option (codes "jobs") (numbers 1 256)) result }
 {
-    Arg::new(alloc, "jobs")
-        .long("jobs")
-        .value_name("J")
-        .value_parser(value_parser!(u32).range(1..=256))
-        .help("in how many threads seeds are explored: 1 to 256; else one a processor")
+    number(alloc, "jobs", "J", 1, 256).help(
+        "in how many threads seeds are explored: 1 to 256; else one a processor",
+    )
 }
 
-// The option that all commands have.
+// The option that the program has, and all commands.
 fn explain<'a>(alloc: Global) -> Arg<'a>
     ensures { HasRule (flag (codes "explain")) result }
 {

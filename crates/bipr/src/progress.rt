@@ -3,7 +3,7 @@ ghost use Rattle.std.specs.Prelude.{◌≡◌, List, OnErr, OnOk, false, true};
 ghost use Rattle.bipr.specs.Explored.{IsProgressAt, ends_hundredth};
 ghost use Rattle.bipr.specs.Streams.{Put, PutsEach, texts};
 
-use crate::command_line::ExploreArguments;
+use crate::commands::explore::ExploreArguments;
 use crate::hosting::milliseconds_since;
 use crate::streams::{Stream, put};
 use crate::wording::{progress_text, timed_text};

@@ -1,14 +1,12 @@
 //! Command lines that ask for nothing.
-ghost use Rattle.std.specs.Prelude.{◌≡◌};
-ghost use Rattle.bipr.specs.Endings.{AllOutcomes, Ends, IsEnd};
-ghost use Rattle.bipr.specs.Refusals.{IsErrorAnswer, IsWordsAnswer, bad_base, bad_range};
+ghost use Rattle.bipr.specs.Endings.{AllOutcomes, Ends};
+ghost use Rattle.bipr.specs.Refusals.{IsErrorAnswer, IsWordsAnswer};
 ghost use Rattle.bipr.specs.Streams.{Puts};
 
 use crate::answers::{Answer, Status, complained, said};
-use crate::endings::{complain, end};
+use crate::invocations::Invocation;
 use crate::stops::{NO_MEMORY, Stop};
 use crate::streams::Stream;
-use bip_explain::Explanation;
 use clap::Error;
 use clap::error::ErrorKind;
 use std::alloc::Global;
@@ -18,62 +16,21 @@ const BAD_COMMAND_LINE: &[u8] = b"bipr: bad command line\n";
 
 const NO_TEXT: &[u8] = b"bipr: bad command line\nerror: an argument is not UTF-8\n";
 
-const BAD_BASE: &[u8] = b"bipr: bad command line\nerror: --base is 0 to 18446744073709551614\n";
-
-const BAD_RANGE: &[u8] = b"bipr: bad command line\nerror: --from is 1 to --to\n";
-
-/// The words of the command line can't be had: there is no memory, or one is no text.
-pub fn refuse_words<O: Stream, E: Stream>(
-    output: &mut O,
-    errors: &mut E,
-    error: &io::Error,
-) -> Status
-    ensures { Ends (IsWordsAnswer error.now) (Puts O.writes output.old output.new)
-        (Puts E.writes errors.old errors.new) result }
-{
-    if error.kind() == io::ErrorKind::OutOfMemory {
-        return complain(output, errors, Status::NoMemory, NO_MEMORY);
+impl<R, I, H, O: Stream, E: Stream> Invocation<'_, R, I, H, O, E> {
+    /// The words of the command line can't be had: there is no memory, or one is no text.
+    pub fn refuse_words(&mut self, error: &io::Error) -> Status
+        ensures { Ends (IsWordsAnswer error.now) (Puts O.writes self.old.output self.new.output)
+            (Puts E.writes self.old.errors self.new.errors) result }
+    {
+        if error.kind() == io::ErrorKind::OutOfMemory {
+            return self.complain(Status::NoMemory, NO_MEMORY);
+        }
+        self.complain(Status::BadCommandLine, NO_TEXT)
     }
-    complain(output, errors, Status::BadCommandLine, NO_TEXT)
 }
 
-/// The base is out of range, or nothing is asked for.
-pub fn refuse_base<O: Stream, E: Stream>(output: &mut O, errors: &mut E) -> Status
-    ensures { IsEnd (Puts O.writes output.old output.new) (Puts E.writes errors.old errors.new)
-        bad_base result }
-{
-    complain(output, errors, Status::BadCommandLine, BAD_BASE)
-}
-
-/// The rows of a chart end before they begin.
-pub fn refuse_range<O: Stream, E: Stream>(output: &mut O, errors: &mut E) -> Status
-    ensures { IsEnd (Puts O.writes output.old output.new) (Puts E.writes errors.old errors.new)
-        bad_range result }
-{
-    complain(output, errors, Status::BadCommandLine, BAD_RANGE)
-}
-
-/// Shows help or the version, or says why the words ask for nothing.
-pub fn refuse_parse<O: Stream, E: Stream>(
-    alloc: Global,
-    output: &mut O,
-    errors: &mut E,
-    error: &Error,
-) -> Status
-    ensures { Ends (IsErrorAnswer error.now) (Puts O.writes output.old output.new)
-        (Puts E.writes errors.old errors.new) result }
-{
-    let mut unasked = Explanation::new(false);
-    end(
-        alloc,
-        &mut unasked,
-        output,
-        errors,
-        answer_error(alloc, error),
-    )
-}
-
-fn answer_error(alloc: Global, error: &Error) -> Result<Answer, Stop<'static>>
+/// Help or the version that is asked for, or why the words ask for nothing.
+pub fn answer_error(alloc: Global, error: &Error) -> Result<Answer, Stop<'static>>
     ensures { AllOutcomes result (IsErrorAnswer error.now) }
 {
     if error.kind() == ErrorKind::OutOfMemory {

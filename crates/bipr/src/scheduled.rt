@@ -12,16 +12,15 @@ ghost use Rattle.bip_schedule.specs.Laws.{IsFault};
 ghost use Rattle.bip_replay.specs.Writing.{text_of};
 ghost use Rattle.bipr.specs.Answers.{complaining};
 ghost use Rattle.bipr.specs.CommandLine.{greatest_base};
-ghost use Rattle.bipr.specs.Commands.Steps.{IsScheduleOf};
 ghost use Rattle.bipr.specs.Endings.{AllOutcomesTelling};
 ghost use Rattle.bipr.specs.Resolvers.{IsSharedAtFirst};
-ghost use Rattle.bipr.specs.Scheduled.{IsScheduleAnswer, IsTelling, reporting};
+ghost use Rattle.bipr.specs.Scheduled.{IsScheduleAnswer, IsScheduleOf, IsTelling, reporting};
 ghost use Rattle.bipr.specs.Streams.{Put, PutsEach};
 ghost use Rattle.bipr.specs.Wording.{report_text, schedule_refusal};
 ghost use Rattle.bipr.specs.declared.answers.Status.TheVariants.{Refused};
 
 use crate::answers::{Answer, Status, complained};
-use crate::command_line::StepsArguments;
+use crate::commands::steps::StepsArguments;
 use crate::resolvers::Resolver;
 use crate::stops::Stop;
 use crate::streams::{Stream, put};

@@ -15,6 +15,10 @@ pub enum Stop<'a> {
     CannotRead(&'a str),
     /// What is told on the way can't be written.
     CannotWrite,
+    /// The base is out of range, or nothing is asked for.
+    BaseOutOfRange,
+    /// The rows of a chart end before they begin.
+    RowsOutOfOrder,
     /// Row words are asked for without the central bank.
     WordsNeedCentral,
     /// More components have a row than row words can.
@@ -40,6 +44,12 @@ pub const CANNOT_WRITE: &[u8] = b"bipr: cannot write\n";
 pub const NOT_A_RUN: &[u8] = b"bipr: not a run\n";
 
 pub const NO_THREAD: &[u8] = b"bipr: no thread\n";
+
+/// The complaint where the base is out of range; and where the rows of a chart end before they
+/// begin.
+pub const BAD_BASE: &[u8] = b"bipr: bad command line\nerror: --base is 0 to 18446744073709551614\n";
+
+pub const BAD_RANGE: &[u8] = b"bipr: bad command line\nerror: --from is 1 to --to\n";
 
 /// The complaint where row words are asked for without the central bank; and where more components
 /// have a row than these can.

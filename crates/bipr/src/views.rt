@@ -5,11 +5,10 @@ ghost use Rattle.bip_reader.specs.Texts.{Means};
 ghost use Rattle.bipr.specs.CommandLine.{greatest_base};
 ghost use Rattle.bipr.specs.Views.{IsViewed};
 
-use crate::answers::{Answer, answer_fault, answer_trace};
+use crate::answers::{Answer, answer_trace};
 use crate::charted::{Shown, answer_chart};
 use bip_explain::Explanation;
 use bip_model::{Classes, Model, Number};
-use bip_reader::read_model;
 use std::alloc::{AllocError, Global};
 
 /// What is asked of a trace: its verdict, or the chart of its run, in which these rows are shown.
@@ -20,27 +19,8 @@ pub enum View<'a> {
 }
 
 impl<'a> View<'a> {
-    /// The answer to the texts of a model and a trace, from a base (docs/ANSWERS.md, "Answers").
-    /// The only error is want of memory.
-    pub fn answer_texts(
-        &self,
-        alloc: Global,
-        explanation: &mut Explanation,
-        model: &[u8],
-        trace: &[u8],
-        base: Number,
-    ) -> Result<Answer, AllocError>
-        requires { base ≤ greatest_base }
-        ensures { IfOk result (IsViewed self.now base model.now trace.now) }
-    {
-        let (system, classes) = match read_model(alloc, model) {
-            Ok(read) => read,
-            Err(fault) => return answer_fault(alloc, explanation, model, &fault),
-        };
-        self.answer_trace(alloc, explanation, &system, &classes, trace, base)
-    }
-
-    /// The same, where the model's text is one.
+    /// The answer to a trace from a base, where the model's text is one (docs/ANSWERS.md,
+    /// "Answers"). The only error is want of memory.
     pub fn answer_trace(
         &self,
         alloc: Global,

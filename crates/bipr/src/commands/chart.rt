@@ -1,43 +1,66 @@
 //! The command `chart`.
 ghost use Rattle.std.specs.Prelude.{◌≡◌, ◌≤◌, false, true};
-ghost use Rattle.bipr.specs.CommandLine.{greatest_base};
-ghost use Rattle.bipr.specs.Commands.Chart.{IsChart, AreRowsInOrder, AreRowsDisordered};
-ghost use Rattle.bipr.specs.Endings.{Ends};
-ghost use Rattle.bipr.specs.Streams.{Puts};
+ghost use Rattle.clap.specs.Words.{found_of, rows_of};
+ghost use Rattle.bipr.specs.Charted.{AreRowsDisordered, AreRowsInOrder};
+ghost use Rattle.bipr.specs.CommandLine.{IsChartAsked, IsReadAs, greatest_base};
+ghost use Rattle.bipr.specs.Commands.{IsChart};
+ghost use Rattle.bipr.specs.Endings.{AllOutcomesTelling};
 
-use crate::answers::Status;
+use crate::answers::Answer;
 use crate::charted::Shown;
-use crate::command_line::ChartArguments;
-use crate::commands::replay::answer_viewed;
-use crate::endings::end;
+use crate::command_line::{is_set, wide_number_asked};
+use crate::commands::replay::{ReplayArguments, answer_viewed};
 use crate::inputs::Inputs;
-use crate::refusals::refuse_range;
+use crate::invocations::Invocation;
+use crate::stops::Stop;
 use crate::streams::Stream;
 use crate::views::View;
-use bip_explain::Explanation;
-use std::alloc::Global;
+use clap::ArgMatches;
 
-/// Draws the run with which the trace begins that the second path names, of the model that the
-/// first path names: writes the picture, and the verdict on the trace on standard error, and says
-/// with which status the command ends (docs/ANSWERS.md, "The chart that is asked for").
-pub fn chart<I: Inputs, O: Stream, E: Stream>(
-    alloc: Global,
-    explanation: &mut Explanation,
-    inputs: &I,
-    asked: &ChartArguments<'_>,
-    output: &mut O,
-    errors: &mut E,
-) -> Status
-    requires { asked.now.replay.base ≤ greatest_base }
-    ensures { Ends (IsChart (I.gives inputs.now) asked.now) (Puts O.writes output.old output.new)
-        (Puts E.writes errors.old errors.new) result }
-{
-    if !is_in_order(&asked.shown) {
-        return refuse_range(output, errors);
+/// The chart of the run of a replay, with the rows that it shows.
+#[derive(Drop)]
+pub struct ChartArguments<'p> {
+    pub replay: ReplayArguments<'p>,
+    pub shown: Shown,
+}
+
+impl<'p> ChartArguments<'p> {
+    /// What the words behind `chart` ask.
+    pub fn read(matches: &ArgMatches<'p>) -> Option<ChartArguments<'p>>
+        ensures { IsReadAs (IsChartAsked (rows_of (found_of matches.now))) result }
+    {
+        let replay = ReplayArguments::read(matches)?;
+        let shown = Shown {
+            from: wide_number_asked(matches, "from")?,
+            to: wide_number_asked(matches, "to"),
+            values: is_set(matches, "values"),
+        };
+        Some(ChartArguments { replay, shown })
     }
-    let view = View::Chart(&asked.shown);
-    let answer = answer_viewed(alloc, explanation, inputs, &asked.replay, &view);
-    end(alloc, explanation, output, errors, answer)
+}
+
+impl<R, I: Inputs, H, O, E: Stream> Invocation<'_, R, I, H, O, E> {
+    /// Draws the run with which the trace begins that the second path names, of the model that the
+    /// first path names: the picture, and beside it the verdict on the trace (docs/ANSWERS.md, "The
+    /// chart that is asked for").
+    pub fn chart<'p>(&mut self, asked: &ChartArguments<'p>) -> Result<Answer, Stop<'p>>
+        requires { asked.now.replay.base ≤ greatest_base }
+        ensures says { AllOutcomesTelling E.writes self.old.errors self.new.errors result
+            (IsChart (I.gives self.old.inputs.now) asked.now) }
+        ensures output { self.new.output ≡ self.old.output }
+    {
+        if !is_in_order(&asked.shown) {
+            return Err(Stop::RowsOutOfOrder);
+        }
+        let view = View::Chart(&asked.shown);
+        answer_viewed(
+            self.alloc,
+            &mut self.explanation,
+            self.inputs,
+            &asked.replay,
+            &view,
+        )
+    }
 }
 
 // Whether the rows that are shown end where they begin, or later.

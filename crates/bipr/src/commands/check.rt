@@ -1,46 +1,48 @@
 //! The command `check`.
-ghost use Rattle.bipr.specs.Commands.Check.{IsCheck};
-ghost use Rattle.bipr.specs.Endings.{AllOutcomes, Ends};
-ghost use Rattle.bipr.specs.Streams.{Puts};
+ghost use Rattle.std.specs.Prelude.{◌≡◌};
+ghost use Rattle.clap.specs.Words.{found_of, rows_of};
+ghost use Rattle.bipr.specs.CommandLine.{IsCheckAsked, IsReadAs};
+ghost use Rattle.bipr.specs.Commands.{IsCheck};
+ghost use Rattle.bipr.specs.Endings.{AllOutcomesTelling};
 
-use crate::answers::{Answer, Status, answer_check};
-use crate::command_line::CheckArguments;
-use crate::commands::read_input;
-use crate::endings::end;
+use crate::answers::{Answer, answer_check};
+use crate::command_line::{is_set, text_asked};
 use crate::inputs::Inputs;
+use crate::invocations::Invocation;
+use crate::loading::load;
 use crate::stops::Stop;
 use crate::streams::Stream;
-use bip_explain::Explanation;
-use std::alloc::Global;
+use clap::ArgMatches;
 
-/// Counts what the plan has of the model that the path names, and shows it where that is asked for;
-/// writes the answer, and says with which status the command ends (docs/ANSWERS.md, "The check that
-/// is asked for").
-pub fn check<I: Inputs, O: Stream, E: Stream>(
-    alloc: Global,
-    explanation: &mut Explanation,
-    inputs: &I,
-    asked: &CheckArguments<'_>,
-    output: &mut O,
-    errors: &mut E,
-) -> Status
-    ensures { Ends (IsCheck (I.gives inputs.now) asked.now) (Puts O.writes output.old output.new)
-        (Puts E.writes errors.old errors.new) result }
-{
-    let answer = answer_asked(alloc, explanation, inputs, asked);
-    end(alloc, explanation, output, errors, answer)
+/// The check of the model that a path names, and whether its plan is shown.
+#[derive(Drop)]
+pub struct CheckArguments<'p> {
+    pub model: &'p str,
+    pub with_plan: bool,
 }
 
-// The answer to what is asked.
-fn answer_asked<'a, I: Inputs>(
-    alloc: Global,
-    explanation: &mut Explanation,
-    inputs: &I,
-    asked: &CheckArguments<'a>,
-) -> Result<Answer, Stop<'a>>
-    ensures { AllOutcomes result (IsCheck (I.gives inputs.now) asked.now) }
-{
-    let text = read_input(alloc, explanation, inputs, asked.model)?;
-    let text = text.as_slice();
-    Ok(answer_check(alloc, explanation, text, asked.with_plan)?)
+impl<'p> CheckArguments<'p> {
+    /// What the words behind `check` ask.
+    pub fn read(matches: &ArgMatches<'p>) -> Option<CheckArguments<'p>>
+        ensures { IsReadAs (IsCheckAsked (rows_of (found_of matches.now))) result }
+    {
+        Some(CheckArguments {
+            model: text_asked(matches, "model")?,
+            with_plan: is_set(matches, "plan"),
+        })
+    }
+}
+
+impl<R, I: Inputs, H, O, E: Stream> Invocation<'_, R, I, H, O, E> {
+    /// Counts what the plan has of the model that the path names, and shows it where that is asked
+    /// for (docs/ANSWERS.md, "The check that is asked for").
+    pub fn check<'p>(&mut self, asked: &CheckArguments<'p>) -> Result<Answer, Stop<'p>>
+        ensures says { AllOutcomesTelling E.writes self.old.errors self.new.errors result
+            (IsCheck (I.gives self.old.inputs.now) asked.now) }
+        ensures output { self.new.output ≡ self.old.output }
+    {
+        let text = load(self.alloc, &mut self.explanation, self.inputs, asked.model)?;
+        let text = text.as_slice();
+        Ok(answer_check(self.alloc, &mut self.explanation, text, asked.with_plan)?)
+    }
 }

@@ -1,46 +1,47 @@
 //! The command `draw`.
-ghost use Rattle.bipr.specs.Commands.Draw.{IsDraw};
-ghost use Rattle.bipr.specs.Endings.{AllOutcomes, Ends};
-ghost use Rattle.bipr.specs.Streams.{Puts};
+ghost use Rattle.std.specs.Prelude.{◌≡◌};
+ghost use Rattle.clap.specs.Words.{found_of, rows_of};
+ghost use Rattle.bipr.specs.CommandLine.{IsDrawAsked, IsReadAs};
+ghost use Rattle.bipr.specs.Commands.{IsDraw};
+ghost use Rattle.bipr.specs.Endings.{AllOutcomesTelling};
 
-use crate::answers::{Answer, Status};
-use crate::command_line::DrawArguments;
-use crate::commands::read_input;
+use crate::answers::Answer;
+use crate::command_line::text_asked;
 use crate::drawn::answer_drawing;
-use crate::endings::end;
 use crate::inputs::Inputs;
+use crate::invocations::Invocation;
+use crate::loading::load;
 use crate::stops::Stop;
 use crate::streams::Stream;
-use bip_explain::Explanation;
-use std::alloc::Global;
+use clap::ArgMatches;
 
-/// Draws the model that the path names in the language of Graphviz, writes the answer, and says
-/// with which status the command ends (docs/ANSWERS.md, "The drawing that is asked for").
-pub fn draw<I: Inputs, O: Stream, E: Stream>(
-    alloc: Global,
-    explanation: &mut Explanation,
-    inputs: &I,
-    asked: &DrawArguments<'_>,
-    output: &mut O,
-    errors: &mut E,
-) -> Status
-    ensures { Ends (IsDraw (I.gives inputs.now) asked.now) (Puts O.writes output.old output.new)
-        (Puts E.writes errors.old errors.new) result }
-{
-    let answer = answer_asked(alloc, explanation, inputs, asked);
-    end(alloc, explanation, output, errors, answer)
+/// The drawing of the model that a path names.
+#[derive(Drop)]
+pub struct DrawArguments<'p> {
+    pub model: &'p str,
 }
 
-// The answer to what is asked.
-fn answer_asked<'a, I: Inputs>(
-    alloc: Global,
-    explanation: &mut Explanation,
-    inputs: &I,
-    asked: &DrawArguments<'a>,
-) -> Result<Answer, Stop<'a>>
-    ensures { AllOutcomes result (IsDraw (I.gives inputs.now) asked.now) }
-{
-    let text = read_input(alloc, explanation, inputs, asked.model)?;
-    let text = text.as_slice();
-    Ok(answer_drawing(alloc, explanation, text)?)
+impl<'p> DrawArguments<'p> {
+    /// What the words behind `draw` ask.
+    pub fn read(matches: &ArgMatches<'p>) -> Option<DrawArguments<'p>>
+        ensures { IsReadAs (IsDrawAsked (rows_of (found_of matches.now))) result }
+    {
+        Some(DrawArguments {
+            model: text_asked(matches, "model")?,
+        })
+    }
+}
+
+impl<R, I: Inputs, H, O, E: Stream> Invocation<'_, R, I, H, O, E> {
+    /// Draws the model that the path names in the language of Graphviz (docs/ANSWERS.md, "The
+    /// drawing that is asked for").
+    pub fn draw<'p>(&mut self, asked: &DrawArguments<'p>) -> Result<Answer, Stop<'p>>
+        ensures says { AllOutcomesTelling E.writes self.old.errors self.new.errors result
+            (IsDraw (I.gives self.old.inputs.now) asked.now) }
+        ensures output { self.new.output ≡ self.old.output }
+    {
+        let text = load(self.alloc, &mut self.explanation, self.inputs, asked.model)?;
+        let text = text.as_slice();
+        Ok(answer_drawing(self.alloc, &mut self.explanation, text)?)
+    }
 }

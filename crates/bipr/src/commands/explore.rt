@@ -1,72 +1,67 @@
 //! The command `explore`.
-ghost use Rattle.bipr.specs.Commands.Explore.{IsExplore, IsTextExplored};
-ghost use Rattle.bipr.specs.Endings.{AllOutcomesTelling, EndsTelling};
-ghost use Rattle.bipr.specs.Streams.{Puts};
+ghost use Rattle.std.specs.Prelude.{◌≡◌};
+ghost use Rattle.clap.specs.Words.{found_of, rows_of};
+ghost use Rattle.bipr.specs.CommandLine.{IsExploreAsked, IsReadAs};
+ghost use Rattle.bipr.specs.Commands.{IsExplore};
+ghost use Rattle.bipr.specs.Endings.{AllOutcomesTelling};
 
-use crate::answers::{Answer, PlanOrRefusal, Status, plan_text};
-use crate::command_line::ExploreArguments;
-use crate::commands::read_input;
-use crate::endings::end;
+use crate::answers::{Answer, PlanOrRefusal, plan_text};
+use crate::command_line::{is_set, number_asked, resolver_asked, text_asked};
 use crate::explored::answer_explore;
 use crate::inputs::Inputs;
+use crate::invocations::Invocation;
+use crate::loading::load;
+use crate::resolvers::Resolver;
 use crate::stops::Stop;
 use crate::streams::Stream;
-use bip_explain::Explanation;
-use std::alloc::Global;
+use clap::ArgMatches;
 use std::thread::Threads;
 use std::time::Clock;
 
-/// Explores the plan of the model that the path names by so many seeds, with the resolver's bank:
-/// tells progress on standard error where that is asked for, writes the answer, and says with which
-/// status the command ends (docs/ANSWERS.md, "The exploring that is asked for").
-pub fn explore<R: Threads + Clock + Sync, I: Inputs, O: Stream, E: Stream>(
-    rt: &R,
-    alloc: Global,
-    explanation: &mut Explanation,
-    inputs: &I,
-    asked: &ExploreArguments<'_>,
-    output: &mut O,
-    errors: &mut E,
-) -> Status
-    ensures { EndsTelling (IsExplore (I.gives inputs.now) asked.now)
-        (Puts O.writes output.old output.new) E.writes errors.old errors.new result }
-{
-    let answer = answer_asked(rt, alloc, explanation, inputs, asked, errors);
-    end(alloc, explanation, output, errors, answer)
+/// The exploring of the model that a path names, with a resolver's bank, by the seeds from 1 on,
+/// with so many events each, in so many threads if that is said; and whether progress is told.
+#[derive(Drop)]
+pub struct ExploreArguments<'p> {
+    pub model: &'p str,
+    pub resolver: Resolver,
+    pub seeds: u32,
+    pub events: u32,
+    pub is_told: bool,
+    pub jobs: Option<u32>,
 }
 
-// The answer to what is asked, with what is told on the way.
-fn answer_asked<'a, R: Threads + Clock + Sync, I: Inputs, E: Stream>(
-    rt: &R,
-    alloc: Global,
-    explanation: &mut Explanation,
-    inputs: &I,
-    asked: &ExploreArguments<'a>,
-    errors: &mut E,
-) -> Result<Answer, Stop<'a>>
-    ensures { AllOutcomesTelling E.writes errors.old errors.new result
-        (IsExplore (I.gives inputs.now) asked.now) }
-{
-    let text = read_input(alloc, explanation, inputs, asked.model)?;
-    let text = text.as_slice();
-    answer_text(rt, alloc, explanation, text, asked, errors)
+impl<'p> ExploreArguments<'p> {
+    /// What the words behind `explore` ask.
+    pub fn read(matches: &ArgMatches<'p>) -> Option<ExploreArguments<'p>>
+        ensures { IsReadAs (IsExploreAsked (rows_of (found_of matches.now))) result }
+    {
+        Some(ExploreArguments {
+            model: text_asked(matches, "model")?,
+            resolver: resolver_asked(matches)?,
+            seeds: number_asked(matches, "seeds")?,
+            events: number_asked(matches, "events")?,
+            is_told: is_set(matches, "progress"),
+            jobs: number_asked(matches, "jobs"),
+        })
+    }
 }
 
-// The answer where the path names this text.
-fn answer_text<'a, R: Threads + Clock + Sync, E: Stream>(
-    rt: &R,
-    alloc: Global,
-    explanation: &mut Explanation,
-    text: &[u8],
-    asked: &ExploreArguments<'a>,
-    errors: &mut E,
-) -> Result<Answer, Stop<'a>>
-    ensures { AllOutcomesTelling E.writes errors.old errors.new result
-        (IsTextExplored text.now asked.now) }
-{
-    let given = plan_text(alloc, explanation, text)?;
-    match given {
-        PlanOrRefusal::Plan(plan) => answer_explore(rt, alloc, explanation, &plan, asked, errors),
-        PlanOrRefusal::Refusal(answer) => Ok(answer),
+impl<R: Threads + Clock + Sync, I: Inputs, H, O, E: Stream> Invocation<'_, R, I, H, O, E> {
+    /// Explores the plan of the model that the path names by so many seeds, with the resolver's
+    /// bank, and tells progress on standard error where that is asked for (docs/ANSWERS.md, "The
+    /// exploring that is asked for").
+    pub fn explore<'p>(&mut self, asked: &ExploreArguments<'p>) -> Result<Answer, Stop<'p>>
+        ensures says { AllOutcomesTelling E.writes self.old.errors self.new.errors result
+            (IsExplore (I.gives self.old.inputs.now) asked.now) }
+        ensures output { self.new.output ≡ self.old.output }
+    {
+        let (alloc, explanation) = (self.alloc, &mut self.explanation);
+        let text = load(alloc, explanation, self.inputs, asked.model)?;
+        match plan_text(alloc, explanation, text.as_slice())? {
+            PlanOrRefusal::Plan(plan) => {
+                answer_explore(self.rt, alloc, explanation, &plan, asked, &mut self.errors)
+            }
+            PlanOrRefusal::Refusal(answer) => Ok(answer),
+        }
     }
 }

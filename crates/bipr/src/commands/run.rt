@@ -1,99 +1,96 @@
 //! The command `run`.
-ghost use Rattle.bipr.specs.Commands.Run.{IsPlanHosted, IsTextHosted, IsThreadedRun};
-ghost use Rattle.bipr.specs.Endings.{AllOutcomes, Ends};
-ghost use Rattle.bipr.specs.Streams.{Puts};
+ghost use Rattle.std.specs.Prelude.{◌≡◌};
+ghost use Rattle.clap.specs.Words.{found_of, rows_of};
+ghost use Rattle.bipr.specs.CommandLine.{IsReadAs, IsRunAsked};
+ghost use Rattle.bipr.specs.Commands.{IsThreadedRun};
+ghost use Rattle.bipr.specs.Endings.{AllOutcomes, AllOutcomesTelling};
+ghost use Rattle.bipr.specs.Hosted.{IsPlanHosted};
 
-use crate::answers::{Answer, PlanOrRefusal, Status, plan_text};
-use crate::command_line::RunArguments;
-use crate::commands::read_input;
-use crate::endings::end;
+use crate::answers::{Answer, PlanOrRefusal, plan_text};
+use crate::command_line::{is_set, number_asked, resolver_asked, tables_asked, text_asked};
 use crate::hosted::answer_host;
 use crate::hosting::Hosting;
 use crate::inputs::Inputs;
+use crate::invocations::Invocation;
+use crate::loading::load;
+use crate::resolvers::HostForm;
 use crate::stops::Stop;
 use crate::streams::Stream;
-use bip_explain::Explanation;
 use bip_host::can_have;
 use bip_partition::Plan;
-use std::alloc::Global;
+use clap::ArgMatches;
 use std::sync::Wait;
 use std::thread::Threads;
 use std::time::Clock;
 
-/// Runs the nodes of the model that the path names as threads, for so many turns each: writes the
-/// trace of their grants, and what is counted on standard error where that is asked for, and says
-/// with which status the command ends (docs/ANSWERS.md, "The run that is asked for").
-pub fn run<R: Threads + Wait + Clock + Sync, I: Inputs, H: Hosting, O: Stream, E: Stream>(
-    rt: &R,
-    alloc: Global,
-    explanation: &mut Explanation,
-    inputs: &I,
-    hosting: &H,
-    asked: &RunArguments<'_>,
-    output: &mut O,
-    errors: &mut E,
-) -> Status
-    ensures { Ends (IsThreadedRun (I.gives inputs.now) (H.hosts hosting.now) asked.now)
-        (Puts O.writes output.old output.new) (Puts E.writes errors.old errors.new) result }
-{
-    let answer = answer_asked(rt, alloc, explanation, inputs, hosting, asked);
-    end(alloc, explanation, output, errors, answer)
+/// The running of the nodes of the model that a path names as threads, in a form, for so many turns
+/// each; and whether what is counted is told.
+#[derive(Drop)]
+pub struct RunArguments<'p> {
+    pub model: &'p str,
+    pub form: HostForm,
+    pub turns: u32,
+    pub with_stats: bool,
 }
 
-// The answer to what is asked.
-fn answer_asked<'a, R: Threads + Wait + Clock + Sync, I: Inputs, H: Hosting>(
-    rt: &R,
-    alloc: Global,
-    explanation: &mut Explanation,
-    inputs: &I,
-    hosting: &H,
-    asked: &RunArguments<'a>,
-) -> Result<Answer, Stop<'a>>
-    ensures { AllOutcomes result
-        (IsThreadedRun (I.gives inputs.now) (H.hosts hosting.now) asked.now) }
-{
-    if asked.form.needs_central() {
-        explanation.say(b"`--table words` goes with `--resolver central` alone");
-        return Err(Stop::WordsNeedCentral);
-    }
-    let text = read_input(alloc, explanation, inputs, asked.model)?;
-    let text = text.as_slice();
-    answer_text(rt, alloc, explanation, text, hosting, asked)
-}
-
-// The answer where the path names this text.
-fn answer_text<'a, R: Threads + Wait + Clock + Sync, H: Hosting>(
-    rt: &R,
-    alloc: Global,
-    explanation: &mut Explanation,
-    text: &[u8],
-    hosting: &H,
-    asked: &RunArguments<'a>,
-) -> Result<Answer, Stop<'a>>
-    ensures { AllOutcomes result (IsTextHosted text.now (H.hosts hosting.now) asked.now) }
-{
-    let given = plan_text(alloc, explanation, text)?;
-    match given {
-        PlanOrRefusal::Plan(plan) => answer_plan(rt, alloc, explanation, &plan, hosting, asked),
-        PlanOrRefusal::Refusal(answer) => Ok(answer),
+impl<'p> RunArguments<'p> {
+    /// What the words behind `run` ask.
+    pub fn read(matches: &ArgMatches<'p>) -> Option<RunArguments<'p>>
+        ensures { IsReadAs (IsRunAsked (rows_of (found_of matches.now))) result }
+    {
+        let resolver = resolver_asked(matches)?;
+        let tables = tables_asked(matches)?;
+        Some(RunArguments {
+            model: text_asked(matches, "model")?,
+            form: HostForm { resolver, tables },
+            turns: number_asked(matches, "turns")?,
+            with_stats: is_set(matches, "stats"),
+        })
     }
 }
 
-// The answer where the text has this plan.
-fn answer_plan<'a, R: Threads + Wait + Clock + Sync, H: Hosting>(
-    rt: &R,
-    alloc: Global,
-    explanation: &mut Explanation,
-    plan: &Plan,
-    hosting: &H,
-    asked: &RunArguments<'a>,
-) -> Result<Answer, Stop<'a>>
-    ensures { AllOutcomes result
-        (IsPlanHosted plan.now (H.hosts hosting.now) asked.now) }
-{
-    if !can_have(plan, asked.form.kind(), asked.form.tables) {
-        explanation.say(b"row words are of at most 32 components, and more have a row");
-        return Err(Stop::TooManyRows);
+impl<R: Threads + Wait + Clock + Sync, I: Inputs, H: Hosting, O, E: Stream> Invocation<
+    '_,
+    R,
+    I,
+    H,
+    O,
+    E,
+> {
+    /// Runs the nodes of the model that the path names as threads, for so many turns each: the
+    /// trace of their grants, and beside it what is counted, where that is asked for
+    /// (docs/ANSWERS.md, "The run that is asked for").
+    pub fn run<'p>(&mut self, asked: &RunArguments<'p>) -> Result<Answer, Stop<'p>>
+        ensures says { AllOutcomesTelling E.writes self.old.errors self.new.errors result
+            (IsThreadedRun (I.gives self.old.inputs.now) (H.hosts self.old.hosting.now)
+            asked.now) }
+        ensures output { self.new.output ≡ self.old.output }
+    {
+        if asked.form.needs_central() {
+            self.explanation
+                .say(b"`--table words` goes with `--resolver central` alone");
+            return Err(Stop::WordsNeedCentral);
+        }
+        let (alloc, explanation) = (self.alloc, &mut self.explanation);
+        let text = load(alloc, explanation, self.inputs, asked.model)?;
+        match plan_text(alloc, explanation, text.as_slice())? {
+            PlanOrRefusal::Plan(plan) => self.run_plan(&plan, asked),
+            PlanOrRefusal::Refusal(answer) => Ok(answer),
+        }
     }
-    answer_host(rt, alloc, explanation, plan, hosting, asked)
+
+    // The same, where the text has this plan.
+    fn run_plan<'p>(&mut self, plan: &Plan, asked: &RunArguments<'p>) -> Result<Answer, Stop<'p>>
+        ensures says { AllOutcomes result
+            (IsPlanHosted plan.now (H.hosts self.old.hosting.now) asked.now) }
+        ensures errors { self.new.errors ≡ self.old.errors }
+        ensures output { self.new.output ≡ self.old.output }
+    {
+        let (alloc, explanation) = (self.alloc, &mut self.explanation);
+        if !can_have(plan, asked.form.kind(), asked.form.tables) {
+            explanation.say(b"row words are of at most 32 components, and more have a row");
+            return Err(Stop::TooManyRows);
+        }
+        answer_host(self.rt, alloc, explanation, plan, self.hosting, asked)
+    }
 }

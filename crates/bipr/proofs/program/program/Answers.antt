@@ -1,3 +1,4 @@
+use Rattle.std.proofs.Common.{[]}
 use Rattle.std.proofs.lemmas.Result.{IfOk-weaker}
 use Rattle.bipr.specs.Program.{bare_program, chart_command, check_command, draw_command, explore_command, replay_command, run_command, steps_command}
 use Rattle.bipr.proofs.ProgramLemmas.{has_command}
@@ -6,7 +7,7 @@ use Rattle.bipr.proofs.program.program.Goals as goal
 pub returns : goal.returns
 returns c =
     let choices = c.args.choices in
-    let one = has_command _ _ _ bare_program chart_command c.bare.ensures c.in_ok-chart.ensures c.in_ok-subcommand.ensures in
+    let one = has_command _ _ _ (record { top = bare_program; subs = [] }) chart_command c.in_ok-bare.ensures.0 c.in_ok-chart.ensures c.in_ok-subcommand.ensures in
     let two = has_command _ _ _ _ check_command one c.in_ok-check.ensures c.in_ok-subcommand-2.ensures in
     let three = has_command _ _ _ _ draw_command two c.in_ok-draw.ensures c.in_ok-subcommand-3.ensures in
     let four = has_command _ _ _ _ replay_command three c.in_ok-replay.ensures c.in_ok-subcommand-4.ensures in

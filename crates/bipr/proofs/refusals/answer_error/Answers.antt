@@ -1,5 +1,6 @@
 use Rattle.std.proofs.Common.{Err, ◌≡◌, refl, rules, subst, sym}
-use Rattle.bipr.specs.Refusals.{IsErrorAnswer, bad_command_line, lacking, refused, shown}
+use Rattle.bipr.specs.Stops.{bad_command_line}
+use Rattle.bipr.specs.Refusals.{IsErrorAnswer, lacking, refused, shown}
 use Rattle.bipr.specs.declared.stops.Stop.TheVariants.{OutOfMemory}
 use Rattle.bipr.proofs.EndingLemmas.{outcome_answered, outcome_lacking}
 use Rattle.bipr.proofs.refusals.answer_error.Goals as goal

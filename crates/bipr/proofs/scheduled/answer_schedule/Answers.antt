@@ -1,5 +1,5 @@
 use Rattle.std.proofs.Common.{[], refl}
-use Rattle.bipr.specs.Commands.Steps.{IsScheduleOf}
+use Rattle.bipr.specs.Scheduled.{IsScheduleOf}
 use Rattle.bipr.specs.Scheduled.{lacking, untold}
 use Rattle.bipr.specs.Streams.{none_put}
 use Rattle.bipr.proofs.EndingLemmas.{lacks_quietly, outcome_answered}

@@ -1,10 +1,10 @@
 use Rattle.std.proofs.Common.{Err, None, Ok, Some, subst, sym}
 use Rattle.bip_core.specs.Worlds.{world_of}
 use Rattle.bip_partition.specs.Plans.{Planned}
-use Rattle.bipr.specs.Commands.Steps.{IsScheduleOf}
+use Rattle.bipr.specs.Scheduled.{IsScheduleOf}
 use Rattle.bipr.specs.Resolvers.{IsSharedAtFirst}
 use Rattle.bipr.specs.Scheduled.{IsTelling, lacking}
-use Rattle.bipr.proofs.EndingLemmas.{lacks_quietly, outcome_answered, outcome_lacking, outcome_unwritten}
+use Rattle.bipr.proofs.EndingLemmas.{lacks_quietly, outcome_answered, outcome_lacking}
 use Rattle.bipr.proofs.TellingLemmas.{told_all, told_all_lacking, told_err, told_unheard}
 use Rattle.bipr.proofs.scheduled.answer_telling.Goals as goal
 
@@ -77,6 +77,6 @@ returns g c =
     record {
       told = said.0;
       on_the_way = said.1;
-      outcomes = outcome_unwritten (IsScheduleOf p asked text said.0)
+      outcomes = outcome_answered (IsScheduleOf p asked text said.0) _
           (told_unheard p asked.base asked.resolver asked.is_told text w v said.0 c.requires.told c.in_ok-world.ensures.new shared telling);
     }

@@ -1,7 +1,0 @@
-use Rattle.bipr.specs.Commands.Explore.{IsExplore}
-use Rattle.bipr.proofs.EndingLemmas.{ends_telling}
-use Rattle.bipr.proofs.commands.explore.explore.Goals as goal
-
-pub returns : goal.returns
-returns g c =
-    ends_telling (IsExplore (g.I.Inputs.gives c.args.inputs.now) c.args.asked.now) _ g.E.Stream.writes c.args.errors.now _ _ _ _ c.answer_asked-answer.ensures c.end.ensures

@@ -1,0 +1,7 @@
+use Rattle.bipr.proofs.CommandLineLemmas.{read_none}
+use Rattle.bipr.proofs.commands.steps.StepsArguments.read.Goals as goal
+
+pub returns-in_err-base_asked : goal.returns-in_err-base_asked
+returns-in_err-base_asked c =
+    read_none c.from_residual-in_err-base_asked.result _ c.from_residual-in_err-base_asked.ensures
+    (λ asked is. c.in_err-base_asked.ensures asked.base is.base)

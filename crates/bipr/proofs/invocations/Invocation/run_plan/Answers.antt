@@ -1,0 +1,15 @@
+use Rattle.std.proofs.Common.{rules}
+use Rattle.bipr.specs.Hosted.{FitsPlan, IsPlanHosted, of_host, of_many_rows}
+use Rattle.bipr.proofs.EndingLemmas.{outcome_answered}
+use Rattle.bipr.proofs.invocations.Invocation.run_plan.Goals as goal
+
+pub returns-then-not-can_have-clause-says : goal.returns-then-not-can_have-clause-says
+returns-then-not-can_have-clause-says g c =
+    let hosts = g.H.Hosting.hosts c.args.self.now.hosting.now in
+    let misfit : FitsPlan c.args.plan.now c.args.asked.now.form → ⊥ = search rules in
+    outcome_answered (IsPlanHosted c.args.plan.now hosts c.args.asked.now) _ (of_many_rows misfit)
+
+pub returns-clause-says : goal.returns-clause-says
+returns-clause-says g c =
+    let fits : FitsPlan c.args.plan.now c.args.asked.now.form = search rules in
+    λ answer said. of_host answer fits (c.answer_host.ensures answer said)
