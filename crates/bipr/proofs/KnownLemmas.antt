@@ -1,5 +1,5 @@
 -- The replay of texts that are known.
-use Rattle.std.proofs.Common.{◌≡◌, ◌≤◌, ℕ, List, length, Ok, subst, sym}
+use Rattle.std.proofs.Common.{◌≡◌, ◌≤◌, ℕ, List, [], length, Ok, subst, sym}
 use Rattle.std.specs.Prelude.{Some}
 use Rattle.bip_reader.specs.Laws.{NoFault}
 use Rattle.bip_reader.specs.Texts.{HasFault}
@@ -25,17 +25,17 @@ is_read known read text same reading =
     let all : IsAll (Some text) most_bytes (Ok read) = subst (λ (n : Named). IsReading n (Ok read)) same reading in
     record { same = all.text; fits = subst (λ (t : List ℕ). length t ≤ most_bytes) all.text all.fits }
 
-model_unread : (asked : ReplayArguments) (model trace : List ℕ) (fault : InputFault) → IsOfTwo asked model trace (unread asked.model.now fault)
+model_unread : (asked : ReplayArguments) (model trace : List ℕ) (fault : InputFault) → IsOfTwo asked model trace [] (unread asked.model.now fault)
 model_unread asked model trace Failed = laws.model_unread
 model_unread asked model trace TooLong = laws.model_unread
 model_unread asked model trace NoMemory = laws.lacking
 
-trace_unread : (asked : ReplayArguments) (model trace : List ℕ) (fault : InputFault) → IsModelText model → IsOfTwo asked model trace (unread asked.trace.now fault)
+trace_unread : (asked : ReplayArguments) (model trace : List ℕ) (fault : InputFault) → IsModelText model → IsOfTwo asked model trace [] (unread asked.trace.now fault)
 trace_unread asked model trace Failed means = laws.trace_unread means
 trace_unread asked model trace TooLong means = laws.trace_unread means
 trace_unread asked model trace NoMemory means = laws.lacking
 
-one_unread : (asked : ReplayArguments) (text : List ℕ) (fault : InputFault) → IsOfOne asked text (unread asked.model.now fault)
+one_unread : (asked : ReplayArguments) (text : List ℕ) (fault : InputFault) → IsOfOne asked text [] (unread asked.model.now fault)
 one_unread asked text Failed = laws.one_unread
 one_unread asked text TooLong = laws.one_unread
 one_unread asked text NoMemory = laws.one_lacking
@@ -52,7 +52,7 @@ two_texts_decide either named asked model trace told answer alone at_model at_tr
     (of_first m a alone' read_m (fault, other, has, same)) =
     let of_model = is_read (named asked.model.now) m model at_model read_m in
     let has_here : HasFault model fault = subst (λ (x : List ℕ). HasFault x fault) of_model.same has in
-    subst (IsOfTwo asked model trace) (sym same)
+    subst (IsOfTwo asked model trace []) (sym same)
     (laws.answered _ of_model.fits
     (λ means. absurd (either model means.0 means.1 fault means.2 has_here))
     (answers_no_model fault other has_here))

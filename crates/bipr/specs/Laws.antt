@@ -148,24 +148,25 @@ StepsStatusesTell =
     × ((number : ℕ) (fault : TraceFault) → IsFault p schedule number fault
     → (told ≡ []) × ((answer.status ≡ Refused) ⊎ (answer ≡ out_of_memory)))
 
--- what may be answered where the two paths name these texts
-pub data IsOfTwo (asked : ReplayArguments) (model trace : List ℕ) : Answer → Type 0 where
+-- what may be answered where the two paths name these texts, and nothing is told on the way
+pub data IsOfTwo (asked : ReplayArguments) (model trace : List ℕ) : List Put → Answer → Type 0 where
   -- the answer of the two texts, neither of which is too long; the trace may be where the model's
   -- text is none
   answered : (answer : Answer) → length model ≤ most_bytes
       → (IsModelText model → length trace ≤ most_bytes)
-      → IsAnswer asked.base model trace answer → IsOfTwo asked model trace answer
-  model_unread : IsOfTwo asked model trace (complaining Refused (unread_text asked.model.now))
+      → IsAnswer asked.base model trace answer → IsOfTwo asked model trace [] answer
+  model_unread : IsOfTwo asked model trace [] (complaining Refused (unread_text asked.model.now))
   trace_unread : IsModelText model
-      → IsOfTwo asked model trace (complaining Refused (unread_text asked.trace.now))
-  lacking : IsOfTwo asked model trace out_of_memory
+      → IsOfTwo asked model trace [] (complaining Refused (unread_text asked.trace.now))
+  lacking : IsOfTwo asked model trace [] out_of_memory
 
--- what may be answered where one input has both texts
-pub data IsOfOne (asked : ReplayArguments) (text : List ℕ) : Answer → Type 0 where
+-- what may be answered where one input has both texts, and nothing is told on the way
+pub data IsOfOne (asked : ReplayArguments) (text : List ℕ) : List Put → Answer → Type 0 where
   one_answered : (answer : Answer) → length text ≤ most_bytes
-      → IsAnswer asked.base (before_mark text) (after_mark text) answer → IsOfOne asked text answer
-  one_unread : IsOfOne asked text (complaining Refused (unread_text asked.model.now))
-  one_lacking : IsOfOne asked text out_of_memory
+      → IsAnswer asked.base (before_mark text) (after_mark text) answer
+      → IsOfOne asked text [] answer
+  one_unread : IsOfOne asked text [] (complaining Refused (unread_text asked.model.now))
+  one_lacking : IsOfOne asked text [] out_of_memory
 
 -- what paths name decides what is answered: the first path names the model, the second the trace
 abbrev pub TwoTextsDecide : Type 0
@@ -173,7 +174,8 @@ TwoTextsDecide =
     (named : List ℕ → Named) (asked : ReplayArguments) (model trace : List ℕ) (told : List Put)
     (answer : Answer) → are_joined asked.model.now asked.trace.now ≡ false
     → named asked.model.now ≡ bytes model → named asked.trace.now ≡ bytes trace
-    → IsReplay (λ path. IsReading (named path)) asked told answer → IsOfTwo asked model trace answer
+    → IsReplay (λ path. IsReading (named path)) asked told answer
+    → IsOfTwo asked model trace told answer
 
 -- and so does the text of one input
 abbrev pub OneTextDecides : Type 0
@@ -181,4 +183,4 @@ OneTextDecides =
     (named : List ℕ → Named) (asked : ReplayArguments) (text : List ℕ) (told : List Put)
     (answer : Answer) → are_joined asked.model.now asked.trace.now ≡ true
     → named asked.model.now ≡ bytes text
-    → IsReplay (λ path. IsReading (named path)) asked told answer → IsOfOne asked text answer
+    → IsReplay (λ path. IsReading (named path)) asked told answer → IsOfOne asked text told answer
