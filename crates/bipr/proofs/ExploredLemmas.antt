@@ -1,12 +1,14 @@
 -- What is told on the way while seeds are explored, and the answers.
-use Rattle.std.proofs.Common.{◌≡◌, ◌∙◌, ◌+◌, ◌++◌, ◌∷◌, add-one, ap, ℕ, true, false, List, [], Result, Ok, Err, refl, subst, sym}
+use Rattle.std.proofs.Common.{◌≡◌, ◌∙◌, ◌+◌, ◌++◌, ◌∷◌, add-one, ap, ℕ, true, false, List, []}
+use Rattle.std.proofs.Common.{Result, Ok, Err, refl, subst, sym}
 use Rattle.std.specs.Prelude.{IfOk}
 use Rattle.bip_partition.specs.Plans.{Planned}
 use Rattle.bip_bank.specs.Sharing.{Sharing}
 use Rattle.bip_schedule.specs.Exploring.{AreExplored, IsSeedRun}
 use Rattle.bip_schedule.specs.declared.exploring.ExploreFault.{ExploreFault}
 use Rattle.bipr.specs.Answers.{saying}
-use Rattle.bipr.specs.Explored.{IsExploreAnswer, IsProgressAt, IsProgressUntil, by_count, ends_hundredth, explored, more_progress, told_at}
+use Rattle.bipr.specs.Explored.{IsExploreAnswer, IsProgressAt, IsProgressUntil, by_count}
+use Rattle.bipr.specs.Explored.{ends_hundredth, explored, more_progress, told_at}
 use Rattle.bipr.specs.Resolvers.{IsSharedAtFirst}
 use Rattle.bipr.specs.Streams.{Put, texts}
 use Rattle.bipr.specs.Wording.{progress_text, seeds_text}
@@ -15,39 +17,56 @@ use Rattle.bipr.specs.declared.answers.Status.TheVariants.{Done}
 use Rattle.bipr.specs.declared.commands.explore.ExploreArguments.{ExploreArguments}
 
 -- the line of a hundredth, or none
-told_line : (asked : ExploreArguments) (seed : ℕ) → asked.is_told ≡ true → true ≡ ends_hundredth asked.seeds seed → told_at asked seed ≡ progress_text seed asked.seeds ∷ []
+told_line : (asked : ExploreArguments) (seed : ℕ) → asked.is_told ≡ true
+    → true ≡ ends_hundredth asked.seeds seed
+    → told_at asked seed ≡ progress_text seed asked.seeds ∷ []
 told_line asked seed told ends = rw (told, ← ends) refl
 
 no_line : (asked : ExploreArguments) (seed : ℕ) → asked.is_told ≡ false → told_at asked seed ≡ []
 no_line asked seed told = rw told refl
 
-no_line_yet : (asked : ExploreArguments) (seed : ℕ) → asked.is_told ≡ true → false ≡ ends_hundredth asked.seeds seed → told_at asked seed ≡ []
+no_line_yet : (asked : ExploreArguments) (seed : ℕ) → asked.is_told ≡ true
+    → false ≡ ends_hundredth asked.seeds seed → told_at asked seed ≡ []
 no_line_yet asked seed told ends = rw (told, ← ends) refl
 
 -- what is told with a seed where nothing is with the time
-pub told_here : (asked : ExploreArguments) (seed : ℕ) → asked.is_told ≡ true → true ≡ ends_hundredth asked.seeds seed → IsProgressAt asked seed (progress_text seed asked.seeds ∷ [])
-told_here asked seed told ends = subst (IsProgressAt asked seed) (told_line asked seed told ends) by_count
+pub told_here : (asked : ExploreArguments) (seed : ℕ) → asked.is_told ≡ true
+    → true ≡ ends_hundredth asked.seeds seed
+    → IsProgressAt asked seed (progress_text seed asked.seeds ∷ [])
+told_here asked seed told ends =
+    subst (IsProgressAt asked seed) (told_line asked seed told ends) by_count
 
-pub untold : (asked : ExploreArguments) (seed : ℕ) → asked.is_told ≡ false → IsProgressAt asked seed []
+pub untold : (asked : ExploreArguments) (seed : ℕ) → asked.is_told ≡ false
+    → IsProgressAt asked seed []
 untold asked seed told = subst (IsProgressAt asked seed) (no_line asked seed told) by_count
 
-pub untold_yet : (asked : ExploreArguments) (seed : ℕ) → asked.is_told ≡ true → false ≡ ends_hundredth asked.seeds seed → IsProgressAt asked seed []
-untold_yet asked seed told ends = subst (IsProgressAt asked seed) (no_line_yet asked seed told ends) by_count
+pub untold_yet : (asked : ExploreArguments) (seed : ℕ) → asked.is_told ≡ true
+    → false ≡ ends_hundredth asked.seeds seed → IsProgressAt asked seed []
+untold_yet asked seed told ends =
+    subst (IsProgressAt asked seed) (no_line_yet asked seed told ends) by_count
 
 -- what is told until one more seed is done
-pub told_more : (asked : ExploreArguments) (done : ℕ) (told more : List (List ℕ)) → IsProgressUntil asked done told → IsProgressAt asked (done + 1) more → IsProgressUntil asked (done + 1) (told ++ more)
+pub told_more : (asked : ExploreArguments) (done : ℕ) (told more : List (List ℕ))
+    → IsProgressUntil asked done told → IsProgressAt asked (done + 1) more
+    → IsProgressUntil asked (done + 1) (told ++ more)
 told_more asked done told more so here =
-    subst (λ (n : ℕ). IsProgressAt asked n more → IsProgressUntil asked n (told ++ more)) (sym (add-one done)) (more_progress done told more so) here
+    subst (λ (n : ℕ). IsProgressAt asked n more → IsProgressUntil asked n (told ++ more))
+    (sym (add-one done)) (more_progress done told more so) here
 
 -- that all are runs is said
-pub explored_said : (p : Planned) (asked : ExploreArguments) (grants : ℕ) (told : List Put) (answer : Answer) (text : List ℕ)
-    → AreExplored (IsSharedAtFirst asked.resolver p) p 0 asked.events asked.seeds grants → IsProgressUntil asked asked.seeds (texts told)
-    → answer ≡ saying Done text → text ≡ seeds_text asked.seeds → IsExploreAnswer p asked told answer
+pub explored_said : (p : Planned) (asked : ExploreArguments) (grants : ℕ) (told : List Put)
+    (answer : Answer) (text : List ℕ)
+    → AreExplored (IsSharedAtFirst asked.resolver p) p 0 asked.events asked.seeds grants
+    → IsProgressUntil asked asked.seeds (texts told)
+    → answer ≡ saying Done text → text ≡ seeds_text asked.seeds
+    → IsExploreAnswer p asked told answer
 explored_said p asked grants told answer text so lines said spelled =
-    subst (IsExploreAnswer p asked told) (sym (said ∙ ap (saying Done) spelled)) (explored grants told so lines)
+    subst (IsExploreAnswer p asked told) (sym (said ∙ ap (saying Done) spelled))
+    (explored grants told so lines)
 
 -- the run of a seed with a bank that may be made is one with what its stations share
-pub shared_run : (shares others : Sharing → Type 0) (p : Planned) (count seed : ℕ) (result : Result ℕ ExploreFault) → ((x : Sharing) → shares x → others x)
+pub shared_run : (shares others : Sharing → Type 0) (p : Planned) (count seed : ℕ)
+    (result : Result ℕ ExploreFault) → ((x : Sharing) → shares x → others x)
     → IfOk result (IsSeedRun shares p 0 count seed) → IfOk result (IsSeedRun others p 0 count seed)
 shared_run shares others p count seed (Ok grants) is run = record {
   trace = run.trace;

@@ -7,7 +7,8 @@ use Rattle.bip_partition.specs.Plans.{Planned}
 use Rattle.bip_replay.specs.Replays.{IsRunOf}
 use Rattle.bip_replay.specs.Writing.{text_of}
 use Rattle.bipr.specs.Answers.{IsAnswer, run, saying}
-use Rattle.bipr.specs.Hosted.{IsHostAnswer, host_lacking, hosted, no_thread, refused_grant, stats_told, text_lacking}
+use Rattle.bipr.specs.Hosted.{IsHostAnswer, host_lacking, hosted, no_thread, refused_grant}
+use Rattle.bipr.specs.Hosted.{stats_told, text_lacking}
 use Rattle.bipr.specs.Laws.{HostsReplay}
 use Rattle.bipr.specs.Resolvers.{NeedsCentral}
 use Rattle.bipr.specs.Scheduled.{reporting}
@@ -21,7 +22,8 @@ use Rattle.bipr.specs.declared.resolvers.HostForm.{HostForm}
 pub hosts_replay : HostsReplay
 hosts_replay given model p with_stats answer has is done = by_answer answer is done
   where
-    by_answer : (a : Answer) → IsHostAnswer (λ gives. gives ≡ given) p with_stats a → a.status ≡ Done
+    by_answer : (a : Answer) → IsHostAnswer (λ gives. gives ≡ given) p with_stats a
+        → a.status ≡ Done
         → (host : Hosted) × (given ≡ Ok host)
         × IsAnswer 0 model a.output (saying Done (run_text (length host.report.grants.items)))
     by_answer _ (hosted done_by gave is) done =
@@ -40,7 +42,8 @@ pub host_answered : (gives : Result Hosted HostFault → Type 0) (p : Planned) (
 host_answered gives p with_stats given answer gave is of_run =
     subst (IsHostAnswer gives p with_stats) (sym is)
     (hosted given gave
-    (subst (λ (a : Answer). IsRunOf p.model 0 a.output (length given.report.grants.items)) is of_run))
+    (subst (λ (a : Answer). IsRunOf p.model 0 a.output (length given.report.grants.items)) is
+    of_run))
 
 -- words that need no central bank
 pub needs_none : (needs : Bool) (form : HostForm) → IsTrue needs ↔ NeedsCentral form

@@ -20,22 +20,30 @@ record IsRead (read text : List ℕ) : Type 0 where
   same : read ≡ text
   fits : length text ≤ most_bytes
 
-is_read : (known : Named) (read text : List ℕ) → known ≡ bytes text → IsReading known (Ok read) → IsRead read text
+is_read : (known : Named) (read text : List ℕ) → known ≡ bytes text → IsReading known (Ok read)
+    → IsRead read text
 is_read known read text same reading =
-    let all : IsAll (Some text) most_bytes (Ok read) = subst (λ (n : Named). IsReading n (Ok read)) same reading in
-    record { same = all.text; fits = subst (λ (t : List ℕ). length t ≤ most_bytes) all.text all.fits }
+    let all : IsAll (Some text) most_bytes (Ok read) =
+    subst (λ (n : Named). IsReading n (Ok read)) same reading in
+    record {
+      same = all.text;
+      fits = subst (λ (t : List ℕ). length t ≤ most_bytes) all.text all.fits;
+    }
 
-model_unread : (asked : ReplayArguments) (model trace : List ℕ) (fault : InputFault) → IsOfTwo asked model trace [] (unread asked.model.now fault)
+model_unread : (asked : ReplayArguments) (model trace : List ℕ) (fault : InputFault)
+    → IsOfTwo asked model trace [] (unread asked.model.now fault)
 model_unread asked model trace Failed = laws.model_unread
 model_unread asked model trace TooLong = laws.model_unread
 model_unread asked model trace NoMemory = laws.lacking
 
-trace_unread : (asked : ReplayArguments) (model trace : List ℕ) (fault : InputFault) → IsModelText model → IsOfTwo asked model trace [] (unread asked.trace.now fault)
+trace_unread : (asked : ReplayArguments) (model trace : List ℕ) (fault : InputFault)
+    → IsModelText model → IsOfTwo asked model trace [] (unread asked.trace.now fault)
 trace_unread asked model trace Failed means = laws.trace_unread means
 trace_unread asked model trace TooLong means = laws.trace_unread means
 trace_unread asked model trace NoMemory means = laws.lacking
 
-one_unread : (asked : ReplayArguments) (text : List ℕ) (fault : InputFault) → IsOfOne asked text [] (unread asked.model.now fault)
+one_unread : (asked : ReplayArguments) (text : List ℕ) (fault : InputFault)
+    → IsOfOne asked text [] (unread asked.model.now fault)
 one_unread asked text Failed = laws.one_unread
 one_unread asked text TooLong = laws.one_unread
 one_unread asked text NoMemory = laws.one_lacking
@@ -51,7 +59,8 @@ two_texts_decide either named asked model trace told answer alone at_model at_tr
 two_texts_decide either named asked model trace told answer alone at_model at_trace
     (of_first m a alone' read_m (fault, other, has, same)) =
     let of_model = is_read (named asked.model.now) m model at_model read_m in
-    let has_here : HasFault model fault = subst (λ (x : List ℕ). HasFault x fault) of_model.same has in
+    let has_here : HasFault model fault =
+    subst (λ (x : List ℕ). HasFault x fault) of_model.same has in
     subst (IsOfTwo asked model trace []) (sym same)
     (laws.answered _ of_model.fits
     (λ means. absurd (either model means.0 means.1 fault means.2 has_here))
@@ -68,16 +77,19 @@ two_texts_decide either named asked model trace told answer alone at_model at_tr
     laws.lacking
 
 pub one_text_decides : OneTextDecides
-one_text_decides named asked text told answer both at (of_two m t _ _ alone read_m means read_t is) =
+one_text_decides named asked text told answer both at
+    (of_two m t _ _ alone read_m means read_t is) =
     absurd cc
 one_text_decides named asked text told answer both at (of_first m a alone read_m refused) =
     absurd cc
-one_text_decides named asked text told answer both at (of_one read_text _ _ both' read (silent a is)) =
+one_text_decides named asked text told answer both at
+    (of_one read_text _ _ both' read (silent a is)) =
     let of_text = is_read (named asked.model.now) read_text text at read in
     laws.one_answered a of_text.fits
     (subst (λ (x : List ℕ). IsAnswer asked.base (before_mark x) (after_mark x) a) of_text.same is)
 one_text_decides named asked text told answer both at (first_unread fault read) =
     one_unread asked text fault
-one_text_decides named asked text told answer both at (second_unread m fault alone read_m means read_t) =
+one_text_decides named asked text told answer both at
+    (second_unread m fault alone read_m means read_t) =
     absurd cc
 one_text_decides named asked text told answer both at lacking = laws.one_lacking

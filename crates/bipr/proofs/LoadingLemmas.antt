@@ -8,7 +8,8 @@ use Rattle.bip_partition.specs.Plans.{Planned}
 use Rattle.bipr.specs.Answers.{HasPlan, IsRefusedModel}
 use Rattle.bipr.specs.Dividing.{after_mark, before_mark}
 use Rattle.bipr.specs.Loading.{AreTextsAt, GivesOther, OfText, OfTexts, apart, first_unread, joined}
-use Rattle.bipr.specs.Loading.{OfPlan, Silently, no_memory, of_first, of_no_plan, of_no_text, of_one, of_plan}
+use Rattle.bipr.specs.Loading.{OfPlan, Silently, no_memory, of_first, of_no_plan, of_no_text}
+use Rattle.bipr.specs.Loading.{of_one, of_plan}
 use Rattle.bipr.specs.Loading.{of_text, of_two, second_unread, silent}
 use Rattle.bipr.specs.Endings.{AllOutcomes, AllOutcomesTelling}
 use Rattle.bipr.specs.Stops.{answer_of_stop, unread}
@@ -19,7 +20,8 @@ use Rattle.bipr.specs.declared.loading.Other.{Other}
 use Rattle.bipr.specs.declared.loading.Other.TheVariants.{At}
 use Rattle.bipr.specs.declared.stops.Stop.{Stop}
 use Rattle.bipr.specs.declared.stops.Stop.TheVariants.{OutOfMemory}
-use Rattle.bipr.proofs.EndingLemmas.{lacks_quietly, outcome_answered, outcome_stopped, outcomes_quiet, outcomes_weaker}
+use Rattle.bipr.proofs.EndingLemmas.{lacks_quietly, outcome_answered, outcome_stopped}
+use Rattle.bipr.proofs.EndingLemmas.{outcomes_quiet, outcomes_weaker}
 
 -- why a path's text isn't read
 abbrev pub IsUnreadAt : (List ℕ → Result (List ℕ) InputFault → Type 0) → List ℕ → Stop → Type 0
@@ -90,12 +92,14 @@ module _ (gives : List ℕ → Result (List ℕ) InputFault → Type 0) where
         → (path : Bor (List ℕ)) × (fault : InputFault) × (other ≡ At path)
         × gives path.now (Err fault) × (answer_of_stop why ≡ unread path.now fault)
         → Of [] (answer_of_stop why)
-    other_stopped why text model _ read (apart at is alone all) fit (path, fault, named, given, same) =
+    other_stopped why text model _ read (apart at is alone all) fit
+        (path, fault, named, given, same) =
         let here : path.now ≡ second = cc in
         subst (Of []) (sym (same ∙ subst (λ (p : List ℕ). unread path.now fault ≡ unread p fault)
         here refl)) (second_unread text fault alone read (subst fits all fit)
         (subst (λ (p : List ℕ). gives p (Err fault)) here given))
-    other_stopped why text model _ read (joined rest both before after) fit (path, fault, named, gave, same) =
+    other_stopped why text model _ read (joined rest both before after) fit
+        (path, fault, named, gave, same) =
         cc
 
     -- the first one is refused

@@ -7,7 +7,8 @@ use Rattle.bip_reader.specs.Texts.{Means}
 use Rattle.bip_replay.specs.Laws.{IsRunOrFaulty}
 use Rattle.bip_replay.specs.Replays.{IsFirstFault}
 use Rattle.bip_replay.specs.declared.faults.ReplayFault.{ReplayFault}
-use Rattle.bip_replay.specs.declared.faults.ReplayFault.TheVariants.{Syntax, Unknown, NotARun, Memory}
+use Rattle.bip_replay.specs.declared.faults.ReplayFault.TheVariants.{Syntax, Unknown, NotARun}
+use Rattle.bip_replay.specs.declared.faults.ReplayFault.TheVariants.{Memory}
 use Rattle.bipr.specs.Answers.{IsAnswer, complaining, no_model, no_trace, not_a_run, run, saying}
 use Rattle.bipr.specs.Laws.{SomeAnswer}
 use Rattle.bipr.specs.Wording.{model_refusal, run_text, trace_refusal, verdict_text}
@@ -15,11 +16,15 @@ use Rattle.bipr.specs.declared.answers.Answer.{Answer}
 use Rattle.bipr.specs.declared.answers.Status.TheVariants.{Done, Refused, NotARun as EndsAsNoRun}
 
 -- the answer to a trace with a first fault
-of_fault : (base : ℕ) (model trace : List ℕ) (m : System) (c : Partition) (number : ℕ) (fault : ReplayFault) → Means model m c
+of_fault : (base : ℕ) (model trace : List ℕ) (m : System) (c : Partition) (number : ℕ)
+    (fault : ReplayFault) → Means model m c
     → IsFirstFault m base trace number fault → (answer : Answer) × IsAnswer base model trace answer
-of_fault base model trace m c number Syntax means first = (complaining Refused (trace_refusal number Syntax), no_trace m c number Syntax means tt first)
-of_fault base model trace m c number Unknown means first = (complaining Refused (trace_refusal number Unknown), no_trace m c number Unknown means tt first)
-of_fault base model trace m c number (NotARun why) means first = (saying EndsAsNoRun (verdict_text m trace number why), not_a_run m c number why means first)
+of_fault base model trace m c number Syntax means first =
+    (complaining Refused (trace_refusal number Syntax), no_trace m c number Syntax means tt first)
+of_fault base model trace m c number Unknown means first =
+    (complaining Refused (trace_refusal number Unknown), no_trace m c number Unknown means tt first)
+of_fault base model trace m c number (NotARun why) means first =
+    (saying EndsAsNoRun (verdict_text m trace number why), not_a_run m c number why means first)
 of_fault base model trace m c number Memory means first = absurd first.why
 
 pub some_answer : MeaningOrFault → MeansValid → NoWantOfMemory → IsRunOrFaulty → SomeAnswer

@@ -13,8 +13,12 @@ use Rattle.bipr.specs.declared.views.View.{View}
 use Rattle.bipr.specs.declared.views.View.TheVariants.{Chart, Verdict}
 use Rattle.bipr.proofs.AnswerLemmas.{has_answered-no_model}
 
-pub refused_view : (view : View) (base : ℕ) (model trace : List ℕ) (fault : ReadFault) (answer : Answer) → fault.why ≢ Memory
-    → answer ≡ complaining Refused (model_refusal fault) → HasFault model fault → IsViewed view base model trace answer
-refused_view Verdict base model trace fault answer other same has = has_answered-no_model base model trace answer fault other same has
+pub refused_view : (view : View) (base : ℕ) (model trace : List ℕ) (fault : ReadFault)
+    (answer : Answer) → fault.why ≢ Memory
+    → answer ≡ complaining Refused (model_refusal fault) → HasFault model fault
+    → IsViewed view base model trace answer
+refused_view Verdict base model trace fault answer other same has =
+    has_answered-no_model base model trace answer fault other same has
 refused_view (Chart shown) base model trace fault answer other same has =
-    uncharted answer (has_answered-no_model base model trace answer fault other same has) (ap (λ (a : Answer). a.status) same)
+    uncharted answer (has_answered-no_model base model trace answer fault other same has)
+    (ap (λ (a : Answer). a.status) same)

@@ -6,4 +6,5 @@ use Rattle.bipr.proofs.ahead.outcome.Goals as goal
 pub returns-else-not-reaches-clause-run : goal.returns-else-not-reaches-clause-run
 returns-else-not-reaches-clause-run c =
     let reached : IsTrue c.reaches.result = search rules in
-    reached_explored c.args.plan.now c.args.asked.now c.args.ahead.now c.args.done c.requires.ahead (c.reaches.ensures.0 reached)
+    reached_explored c.args.plan.now c.args.asked.now c.args.ahead.now c.args.done c.requires.ahead
+    (c.reaches.ensures.0 reached)

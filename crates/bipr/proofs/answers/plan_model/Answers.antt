@@ -6,7 +6,8 @@ use Rattle.bipr.proofs.answers.plan_model.Goals as goal
 
 pub returns-in_ok-answer-in-Some : goal.returns-in_ok-answer-in-Some
 returns-in_ok-answer-in-Some c = λ text means.
-    is_refused-no_plan text _ c.args.model c.args.classes c.in-Some.inter.0 c.in_ok-answer-in-Some.ensures means c.in-Some.ensures.some
+    is_refused-no_plan text _ c.args.model c.args.classes c.in-Some.inter.0
+    c.in_ok-answer-in-Some.ensures means c.in-Some.ensures.some
 
 pub unreachable-requires : goal.unreachable-requires
 unreachable-requires c =
@@ -15,4 +16,5 @@ unreachable-requires c =
 
 pub returns-in-Ok : goal.returns-in-Ok
 returns-in-Ok c = λ text means.
-    subst (λ (p : Planned). HasPlan text p) (sym c.in-Ok.ensures.plan) (record { means = means; few = c.in-Ok.ensures.few })
+    subst (λ (p : Planned). HasPlan text p) (sym c.in-Ok.ensures.plan)
+    (record { means = means; few = c.in-Ok.ensures.few })

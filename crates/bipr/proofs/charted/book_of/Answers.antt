@@ -17,6 +17,10 @@ append_next-requires c =
     let count : into_iter_len begun ≡ length all = search rules in
     let road = YieldsList-from_vec all items count in
     let so_far = YieldsList-so_far road done c.loop-grant.grant-iterator c.loop-grant.yielded_by in
-    let turn = YieldsList-turn road done c.loop-grant.grant-iterator c.loop-grant.yielded_by c.next.result c.next.new.self c.in-Some.grant c.in-Some.is c.next.ensures.steps in
+    let turn =
+    YieldsList-turn road done c.loop-grant.grant-iterator c.loop-grant.yielded_by c.next.result
+    c.next.new.self c.in-Some.grant c.in-Some.is c.next.ensures.steps in
     let whole = taken all done c.in-Some.grant so_far turn.0 turn.1 in
-    rw (is.0, is.1, is.2) (run_with c.args.model.now c.args.base done (drop (suc (length done)) all) c.in-Some.grant (subst (IsModelRun c.args.model.now c.args.base) whole c.requires.run))
+    rw (is.0, is.1, is.2)
+    (run_with c.args.model.now c.args.base done (drop (suc (length done)) all) c.in-Some.grant
+    (subst (IsModelRun c.args.model.now c.args.base) whole c.requires.run))

@@ -16,7 +16,14 @@ returns c =
     IfOk-weaker c.draw_chart.result _ _
     (λ text is. (
       chart,
-      record { model = refl; parted = refl; rows = refl; first = c.saturating_sub.ensures; values = refl; why = c.reason_shown.ensures },
+      record {
+        model = refl;
+        parted = refl;
+        rows = refl;
+        first = c.saturating_sub.ensures;
+        values = refl;
+        why = c.reason_shown.ensures;
+      },
       is,
     ))
     c.draw_chart.ensures

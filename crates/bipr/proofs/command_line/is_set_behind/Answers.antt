@@ -4,7 +4,8 @@ use Rattle.bipr.proofs.command_line.is_set_behind.Goals as goal
 
 pub returns-in-Some : goal.returns-in-Some
 returns-in-Some c =
-    rw (names_command c.args.matches.now _ _ (sym c.in-Some.ensures.name) (sym c.in-Some.ensures.rows))
+    rw (names_command c.args.matches.now _ _ (sym c.in-Some.ensures.name)
+    (sym c.in-Some.ensures.rows))
     c.is_set.ensures
 
 pub returns-in-None : goal.returns-in-None

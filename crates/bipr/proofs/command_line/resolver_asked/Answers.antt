@@ -10,5 +10,6 @@ returns-in_err-text_asked c =
 
 pub returns : goal.returns
 returns c =
-    name_read resolver_name _ c.in_ok-text_asked.field-0.now c.resolver_named.result (sym c.in_ok-text_asked.ensures)
+    name_read resolver_name _ c.in_ok-text_asked.field-0.now c.resolver_named.result
+    (sym c.in_ok-text_asked.ensures)
     c.resolver_named.ensures.some c.resolver_named.ensures.none

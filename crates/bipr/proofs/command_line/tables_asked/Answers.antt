@@ -10,5 +10,6 @@ returns-in_err-text_asked c =
 
 pub returns : goal.returns
 returns c =
-    name_read tables_name _ c.in_ok-text_asked.field-0.now c.tables_named.result (sym c.in_ok-text_asked.ensures)
+    name_read tables_name _ c.in_ok-text_asked.field-0.now c.tables_named.result
+    (sym c.in_ok-text_asked.ensures)
     c.tables_named.ensures.some c.tables_named.ensures.none

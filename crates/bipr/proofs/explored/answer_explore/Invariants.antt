@@ -10,5 +10,6 @@ abbrev pub invariant-loop-done : goal.invariant-loop-done
 invariant-loop-done g l =
     (grants : ℕ)
     × AreExplored (IsSharedAtFirst l.asked.resolver l.plan) l.plan 0 l.asked.events l.done grants
-    × ((told : List Put) × PutsEach g.E.Stream.writes l.initial.errors told l.errors × IsProgressUntil l.asked l.done (texts told))
+    × ((told : List Put) × PutsEach g.E.Stream.writes l.initial.errors told l.errors
+    × IsProgressUntil l.asked l.done (texts told))
     × AreAhead l.plan l.asked l.ahead

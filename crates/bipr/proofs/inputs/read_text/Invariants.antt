@@ -4,4 +4,5 @@ use Rattle.bipr.proofs.inputs.read_text.Given as goal
 
 abbrev pub invariant-loop : goal.invariant-loop
 invariant-loop g l =
-    Consumes (g.R.Read.remaining l.initial.reader) (g.R.Read.remaining l.reader) l.text.items × (length l.text.items ≤ l.limit)
+    Consumes (g.R.Read.remaining l.initial.reader) (g.R.Read.remaining l.reader) l.text.items
+    × (length l.text.items ≤ l.limit)

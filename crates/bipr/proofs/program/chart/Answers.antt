@@ -8,10 +8,23 @@ use Rattle.bipr.proofs.program.chart.Goals as goal
 pub returns : goal.returns
 returns c =
     let none : HasShape (new_shape (codes "chart")) c.after_help.result = search rules in
-    let one = has_shape _ _ c.model.result _ (path (codes "model")) none c.model.ensures c.in_ok-arg.ensures in
-    let two = has_shape _ _ c.trace.result _ (path (codes "trace")) one c.trace.ensures c.in_ok-arg-2.ensures in
-    let three = has_shape _ _ c.help.result _ (base_option) two (search rules) c.in_ok-arg-3.ensures in
-    let four = has_shape _ _ c.from.result _ from_option three c.from.ensures c.in_ok-arg-4.ensures in
-    let five = has_shape _ _ c.to.result _ (option (codes "to") rows) four c.to.ensures c.in_ok-arg-5.ensures in
-    let six = has_shape _ _ c.values.result _ (flag (codes "values")) five c.values.ensures c.in_ok-arg-6.ensures in
-    IfOk-weaker c.arg-7.result _ _ (λ command adds. has_shape _ command c.explain.result _ (flag (codes "explain")) six c.explain.ensures adds) c.arg-7.ensures
+    let one =
+    has_shape _ _ c.model.result _ (path (codes "model")) none c.model.ensures
+    c.in_ok-arg.ensures in
+    let two =
+    has_shape _ _ c.trace.result _ (path (codes "trace")) one c.trace.ensures
+    c.in_ok-arg-2.ensures in
+    let three =
+    has_shape _ _ c.help.result _ (base_option) two (search rules) c.in_ok-arg-3.ensures in
+    let four =
+    has_shape _ _ c.from.result _ from_option three c.from.ensures c.in_ok-arg-4.ensures in
+    let five =
+    has_shape _ _ c.to.result _ (option (codes "to") rows) four c.to.ensures
+    c.in_ok-arg-5.ensures in
+    let six =
+    has_shape _ _ c.values.result _ (flag (codes "values")) five c.values.ensures
+    c.in_ok-arg-6.ensures in
+    IfOk-weaker c.arg-7.result _ _
+    (λ command adds.
+    has_shape _ command c.explain.result _ (flag (codes "explain")) six c.explain.ensures adds)
+    c.arg-7.ensures

@@ -8,10 +8,25 @@ use Rattle.bipr.proofs.program.explore.Goals as goal
 pub returns : goal.returns
 returns c =
     let none : HasShape (new_shape (codes "explore")) c.after_help.result = search rules in
-    let one = has_shape _ _ c.model.result _ (path (codes "model")) none c.model.ensures c.in_ok-arg.ensures in
-    let two = has_shape _ _ c.resolver.result _ (resolver_option c.args.resolvers) one c.resolver.ensures c.in_ok-arg-2.ensures in
-    let three = has_shape _ _ c.seeds.result _ (needed (codes "seeds") (numbers 1 1000000)) two c.seeds.ensures c.in_ok-arg-3.ensures in
-    let four = has_shape _ _ c.events.result _ (needed (codes "events") (numbers 0 1000000)) three c.events.ensures c.in_ok-arg-4.ensures in
-    let five = has_shape _ _ c.progress.result _ (flag (codes "progress")) four c.progress.ensures c.in_ok-arg-5.ensures in
-    let six = has_shape _ _ c.jobs.result _ (option (codes "jobs") (numbers 1 256)) five c.jobs.ensures c.in_ok-arg-6.ensures in
-    IfOk-weaker c.arg-7.result _ _ (λ command adds. has_shape _ command c.explain.result _ (flag (codes "explain")) six c.explain.ensures adds) c.arg-7.ensures
+    let one =
+    has_shape _ _ c.model.result _ (path (codes "model")) none c.model.ensures
+    c.in_ok-arg.ensures in
+    let two =
+    has_shape _ _ c.resolver.result _ (resolver_option c.args.resolvers) one c.resolver.ensures
+    c.in_ok-arg-2.ensures in
+    let three =
+    has_shape _ _ c.seeds.result _ (needed (codes "seeds") (numbers 1 1000000)) two
+    c.seeds.ensures c.in_ok-arg-3.ensures in
+    let four =
+    has_shape _ _ c.events.result _ (needed (codes "events") (numbers 0 1000000)) three
+    c.events.ensures c.in_ok-arg-4.ensures in
+    let five =
+    has_shape _ _ c.progress.result _ (flag (codes "progress")) four c.progress.ensures
+    c.in_ok-arg-5.ensures in
+    let six =
+    has_shape _ _ c.jobs.result _ (option (codes "jobs") (numbers 1 256)) five c.jobs.ensures
+    c.in_ok-arg-6.ensures in
+    IfOk-weaker c.arg-7.result _ _
+    (λ command adds.
+    has_shape _ command c.explain.result _ (flag (codes "explain")) six c.explain.ensures adds)
+    c.arg-7.ensures

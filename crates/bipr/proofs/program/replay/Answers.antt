@@ -8,7 +8,15 @@ use Rattle.bipr.proofs.program.replay.Goals as goal
 pub returns : goal.returns
 returns c =
     let none : HasShape (new_shape (codes "replay")) c.after_help.result = search rules in
-    let one = has_shape _ _ c.model.result _ (path (codes "model")) none c.model.ensures c.in_ok-arg.ensures in
-    let two = has_shape _ _ c.trace.result _ (path (codes "trace")) one c.trace.ensures c.in_ok-arg-2.ensures in
-    let three = has_shape _ _ c.help.result _ (base_option) two (search rules) c.in_ok-arg-3.ensures in
-    IfOk-weaker c.arg-4.result _ _ (λ command adds. has_shape _ command c.explain.result _ (flag (codes "explain")) three c.explain.ensures adds) c.arg-4.ensures
+    let one =
+    has_shape _ _ c.model.result _ (path (codes "model")) none c.model.ensures
+    c.in_ok-arg.ensures in
+    let two =
+    has_shape _ _ c.trace.result _ (path (codes "trace")) one c.trace.ensures
+    c.in_ok-arg-2.ensures in
+    let three =
+    has_shape _ _ c.help.result _ (base_option) two (search rules) c.in_ok-arg-3.ensures in
+    IfOk-weaker c.arg-4.result _ _
+    (λ command adds.
+    has_shape _ command c.explain.result _ (flag (codes "explain")) three c.explain.ensures adds)
+    c.arg-4.ensures

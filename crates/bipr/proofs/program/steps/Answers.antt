@@ -8,9 +8,21 @@ use Rattle.bipr.proofs.program.steps.Goals as goal
 pub returns : goal.returns
 returns c =
     let none : HasShape (new_shape (codes "steps")) c.after_help.result = search rules in
-    let one = has_shape _ _ c.model.result _ (path (codes "model")) none c.model.ensures c.in_ok-arg.ensures in
-    let two = has_shape _ _ c.help-schedule.result _ (path (codes "schedule")) one (search rules) c.in_ok-arg-2.ensures in
-    let three = has_shape _ _ c.resolver.result _ (resolver_option c.args.resolvers) two c.resolver.ensures c.in_ok-arg-3.ensures in
-    let four = has_shape _ _ c.help.result _ (base_option) three (search rules) c.in_ok-arg-4.ensures in
-    let five = has_shape _ _ c.tell.result _ (flag (codes "tell")) four c.tell.ensures c.in_ok-arg-5.ensures in
-    IfOk-weaker c.arg-6.result _ _ (λ command adds. has_shape _ command c.explain.result _ (flag (codes "explain")) five c.explain.ensures adds) c.arg-6.ensures
+    let one =
+    has_shape _ _ c.model.result _ (path (codes "model")) none c.model.ensures
+    c.in_ok-arg.ensures in
+    let two =
+    has_shape _ _ c.help-schedule.result _ (path (codes "schedule")) one (search rules)
+    c.in_ok-arg-2.ensures in
+    let three =
+    has_shape _ _ c.resolver.result _ (resolver_option c.args.resolvers) two c.resolver.ensures
+    c.in_ok-arg-3.ensures in
+    let four =
+    has_shape _ _ c.help.result _ (base_option) three (search rules) c.in_ok-arg-4.ensures in
+    let five =
+    has_shape _ _ c.tell.result _ (flag (codes "tell")) four c.tell.ensures
+    c.in_ok-arg-5.ensures in
+    IfOk-weaker c.arg-6.result _ _
+    (λ command adds.
+    has_shape _ command c.explain.result _ (flag (codes "explain")) five c.explain.ensures adds)
+    c.arg-6.ensures

@@ -10,12 +10,14 @@ returns-then-eq c = outcome_lacking (Err OutOfMemory) (IsErrorAnswer c.args.erro
 
 pub returns-in_err-text : goal.returns-in_err-text
 returns-in_err-text c =
-    outcome_lacking c.from_residual.result (IsErrorAnswer c.args.error.now) c.from_residual.ensures.1 lacking
+    outcome_lacking c.from_residual.result (IsErrorAnswer c.args.error.now)
+    c.from_residual.ensures.1 lacking
 
 pub returns-then-not-use_stderr : goal.returns-then-not-use_stderr
 returns-then-not-use_stderr c =
     outcome_answered (IsErrorAnswer c.args.error.now) c.said.result
-    (subst (IsErrorAnswer c.args.error.now) (sym c.said.ensures) (shown c.into_bytes.result.items (search rules)))
+    (subst (IsErrorAnswer c.args.error.now) (sym c.said.ensures)
+    (shown c.into_bytes.result.items (search rules)))
 
 pub returns-in_err-complaint : goal.returns-in_err-complaint
 returns-in_err-complaint c =
@@ -31,4 +33,5 @@ pub returns : goal.returns
 returns c =
     let same : c.complained.result ≡ bad_command_line c.as_bytes.result.now = search rules in
     outcome_answered (IsErrorAnswer c.args.error.now) c.complained.result
-    (subst (IsErrorAnswer c.args.error.now) (sym same) (refused c.as_bytes.result.now (search rules) (search rules)))
+    (subst (IsErrorAnswer c.args.error.now) (sym same)
+    (refused c.as_bytes.result.now (search rules) (search rules)))

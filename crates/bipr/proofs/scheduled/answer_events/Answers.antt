@@ -12,7 +12,8 @@ answer_run-requires g c =
     let run = c.follow-report.ensures.run in
     let w = world_of c.in_ok-world.world in
     let v = world_of c.follow-report.new.world in
-    (c.world_laws.ensures.plan w v run.0 run.2.dids run.2.steps).plan ∙ c.in_ok-world.ensures.new.plan
+    (c.world_laws.ensures.plan w v run.0 run.2.dids run.2.steps).plan
+    ∙ c.in_ok-world.ensures.new.plan
 
 pub returns : goal.returns
 returns g c =
@@ -23,10 +24,12 @@ returns g c =
     both_said c.answer_run.result _ _ c.answer_run.ensures.answer c.answer_run.ensures.reads
     (λ answer is reads resolver shared.
     stepped c.follow-report.result answer
-    (has_stepped p c.args.base resolver c.args.schedule.now.text answer run.0 w v c.follow-report.result is
+    (has_stepped p c.args.base resolver c.args.schedule.now.text answer run.0 w v
+    c.follow-report.result is
     (subst (λ (q : Planned). IsEventText q c.args.schedule.now.text run.0) c.requires.plan run.1)
     c.in_ok-world.ensures.new
     (subst (IsSharedAtFirst resolver p) (sym c.in_ok-world.ensures.sharing) shared)
     run.2
-    (is_run p c.args.base run.0 w v c.follow-report.result _ c.world_laws.ensures.plan c.in_ok-world.ensures.new run.2
+    (is_run p c.args.base run.0 w v c.follow-report.result _ c.world_laws.ensures.plan
+    c.in_ok-world.ensures.new run.2
     c.answer_run.ensures.ran c.follow-report.ensures.grown reads)))

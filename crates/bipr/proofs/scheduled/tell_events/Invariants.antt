@@ -10,7 +10,8 @@ abbrev pub invariant-loop-event : goal.invariant-loop-event
 invariant-loop-event g l =
     (dids : List (Option Did)) × (told : List Put)
     × PutsEach g.E.Stream.writes l.initial.errors told l.errors
-    × AreTold (world_of l.initial.world) (take l.event-index l.event-items) dids (texts told) (world_of l.world)
+    × AreTold (world_of l.initial.world) (take l.event-index l.event-items) dids (texts told)
+    (world_of l.world)
     × AreOut told
     × (l.report ≡ report_of dids)
     × AddsUp l.report

@@ -8,5 +8,6 @@ returns-then-is_empty g c =
 
 pub returns-else-is_empty : goal.returns-else-is_empty
 returns-else-is_empty g c =
-    puts_one g.S.Stream.writes c.args.stream.now c.write_text.new.self c.args.text.now c.write_text.result
+    puts_one g.S.Stream.writes c.args.stream.now c.write_text.new.self c.args.text.now
+    c.write_text.result
     c.if-is_empty.ensures c.write_text.ensures

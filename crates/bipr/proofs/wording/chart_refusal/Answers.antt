@@ -4,4 +4,6 @@ use Rattle.std.specs.Fmt.{decimal}
 use Rattle.bipr.proofs.wording.chart_refusal.Goals as goal
 
 pub returns : goal.returns
-returns c = rw (append_assoc (decimal c.args.most) (codes " rows, see --from and --to") (10 ∷ [])) search rules
+returns c =
+    rw (append_assoc (decimal c.args.most) (codes " rows, see --from and --to") (10 ∷ [])) search
+    rules

@@ -5,4 +5,6 @@ use Rattle.bip_replay.specs.Faults.{text_of_replay}
 use Rattle.bipr.proofs.wording.trace_refusal.Goals as goal
 
 pub returns : goal.returns
-returns c = rw (append_assoc (decimal c.args.line) (codes ": " ++ text_of_replay c.args.fault.now) (10 ∷ [])) search rules
+returns c =
+    rw (append_assoc (decimal c.args.line) (codes ": " ++ text_of_replay c.args.fault.now)
+    (10 ∷ [])) search rules

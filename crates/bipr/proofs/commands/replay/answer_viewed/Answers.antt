@@ -53,7 +53,8 @@ returns g c =
     let has = c.in-Err.ensures.fault answered.0 in
     outcome_answered is c.in_ok-answer_fault-in-Err.field-0
     (first_refused (g.I.Inputs.gives c.args.inputs.now) IsModelText IsNoModel
-    (λ m t. Silently (IsViewed c.args.view.now c.args.asked.now.base m t)) c.args.asked.now.model.now
+    (λ m t. Silently (IsViewed c.args.view.now c.args.asked.now.base m t))
+    c.args.asked.now.model.now
     c.args.asked.now.trace.now c.in_ok-text.text c.parts.result.0.now c.parts.result.1
     c.in_ok-answer_fault-in-Err.field-0 c.in_ok-text.ensures.read
     (rw (← c.as_slice.ensures) c.parts.ensures)

@@ -5,7 +5,8 @@ use Rattle.bipr.specs.Loading.{OfPlan, Silently}
 use Rattle.bipr.specs.Resolvers.{NeedsCentral}
 use Rattle.bipr.proofs.EndingLemmas.{outcome_answered, outcomes_quiet, outcomes_weaker}
 use Rattle.bipr.proofs.HostedLemmas.{needs_none}
-use Rattle.bipr.proofs.LoadingLemmas.{plan_refused, plan_said, quietly_said, text_lacking, text_said}
+use Rattle.bipr.proofs.LoadingLemmas.{plan_refused, plan_said, quietly_said, text_lacking}
+use Rattle.bipr.proofs.LoadingLemmas.{text_said}
 use Rattle.bipr.proofs.LoadingLemmas.{text_stopped}
 use Rattle.bipr.proofs.invocations.Invocation.run.Goals as goal
 

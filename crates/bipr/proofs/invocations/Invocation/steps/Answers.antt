@@ -3,7 +3,8 @@ use Rattle.bipr.specs.Commands.{IsSteps}
 use Rattle.bipr.specs.Answers.{IsRefusedModel}
 use Rattle.bipr.specs.Loading.{IsPlannedText, OfPlan, bytes_in, lacking, of_no_plan, of_plan}
 use Rattle.bipr.specs.Scheduled.{IsScheduleOf}
-use Rattle.bipr.proofs.EndingLemmas.{lacks_quietly, outcome_answered, outcome_stopped, outcomes_quiet}
+use Rattle.bipr.proofs.EndingLemmas.{lacks_quietly, outcome_answered, outcome_stopped}
+use Rattle.bipr.proofs.EndingLemmas.{outcomes_quiet}
 use Rattle.bipr.proofs.EndingLemmas.{outcomes_weaker}
 use Rattle.bipr.proofs.LoadingLemmas.{both_said, first_refused, first_stopped, other_stopped}
 use Rattle.bipr.proofs.invocations.Invocation.steps.Goals as goal
@@ -47,7 +48,8 @@ pub returns-clause-says : goal.returns-clause-says
 returns-clause-says g c =
     let has = rw c.in-Plan.is at c.in_ok-plan.ensures in
     outcomes_weaker g.E.Stream.writes _ _ c.answer_schedule.result _ _ c.answer_schedule.ensures
-    (λ told answer is. both_said (g.I.Inputs.gives c.args.self.now.inputs.now) IsPlannedText IsRefusedModel
+    (λ told answer is.
+    both_said (g.I.Inputs.gives c.args.self.now.inputs.now) IsPlannedText IsRefusedModel
     (λ model schedule. OfPlan model (λ p. IsScheduleOf p c.args.asked.now schedule))
     c.args.asked.now.model.now c.args.asked.now.schedule.now
     c.in_ok-text.text c.parts.result.0.now c.parts.result.1 (bytes_in c.in_ok-schedule.schedule)

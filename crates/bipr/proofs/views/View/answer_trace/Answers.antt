@@ -6,5 +6,7 @@ use Rattle.bipr.proofs.views.View.answer_trace.Goals as goal
 pub returns-in-Verdict : goal.returns-in-Verdict
 returns-in-Verdict c =
     IfOk-weaker c.answer_trace.result _ _
-    (λ answer is text means. subst (λ view. IsViewed view c.args.base text c.args.trace.now answer) (sym c.in-Verdict.is) (is text c.args.classes.now means))
+    (λ answer is text means.
+    subst (λ view. IsViewed view c.args.base text c.args.trace.now answer) (sym c.in-Verdict.is)
+    (is text c.args.classes.now means))
     c.answer_trace.ensures

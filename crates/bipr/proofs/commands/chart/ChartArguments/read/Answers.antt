@@ -8,5 +8,6 @@ returns-in_err-replay c =
 
 pub returns-in_err-wide_number_asked : goal.returns-in_err-wide_number_asked
 returns-in_err-wide_number_asked c =
-    read_none c.from_residual-in_err-wide_number_asked.result _ c.from_residual-in_err-wide_number_asked.ensures
+    read_none c.from_residual-in_err-wide_number_asked.result _
+    c.from_residual-in_err-wide_number_asked.ensures
     (λ asked is. c.in_err-wide_number_asked.ensures.none asked.shown.from is.from)
