@@ -69,6 +69,19 @@ pub drawing_counted : (start : Lcg) (w : WorldContent) (es : List Event) (v : Wo
 drawing_counted start w es v words report count so =
     events_counted es w v report (drawing_run start w es v words report count so) ∙ so.each
 
+-- and they keep the plan
+pub drawing_keeps : (start : Lcg) (w : WorldContent) (es : List Event) (v : WorldContent)
+    (words : Lcg) (report : Report) (count : ℕ)
+    → IsDrawing start w es v words report count → v.plan ≡ w.plan
+drawing_keeps start w es v words report count so =
+    let run = drawing_run start w es v words report count so in
+    (worlds_keep_their_plan w v es run.dids run.steps).plan
+
+-- and so is what is drawn from a seed
+pub seeded_run : (seed count : ℕ) (es : List Event) (w v : WorldContent) (report : Report)
+    → AreSeeded seed count es w v report → IsRunOfEvents es w v report
+seeded_run seed count es w v report so = drawn_run _ w es v so.words report so.drawn
+
 -- a trace has no more grants than there are events
 pub seeded_few : (seed count : ℕ) (es : List Event) (w v : WorldContent) (report : Report)
     → AreSeeded seed count es w v report → w.trace ≡ [] → length v.trace ≤ count

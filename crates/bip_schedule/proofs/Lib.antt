@@ -1,4 +1,5 @@
 pub mod DrawLemmas
+pub mod DrawnSpellingLemmas
 pub mod FollowLemmas
 pub mod LawLemmas
 pub mod LineLemmas

@@ -1,7 +1,11 @@
-use Rattle.std.proofs.Common.{◌<◌, ◌^◌, arith, rules}
+use Rattle.std.proofs.Common.{◌<◌, ◌^◌, ◌∷◌, [], arith, rules, subst}
 use Rattle.bip_core.specs.Worlds.{world_of}
 use Rattle.bip_schedule.specs.Seeding.{generator_of}
-use Rattle.bip_schedule.proofs.DrawLemmas.{drawing_counted, drawing_more, drawing_none, drawing_run}
+use Rattle.bip_partition.specs.Plans.{Planned}
+use Rattle.bip_schedule.proofs.DrawLemmas.{drawing_counted, drawing_keeps, drawing_more}
+use Rattle.bip_schedule.proofs.DrawLemmas.{drawing_none, drawing_run}
+use Rattle.bip_schedule.proofs.DrawnSpellingLemmas.{none_spelled, one_more_spelled}
+use Rattle.bip_schedule.specs.Writing.{HaveSpelling}
 use Rattle.bip_schedule.proofs.seeding.seeded.Goals as goal
 
 pub loop-init : goal.loop-init
@@ -11,6 +15,7 @@ loop-init g c = (
       c.empty-report.ensures.adds_up),
   c.in_ok-events.ensures.len,
   c.in_ok-events.ensures.capacity,
+  rw c.in_ok-events.ensures.items (none_spelled _),
 )
 
 pub draw-event-requires-clause-room : goal.draw-event-requires-clause-room
@@ -26,7 +31,13 @@ loop-preserved g c = (
       c.draw-event.ensures.word c.draw-event.ensures.done c.draw-event.ensures.adds_up),
   (let more = c.push_reserved.ensures.len in omega (arith, more, c.loop.invariant.1)),
   (let same = c.push_reserved.ensures.capacity in omega (arith, same, c.loop.invariant.2)),
+  rw c.push_reserved.ensures.items (one_more_spelled _ _ _ c.loop.invariant.3
+      (subst (λ (p : Planned). HaveSpelling p (c.draw-event.result ∷ []))
+      (drawing_keeps _ _ _ _ _ _ _ c.loop.invariant.0) c.draw-event.ensures.spelled)),
 )
 
 pub returns-clause-run : goal.returns-clause-run
 returns-clause-run g c = drawing_run _ _ _ _ _ _ _ c.loop.invariant.0
+
+pub returns-clause-spelled : goal.returns-clause-spelled
+returns-clause-spelled g c = c.loop.invariant.3

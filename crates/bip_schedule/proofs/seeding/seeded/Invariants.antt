@@ -1,6 +1,7 @@
 use Rattle.std.proofs.Common.{◌≡◌, ◌≤◌, vec_capacity, vec_len}
 use Rattle.bip_core.specs.Worlds.{world_of}
 use Rattle.bip_schedule.specs.Seeding.{generator_of}
+use Rattle.bip_schedule.specs.Writing.{HaveSpelling}
 use Rattle.bip_schedule.proofs.DrawLemmas.{IsDrawing}
 use Rattle.bip_schedule.proofs.seeding.seeded.Given as goal
 
@@ -10,3 +11,4 @@ invariant-loop g l =
     (world_of l.world) l.words l.report l.counter
     × (vec_len l.events ≡ l.counter)
     × (l.count ≤ vec_capacity l.events)
+    × HaveSpelling (world_of l.initial.world).plan l.events.items
