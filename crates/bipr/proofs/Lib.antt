@@ -3,7 +3,6 @@ pub mod AnswerLemmas
 pub mod ChartLemmas
 pub mod CommandLemmas
 pub mod CommandLineLemmas
-pub mod DrawnLemmas
 pub mod EndingLemmas
 pub mod ExploredLemmas
 pub mod HostedLemmas
@@ -13,8 +12,10 @@ pub mod MarkLemmas
 pub mod OneAnswerLemmas
 pub mod OneCheckLemmas
 pub mod ProgramLemmas
+pub mod RenderingLemmas
 pub mod RepeatLemmas
 pub mod ScheduledLemmas
+pub mod SeedLemmas
 pub mod SomeAnswerLemmas
 pub mod StatusLemmas
 pub mod StreamLemmas

@@ -1,5 +1,7 @@
 -- Events that are told one after another.
-use Rattle.std.proofs.Common.{◌≡◌, ◌∙◌, ◌+◌, ◌++◌, ◌∷◌, ◌<◌, zero, suc, ℕ, Bool, true, List, [], Option, Some, None, Result, Ok, Err, ap, arith, length, refl, subst, sym, get_or}
+use Rattle.std.proofs.Common.{◌≡◌, ◌∙◌, ◌+◌, ◌++◌, ◌∷◌, ◌<◌, zero, suc, ℕ, Bool, true, List, []}
+use Rattle.std.proofs.Common.{Option, Some, None, Result, Ok, Err, ap, arith, length, refl, subst}
+use Rattle.std.proofs.Common.{sym, get_or}
 use Rattle.std.specs.Prelude.{All, IsErr}
 use Rattle.std.specs.declared.alloc.AllocError.{AllocError}
 use Rattle.std.proofs.lemmas.List.{append-nil, length-append}
@@ -18,10 +20,13 @@ use Rattle.bip_replay.specs.Traces.{grants_of}
 use Rattle.bip_replay.specs.Writing.{text_of}
 use Rattle.bip_schedule.specs.Schedules.{IsEventText}
 use Rattle.bip_schedule.specs.Writing.{HasSpelling, HaveSpelling}
-use Rattle.bip_tell.specs.Lines.{AreTold, IsLeftUntold, IsToldEvent, done_untold, none_told, not_done, one_told}
+use Rattle.bip_tell.specs.Lines.{AreTold, IsLeftUntold, IsToldEvent, done_untold, none_told}
+use Rattle.bip_tell.specs.Lines.{not_done, one_told}
 use Rattle.bipr.specs.Answers.{complaining}
 use Rattle.bipr.specs.Resolvers.{IsSharedAtFirst}
-use Rattle.bipr.specs.Scheduled.{IsAtMostOneDone, IsScheduleAnswered, IsTelling, IsToldUntil, aloud, all_told, lacking, none_more, nothing_told, one_more, one_unheard, reporting, some_told, told_lacking, told_stepped, unheard}
+use Rattle.bipr.specs.Scheduled.{IsAtMostOneDone, IsScheduleAnswered, IsTelling, IsToldUntil, aloud}
+use Rattle.bipr.specs.Scheduled.{all_told, lacking, none_more, nothing_told, one_more, one_unheard}
+use Rattle.bipr.specs.Scheduled.{reporting, some_told, told_lacking, told_stepped, unheard}
 use Rattle.bipr.specs.Stops.{out_of_memory, unwritten_text}
 use Rattle.bipr.specs.Streams.{AreOut, Put, texts}
 use Rattle.bipr.specs.Wording.{report_text}
@@ -32,27 +37,39 @@ use Rattle.bipr.proofs.ScheduledLemmas.{has_stepped, is_run}
 use Rattle.bipr.proofs.StreamLemmas.{texts_append}
 
 -- as many outcomes as events
-told_length : {w v : WorldContent} {es : List Event} {ds : List (Option Did)} {ls : List (List ℕ)} → AreTold w es ds ls v → length ds ≡ length es
+told_length : {w v : WorldContent} {es : List Event} {ds : List (Option Did)} {ls : List (List ℕ)}
+    → AreTold w es ds ls v → length ds ≡ length es
 told_length none_told = refl
 told_length (one_told {es = es} {ds = ds} e d line before is) =
-    length-append ds (d ∷ []) ∙ (ap (λ n. n + 1) (told_length before) ∙ sym (length-append es (e ∷ [])))
+    length-append ds (d ∷ [])
+    ∙ (ap (λ n. n + 1) (told_length before) ∙ sym (length-append es (e ∷ [])))
 
 -- they lead from the one world to the other
-told_steps : {w v : WorldContent} {es : List Event} {ds : List (Option Did)} {ls : List (List ℕ)} → AreTold w es ds ls v → AreSteps es ds w v
+told_steps : {w v : WorldContent} {es : List Event} {ds : List (Option Did)} {ls : List (List ℕ)}
+    → AreTold w es ds ls v → AreSteps es ds w v
 told_steps none_told = refl
-told_steps {w = w} (one_told {es = es} {ds = ds} {v = u} {x = x} e d line before is) = steps_one es ds w u x e d (told_steps before) is.steps
+told_steps {w = w} (one_told {es = es} {ds = ds} {v = u} {x = x} e d line before is) =
+    steps_one es ds w u x e d (told_steps before) is.steps
 
 -- a report counts the events that were told
-pub told_count : (w v : WorldContent) (es : List Event) (ds : List (Option Did)) (ls : List (List ℕ)) (report : Report) → AreTold w es ds ls v → report ≡ report_of ds → report.events ≡ length es
+pub told_count : (w v : WorldContent) (es : List Event) (ds : List (Option Did))
+    (ls : List (List ℕ)) (report : Report) → AreTold w es ds ls v → report ≡ report_of ds
+    → report.events ≡ length es
 told_count w v es ds ls report told is = ap (λ (r : Report). r.events) is ∙ told_length told
 
 -- one more is told
-pub told_on : (w v x : WorldContent) (es : List Event) (ds : List (Option Did)) (told : List Put) (report later : Report) (e : Event) (d : Option Did) (line : List ℕ) (is_out : Bool)
-    → AreTold w es ds (texts told) v → report ≡ report_of ds → IsToldEvent (report.events + 1) e d v x line → later ≡ report_with report d
-    → AreTold w (es ++ e ∷ []) (ds ++ d ∷ []) (texts (told ++ record { text = line; is_out = is_out } ∷ [])) x × (later ≡ report_of (ds ++ d ∷ []))
+pub told_on : (w v x : WorldContent) (es : List Event) (ds : List (Option Did)) (told : List Put)
+    (report later : Report) (e : Event) (d : Option Did) (line : List ℕ) (is_out : Bool)
+    → AreTold w es ds (texts told) v → report ≡ report_of ds
+    → IsToldEvent (report.events + 1) e d v x line → later ≡ report_with report d
+    → AreTold w (es ++ e ∷ []) (ds ++ d ∷ [])
+    (texts (told ++ record { text = line; is_out = is_out } ∷ [])) x
+    × (later ≡ report_of (ds ++ d ∷ []))
 told_on w v x es ds told report later e d line is_out before counted is more =
-    let number : report.events + 1 ≡ length es + 1 = ap (λ n. n + 1) (told_count w v es ds (texts told) report before counted) in (
-      subst (λ (ls : List (List ℕ)). AreTold w (es ++ e ∷ []) (ds ++ d ∷ []) ls x) (sym (texts_append told (record { text = line; is_out = is_out } ∷ [])))
+    let number : report.events + 1 ≡ length es + 1 =
+    ap (λ n. n + 1) (told_count w v es ds (texts told) report before counted) in (
+      subst (λ (ls : List (List ℕ)). AreTold w (es ++ e ∷ []) (ds ++ d ∷ []) ls x)
+          (sym (texts_append told (record { text = line; is_out = is_out } ∷ [])))
           (one_told e d line before (subst (λ (n : ℕ). IsToldEvent n e d v x line) number is)),
       more ∙ (ap (λ (r : Report). report_with r d) counted ∙ report_more ds d),
     )
@@ -62,71 +79,98 @@ all_one : {X : Type 0} (P : X → Type 0) (x : X) → P x → All P (x ∷ [])
 all_one P x is zero d within = is
 all_one P x is (suc k) d within = absurd (omega (arith, within))
 
-pub spelled_one : (p : Planned) (es : List Event) (i : ℕ) (d : Event) → HaveSpelling p es → i < length es → HaveSpelling p (get_or es i d ∷ [])
-spelled_one p es i d each within = λ stations are. all_one (HasSpelling p stations) (get_or es i d) (each stations are i d within)
+pub spelled_one : (p : Planned) (es : List Event) (i : ℕ) (d : Event) → HaveSpelling p es
+    → i < length es → HaveSpelling p (get_or es i d ∷ [])
+spelled_one p es i d each within =
+    λ stations are. all_one (HasSpelling p stations) (get_or es i d) (each stations are i d within)
 
 -- want of memory is an error, whichever
-pub err_telling : {p : Planned} {schedule : List ℕ} {w v : WorldContent} {told : List Put} (result : Result (Option Report) AllocError) → IsErr result
-    → ((e : AllocError) → IsTelling p schedule w v told (Err e)) → IsTelling p schedule w v told result
+pub err_telling : {p : Planned} {schedule : List ℕ} {w v : WorldContent} {told : List Put}
+    (result : Result (Option Report) AllocError) → IsErr result
+    → ((e : AllocError) → IsTelling p schedule w v told (Err e))
+    → IsTelling p schedule w v told result
 err_telling (Ok x) is each = cc
 err_telling (Err e) is each = each e
 
 -- where the line of the next event lacks memory, that event is done, or none is
-pub next_untold : (rest more : List Event) (e : Event) (w v : WorldContent) (before after : Report) → rest ≡ e ∷ more → IsLeftUntold e w v before after → IsAtMostOneDone rest w v
+pub next_untold : (rest more : List Event) (e : Event) (w v : WorldContent) (before after : Report)
+    → rest ≡ e ∷ more → IsLeftUntold e w v before after → IsAtMostOneDone rest w v
 next_untold rest more e w v before after is (not_done same _) = none_more same
 next_untold rest more e w v before after is (done_untold did steps _) = one_more e more did is steps
 
--- what is answered where all is told
-pub told_all : (p : Planned) (base : ℕ) (resolver : Resolver) (is_told : Bool) (schedule : List ℕ) (w v : WorldContent) (told : List Put) (report : Report)
-    → is_told ≡ true → WorldsKeepTheirPlan → IsNewWorld p base w → IsSharedAtFirst resolver p w.bank.sharing
-    → IsModelRun v.plan.model v.bank.base v.trace → IsTelling p schedule w v told (Ok (Some report))
-    → (answer : Answer) → answer ≡ reporting (text_of p.model v.trace) (report_text report)
-    → grants_of p.model (text_of p.model v.trace) ≡ Ok v.trace
-    → IsScheduleAnswered p base resolver is_told schedule told answer
-told_all p base resolver is_told schedule w v told report on keep new shared ran (all_told events dids _ says lines heard sums) answer is reads =
-    let steps = told_steps lines in
-    let run : IsRunOfEvents events w v report = record { dids = dids; steps = steps; sums = sums } in
-    let more = steps_grow events dids w v steps in
-    let whole = is_run p base events w v report (text_of p.model v.trace) keep new run ran (more.0, more.1, ap (λ (r : Report). r.grants) sums ∙ more.2) reads in
-    aloud told answer on (told_stepped report told answer (record {
-      stepped = has_stepped p base resolver schedule answer events w v report is says new shared run whole;
-      dids = dids;
-      lines = lines;
-      heard = heard;
-      sums = sums;
-    }))
+-- what is answered where events are told
+module _ (p : Planned) (base : ℕ) (resolver : Resolver) (is_told : Bool) (schedule : List ℕ)
+    (w v : WorldContent) (told : List Put) (on : is_told ≡ true) (new : IsNewWorld p base w)
+    (shared : IsSharedAtFirst resolver p w.bank.sharing) where
+  abbrev Answered : Answer → Type 0
+  Answered = IsScheduleAnswered p base resolver is_told schedule told
 
--- so far as it is told
-until : (p : Planned) (base : ℕ) (resolver : Resolver) (schedule : List ℕ) (w v : WorldContent) (told : List Put) (done rest : List Event) (dids : List (Option Did))
-    → IsNewWorld p base w → IsSharedAtFirst resolver p w.bank.sharing → IsEventText p schedule (done ++ rest) → AreTold w done dids (texts told) v
-    → IsToldUntil p base resolver schedule told
-until p base resolver schedule w v told done rest dids new shared says lines =
-    record { done = done; rest = rest; dids = dids; first = w; last = v; says = says; new = new; shared = shared; lines = lines }
+  -- all of them
+  pub told_all : (report : Report) → WorldsKeepTheirPlan
+      → IsModelRun v.plan.model v.bank.base v.trace
+      → IsTelling p schedule w v told (Ok (Some report)) → (answer : Answer)
+      → answer ≡ reporting (text_of p.model v.trace) (report_text report)
+      → grants_of p.model (text_of p.model v.trace) ≡ Ok v.trace → Answered answer
+  told_all report keep ran (all_told events dids _ says lines heard sums) answer is reads =
+      let steps = told_steps lines in
+      let run : IsRunOfEvents events w v report =
+      record { dids = dids; steps = steps; sums = sums } in
+      let more = steps_grow events dids w v steps in
+      let whole = is_run p base events w v report (text_of p.model v.trace) keep new run ran
+      (more.0, more.1, ap (λ (r : Report). r.grants) sums ∙ more.2) reads in
+      aloud told answer on (told_stepped report told answer (record {
+        stepped =
+            has_stepped p base resolver schedule answer events w v report is says new shared run
+            whole;
+        dids = dids;
+        lines = lines;
+        heard = heard;
+        sums = sums;
+      }))
 
--- want of memory, behind all that is told
-pub told_all_lacking : (p : Planned) (base : ℕ) (resolver : Resolver) (is_told : Bool) (schedule : List ℕ) (w v : WorldContent) (told : List Put) (report : Report)
-    → is_told ≡ true → IsNewWorld p base w → IsSharedAtFirst resolver p w.bank.sharing
-    → IsTelling p schedule w v told (Ok (Some report)) → IsScheduleAnswered p base resolver is_told schedule told out_of_memory
-told_all_lacking p base resolver is_told schedule w v told report on new shared (all_told events dids _ says lines heard sums) =
-    aloud told out_of_memory on (told_lacking told heard
-    (until p base resolver schedule w v told events [] dids new shared (subst (IsEventText p schedule) (sym (append-nil events)) says) lines))
+  -- so far as it is told
+  until : (last : WorldContent) (done rest : List Event) (dids : List (Option Did))
+      → IsEventText p schedule (done ++ rest) → AreTold w done dids (texts told) last
+      → IsToldUntil p base resolver schedule told
+  until last done rest dids says lines =
+      record {
+        done = done;
+        rest = rest;
+        dids = dids;
+        first = w;
+        last = last;
+        says = says;
+        new = new;
+        shared = shared;
+        lines = lines;
+      }
 
--- and on the way
-pub told_err : (p : Planned) (base : ℕ) (resolver : Resolver) (is_told : Bool) (schedule : List ℕ) (w v : WorldContent) (told : List Put) (e : AllocError)
-    → is_told ≡ true → IsNewWorld p base w → IsSharedAtFirst resolver p w.bank.sharing
-    → IsTelling p schedule w v told (Err e) → IsScheduleAnswered p base resolver is_told schedule told out_of_memory
-told_err p base resolver is_told schedule w v told e on new shared (nothing_told _ none _) =
-    subst (λ (ts : List Put). IsScheduleAnswered p base resolver is_told schedule ts out_of_memory) (sym none) lacking
-told_err p base resolver is_told schedule w v told e on new shared (some_told done rest dids last _ says lines heard _) =
-    aloud told out_of_memory on (told_lacking told heard (until p base resolver schedule w last told done rest dids new shared says lines))
+  -- want of memory, behind all that is told
+  pub told_all_lacking : (report : Report) → IsTelling p schedule w v told (Ok (Some report))
+      → Answered out_of_memory
+  told_all_lacking report (all_told events dids _ says lines heard sums) =
+      aloud told out_of_memory on (told_lacking told heard
+      (until v events [] dids (subst (IsEventText p schedule) (sym (append-nil events)) says)
+      lines))
 
--- what is answered where a line isn't out
-pub told_unheard : (p : Planned) (base : ℕ) (resolver : Resolver) (is_told : Bool) (schedule : List ℕ) (w v : WorldContent) (told : List Put)
-    → is_told ≡ true → IsNewWorld p base w → IsSharedAtFirst resolver p w.bank.sharing → IsTelling p schedule w v told (Ok None)
-    → IsScheduleAnswered p base resolver is_told schedule told (complaining Refused unwritten_text)
-told_unheard p base resolver is_told schedule w v told on new shared (one_unheard done rest dids says lines last) =
-    aloud told (complaining Refused unwritten_text) on (unheard told last (until p base resolver schedule w v told done rest dids new shared says lines))
+  -- and on the way
+  pub told_err : (e : AllocError) → IsTelling p schedule w v told (Err e) → Answered out_of_memory
+  told_err e (nothing_told _ none _) =
+      subst (λ (ts : List Put).
+      IsScheduleAnswered p base resolver is_told schedule ts out_of_memory) (sym none) lacking
+  told_err e (some_told done rest dids last _ says lines heard _) =
+      aloud told out_of_memory on (told_lacking told heard (until last done rest dids says lines))
+
+  -- where a line isn't out
+  pub told_unheard : IsTelling p schedule w v told (Ok None)
+      → Answered (complaining Refused unwritten_text)
+  told_unheard (one_unheard done rest dids says lines last) =
+      aloud told (complaining Refused unwritten_text) on
+      (unheard told last (until v done rest dids says lines))
 
 -- one more is put, and is out
-pub out_more : (told : List Put) (put : Put) → AreOut told → put.is_out ≡ true → AreOut (told ++ put ∷ [])
-out_more told put heard out = All-append (λ (x : Put). x.is_out ≡ true) told (put ∷ []) heard (all_one (λ (x : Put). x.is_out ≡ true) put out)
+pub out_more : (told : List Put) (put : Put) → AreOut told → put.is_out ≡ true
+    → AreOut (told ++ put ∷ [])
+out_more told put heard out =
+    All-append (λ (x : Put). x.is_out ≡ true) told (put ∷ []) heard
+    (all_one (λ (x : Put). x.is_out ≡ true) put out)

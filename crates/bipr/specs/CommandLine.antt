@@ -8,10 +8,11 @@ use Rattle.bipr.specs.Program.{Parsed}
 use Rattle.bipr.specs.Resolvers.{resolver_name, tables_name}
 use Rattle.bipr.specs.declared.commands.chart.ChartArguments.{ChartArguments}
 use Rattle.bipr.specs.declared.commands.check.CheckArguments.{CheckArguments}
-use Rattle.bipr.specs.declared.commands.draw.DrawArguments.{DrawArguments}
 use Rattle.bipr.specs.declared.commands.explore.ExploreArguments.{ExploreArguments}
+use Rattle.bipr.specs.declared.commands.render.RenderArguments.{RenderArguments}
 use Rattle.bipr.specs.declared.commands.replay.ReplayArguments.{ReplayArguments}
 use Rattle.bipr.specs.declared.commands.run.RunArguments.{RunArguments}
+use Rattle.bipr.specs.declared.commands.seed.SeedArguments.{SeedArguments}
 use Rattle.bipr.specs.declared.commands.steps.StepsArguments.{StepsArguments}
 use Rattle.bipr.specs.declared.resolvers.Resolver.{Resolver}
 
@@ -76,8 +77,8 @@ pub record IsCheckAsked (values : List Row) (arguments : CheckArguments) : Type 
   pub model : first_of (codes "model") values ≡ Some arguments.model.now
   pub plan : IsFlagAsked values (codes "plan") arguments.with_plan
 
--- the values behind `draw` ask
-pub record IsDrawAsked (values : List Row) (arguments : DrawArguments) : Type 0 where
+-- the values behind `draw` or `canon` ask
+pub record IsRenderAsked (values : List Row) (arguments : RenderArguments) : Type 0 where
   pub model : first_of (codes "model") values ≡ Some arguments.model.now
 
 -- the values behind `replay` ask: the paths are the first values of their arguments
@@ -109,6 +110,13 @@ pub record IsExploreAsked (values : List Row) (arguments : ExploreArguments) : T
   pub events : IsNumberAsked values (codes "events") 32 arguments.events
   pub progress : IsFlagAsked values (codes "progress") arguments.is_told
   pub jobs : MayAskNumber values (codes "jobs") 32 arguments.jobs
+
+-- the values behind `seed` ask
+pub record IsSeedAsked (values : List Row) (arguments : SeedArguments) : Type 0 where
+  pub model : first_of (codes "model") values ≡ Some arguments.model.now
+  pub resolver : IsResolverAsked values arguments.resolver
+  pub seed : IsNumberAsked values (codes "seed") 32 arguments.seed
+  pub events : IsNumberAsked values (codes "events") 32 arguments.events
 
 -- the values behind `run` ask
 pub record IsRunAsked (values : List Row) (arguments : RunArguments) : Type 0 where

@@ -8,9 +8,9 @@ use Rattle.bip_host.specs.declared.faults.HostFault.{HostFault}
 use Rattle.bip_partition.specs.Plans.{Planned}
 use Rattle.bipr.specs.Answers.{IsAnswer, IsCheckShowing, IsRefusedModel, code_of}
 use Rattle.bipr.specs.Charted.{AreRowsDisordered, AreRowsInOrder, IsChartAnswer}
-use Rattle.bipr.specs.CommandLine.{AreStepsAsked, IsChartAsked, IsCheckAsked, IsDrawAsked}
-use Rattle.bipr.specs.CommandLine.{IsExplainAsked, IsExploreAsked, IsReplayAsked, IsRunAsked}
-use Rattle.bipr.specs.Drawn.{IsDrawingAnswer}
+use Rattle.bipr.specs.CommandLine.{AreStepsAsked, IsChartAsked, IsCheckAsked, IsExplainAsked}
+use Rattle.bipr.specs.CommandLine.{IsExploreAsked, IsRenderAsked, IsReplayAsked, IsRunAsked}
+use Rattle.bipr.specs.CommandLine.{IsSeedAsked}
 use Rattle.bipr.specs.Endings.{Ends, EndsExplaining}
 use Rattle.bipr.specs.Explored.{IsExploreAnswer}
 use Rattle.bipr.specs.Hosted.{IsPlanHosted}
@@ -18,8 +18,10 @@ use Rattle.bipr.specs.Loading.{IsModelText, IsNoModel, IsPlannedText, OfPlan, Of
 use Rattle.bipr.specs.Loading.{Silently}
 use Rattle.bipr.specs.Program.{IsNoParse, IsParse, Parsed}
 use Rattle.bipr.specs.Refusals.{IsErrorAnswer, IsWordsAnswer}
+use Rattle.bipr.specs.Renderings.{IsRenderingAnswer}
 use Rattle.bipr.specs.Resolvers.{NeedsCentral}
 use Rattle.bipr.specs.Scheduled.{IsScheduleAnswered}
+use Rattle.bipr.specs.Seeds.{IsSeedAnswer}
 use Rattle.bipr.specs.Stops.{bad_base, bad_range, out_of_memory, words_need_central}
 use Rattle.bipr.specs.Streams.{Put, Puts}
 use Rattle.bipr.specs.declared.answers.Answer.{Answer}
@@ -28,13 +30,16 @@ use Rattle.bipr.specs.declared.commands.Command.{Command}
 use Rattle.bipr.specs.declared.commands.Command.TheVariants as command
 use Rattle.bipr.specs.declared.commands.chart.ChartArguments.{ChartArguments}
 use Rattle.bipr.specs.declared.commands.check.CheckArguments.{CheckArguments}
-use Rattle.bipr.specs.declared.commands.draw.DrawArguments.{DrawArguments}
 use Rattle.bipr.specs.declared.commands.explore.ExploreArguments.{ExploreArguments}
+use Rattle.bipr.specs.declared.commands.render.RenderArguments.{RenderArguments}
 use Rattle.bipr.specs.declared.commands.replay.ReplayArguments.{ReplayArguments}
 use Rattle.bipr.specs.declared.commands.run.RunArguments.{RunArguments}
+use Rattle.bipr.specs.declared.commands.seed.SeedArguments.{SeedArguments}
 use Rattle.bipr.specs.declared.commands.steps.StepsArguments.{StepsArguments}
 use Rattle.bipr.specs.declared.hosted.Hosted.{Hosted}
 use Rattle.bipr.specs.declared.inputs.InputFault.{InputFault}
+use Rattle.bipr.specs.declared.renderings.Rendering.{Rendering}
+use Rattle.bipr.specs.declared.renderings.Rendering.TheVariants.{Canonical, Drawing}
 use Rattle.bipr.specs.declared.resolvers.HostForm.{HostForm}
 
 -- Below, reading the text that a path names may give what `gives` says, and running the nodes of a
@@ -46,10 +51,11 @@ abbrev pub IsCheck : (List ℕ → Result (List ℕ) InputFault → Type 0) → 
 IsCheck gives asked =
     OfText gives asked.model.now (λ model. Silently (IsCheckShowing model asked.with_plan))
 
--- the drawing
-abbrev pub IsDraw : (List ℕ → Result (List ℕ) InputFault → Type 0) → DrawArguments → List Put
-    → Answer → Type 0
-IsDraw gives asked = OfText gives asked.model.now (λ model. Silently (IsDrawingAnswer model))
+-- the drawing, or the canonical text
+abbrev pub IsRender : Rendering → (List ℕ → Result (List ℕ) InputFault → Type 0) → RenderArguments
+    → List Put → Answer → Type 0
+IsRender rendering gives asked =
+    OfText gives asked.model.now (λ model. Silently (IsRenderingAnswer rendering model))
 
 -- what may be answered to a model's text and a trace's, where this answers both
 abbrev pub IsReplayBy : (List ℕ → List ℕ → Answer → Type 0)
@@ -87,6 +93,12 @@ abbrev pub IsExplore : (List ℕ → Result (List ℕ) InputFault → Type 0) �
 IsExplore gives asked =
     OfText gives asked.model.now (λ model. OfPlan model (λ p. IsExploreAnswer p asked))
 
+-- the schedule of a seed
+abbrev pub IsSeedWritten : (List ℕ → Result (List ℕ) InputFault → Type 0) → SeedArguments
+    → List Put → Answer → Type 0
+IsSeedWritten gives asked =
+    OfText gives asked.model.now (λ model. OfPlan model (λ p. Silently (IsSeedAnswer p asked)))
+
 -- the run of nodes as threads
 pub data IsThreadedRun (gives : List ℕ → Result (List ℕ) InputFault → Type 0)
     (hosts : Planned → HostForm → ℕ → Result Hosted HostFault → Type 0) (asked : RunArguments)
@@ -103,12 +115,14 @@ pub data IsThreadedRun (gives : List ℕ → Result (List ℕ) InputFault → Ty
 
 -- their names
 abbrev pub spelled : Command → Text
+spelled command.Canon = codes "canon"
 spelled command.Chart = codes "chart"
 spelled command.Check = codes "check"
 spelled command.Draw = codes "draw"
 spelled command.Replay = codes "replay"
 spelled command.Steps = codes "steps"
 spelled command.Explore = codes "explore"
+spelled command.Seed = codes "seed"
 spelled command.Run = codes "run"
 
 -- what may be told on the way and then answered to a command that is asked for by some arguments;
@@ -122,12 +136,17 @@ pub data IsAnsweredTo {A : Type 0} (asks : A → Type 0) (does : A → List Put 
 -- the same of each command, by the values behind it
 abbrev pub IsSaidTo : Command → List Row → (List ℕ → Result (List ℕ) InputFault → Type 0)
     → (Planned → HostForm → ℕ → Result Hosted HostFault → Type 0) → List Put → Answer → Type 0
+IsSaidTo command.Canon values gives hosts =
+    IsAnsweredTo (IsRenderAsked values) (IsRender Canonical gives)
 IsSaidTo command.Chart values gives hosts = IsAnsweredTo (IsChartAsked values) (IsChart gives)
 IsSaidTo command.Check values gives hosts = IsAnsweredTo (IsCheckAsked values) (IsCheck gives)
-IsSaidTo command.Draw values gives hosts = IsAnsweredTo (IsDrawAsked values) (IsDraw gives)
+IsSaidTo command.Draw values gives hosts =
+    IsAnsweredTo (IsRenderAsked values) (IsRender Drawing gives)
 IsSaidTo command.Replay values gives hosts = IsAnsweredTo (IsReplayAsked values) (IsReplay gives)
 IsSaidTo command.Steps values gives hosts = IsAnsweredTo (AreStepsAsked values) (IsSteps gives)
 IsSaidTo command.Explore values gives hosts = IsAnsweredTo (IsExploreAsked values) (IsExplore gives)
+IsSaidTo command.Seed values gives hosts =
+    IsAnsweredTo (IsSeedAsked values) (IsSeedWritten gives)
 IsSaidTo command.Run values gives hosts =
     IsAnsweredTo (IsRunAsked values) (IsThreadedRun gives hosts)
 

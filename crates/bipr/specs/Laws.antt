@@ -10,6 +10,7 @@ use Rattle.bip_model.specs.declared.parts.System.{System}
 use Rattle.bip_model.specs.declared.partitions.Partition.{Partition}
 use Rattle.bip_reader.specs.Texts.{Means}
 use Rattle.bip_replay.specs.Replays.{IsFirstFault, IsRunOf}
+use Rattle.bip_replay.specs.Writing.{text_of}
 use Rattle.bip_replay.specs.declared.faults.BookFault.{BookFault}
 use Rattle.bip_replay.specs.declared.faults.ReplayFault.TheVariants as replay_fault
 use Rattle.bip_replay.specs.declared.faults.TraceFault.{TraceFault}
@@ -20,12 +21,13 @@ use Rattle.bipr.specs.Answers.{HasPlan, IsAnswer, IsCheckAnswer, IsRefusedModel,
 use Rattle.bipr.specs.Answers.{saying}
 use Rattle.bipr.specs.Commands.{IsReplay}
 use Rattle.bipr.specs.Dividing.{AreParts, after_mark, before_mark}
-use Rattle.bipr.specs.Drawn.{IsDrawingAnswer}
 use Rattle.bipr.specs.Hosted.{IsHostAnswer}
 use Rattle.bipr.specs.Inputs.{IsReading, Named, bytes, most_bytes}
 use Rattle.bipr.specs.Loading.{IsModelText, are_joined}
+use Rattle.bipr.specs.Renderings.{IsRenderingAnswer}
 use Rattle.bipr.specs.Resolvers.{IsSharedAtFirst}
-use Rattle.bipr.specs.Scheduled.{IsScheduleAnswered, IsStepped, IsToldStepped}
+use Rattle.bipr.specs.Scheduled.{IsScheduleAnswered, IsStepped, IsToldStepped, reporting}
+use Rattle.bipr.specs.Seeds.{IsSeedSchedule}
 use Rattle.bipr.specs.Stops.{out_of_memory, unread_text}
 use Rattle.bipr.specs.Streams.{AreOut, Put}
 use Rattle.bipr.specs.Wording.{report_text, run_text}
@@ -33,7 +35,9 @@ use Rattle.bipr.specs.declared.answers.Answer.{Answer}
 use Rattle.bipr.specs.declared.answers.Status.{Status}
 use Rattle.bipr.specs.declared.answers.Status.TheVariants.{Done, NotARun, Refused}
 use Rattle.bipr.specs.declared.commands.replay.ReplayArguments.{ReplayArguments}
+use Rattle.bipr.specs.declared.commands.seed.SeedArguments.{SeedArguments}
 use Rattle.bipr.specs.declared.hosted.Hosted.{Hosted}
+use Rattle.bipr.specs.declared.renderings.Rendering.{Rendering}
 use Rattle.bipr.specs.declared.resolvers.Resolver.{Resolver}
 
 -- two texts in one are parted by lines
@@ -50,10 +54,11 @@ abbrev pub OneCheckAnswer : Type 0
 OneCheckAnswer =
     (text : List ℕ) (a b : Answer) → IsCheckAnswer text a → IsCheckAnswer text b → a ≡ b
 
--- a text has one answer to its drawing
-abbrev pub OneDrawingAnswer : Type 0
-OneDrawingAnswer =
-    (text : List ℕ) (a b : Answer) → IsDrawingAnswer text a → IsDrawingAnswer text b → a ≡ b
+-- a text has one answer to its drawing, and one to its canonical text
+abbrev pub OneRenderingAnswer : Type 0
+OneRenderingAnswer =
+    (rendering : Rendering) (text : List ℕ) (a b : Answer)
+    → IsRenderingAnswer rendering text a → IsRenderingAnswer rendering text b → a ≡ b
 
 -- every two texts and base have an answer
 abbrev pub SomeAnswer : Type 0
@@ -103,6 +108,15 @@ OneTraceOfASeed =
     → (one : IsSeedRun (IsSharedAtFirst resolver p) p 0 count seed m)
     → (other : IsSeedRun (IsSharedAtFirst resolver p) p 0 count seed n)
     → (one.of_seed.events ≡ other.of_seed.events) × (one.trace ≡ other.trace) × (m ≡ n)
+
+-- the steps of a seed's schedule are the seed's: with its resolver they have its trace and its
+-- report, where no event was skipped and no message lost
+abbrev pub SeedsAreSteps : Type 0
+SeedsAreSteps =
+    (p : Planned) (asked : SeedArguments) (schedule : List ℕ) (report : Report) (answer : Answer)
+    → (seed : IsSeedSchedule p asked schedule)
+    → IsStepped p 0 asked.resolver schedule report answer → IsLossless report
+    → answer ≡ reporting (text_of p.model seed.trace) (report_text seed.of_seed.report)
 
 -- a text is the trace of a run of the model that another text means; or its first line at fault has
 -- a grant that can't be next

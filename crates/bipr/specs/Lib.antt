@@ -4,7 +4,6 @@ pub mod Charted
 pub mod CommandLine
 pub mod Commands
 pub mod Dividing
-pub mod Drawn
 pub mod Endings
 pub mod Explored
 pub mod Hosted
@@ -13,8 +12,10 @@ pub mod Laws
 pub mod Loading
 pub mod Program
 pub mod Refusals
+pub mod Renderings
 pub mod Resolvers
 pub mod Scheduled
+pub mod Seeds
 pub mod Sources
 pub mod Stops
 pub mod Streams

@@ -72,6 +72,9 @@ with_arguments name rules = record (new_shape name) { rules = rules }
 abbrev pub from_option : Rule
 from_option = record (option (codes "from") rows) { defaults = codes "1" ∷ [] }
 
+abbrev pub canon_command : Shape
+canon_command = with_arguments (codes "canon") (path (codes "model") ∷ flag (codes "explain") ∷ [])
+
 abbrev pub chart_command : Shape
 chart_command = with_arguments (codes "chart")
     (path (codes "model") ∷ path (codes "trace") ∷ base_option ∷ from_option
@@ -107,6 +110,11 @@ run_command resolvers tables = with_arguments (codes "run")
     ∷ needed (codes "turns") (numbers 1 1000000) ∷ table_option tables ∷ flag (codes "stats")
     ∷ flag (codes "explain") ∷ [])
 
+abbrev pub seed_command : Bor (List (Bor Text)) → Shape
+seed_command resolvers = with_arguments (codes "seed")
+    (path (codes "model") ∷ resolver_option resolvers ∷ needed (codes "seed") (numbers 1 1000000)
+    ∷ needed (codes "events") (numbers 0 1000000) ∷ flag (codes "explain") ∷ [])
+
 -- the program without its commands
 abbrev pub bare_program : Shape
 bare_program = record (with_arguments (codes "bipr") (flag (codes "explain") ∷ [])) {
@@ -114,13 +122,13 @@ bare_program = record (with_arguments (codes "bipr") (flag (codes "explain") ∷
   subcommand_required = true;
 }
 
--- the program: words name one of seven commands, or ask for help or the version
+-- the program: words name one of nine commands, or ask for help or the version
 abbrev pub program : Choices → App
 program choices = record {
   top = record bare_program { is_leaf = false };
-  subs = chart_command ∷ check_command ∷ draw_command ∷ replay_command
+  subs = canon_command ∷ chart_command ∷ check_command ∷ draw_command ∷ replay_command
       ∷ steps_command choices.resolvers ∷ explore_command choices.resolvers
-      ∷ run_command choices.resolvers choices.tables ∷ [];
+      ∷ seed_command choices.resolvers ∷ run_command choices.resolvers choices.tables ∷ [];
 }
 
 -- an argument, and a command without commands of its own, as the library has them

@@ -74,6 +74,11 @@ words_need_central = complaining BadCommandLine words_need_central_text
 abbrev pub too_many_rows : Answer
 too_many_rows = complaining Refused too_many_rows_text
 
+-- what is said where a schedule is longer than any text that is read
+abbrev pub long_schedule : Answer
+long_schedule =
+    complaining Refused (complaint_text (codes "a schedule has at most 16777216 bytes"))
+
 -- what is said of what stopped a command
 abbrev pub answer_of_stop : Stop → Answer
 answer_of_stop (stop.CannotRead path) = complaining Refused (unread_text path.now)
@@ -82,6 +87,7 @@ answer_of_stop stop.BaseOutOfRange = bad_base
 answer_of_stop stop.RowsOutOfOrder = bad_range
 answer_of_stop stop.WordsNeedCentral = words_need_central
 answer_of_stop stop.TooManyRows = too_many_rows
+answer_of_stop stop.ScheduleTooLong = long_schedule
 answer_of_stop stop.GrantRefused = complaining NotARun host_refusal
 answer_of_stop stop.ThreadRefused = complaining NoThread no_thread_text
 answer_of_stop (stop.SeedNotARun seed) = saying NotARun (seed_verdict seed)

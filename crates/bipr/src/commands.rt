@@ -10,10 +10,11 @@ ghost use Rattle.bipr.specs.declared.stops.Stop.TheVariants.{BaseOutOfRange};
 
 pub mod chart;
 pub mod check;
-pub mod draw;
 pub mod explore;
+pub mod render;
 pub mod replay;
 pub mod run;
+pub mod seed;
 pub mod steps;
 
 use crate::answers::{Answer, Status};
@@ -23,6 +24,7 @@ use crate::inputs::Inputs;
 use crate::invocations::Invocation;
 use crate::program::{Choices, program};
 use crate::refusals::answer_error;
+use crate::renderings::Rendering;
 use crate::resolvers::{HOSTED_TABLES, RESOLVERS};
 use crate::stops::{NO_MEMORY, Stop};
 use crate::streams::Stream;
@@ -30,10 +32,11 @@ use bip_explain::Explanation;
 use chart::ChartArguments;
 use check::CheckArguments;
 use clap::ArgMatches;
-use draw::DrawArguments;
 use explore::ExploreArguments;
+use render::RenderArguments;
 use replay::ReplayArguments;
 use run::RunArguments;
+use seed::SeedArguments;
 use std::sync::Wait;
 use std::thread::Threads;
 use std::time::Clock;
@@ -48,12 +51,14 @@ const CHOICES: Choices<'static> = Choices {
 /// What the program can be asked to do.
 #[derive(Clone, Copy, Debug, PartialEq, Eq)]
 pub enum Command {
+    Canon,
     Chart,
     Check,
     Draw,
     Replay,
     Steps,
     Explore,
+    Seed,
     Run,
 }
 
@@ -63,12 +68,14 @@ fn command_named(name: &str) -> Option<Command>
     ensures none { IfNone result ((command : Command) → name.now ≢ spelled command) }
 {
     match name.as_bytes() {
+        b"canon" => Some(Command::Canon),
         b"chart" => Some(Command::Chart),
         b"check" => Some(Command::Check),
         b"draw" => Some(Command::Draw),
         b"replay" => Some(Command::Replay),
         b"steps" => Some(Command::Steps),
         b"explore" => Some(Command::Explore),
+        b"seed" => Some(Command::Seed),
         b"run" => Some(Command::Run),
         _ => None,
     }
@@ -152,12 +159,18 @@ impl<R: Threads + Wait + Clock + Sync, I: Inputs, H: Hosting, O: Stream, E: Stre
         ensures output { self.new.output ≡ self.old.output }
     {
         match command_named(name) {
+            Some(Command::Canon) => {
+                self.render(Rendering::Canonical, &asked(RenderArguments::read(behind))?)
+            }
             Some(Command::Chart) => self.chart(&asked(ChartArguments::read(behind))?),
             Some(Command::Check) => self.check(&asked(CheckArguments::read(behind))?),
-            Some(Command::Draw) => self.draw(&asked(DrawArguments::read(behind))?),
+            Some(Command::Draw) => {
+                self.render(Rendering::Drawing, &asked(RenderArguments::read(behind))?)
+            }
             Some(Command::Replay) => self.replay(&asked(ReplayArguments::read(behind))?),
             Some(Command::Steps) => self.steps(&asked(StepsArguments::read(behind))?),
             Some(Command::Explore) => self.explore(&asked(ExploreArguments::read(behind))?),
+            Some(Command::Seed) => self.seed(&asked(SeedArguments::read(behind))?),
             Some(Command::Run) => self.run(&asked(RunArguments::read(behind))?),
             None => Err(Stop::BaseOutOfRange),
         }

@@ -11,8 +11,8 @@ ghost use Rattle.bipr.specs.Streams.{Puts};
 use crate::answers::{Answer, Status};
 use crate::invocations::Invocation;
 use crate::stops::{
-    BAD_BASE, BAD_RANGE, CANNOT_WRITE, NO_MEMORY, NO_THREAD, NOT_A_RUN, Stop, TOO_MANY_ROWS,
-    WORDS_NEED_CENTRAL, unread_text,
+    BAD_BASE, BAD_RANGE, CANNOT_WRITE, NO_MEMORY, NO_THREAD, NOT_A_RUN, SCHEDULE_TOO_LONG, Stop,
+    TOO_MANY_ROWS, WORDS_NEED_CENTRAL, unread_text,
 };
 use crate::streams::{Stream, put};
 use crate::wording::seed_verdict;
@@ -66,6 +66,7 @@ impl<R, I, H, O: Stream, E: Stream> Invocation<'_, R, I, H, O, E> {
             Stop::RowsOutOfOrder => self.complain(Status::BadCommandLine, BAD_RANGE),
             Stop::WordsNeedCentral => self.complain(Status::BadCommandLine, WORDS_NEED_CENTRAL),
             Stop::TooManyRows => self.complain(Status::Refused, TOO_MANY_ROWS),
+            Stop::ScheduleTooLong => self.complain(Status::Refused, SCHEDULE_TOO_LONG),
             Stop::GrantRefused => self.complain(Status::NotARun, NOT_A_RUN),
             Stop::ThreadRefused => self.complain(Status::NoThread, NO_THREAD),
             Stop::SeedNotARun(seed) => {

@@ -1,23 +1,24 @@
 //! The laws of answers, of two texts in one, and of the replay of texts that are known.
 ghost use Rattle.bipr.specs.Laws.{CheckStatusesTell, HostsReplay, OneAnswer, OneCheckAnswer};
-ghost use Rattle.bipr.specs.Laws.{OneDrawingAnswer, OneStepsAnswer};
-ghost use Rattle.bipr.specs.Laws.{OneTextDecides, OneTraceOfASeed, PartedByLines, SomeAnswer};
-ghost use Rattle.bipr.specs.Laws.{StatusesTell, StepsReplay, StepsStatusesTell, ToldOrNot};
-ghost use Rattle.bipr.specs.Laws.{TwoTextsDecide};
+ghost use Rattle.bipr.specs.Laws.{OneRenderingAnswer, OneStepsAnswer};
+ghost use Rattle.bipr.specs.Laws.{OneTextDecides, OneTraceOfASeed, PartedByLines, SeedsAreSteps};
+ghost use Rattle.bipr.specs.Laws.{SomeAnswer, StatusesTell, StepsReplay, StepsStatusesTell};
+ghost use Rattle.bipr.specs.Laws.{ToldOrNot, TwoTextsDecide};
 
 use bip_reader::meaning_laws;
 use bip_replay::fault_laws;
 use bip_schedule::schedule_laws;
 
-/// Two texts and a base have an answer, and no more than one; no text has two answers to its check
-/// or to its drawing; two texts in one are parted by lines; and of what `steps` and `run` write,
-/// `replay` says that it is a run (docs/ANSWERS.md, "Answers" and "Two texts in one").
+/// Two texts and a base have an answer, and no more than one; no text has two answers to its check,
+/// to its drawing or to its canonical text; two texts in one are parted by lines; and of what
+/// `steps` and `run` write, `replay` says that it is a run (docs/ANSWERS.md, "Answers" and "Two
+/// texts in one").
 pub fn answer_laws()
     ensures parts { PartedByLines }
     ensures some { SomeAnswer }
     ensures one { OneAnswer }
     ensures one_check { OneCheckAnswer }
-    ensures one_drawing { OneDrawingAnswer }
+    ensures one_rendering { OneRenderingAnswer }
     ensures replays { StepsReplay }
     ensures hosts { HostsReplay }
 {
@@ -39,12 +40,13 @@ pub fn status_laws()
 }
 
 /// The same again comes to the same: with each resolver a schedule has one answer, whether its
-/// events are told or not, and a seed one trace, where no event was skipped and no message lost
-/// (docs/ANSWERS.md, "Answers").
+/// events are told or not, and a seed one trace, which the steps of its schedule have too, where no
+/// event was skipped and no message lost (docs/ANSWERS.md, "Answers").
 pub fn repeat_laws()
     ensures steps { OneStepsAnswer }
     ensures told { ToldOrNot }
     ensures seeds { OneTraceOfASeed }
+    ensures seed_steps { SeedsAreSteps }
 {}
 
 /// Where the paths of a replay name texts that are known, what is answered is the answer of these

@@ -2,10 +2,10 @@
 ghost use Rattle.std.specs.Prelude.{◌≡◌, IfOk, codes};
 ghost use Rattle.clap.specs.Words.{app_of};
 ghost use Rattle.bipr.specs.Program.{HasRule, HasShape, bare_program, base_option};
-ghost use Rattle.bipr.specs.Program.{chart_command, check_command, draw_command, from_option};
-ghost use Rattle.bipr.specs.Program.{explore_command, flag, needed, numbers, option, path, rows};
-ghost use Rattle.bipr.specs.Program.{program, replay_command, resolver_option, run_command};
-ghost use Rattle.bipr.specs.Program.{steps_command, table_option};
+ghost use Rattle.bipr.specs.Program.{canon_command, chart_command, check_command, draw_command};
+ghost use Rattle.bipr.specs.Program.{explore_command, flag, from_option, needed, numbers, option};
+ghost use Rattle.bipr.specs.Program.{path, program, replay_command, resolver_option, rows};
+ghost use Rattle.bipr.specs.Program.{run_command, seed_command, steps_command, table_option};
 
 use clap::{Arg, ArgAction, Command, value_parser};
 use std::alloc::{AllocError, Global};
@@ -80,6 +80,16 @@ With `--explain` one more line says what is wrong, and in which column.
 
 Status: 0 done, 1 an input is refused or the answer can't be written, 2 bad command line,
 3 no memory or no thread, 4 the trace is no run.";
+
+const CANON_ABOUT: &str = "Writes a model's canonical text";
+
+const CANON_HELP: &str = "\
+Each model has one canonical text, which means it: components, interactions and classes
+stand in their order, what an interaction moves by component, and what a class asks for and
+all priorities by interaction; with one space between words, and no zeros in front of
+numbers. Comments and blank lines go.
+
+    bipr canon MODEL > canonical.bip";
 
 const CHART_ABOUT: &str = "Draws the run of a trace, as a picture for a browser";
 
@@ -175,9 +185,20 @@ they lead is checked as `bipr replay` does. Of the model of `bipr --help`,
 writes `seeds 3 runs 3`: the traces of all three seeds are runs of the model. Were one
 none, the answer would be `seed S: not a run`, of the lowest such seed. A seed draws the
 same steps each time. Where there is memory for all threads, the answer is the same however
-many explore. Most steps that are drawn do nothing: with a ring or forks, and with many
-components, seeds of fewer than 100,000 steps may grant little or nothing, of which the
-answer doesn't tell.";
+many explore. The steps of one seed are written by `bipr seed`. Most steps that are drawn
+do nothing: with a ring or forks, and with many components, seeds of fewer than 100,000
+steps may grant little or nothing, of which the answer doesn't tell.";
+
+const SEED_ABOUT: &str = "Writes the steps of a seed of `explore` as a schedule";
+
+const SEED_HELP: &str = "\
+The steps are those that `bipr explore` draws from seed S with the same resolver and as many
+events. So `bipr steps` of what is written leads to that seed's trace, told with `--tell`:
+
+    bipr seed MODEL --resolver ring --seed 7 --events 500 > seven.schedule
+    bipr steps MODEL seven.schedule --resolver ring --tell
+
+A schedule has at most 16777216 bytes.";
 
 const RUN_ABOUT: &str = "Runs the nodes of a model as threads, and says which grants they made";
 
@@ -214,12 +235,14 @@ pub fn program<'a>(alloc: Global, choices: Choices<'a>) -> Result<Command<'a>, A
     ensures { IfOk result (λ command. app_of command ≡ program choices.entry) }
 {
     bare(alloc)?
+        .subcommand(canon(alloc)?)?
         .subcommand(chart(alloc)?)?
         .subcommand(check(alloc)?)?
         .subcommand(draw(alloc)?)?
         .subcommand(replay(alloc)?)?
         .subcommand(steps(alloc, choices.resolvers)?)?
         .subcommand(explore(alloc, choices.resolvers)?)?
+        .subcommand(seed(alloc, choices.resolvers)?)?
         .subcommand(run(alloc, choices.resolvers, choices.tables)?)
 }
 
@@ -232,6 +255,16 @@ fn bare<'a>(alloc: Global) -> Result<Command<'a>, AllocError>
         .about(ABOUT)
         .after_help(HELP)
         .subcommand_required(true)
+        .arg(explain(alloc))
+}
+
+fn canon<'a>(alloc: Global) -> Result<Command<'a>, AllocError>
+    ensures { IfOk result (HasShape canon_command) }
+{
+    Command::new(alloc, "canon")
+        .about(CANON_ABOUT)
+        .after_help(CANON_HELP)
+        .arg(model(alloc))?
         .arg(explain(alloc))
 }
 
@@ -312,6 +345,20 @@ fn explore<'a>(alloc: Global, resolvers: &'a [&'a str]) -> Result<Command<'a>, A
         .arg(events(alloc))?
         .arg(progress(alloc))?
         .arg(jobs(alloc))?
+        .arg(explain(alloc))
+}
+
+fn seed<'a>(alloc: Global, resolvers: &'a [&'a str]) -> Result<Command<'a>, AllocError>
+    ensures { IfOk result (HasShape (seed_command resolvers.entry)) }
+{
+    let seed = number(alloc, "seed", "S", 1, 1_000_000).required(true);
+    Command::new(alloc, "seed")
+        .about(SEED_ABOUT)
+        .after_help(SEED_HELP)
+        .arg(model(alloc))?
+        .arg(resolver(alloc, resolvers))?
+        .arg(seed.help("which seed: 1 to 1000000"))?
+        .arg(events(alloc))?
         .arg(explain(alloc))
 }
 

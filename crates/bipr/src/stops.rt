@@ -27,6 +27,8 @@ pub enum Stop<'a> {
     GrantRefused,
     /// The system makes no thread for a host.
     ThreadRefused,
+    /// The schedule of a seed is longer than any text that is read.
+    ScheduleTooLong,
     /// The trace of the seed with this number is no run of the model.
     SeedNotARun(u32),
     /// Want of memory.
@@ -56,6 +58,9 @@ pub const BAD_RANGE: &[u8] = b"bipr: bad command line\nerror: --from is 1 to --t
 pub const WORDS_NEED_CENTRAL: &[u8] = b"bipr: words need central\n";
 
 pub const TOO_MANY_ROWS: &[u8] = b"bipr: too many rows\n";
+
+/// The complaint where a schedule is longer than any text that is read.
+pub const SCHEDULE_TOO_LONG: &[u8] = b"bipr: a schedule has at most 16777216 bytes\n";
 
 impl<'a> Stop<'a> {
     /// Why the text of this path isn't read.

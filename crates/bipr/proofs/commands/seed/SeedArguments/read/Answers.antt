@@ -1,0 +1,14 @@
+use Rattle.bipr.proofs.CommandLineLemmas.{read_none}
+use Rattle.bipr.proofs.commands.seed.SeedArguments.read.Goals as goal
+
+pub returns-in_err-number_asked : goal.returns-in_err-number_asked
+returns-in_err-number_asked c =
+    read_none c.from_residual-in_err-number_asked.result _
+    c.from_residual-in_err-number_asked.ensures
+    (λ asked is. c.in_err-number_asked.ensures.none asked.seed is.seed)
+
+pub returns-in_err-number_asked-2 : goal.returns-in_err-number_asked-2
+returns-in_err-number_asked-2 c =
+    read_none c.from_residual-in_err-number_asked-2.result _
+    c.from_residual-in_err-number_asked-2.ensures
+    (λ asked is. c.in_err-number_asked-2.ensures.none asked.events is.events)
