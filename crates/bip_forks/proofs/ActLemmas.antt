@@ -25,7 +25,6 @@ use Rattle.std.proofs.lemmas.Option.{get_or_from_slice_get, slice_get_within}
 use Rattle.std.proofs.Math.Path.{fun_ext}
 use Rattle.bip_model.proofs.HistoryLemmas.{greatest_used}
 use Rattle.bip_model.specs.Wants.{moved_in}
-use Rattle.bip_model.specs.declared.messages.Request.{Request}
 use Rattle.bip_partition.proofs.TableLemmas.{reserved_known}
 use Rattle.bip_partition.proofs.TouchLemmas.{touched_known}
 use Rattle.bip_table.proofs.RowLemmas.{has_row-same}

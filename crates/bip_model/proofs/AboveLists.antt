@@ -15,7 +15,7 @@ use Rattle.bip_model.specs.Priorities.{AreListsAbove, IsAbove, IsPairOf, IsListA
 use Rattle.bip_model.specs.Priorities.{inters_in}
 use Rattle.bip_model.specs.declared.numbering.InterId.{InterId}
 use Rattle.bip_model.specs.declared.parts.Pair.{Pair}
-use Rattle.std.proofs.Common.{Bool, inl, inr}
+use Rattle.std.proofs.Common.{Bool}
 use Rattle.bip_model.specs.Parts.{IsSystemSoFar}
 use Rattle.bip_model.specs.Steps.{AreListsLookedAt, IsListLookedAt, comps_looked_at, looks_at}
 use Rattle.bip_model.specs.declared.numbering.CompId.{CompId}

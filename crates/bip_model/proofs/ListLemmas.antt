@@ -3,7 +3,7 @@ use Rattle.std.proofs.Common.{take-append-drop, take, drop, drop-cons, ◌++◌,
 use Rattle.std.proofs.Common.{Bool, true, false, List, [], ◌∷◌, eqb, Contains, length, map, get_or}
 use Rattle.std.proofs.Common.{suc, None, Some, refl, sym, ◌∙◌, arith, find, ◌+◌, cond, All}
 use Rattle.std.proofs.Common.{position, slice_get, option_map}
-use Rattle.std.proofs.Common.{filter, All, inl, inr, ◌⊎◌}
+use Rattle.std.proofs.Common.{filter, inl, inr, ◌⊎◌}
 use Rattle.std.proofs.lemmas.List.Elements.{All-nil, All-cons, All-contains, Contains-append_left}
 use Rattle.std.proofs.lemmas.List.Elements.{Contains-append_right, Contains-append_cases}
 use Rattle.std.proofs.lemmas.List.Elements.{Contains-push}

@@ -17,9 +17,7 @@ use Rattle.bip_model.specs.declared.faults.BuildFault.{BuildFault}
 use Rattle.bip_model.specs.declared.numbering.InterId.{InterId}
 use Rattle.bip_model.specs.declared.partitions.Partition.{Partition}
 use Rattle.bip_model.specs.declared.parts.System.{System}
-use Rattle.std.proofs.Common.{ap, sym, ◌∙◌, [], List, Result, Ok}
 use Rattle.bip_model.specs.Priorities.{IsCyclic}
-use Rattle.bip_model.specs.declared.faults.BuildFault.{BuildFault}
 use Rattle.bip_model.proofs.DraftLemmas.{component_keeps, end_keeps, inside_keeps}
 use Rattle.bip_model.proofs.DraftLemmas.{interaction_keeps, loc_keeps, port_keeps, priority_keeps}
 use Rattle.bip_model.proofs.DraftLemmas.{trans_keeps, var_keeps}

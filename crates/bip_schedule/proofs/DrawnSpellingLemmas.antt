@@ -1,16 +1,12 @@
 -- What is drawn has a spelling.
 use Rattle.std.proofs.Common.{◌≡◌, ℕ, ◌++◌, ◌<◌, ◌≤◌, ◌/◌, ◌%◌, ◌^◌, Bool, true, false, cond, eqb}
-use Rattle.std.proofs.Common.{List}
-use Rattle.std.proofs.Common.{[]}
-use Rattle.std.proofs.Common.{List, [], ◌∷◌, length, max, arith, inl, inr, refl, subst, suc, sym}
-use Rattle.std.proofs.Common.{zero}
+use Rattle.std.proofs.Common.{List, [], ◌∷◌, length, max, arith, inl, inr, refl, subst, sym}
 use Rattle.std.proofs.Math.Nat.{mod-le}
 use Rattle.std.proofs.lemmas.Bool.{cases_lt}
 use Rattle.std.proofs.lemmas.Bool.Decides.{nat_tests}
 use Rattle.std.proofs.lemmas.List.{get_or_past}
-use Rattle.std.proofs.lemmas.List.Elements.{All-append, All-nil}
+use Rattle.std.proofs.lemmas.List.Elements.{All-append, All-cons, All-nil}
 use Rattle.std.proofs.lemmas.Nat.{mod_below}
-use Rattle.std.specs.Prelude.{All, Contains}
 use Rattle.bip_bank.specs.declared.banks.BankStep.{BankStep}
 use Rattle.bip_bank.specs.declared.banks.BankStep.TheVariants.{Ask, Deliver, Pass, Serve}
 use Rattle.bip_core.specs.declared.events.Event.{Event}
@@ -21,21 +17,17 @@ use Rattle.bip_model.specs.Priorities.{inter}
 use Rattle.bip_model.specs.declared.numbering.InterId.{InterId}
 use Rattle.bip_partition.proofs.ClassLemmas.{stands_in_its_class}
 use Rattle.bip_partition.specs.Laws.{IsPlanned}
-use Rattle.bip_partition.specs.Plans.{AreStations, Planned}
+use Rattle.bip_partition.specs.Plans.{Planned}
 use Rattle.bip_schedule.proofs.StationLemmas.{one_stations}
 use Rattle.bip_schedule.specs.Drawing.{IsDrawn, event_drawn, kind_drawn, one_of, station_drawn}
 use Rattle.bip_schedule.specs.Drawing.{step_drawn, try_drawn}
 use Rattle.bip_schedule.specs.Writing.{HasSpelling, HaveSpelling}
 
--- what both ways of a choice have, and all of one
+-- what both ways of a choice have
 either_way : {X : Type 0} (P : X → Type 0) (b : Bool) (x y : X) → (b ≡ true → P x)
     → (b ≡ false → P y) → P (cond b x y)
 either_way P true x y so other = so refl
 either_way P false x y so other = other refl
-
-all_of_one : {X : Type 0} (P : X → Type 0) (x : X) → P x → All P (x ∷ [])
-all_of_one P x is zero d within = is
-all_of_one P x is (suc k) d within = absurd (omega (arith, within))
 
 -- there is one where there aren't none
 some_counted : (n : ℕ) → eqb n 0 ≡ false → 0 < n
@@ -121,6 +113,7 @@ drawn_spelled p word mail flight e planned small is = λ stations are.
     let drawn : e ≡ event_drawn p (length stations) word mail flight =
     subst (λ (list : List InterId). e ≡ event_drawn p (length list) word mail flight) same
     is.drawn in
-    all_of_one (HasSpelling p stations) e
+    All-cons (HasSpelling p stations) e []
     (subst (HasSpelling p stations) (sym drawn)
     (drawn_known p planned stations word mail flight small))
+    (All-nil (HasSpelling p stations))

@@ -10,7 +10,6 @@ use lib.ListN.{get_elem?}
 use Rattle.atomic_table.specs.Table.{opening}
 use Rattle.bip_model.proofs.NumberingLemmas.{Rises, rises_from_increasing}
 use Rattle.bip_model.specs.declared.numbering.CompId.{CompId}
-use Rattle.std.proofs.Common.{length-append}
 use Rattle.bip_words.proofs.RuleLemmas.{above_at}
 use Rattle.bip_words.specs.Knowledge.{nobody}
 use Rattle.bip_words.specs.Rows.{IsRows, floor_of, row_comps}

@@ -1,11 +1,11 @@
 -- Events that are told one after another.
-use Rattle.std.proofs.Common.{◌≡◌, ◌∙◌, ◌+◌, ◌++◌, ◌∷◌, ◌<◌, zero, suc, ℕ, Bool, true, List, []}
-use Rattle.std.proofs.Common.{Option, Some, None, Result, Ok, Err, ap, arith, length, refl, subst}
+use Rattle.std.proofs.Common.{◌≡◌, ◌∙◌, ◌+◌, ◌++◌, ◌∷◌, ◌<◌, ℕ, Bool, true, List, []}
+use Rattle.std.proofs.Common.{Option, Some, None, Result, Ok, Err, ap, length, refl, subst}
 use Rattle.std.proofs.Common.{sym, get_or}
 use Rattle.std.specs.Prelude.{All, IsErr}
 use Rattle.std.specs.declared.alloc.AllocError.{AllocError}
 use Rattle.std.proofs.lemmas.List.{append-nil, length-append}
-use Rattle.std.proofs.lemmas.List.Elements.{All-append}
+use Rattle.std.proofs.lemmas.List.Elements.{All-append, All-cons, All-nil}
 use Rattle.bip_core.specs.Laws.{WorldsKeepTheirPlan}
 use Rattle.bip_core.specs.Runs.{AreSteps, IsRunOfEvents, report_of, report_with}
 use Rattle.bip_core.specs.Starting.{IsNewWorld}
@@ -74,10 +74,9 @@ told_on w v x es ds told report later e d line is_out before counted is more =
       more ∙ (ap (λ (r : Report). report_with r d) counted ∙ report_more ds d),
     )
 
--- an event of a list that has a spelling
+-- all of one, and an event of a list that has a spelling
 all_one : {X : Type 0} (P : X → Type 0) (x : X) → P x → All P (x ∷ [])
-all_one P x is zero d within = is
-all_one P x is (suc k) d within = absurd (omega (arith, within))
+all_one P x is = All-cons P x [] is (All-nil P)
 
 pub spelled_one : (p : Planned) (es : List Event) (i : ℕ) (d : Event) → HaveSpelling p es
     → i < length es → HaveSpelling p (get_or es i d ∷ [])
