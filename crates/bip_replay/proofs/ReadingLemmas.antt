@@ -18,7 +18,7 @@ use Rattle.bip_replay.specs.Faults.{replay_of_line}
 use Rattle.bip_model.specs.Steps.{start_of}
 use Rattle.bip_replay.specs.Runs.{IsModelRun, Kept, StandsAfter, Standing, standing_of, state_after}
 use Rattle.bip_replay.specs.Runs.{used_after}
-use Rattle.bip_replay.specs.Replays.{IsFirstFault, IsLineFault, IsReplayFault, IsRunOf, Takes}
+use Rattle.bip_replay.specs.Replays.{IsFirstFault, IsLineFault, IsReplayFault, IsRunTo, Takes}
 use Rattle.bip_replay.proofs.RunLemmas.{leads_on}
 use Rattle.bip_replay.specs.declared.faults.LineFault.TheVariants as line_fault
 use Rattle.bip_replay.specs.declared.faults.ReplayFault.TheVariants as replay
@@ -80,16 +80,19 @@ so_far-below m base text line n count left after p so next =
       so.counted,
     )
 
--- the end of the text: what was read is the run
+-- the end of the text: what was read is the run, which leads here
 pub so_far-end : (m : System) (base : ℕ) (text : List ℕ) (p : Standing) (count : ℕ)
     (left : List (ℕ × List ℕ)) → SoFar m base text p count left → left ≡ []
-    → IsRunOf m base text count
+    → IsRunTo m base text p count
 so_far-end m base text p count left so none =
     record {
-      grants = so.grants;
-      reads = has_read-end (grant_on m) text so.grants left so.read none;
-      run = so.leads.run;
-      counted = so.counted;
+      is = record {
+        grants = so.grants;
+        reads = has_read-end (grant_on m) text so.grants left so.read none;
+        run = so.leads.run;
+        counted = so.counted;
+      };
+      there = so.leads.there;
     }
 
 -- a first fault is told as it is
@@ -110,16 +113,18 @@ module _ (m : System) (base : ℕ) (p : Kept) (start : StandsAfter m base [] (st
   starts_itself = subst (λ (n : System). StandsAfter n p.base [] (standing_of p)) (sym of_model)
       (subst (λ (k : ℕ). StandsAfter m k [] (standing_of p)) (sym of_base) start)
 
-  pub ran_from : (text : List ℕ) (result : Result ℕ (ℕ × ReplayFault))
-      → IfOk result (IsRunOf p.model p.base text) → IfOk result (IsRunOf m base text)
-  ran_from text (Ok count) run = subst (λ (n : System). IsRunOf n base text count) of_model
-      (subst (λ (k : ℕ). IsRunOf p.model k text count) of_base run)
+  pub ran_from : (text : List ℕ) (result : Result (Kept × ℕ) (ℕ × ReplayFault))
+      → IfOk result (λ end. IsRunTo p.model p.base text (standing_of end.0) end.1)
+      → IfOk result (λ end. IsRunTo m base text (standing_of end.0) end.1)
+  ran_from text (Ok end) run =
+      subst (λ (n : System). IsRunTo n base text (standing_of end.0) end.1) of_model
+      (subst (λ (k : ℕ). IsRunTo p.model k text (standing_of end.0) end.1) of_base run)
   ran_from text (Err e) run = tt
 
-  pub told_from : (text : List ℕ) (result : Result ℕ (ℕ × ReplayFault))
+  pub told_from : (text : List ℕ) (result : Result (Kept × ℕ) (ℕ × ReplayFault))
       → IfErr result (λ e. IsFirstFault p.model p.base text e.0 e.1)
       → IfErr result (λ e. IsReplayFault m base text e.0 e.1)
-  told_from text (Ok count) first = tt
+  told_from text (Ok end) first = tt
   told_from text (Err e) first =
       first_told m base text e.0 e.1 (subst (λ (n : System). IsFirstFault n base text e.0 e.1)
       of_model (subst (λ (k : ℕ). IsFirstFault p.model k text e.0 e.1) of_base first))

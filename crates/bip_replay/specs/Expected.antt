@@ -20,8 +20,6 @@ use Rattle.bip_replay.specs.Lines.{colon, grant_on}
 use Rattle.bip_replay.specs.Runs.{HasNextNumber, Standing}
 use Rattle.bip_replay.specs.Writing.{behind_see}
 
--- What contracts of private functions say.
-
 -- a grant is expected of an interaction: it has all its parties, each by the number of its next
 -- move
 pub record IsExpectedGrant (p : Standing) (a : ℕ) (g : Grant) : Type 0 where
@@ -33,6 +31,8 @@ pub record IsExpectedGrant (p : Standing) (a : ℕ) (g : Grant) : Type 0 where
 -- there is such a grant
 abbrev pub HasExpected : Standing → ℕ → Type 0
 HasExpected p a = (g : Grant) × IsExpectedGrant p a g
+
+-- What contracts of private functions say.
 
 -- a line reads as a grant that is expected of an interaction
 pub record Expects (p : Standing) (line : List ℕ) (a : ℕ) : Type 0 where

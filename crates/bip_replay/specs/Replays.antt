@@ -8,8 +8,8 @@ use Rattle.bip_model.specs.declared.parts.System.{System}
 use Rattle.bip_replay.specs.Faults.{IsFaultOf, of_step}
 use Rattle.bip_replay.specs.Items.{IsOutOfMemory}
 use Rattle.bip_replay.specs.Lines.{grant_on}
-use Rattle.bip_replay.specs.Runs.{IsModelRun, IsNextAt, Standing, standing_on, state_after}
-use Rattle.bip_replay.specs.Runs.{used_after}
+use Rattle.bip_replay.specs.Runs.{IsModelRun, IsNextAt, Standing, standing_after, standing_on}
+use Rattle.bip_replay.specs.Runs.{state_after, used_after}
 use Rattle.bip_replay.specs.Traces.{grants_from, grants_of}
 use Rattle.bip_replay.specs.declared.faults.LineFault.TheVariants as line_fault
 use Rattle.bip_replay.specs.declared.faults.ReplayFault.TheVariants.{Memory, NotARun, Syntax}
@@ -60,6 +60,12 @@ pub record IsRunOf (m : System) (base : ℕ) (text : List ℕ) (count : ℕ) : T
   pub reads : grants_of m text ≡ Ok grants
   pub run : IsModelRun m base grants
   pub counted : length grants ≡ count
+
+-- and that run leads here
+pub record IsRunTo (m : System) (base : ℕ) (text : List ℕ) (p : Standing) (count : ℕ) : Type 0
+  where
+    pub is : IsRunOf m base text count
+    pub there : p ≡ standing_after m base is.grants
 
 -- What contracts of private functions say.
 

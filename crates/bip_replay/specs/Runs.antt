@@ -91,6 +91,10 @@ standing_on p g = record p { state = after p.model p.state g.inter.0; used = rai
 abbrev pub IsNextAt : Standing → Grant → Type 0
 IsNextAt p g = IsNext p.model p.state p.used g
 
+-- no interaction may run in a state
+abbrev pub NothingMayRun : System → State → Type 0
+NothingMayRun m s = (a : ℕ) → ¬ MayRun m s a
+
 -- these grants are a run above the base, and lead here
 pub record StandsAfter (m : System) (base : ℕ) (gs : List Grant) (p : Standing) : Type 0 where
   pub run : IsModelRun m base gs

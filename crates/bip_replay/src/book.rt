@@ -3,7 +3,7 @@ ghost use Rattle.std.specs.Prelude.{◌≡◌, ◌<◌, [], ◌∷◌, ◌++◌,
 ghost use Rattle.bip_replay.specs.Book.{IsRunWith, IsAppendFault};
 ghost use Rattle.bip_replay.specs.declared.faults.BookFault.TheVariants.{Memory};
 ghost use Rattle.bip_model.specs.Numbering.{last_number};
-ghost use Rattle.bip_replay.specs.Runs.{IsModelRun};
+ghost use Rattle.bip_replay.specs.Runs.{IsModelRun, StandsAfter, standing_of};
 
 use crate::{BookFault, GrantRef, Position};
 use bip_model::{Grant, Model, Number};
@@ -58,6 +58,14 @@ impl<'m> Book<'m> {
         self.grants.as_slice()
     }
 
+    /// Where the grants lead.
+    pub fn position(&self) -> &Position<'m>
+        ensures { StandsAfter self.now.model self.now.base self.now.grants
+            (standing_of result.now) }
+    {
+        &self.position
+    }
+
     /// The grants, the first one first, without the book.
     pub fn into_grants(self) -> Vec<Grant>
         ensures grants { result.items ≡ self.entry.grants }
@@ -87,5 +95,22 @@ impl<'m> Book<'m> {
         self.position.go_on(&GrantRef::of(&grant));
         let _pushed = self.grants.push(grant);
         Ok(before)
+    }
+
+    /// The same for who knows already that the grant can be next: the only error is want of
+    /// memory, and then the book stays as it was.
+    pub fn push(&mut self, grant: Grant) -> Result<(), AllocError>
+        requires { IsRunWith self.old grant }
+        ensures ok { OnOk result (self.new
+            ≡ record self.old { grants = self.old.grants ++ grant ∷ [] }) }
+        ensures err { OnErr result (self.new ≡ self.old) }
+    {
+        match self.append(grant) {
+            Ok(_) => Ok(()),
+            Err(fault) => match fault {
+                BookFault::Memory => Err(AllocError),
+                _ => unreachable!(),
+            },
+        }
     }
 }

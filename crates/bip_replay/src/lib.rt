@@ -19,7 +19,7 @@ pub use book::Book;
 pub use faults::{BookFault, LineFault, ReplayFault, StepFault, TraceFault};
 pub use grants::GrantRef;
 pub use laws::{fault_laws, run_laws, trace_laws};
-pub use replays::replay;
+pub use replays::{replay, replay_to};
 pub use runs::Position;
 pub use traces::{read_front, read_trace};
 pub use writing::write_trace;

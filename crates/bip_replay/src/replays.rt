@@ -3,7 +3,7 @@ ghost use Rattle.std.specs.Prelude.{◌<◌, ℕ, [], IfOk, IfErr, IfSome};
 ghost use Rattle.bip_model.specs.Numbering.{last_number};
 ghost use Rattle.bip_replay.specs.Expected.{Expects};
 ghost use Rattle.bip_replay.specs.Runs.{StandsAfter, standing_of};
-ghost use Rattle.bip_replay.specs.Replays.{IsFirstFault, IsReplayFault, IsRunOf, Takes};
+ghost use Rattle.bip_replay.specs.Replays.{IsFirstFault, IsReplayFault, IsRunOf, IsRunTo, Takes};
 
 use crate::expected::read_spelled;
 use crate::guesses::Guesses;
@@ -28,6 +28,22 @@ pub fn replay(
     ensures run { IfOk result (λ count. IsRunOf model.now base text.now count) }
     ensures fault { IfErr result (λ e. IsReplayFault model.now base text.now e.0 e.1) }
 {
+    let (_, count) = replay_to(alloc, model, base, text)?;
+    Ok(count)
+}
+
+/// The same, with the position to which the grants lead.
+pub fn replay_to<'m>(
+    alloc: Global,
+    model: &'m Model,
+    base: Number,
+    text: &[u8],
+) -> Result<(Position<'m>, u64), (u64, ReplayFault)>
+    requires { base < last_number }
+    ensures run { IfOk result (λ end.
+        IsRunTo model.now base text.now (standing_of end.0) end.1) }
+    ensures fault { IfErr result (λ e. IsReplayFault model.now base text.now e.0 e.1) }
+{
     let mut room = Room::new();
     match Position::start(alloc, model, base) {
         Ok(position) => replay_from(position, &mut room, text),
@@ -36,13 +52,14 @@ pub fn replay(
 }
 
 // The same from the start of a run, which takes no memory.
-fn replay_from(
-    mut position: Position<'_>,
+fn replay_from<'m>(
+    mut position: Position<'m>,
     room: &mut Room,
     text: &[u8],
-) -> Result<u64, (u64, ReplayFault)>
+) -> Result<(Position<'m>, u64), (u64, ReplayFault)>
     requires { StandsAfter position.model position.base [] (standing_of position) }
-    ensures run { IfOk result (IsRunOf position.entry.model position.entry.base text.now) }
+    ensures run { IfOk result (λ end. IsRunTo position.entry.model position.entry.base text.now
+        (standing_of end.0) end.1) }
     ensures fault { IfErr result (λ e.
         IsFirstFault position.entry.model position.entry.base text.now e.0 e.1) }
 {
@@ -54,7 +71,7 @@ fn replay_from(
             Err(fault) => return Err((number, fault)),
         }
     }
-    Ok(count)
+    Ok((position, count))
 }
 
 // What is told of line 1 where there is no memory to start with: its own fault, if the line has

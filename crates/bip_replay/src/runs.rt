@@ -42,8 +42,9 @@ impl<'m> Position<'m> {
     ghost use Rattle.bip_model.specs.Steps.{MayRun};
     ghost use Rattle.bip_model.specs.declared.grants.Grant.{Grant};
     ghost use Rattle.bip_replay.specs.Expected.{HasExpected, IsExpectedGrant};
+    ghost use Rattle.bip_model.specs.States.{state_of};
     ghost use Rattle.bip_replay.specs.Faults.{IsFaultAt};
-    ghost use Rattle.bip_replay.specs.Runs.{IsNextAt, standing_on};
+    ghost use Rattle.bip_replay.specs.Runs.{IsNextAt, NothingMayRun, standing_on};
 
     /// The position of the empty run above a base.
     pub fn start(alloc: Global, model: &'m Model, base: Number) -> Result<Position<'m>, AllocError>
@@ -72,6 +73,34 @@ impl<'m> Position<'m> {
         ensures { result ≡ self.now.base }
     {
         self.base
+    }
+
+    /// The state to which the run leads.
+    pub fn state(&self) -> &State
+        ensures { state_of result.now ≡ (standing_of self.now).state }
+    {
+        &self.state
+    }
+
+    /// Whether an interaction may run in that state, whatever the numbers are.
+    pub fn allows(&self, inter: InterId) -> bool
+        ensures { IsTrue result
+            ↔ MayRun self.now.model (standing_of self.now).state inter.0 }
+    {
+        self.model.enabled(&self.state, inter)
+            && self.model.blocked_by(&self.state, inter).is_none()
+    }
+
+    /// Whether no interaction may run in that state.
+    pub fn nothing_may_run(&self) -> bool
+        ensures { IsTrue result ↔ NothingMayRun self.now.model (standing_of self.now).state }
+    {
+        for number in 0..self.model.interactions().len() {
+            if self.allows(InterId(number as u16)) {
+                return false;
+            }
+        }
+        true
     }
 
     /// Goes on by a grant that can be next; any other is refused with its fault, and the position
@@ -191,7 +220,7 @@ impl<'m> Position<'m> {
     }
 
     /// The number that a component's next move has; 0 where it is spent.
-    fn expected(&self, comp: CompId) -> Number
+    pub fn expected(&self, comp: CompId) -> Number
         ensures { result ≡ expected_after ((standing_of self.now).used comp.0) }
     {
         self.used(comp).checked_add(1).unwrap_or(0)

@@ -1,5 +1,5 @@
 //! What is answered to a chart: the picture of the run with which a trace begins.
-ghost use Rattle.std.specs.Prelude.{◌≡◌, ◌≤◌, ◌-◌, ◌++◌, ◌∷◌, [], ℕ, List, IfOk, IsOk, Ok, OnOk};
+ghost use Rattle.std.specs.Prelude.{◌≡◌, ◌≤◌, ◌-◌, ℕ, List, IfOk, IsOk, Ok};
 ghost use Rattle.std.specs.Prelude.{length, take};
 ghost use Rattle.std.specs.Option.{option_map};
 ghost use Rattle.bip_draw.specs.Charts.{chart_of};
@@ -7,7 +7,6 @@ ghost use Rattle.bip_draw.specs.declared.charts.Chart.{Chart};
 ghost use Rattle.bip_model.specs.Partitions.{AreClassesOf};
 ghost use Rattle.bip_model.specs.Texts.{lines};
 ghost use Rattle.bip_reader.specs.Texts.{Means};
-ghost use Rattle.bip_replay.specs.Book.{IsRunWith};
 ghost use Rattle.bip_replay.specs.Runs.{IsModelRun};
 ghost use Rattle.bip_replay.specs.Traces.{grants_from, grants_of};
 ghost use Rattle.bipr.specs.Charted.{IsChartAnswer, IsChartOf, IsPictured, reason_of, reason_shown};
@@ -19,7 +18,7 @@ use crate::wording::chart_refusal;
 use bip_draw::{Chart, draw_chart};
 use bip_explain::Explanation;
 use bip_model::{Classes, Grant, Model, Number, Seq};
-use bip_replay::{Book, BookFault, ReplayFault, TraceFault, read_front, read_trace, replay};
+use bip_replay::{Book, ReplayFault, TraceFault, read_front, read_trace, replay};
 use std::alloc::{AllocError, Global};
 
 /// Which rows of a run are shown, by their numbers from 1, the last one included; and whether the
@@ -177,23 +176,9 @@ fn book_of<'m>(
 {
     let mut book = Book::start(alloc, model, base)?;
     for grant in grants {
-        append_next(&mut book, grant)?;
+        book.push(grant)?;
     }
     Ok(book)
-}
-
-// Appends a grant that can be next; the only error is want of memory.
-fn append_next(book: &mut Book<'_>, grant: Grant) -> Result<(), AllocError>
-    requires { IsRunWith book.old grant }
-    ensures { OnOk result (book.new ≡ record book.old { grants = book.old.grants ++ grant ∷ [] }) }
-{
-    match book.append(grant) {
-        Ok(_) => Ok(()),
-        Err(fault) => match fault {
-            BookFault::Memory => Err(AllocError),
-            _ => unreachable!(),
-        },
-    }
 }
 
 // The grants up to the last row that is shown.

@@ -7,8 +7,8 @@ use Rattle.bip_replay.specs.Runs.{IsModelRun}
 use Rattle.bipr.proofs.ChartLemmas.{run_with}
 use Rattle.bipr.proofs.charted.book_of.Goals as goal
 
-pub append_next-requires : goal.append_next-requires
-append_next-requires c =
+pub push-requires : goal.push-requires
+push-requires c =
     let all = c.args.grants.items in
     let done = c.loop-grant.yielded in
     let is = c.loop-grant.invariant in

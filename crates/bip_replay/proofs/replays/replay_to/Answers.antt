@@ -1,5 +1,5 @@
 use Rattle.bip_replay.proofs.ReadingLemmas.{ran_from, starts_itself, told_from}
-use Rattle.bip_replay.proofs.replays.replay.Goals as goal
+use Rattle.bip_replay.proofs.replays.replay_to.Goals as goal
 
 pub replay_from-requires : goal.replay_from-requires
 replay_from-requires c = starts_itself c.args.model.now c.args.base c.in-Ok.position c.in-Ok.ensures
