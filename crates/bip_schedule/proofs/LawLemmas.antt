@@ -28,7 +28,8 @@ use Rattle.bip_schedule.specs.Laws.{EventsOrFault, IsFault, EventsHaveNoFault, O
 use Rattle.bip_schedule.specs.Laws.{OneScheduleFault, OneSeedTrace}
 use Rattle.bip_schedule.specs.Lines.{event_on}
 use Rattle.bip_schedule.specs.Schedules.{IsEventText}
-use Rattle.bip_schedule.specs.Seeding.{AreDrawn, generator_of, none_drawn, one_drawn}
+use Rattle.bip_walk.specs.Chance.{generator_of}
+use Rattle.bip_schedule.specs.Seeding.{AreDrawn, none_drawn, one_drawn}
 
 -- Schedules.
 

@@ -1,17 +1,14 @@
 -- Events by chance, one after another: which ones are drawn from a seed, and what they lead to.
 use Rattle.std.specs.Prelude.{List, [], length, ℕ, ◌++◌, ◌∷◌, ◌≡◌}
-use Rattle.rand_pcg.specs.Lcg.{Lcg, increment_of, started}
-use Rattle.rand_pcg.specs.Pcg.{multiplier_64, pcg32}
+use Rattle.rand_pcg.specs.Lcg.{Lcg}
+use Rattle.rand_pcg.specs.Pcg.{pcg32}
 use Rattle.bip_bank.specs.Sharing.{in_flight}
 use Rattle.bip_core.specs.Runs.{IsEventCounted, report_of}
 use Rattle.bip_core.specs.Worlds.{WorldContent}
 use Rattle.bip_core.specs.declared.events.Event.{Event}
 use Rattle.bip_core.specs.declared.runs.Report.{Report}
+use Rattle.bip_walk.specs.Chance.{generator_of}
 use Rattle.bip_schedule.specs.Drawing.{IsDrawn}
-
--- the generator of a seed: PCG XSH RR of 32 bits, of 64 bits of state, on its stream 1
-abbrev pub generator_of : ℕ → Lcg
-generator_of seed = started 64 multiplier_64 seed (increment_of 64 1)
 
 -- an event is that of a word in a world, by what is in flight there and inside its bank
 abbrev pub IsDrawnIn : WorldContent → ℕ → Event → Type 0

@@ -5,12 +5,13 @@ ghost use Rattle.bip_model.specs.Numbering.{last_number};
 ghost use Rattle.bip_core.specs.Runs.{AddsUp, IsEventCounted, IsRunOfEvents};
 ghost use Rattle.bip_core.specs.Worlds.{world_of};
 ghost use Rattle.bip_core.specs.declared.events.Event.{Event};
-ghost use Rattle.bip_schedule.specs.Seeding.{AreSeeded, IsDrawnIn, generator_of};
+ghost use Rattle.bip_schedule.specs.Seeding.{AreSeeded, IsDrawnIn};
 ghost use Rattle.bip_schedule.specs.Writing.{HaveSpelling};
 
 use crate::event_of;
 use bip_bank::Bank;
 use bip_core::{Event, Report, World, run_event};
+use bip_walk::generator_of;
 use rand_core::utils::NextWord;
 use rand_pcg::Lcg64Xsh32;
 use std::alloc::{AllocError, Global};
@@ -33,7 +34,7 @@ pub fn seeded<'p, B: Bank>(
     ensures err { OnErr result (world_of world.new ≡ world_of world.old) }
 {
     let mut events = Vec::with_capacity(alloc, count as usize)?;
-    let mut words = words_of(seed);
+    let mut words = generator_of(seed);
     let mut report = Report::empty();
     for _ in 0..count {
         let event = draw(world, &mut words, &mut report);
@@ -47,19 +48,12 @@ pub(crate) fn run_seed<'p, B: Bank>(world: &mut World<'p, B>, seed: u64, count: 
     ensures { (events : List Event) × AreSeeded seed count events (world_of world.old)
         (world_of world.new) result }
 {
-    let mut words = words_of(seed);
+    let mut words = generator_of(seed);
     let mut report = Report::empty();
     for _ in 0..count {
         draw(world, &mut words, &mut report);
     }
     report
-}
-
-/// The generator of a seed, before its first word.
-fn words_of(seed: u64) -> Lcg64Xsh32
-    ensures { result ≡ generator_of seed }
-{
-    Lcg64Xsh32::new(seed, 1)
 }
 
 /// Draws one event, does it and counts it.

@@ -1,14 +1,14 @@
 use Rattle.std.proofs.Common.{[], ◌∷◌, ◌++◌, ◌<◌, ◌^◌, arith, rules}
 use Rattle.bip_core.specs.Worlds.{world_of}
-use Rattle.bip_schedule.specs.Seeding.{generator_of}
+use Rattle.bip_walk.specs.Chance.{generator_of}
 use Rattle.bip_schedule.proofs.DrawLemmas.{drawing_counted, drawing_more, drawing_none}
 use Rattle.bip_schedule.proofs.seeding.run_seed.Goals as goal
 
 pub loop-init : goal.loop-init
 loop-init g c = (
   [],
-  drawing_none (generator_of c.args.seed) (world_of c.args.world.now) _ _ c.words_of-words.ensures
-      c.empty-report.ensures.sums c.empty-report.ensures.adds_up,
+  drawing_none (generator_of c.args.seed) (world_of c.args.world.now) _ _
+      c.generator_of-words.ensures c.empty-report.ensures.sums c.empty-report.ensures.adds_up,
 )
 
 pub draw-requires-clause-room : goal.draw-requires-clause-room

@@ -1,7 +1,7 @@
 use Rattle.std.proofs.Common.{List}
 use Rattle.bip_core.specs.Worlds.{world_of}
 use Rattle.bip_core.specs.declared.events.Event.{Event}
-use Rattle.bip_schedule.specs.Seeding.{generator_of}
+use Rattle.bip_walk.specs.Chance.{generator_of}
 use Rattle.bip_schedule.proofs.DrawLemmas.{IsDrawing}
 use Rattle.bip_schedule.proofs.seeding.run_seed.Given as goal
 

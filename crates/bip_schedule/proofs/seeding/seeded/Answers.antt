@@ -1,6 +1,6 @@
 use Rattle.std.proofs.Common.{◌<◌, ◌^◌, ◌∷◌, [], arith, rules, subst}
 use Rattle.bip_core.specs.Worlds.{world_of}
-use Rattle.bip_schedule.specs.Seeding.{generator_of}
+use Rattle.bip_walk.specs.Chance.{generator_of}
 use Rattle.bip_partition.specs.Plans.{Planned}
 use Rattle.bip_schedule.proofs.DrawLemmas.{drawing_counted, drawing_keeps, drawing_more}
 use Rattle.bip_schedule.proofs.DrawLemmas.{drawing_none, drawing_run}
@@ -11,7 +11,7 @@ use Rattle.bip_schedule.proofs.seeding.seeded.Goals as goal
 pub loop-init : goal.loop-init
 loop-init g c = (
   rw c.in_ok-events.ensures.items (drawing_none (generator_of c.args.seed)
-      (world_of c.args.world.now) _ _ c.words_of-words.ensures c.empty-report.ensures.sums
+      (world_of c.args.world.now) _ _ c.generator_of-words.ensures c.empty-report.ensures.sums
       c.empty-report.ensures.adds_up),
   c.in_ok-events.ensures.len,
   c.in_ok-events.ensures.capacity,

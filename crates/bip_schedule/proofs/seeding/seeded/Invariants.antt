@@ -1,6 +1,6 @@
 use Rattle.std.proofs.Common.{◌≡◌, ◌≤◌, vec_capacity, vec_len}
 use Rattle.bip_core.specs.Worlds.{world_of}
-use Rattle.bip_schedule.specs.Seeding.{generator_of}
+use Rattle.bip_walk.specs.Chance.{generator_of}
 use Rattle.bip_schedule.specs.Writing.{HaveSpelling}
 use Rattle.bip_schedule.proofs.DrawLemmas.{IsDrawing}
 use Rattle.bip_schedule.proofs.seeding.seeded.Given as goal

@@ -1,0 +1,3 @@
+pub mod Chance
+pub mod Choices
+pub mod Walking

@@ -1,0 +1,10 @@
+//! Walks: runs of a model itself, whose grants are drawn.
+#![tactic(auto)]
+
+mod chance;
+mod choices;
+mod walking;
+
+pub use chance::generator_of;
+pub use choices::{can_be_drawn, drawable, grant_of};
+pub use walking::walk;
