@@ -70,13 +70,20 @@ label_above b low high = grind (arith, nat_tests)
 
 label_byte : (b : ℕ) → is_name_byte b ≡ true → is_label_byte b ≡ true
 label_byte b is = elim (or_cases (is_ascii_alphanumeric b) (b == 95) is) [
-  | inl other ↦ elim (or_cases (is_in_range 48 57 b || is_in_range 65 90 b) (is_in_range 97 122 b) other) [
-    | inl either ↦ elim (or_cases (is_in_range 48 57 b) (is_in_range 65 90 b) either) [
-      | inl digit ↦ let at = in_range 48 57 b digit in label_below b (omega (arith, at.0)) (omega (arith, at.1))
-      | inr upper ↦ let at = in_range 65 90 b upper in label_below b (omega (arith, at.0)) (omega (arith, at.1))
-    ]
-    | inr lower ↦ let at = in_range 97 122 b lower in label_above b (omega (arith, at.0)) (omega (arith, at.1))
-  ]
+  | inl other ↦ elim (or_cases (is_in_range 48 57 b || is_in_range 65 90 b) (is_in_range 97 122 b)
+      other) [
+        | inl either ↦ elim (or_cases (is_in_range 48 57 b) (is_in_range 65 90 b) either) [
+          | inl digit ↦
+              let at = in_range 48 57 b digit in
+              label_below b (omega (arith, at.0)) (omega (arith, at.1))
+          | inr upper ↦
+              let at = in_range 65 90 b upper in
+              label_below b (omega (arith, at.0)) (omega (arith, at.1))
+        ]
+        | inr lower ↦
+            let at = in_range 97 122 b lower in
+            label_above b (omega (arith, at.0)) (omega (arith, at.1))
+      ]
   | inr mark ↦ rw (eqb-true b 95 mark) refl
 ]
 

@@ -1,6 +1,7 @@
 pub mod Charts
 pub mod Clauses
 pub mod Drawing
+pub mod Ends
 pub mod Escaping
 pub mod Hues
 pub mod Laws

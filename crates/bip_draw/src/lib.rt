@@ -1,9 +1,10 @@
-//! Pictures: of models in the language of Graphviz, of runs as SVG.
+//! Pictures: of models in the language of Graphviz, of runs as SVG; and where runs lead, as text.
 #![tactic(auto)]
 
 mod charts;
 mod clauses;
 mod drawing;
+mod ends;
 mod escaping;
 mod hues;
 mod laws;
@@ -14,4 +15,5 @@ mod shapes;
 
 pub use charts::{Chart, draw_chart};
 pub use drawing::draw_model;
+pub use ends::write_end;
 pub use laws::picture_laws;

@@ -231,7 +231,7 @@ fn write_value_label(
 }
 
 /// Where a component is, and the value of a variable of it; 0 where the state lacks it.
-fn location_at(state: &State, comp: u16) -> u8
+pub(crate) fn location_at(state: &State, comp: u16) -> u8
     ensures { result ≡ location_at (state_of state.now) comp }
 {
     match state.local(CompId(comp)) {
@@ -240,7 +240,7 @@ fn location_at(state: &State, comp: u16) -> u8
     }
 }
 
-fn value_at(state: &State, comp: u16, variable: usize) -> u32
+pub(crate) fn value_at(state: &State, comp: u16, variable: usize) -> u32
     ensures { result ≡ value_at (state_of state.now) comp variable }
 {
     match state.local(CompId(comp)) {

@@ -10,6 +10,6 @@ pub loop-index-preserved : goal.loop-index-preserved
 loop-index-preserved c =
     rw (c.in_ok-write_assignment.ensures.text, c.in_ok-write_mark.ensures, c.loop-index.invariant)
     (rw c.index-assignments-index.is (sym (listed_more (codes "\\ndo") (codes "\\n;")
-    (λ p. flat_map spaced (words_of_assignment (variable_word c.args.speller.now) p)) c.args.text.now.items
-    c.args.assignments.now c.loop-index.index c.index-assignments-index.result
+    (λ p. flat_map spaced (words_of_assignment (variable_word c.args.speller.now) p))
+    c.args.text.now.items c.args.assignments.now c.loop-index.index c.index-assignments-index.result
     c.loop-index-test.true)))

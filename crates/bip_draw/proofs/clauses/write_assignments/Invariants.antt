@@ -4,5 +4,5 @@ use Rattle.bip_reader.specs.Writing.{variable_word}
 use Rattle.bip_draw.proofs.clauses.write_assignments.Given as goal
 
 abbrev pub invariant-loop-index : goal.invariant-loop-index
-invariant-loop-index l = l.text.items ≡ l.initial.text.items ++ assignments_text (variable_word l.speller)
-    (take l.index l.assignments)
+invariant-loop-index l = l.text.items ≡ l.initial.text.items
+    ++ assignments_text (variable_word l.speller) (take l.index l.assignments)

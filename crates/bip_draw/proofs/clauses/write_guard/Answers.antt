@@ -10,5 +10,6 @@ pub loop-index-preserved : goal.loop-index-preserved
 loop-index-preserved c =
     rw (c.in_ok-write_comparison.ensures.text, c.in_ok-write_mark.ensures, c.loop-index.invariant)
     (rw c.index-guard-index.is (sym (listed_more (codes "\\nwhen") (codes "\\nand")
-    (λ p. flat_map spaced (words_of_comparison (variable_word c.args.speller.now) p)) c.args.text.now.items
-    c.args.guard.now c.loop-index.index c.index-guard-index.result c.loop-index-test.true)))
+    (λ p. flat_map spaced (words_of_comparison (variable_word c.args.speller.now) p))
+    c.args.text.now.items c.args.guard.now c.loop-index.index c.index-guard-index.result
+    c.loop-index-test.true)))
