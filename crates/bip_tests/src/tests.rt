@@ -33,6 +33,7 @@ mod slow_frames;
 mod stepping;
 mod tabling;
 mod taking;
+mod walking;
 mod worked;
 mod writing;
 

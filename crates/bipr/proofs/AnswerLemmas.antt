@@ -20,7 +20,14 @@ use Rattle.bip_partition.specs.Plans.{Planned}
 use Rattle.bip_review.specs.Writing.{IsPlanText}
 use Rattle.bipr.specs.declared.wording.Counts.{Counts}
 use Rattle.bipr.specs.declared.answers.Answer.{Answer}
-use Rattle.bipr.specs.declared.answers.Status.TheVariants.{Done, Refused}
+use Rattle.bipr.specs.declared.answers.Status.TheVariants.{Done, NotARun, Refused}
+
+-- a refusal isn't done, and neither is what says that a trace is no run
+pub refused_undone : ¬ (Refused ≡ Done)
+refused_undone is = cc
+
+stopped_undone : ¬ (NotARun ≡ Done)
+stopped_undone is = cc
 
 -- what is said of a trace is the answer to it
 pub said_answers : (base : ℕ) (m : System) (trace : List ℕ) (r : Result ℕ (ℕ × ReplayFault))
@@ -43,6 +50,17 @@ said_answers base m trace (Err (number, replay_fault.Unknown)) answer is fault s
     (no_trace m classes number replay_fault.Unknown means tt fault)
 said_answers base m trace (Err (number, replay_fault.Memory)) answer is fault said text classes
     means = absurd said
+
+-- what is said of a trace that isn't a run's isn't done
+pub said_undone : (m : System) (trace : List ℕ) (e : ℕ × ReplayFault) (answer : Answer)
+    → IsSaidOf m trace (Err e) answer → answer.status ≢ Done
+said_undone m trace (number, replay_fault.NotARun why) answer said done =
+    stopped_undone (sym (ap (λ (a : Answer). a.status) said) ∙ done)
+said_undone m trace (number, replay_fault.Syntax) answer said done =
+    refused_undone (sym (ap (λ (a : Answer). a.status) said) ∙ done)
+said_undone m trace (number, replay_fault.Unknown) answer said done =
+    refused_undone (sym (ap (λ (a : Answer). a.status) said) ∙ done)
+said_undone m trace (number, replay_fault.Memory) answer said done = said
 
 pub has_answered-no_model : (base : ℕ) (text trace : List ℕ) (answer : Answer) (fault : ReadFault)
     → (fault.why ≢ Memory) → answer ≡ complaining Refused (model_refusal fault)

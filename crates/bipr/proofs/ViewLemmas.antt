@@ -1,17 +1,18 @@
 -- What is asked of a trace is refused alike, where the model's text has a fault.
-use Rattle.std.proofs.Common.{◌≡◌, ◌≢◌, ℕ, List, ap}
+use Rattle.std.proofs.Common.{◌≡◌, ◌≢◌, ◌∙◌, ℕ, List, ap, sym}
 use Rattle.bip_reader.specs.Texts.{HasFault}
 use Rattle.bip_reader.specs.declared.faults.ReadFault.{ReadFault}
 use Rattle.bip_reader.specs.declared.faults.Why.TheVariants.{Memory}
 use Rattle.bipr.specs.Answers.{complaining}
 use Rattle.bipr.specs.Charted.{uncharted}
+use Rattle.bipr.specs.Ended.{unended}
 use Rattle.bipr.specs.Views.{IsViewed}
 use Rattle.bipr.specs.Wording.{model_refusal}
 use Rattle.bipr.specs.declared.answers.Answer.{Answer}
 use Rattle.bipr.specs.declared.answers.Status.TheVariants.{Refused}
 use Rattle.bipr.specs.declared.views.View.{View}
-use Rattle.bipr.specs.declared.views.View.TheVariants.{Chart, Verdict}
-use Rattle.bipr.proofs.AnswerLemmas.{has_answered-no_model}
+use Rattle.bipr.specs.declared.views.View.TheVariants.{Chart, End, Verdict}
+use Rattle.bipr.proofs.AnswerLemmas.{has_answered-no_model, refused_undone}
 
 pub refused_view : (view : View) (base : ℕ) (model trace : List ℕ) (fault : ReadFault)
     (answer : Answer) → fault.why ≢ Memory
@@ -19,6 +20,9 @@ pub refused_view : (view : View) (base : ℕ) (model trace : List ℕ) (fault : 
     → IsViewed view base model trace answer
 refused_view Verdict base model trace fault answer other same has =
     has_answered-no_model base model trace answer fault other same has
+refused_view End base model trace fault answer other same has =
+    unended answer (has_answered-no_model base model trace answer fault other same has)
+    (λ done. refused_undone (sym (ap (λ (a : Answer). a.status) same) ∙ done))
 refused_view (Chart shown) base model trace fault answer other same has =
     uncharted answer (has_answered-no_model base model trace answer fault other same has)
     (ap (λ (a : Answer). a.status) same)

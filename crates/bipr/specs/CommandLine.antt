@@ -11,9 +11,11 @@ use Rattle.bipr.specs.declared.commands.check.CheckArguments.{CheckArguments}
 use Rattle.bipr.specs.declared.commands.explore.ExploreArguments.{ExploreArguments}
 use Rattle.bipr.specs.declared.commands.render.RenderArguments.{RenderArguments}
 use Rattle.bipr.specs.declared.commands.replay.ReplayArguments.{ReplayArguments}
+use Rattle.bipr.specs.declared.commands.replay.VerdictArguments.{VerdictArguments}
 use Rattle.bipr.specs.declared.commands.run.RunArguments.{RunArguments}
 use Rattle.bipr.specs.declared.commands.seed.SeedArguments.{SeedArguments}
 use Rattle.bipr.specs.declared.commands.steps.StepsArguments.{StepsArguments}
+use Rattle.bipr.specs.declared.commands.walk.WalkArguments.{WalkArguments}
 use Rattle.bipr.specs.declared.resolvers.Resolver.{Resolver}
 
 -- what is read is asked, and nothing is where nothing is read
@@ -81,11 +83,17 @@ pub record IsCheckAsked (values : List Row) (arguments : CheckArguments) : Type 
 pub record IsRenderAsked (values : List Row) (arguments : RenderArguments) : Type 0 where
   pub model : first_of (codes "model") values ≡ Some arguments.model.now
 
--- the values behind `replay` ask: the paths are the first values of their arguments
+-- the values behind `replay` or `chart` ask of a replay: the paths are the first values of their
+-- arguments
 pub record IsReplayAsked (values : List Row) (arguments : ReplayArguments) : Type 0 where
   pub model : first_of (codes "model") values ≡ Some arguments.model.now
   pub trace : first_of (codes "trace") values ≡ Some arguments.trace.now
   pub base : IsBaseAsked values arguments.base
+
+-- the values behind `replay` ask
+pub record IsVerdictAsked (values : List Row) (arguments : VerdictArguments) : Type 0 where
+  pub replay : IsReplayAsked values arguments.replay
+  pub end : IsFlagAsked values (codes "end") arguments.with_end
 
 -- the values behind `chart` ask
 pub record IsChartAsked (values : List Row) (arguments : ChartArguments) : Type 0 where
@@ -110,6 +118,13 @@ pub record IsExploreAsked (values : List Row) (arguments : ExploreArguments) : T
   pub events : IsNumberAsked values (codes "events") 32 arguments.events
   pub progress : IsFlagAsked values (codes "progress") arguments.is_told
   pub jobs : MayAskNumber values (codes "jobs") 32 arguments.jobs
+
+-- the values behind `walk` ask
+pub record IsWalkAsked (values : List Row) (arguments : WalkArguments) : Type 0 where
+  pub model : first_of (codes "model") values ≡ Some arguments.model.now
+  pub seed : IsNumberAsked values (codes "seed") 32 arguments.seed
+  pub grants : IsNumberAsked values (codes "grants") 32 arguments.grants
+  pub base : IsBaseAsked values arguments.base
 
 -- the values behind `seed` ask
 pub record IsSeedAsked (values : List Row) (arguments : SeedArguments) : Type 0 where

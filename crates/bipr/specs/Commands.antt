@@ -9,8 +9,8 @@ use Rattle.bip_partition.specs.Plans.{Planned}
 use Rattle.bipr.specs.Answers.{IsAnswer, IsCheckShowing, IsRefusedModel, code_of}
 use Rattle.bipr.specs.Charted.{AreRowsDisordered, AreRowsInOrder, IsChartAnswer}
 use Rattle.bipr.specs.CommandLine.{AreStepsAsked, IsChartAsked, IsCheckAsked, IsExplainAsked}
-use Rattle.bipr.specs.CommandLine.{IsExploreAsked, IsRenderAsked, IsReplayAsked, IsRunAsked}
-use Rattle.bipr.specs.CommandLine.{IsSeedAsked}
+use Rattle.bipr.specs.CommandLine.{IsExploreAsked, IsRenderAsked, IsRunAsked, IsSeedAsked}
+use Rattle.bipr.specs.CommandLine.{IsVerdictAsked, IsWalkAsked}
 use Rattle.bipr.specs.Endings.{Ends, EndsExplaining}
 use Rattle.bipr.specs.Explored.{IsExploreAnswer}
 use Rattle.bipr.specs.Hosted.{IsPlanHosted}
@@ -24,6 +24,8 @@ use Rattle.bipr.specs.Scheduled.{IsScheduleAnswered}
 use Rattle.bipr.specs.Seeds.{IsSeedAnswer}
 use Rattle.bipr.specs.Stops.{bad_base, bad_range, out_of_memory, words_need_central}
 use Rattle.bipr.specs.Streams.{Put, Puts}
+use Rattle.bipr.specs.Views.{IsViewed, verdict_view}
+use Rattle.bipr.specs.Walked.{IsWalkAnswer}
 use Rattle.bipr.specs.declared.answers.Answer.{Answer}
 use Rattle.bipr.specs.declared.answers.Status.{Status}
 use Rattle.bipr.specs.declared.commands.Command.{Command}
@@ -33,9 +35,11 @@ use Rattle.bipr.specs.declared.commands.check.CheckArguments.{CheckArguments}
 use Rattle.bipr.specs.declared.commands.explore.ExploreArguments.{ExploreArguments}
 use Rattle.bipr.specs.declared.commands.render.RenderArguments.{RenderArguments}
 use Rattle.bipr.specs.declared.commands.replay.ReplayArguments.{ReplayArguments}
+use Rattle.bipr.specs.declared.commands.replay.VerdictArguments.{VerdictArguments}
 use Rattle.bipr.specs.declared.commands.run.RunArguments.{RunArguments}
 use Rattle.bipr.specs.declared.commands.seed.SeedArguments.{SeedArguments}
 use Rattle.bipr.specs.declared.commands.steps.StepsArguments.{StepsArguments}
+use Rattle.bipr.specs.declared.commands.walk.WalkArguments.{WalkArguments}
 use Rattle.bipr.specs.declared.hosted.Hosted.{Hosted}
 use Rattle.bipr.specs.declared.inputs.InputFault.{InputFault}
 use Rattle.bipr.specs.declared.renderings.Rendering.{Rendering}
@@ -69,6 +73,12 @@ abbrev pub IsReplay : (List ℕ → Result (List ℕ) InputFault → Type 0) →
     → Answer → Type 0
 IsReplay gives asked = IsReplayBy (IsAnswer asked.base) gives asked
 
+-- the same, and where the run leads, where that is asked for
+abbrev pub IsReplayShowing : (List ℕ → Result (List ℕ) InputFault → Type 0) → VerdictArguments
+    → List Put → Answer → Type 0
+IsReplayShowing gives asked =
+    IsReplayBy (IsViewed (verdict_view asked.with_end) asked.replay.base) gives asked.replay
+
 -- the chart
 pub data IsChart (gives : List ℕ → Result (List ℕ) InputFault → Type 0) (asked : ChartArguments) :
     List Put → Answer → Type 0 where
@@ -99,6 +109,12 @@ abbrev pub IsSeedWritten : (List ℕ → Result (List ℕ) InputFault → Type 0
 IsSeedWritten gives asked =
     OfText gives asked.model.now (λ model. OfPlan model (λ p. Silently (IsSeedAnswer p asked)))
 
+-- the walk of the model
+abbrev pub IsWalkWritten : (List ℕ → Result (List ℕ) InputFault → Type 0) → WalkArguments
+    → List Put → Answer → Type 0
+IsWalkWritten gives asked =
+    OfText gives asked.model.now (λ model. OfPlan model (λ p. Silently (IsWalkAnswer p asked)))
+
 -- the run of nodes as threads
 pub data IsThreadedRun (gives : List ℕ → Result (List ℕ) InputFault → Type 0)
     (hosts : Planned → HostForm → ℕ → Result Hosted HostFault → Type 0) (asked : RunArguments)
@@ -124,6 +140,7 @@ spelled command.Steps = codes "steps"
 spelled command.Explore = codes "explore"
 spelled command.Seed = codes "seed"
 spelled command.Run = codes "run"
+spelled command.Walk = codes "walk"
 
 -- what may be told on the way and then answered to a command that is asked for by some arguments;
 -- or it is asked by none: the base is out of range
@@ -142,13 +159,16 @@ IsSaidTo command.Chart values gives hosts = IsAnsweredTo (IsChartAsked values) (
 IsSaidTo command.Check values gives hosts = IsAnsweredTo (IsCheckAsked values) (IsCheck gives)
 IsSaidTo command.Draw values gives hosts =
     IsAnsweredTo (IsRenderAsked values) (IsRender Drawing gives)
-IsSaidTo command.Replay values gives hosts = IsAnsweredTo (IsReplayAsked values) (IsReplay gives)
+IsSaidTo command.Replay values gives hosts =
+    IsAnsweredTo (IsVerdictAsked values) (IsReplayShowing gives)
 IsSaidTo command.Steps values gives hosts = IsAnsweredTo (AreStepsAsked values) (IsSteps gives)
 IsSaidTo command.Explore values gives hosts = IsAnsweredTo (IsExploreAsked values) (IsExplore gives)
 IsSaidTo command.Seed values gives hosts =
     IsAnsweredTo (IsSeedAsked values) (IsSeedWritten gives)
 IsSaidTo command.Run values gives hosts =
     IsAnsweredTo (IsRunAsked values) (IsThreadedRun gives hosts)
+IsSaidTo command.Walk values gives hosts =
+    IsAnsweredTo (IsWalkAsked values) (IsWalkWritten gives)
 
 -- what words that name a command, with the values behind it, may tell on the way and answer; those
 -- that name none are refused as if the base were out of range

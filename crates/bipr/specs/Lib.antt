@@ -4,6 +4,7 @@ pub mod Charted
 pub mod CommandLine
 pub mod Commands
 pub mod Dividing
+pub mod Ended
 pub mod Endings
 pub mod Explored
 pub mod Hosted
@@ -20,4 +21,5 @@ pub mod Sources
 pub mod Stops
 pub mod Streams
 pub mod Views
+pub mod Walked
 pub mod Wording

@@ -90,7 +90,8 @@ draw_command = with_arguments (codes "draw") (path (codes "model") ∷ flag (cod
 
 abbrev pub replay_command : Shape
 replay_command = with_arguments (codes "replay")
-    (path (codes "model") ∷ path (codes "trace") ∷ base_option ∷ flag (codes "explain") ∷ [])
+    (path (codes "model") ∷ path (codes "trace") ∷ base_option ∷ flag (codes "end")
+    ∷ flag (codes "explain") ∷ [])
 
 abbrev pub steps_command : Bor (List (Bor Text)) → Shape
 steps_command resolvers = with_arguments (codes "steps")
@@ -115,6 +116,11 @@ seed_command resolvers = with_arguments (codes "seed")
     (path (codes "model") ∷ resolver_option resolvers ∷ needed (codes "seed") (numbers 1 1000000)
     ∷ needed (codes "events") (numbers 0 1000000) ∷ flag (codes "explain") ∷ [])
 
+abbrev pub walk_command : Shape
+walk_command = with_arguments (codes "walk")
+    (path (codes "model") ∷ needed (codes "seed") (numbers 1 1000000)
+    ∷ needed (codes "grants") (numbers 0 1000000) ∷ base_option ∷ flag (codes "explain") ∷ [])
+
 -- the program without its commands
 abbrev pub bare_program : Shape
 bare_program = record (with_arguments (codes "bipr") (flag (codes "explain") ∷ [])) {
@@ -122,12 +128,12 @@ bare_program = record (with_arguments (codes "bipr") (flag (codes "explain") ∷
   subcommand_required = true;
 }
 
--- the program: words name one of nine commands, or ask for help or the version
+-- the program: words name one of ten commands, or ask for help or the version
 abbrev pub program : Choices → App
 program choices = record {
   top = record bare_program { is_leaf = false };
   subs = canon_command ∷ chart_command ∷ check_command ∷ draw_command ∷ replay_command
-      ∷ steps_command choices.resolvers ∷ explore_command choices.resolvers
+      ∷ walk_command ∷ steps_command choices.resolvers ∷ explore_command choices.resolvers
       ∷ seed_command choices.resolvers ∷ run_command choices.resolvers choices.tables ∷ [];
 }
 

@@ -21,6 +21,10 @@ use Rattle.bipr.specs.declared.wording.Counts.{Counts}
 abbrev pub run_text : ℕ → List ℕ
 run_text count = codes "run " ++ (decimal count ++ line_feed ∷ [])
 
+-- `nothing may run after K grants`
+abbrev pub stuck_text : ℕ → List ℕ
+stuck_text count = codes "nothing may run after " ++ (decimal count ++ codes " grants\n")
+
 -- the word behind `grant` on the line of a trace with this number, which names the interaction
 abbrev pub interaction_on : List ℕ → ℕ → List ℕ
 interaction_on trace number = slice_index_or (words (line_at trace number)) 1 []

@@ -16,6 +16,7 @@ pub mod replay;
 pub mod run;
 pub mod seed;
 pub mod steps;
+pub mod walk;
 
 use crate::answers::{Answer, Status};
 use crate::command_line::is_explained;
@@ -34,13 +35,14 @@ use check::CheckArguments;
 use clap::ArgMatches;
 use explore::ExploreArguments;
 use render::RenderArguments;
-use replay::ReplayArguments;
+use replay::VerdictArguments;
 use run::RunArguments;
 use seed::SeedArguments;
 use std::sync::Wait;
 use std::thread::Threads;
 use std::time::Clock;
 use steps::StepsArguments;
+use walk::WalkArguments;
 
 /// What the options of the program have to choose from.
 const CHOICES: Choices<'static> = Choices {
@@ -60,6 +62,7 @@ pub enum Command {
     Explore,
     Seed,
     Run,
+    Walk,
 }
 
 // The command of a name, if it has one.
@@ -77,6 +80,7 @@ fn command_named(name: &str) -> Option<Command>
         b"explore" => Some(Command::Explore),
         b"seed" => Some(Command::Seed),
         b"run" => Some(Command::Run),
+        b"walk" => Some(Command::Walk),
         _ => None,
     }
 }
@@ -167,11 +171,12 @@ impl<R: Threads + Wait + Clock + Sync, I: Inputs, H: Hosting, O: Stream, E: Stre
             Some(Command::Draw) => {
                 self.render(Rendering::Drawing, &asked(RenderArguments::read(behind))?)
             }
-            Some(Command::Replay) => self.replay(&asked(ReplayArguments::read(behind))?),
+            Some(Command::Replay) => self.replay(&asked(VerdictArguments::read(behind))?),
             Some(Command::Steps) => self.steps(&asked(StepsArguments::read(behind))?),
             Some(Command::Explore) => self.explore(&asked(ExploreArguments::read(behind))?),
             Some(Command::Seed) => self.seed(&asked(SeedArguments::read(behind))?),
             Some(Command::Run) => self.run(&asked(RunArguments::read(behind))?),
+            Some(Command::Walk) => self.walk(&asked(WalkArguments::read(behind))?),
             None => Err(Stop::BaseOutOfRange),
         }
     }

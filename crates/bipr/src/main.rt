@@ -7,6 +7,7 @@ mod charted;
 mod command_line;
 mod commands;
 mod dividing;
+mod ended;
 mod endings;
 mod explored;
 mod hosted;
@@ -26,6 +27,7 @@ mod sources;
 mod stops;
 mod streams;
 mod views;
+mod walked;
 mod wording;
 mod words;
 

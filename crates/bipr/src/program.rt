@@ -6,6 +6,7 @@ ghost use Rattle.bipr.specs.Program.{canon_command, chart_command, check_command
 ghost use Rattle.bipr.specs.Program.{explore_command, flag, from_option, needed, numbers, option};
 ghost use Rattle.bipr.specs.Program.{path, program, replay_command, resolver_option, rows};
 ghost use Rattle.bipr.specs.Program.{run_command, seed_command, steps_command, table_option};
+ghost use Rattle.bipr.specs.Program.{walk_command};
 
 use clap::{Arg, ArgAction, Command, value_parser};
 use std::alloc::{AllocError, Global};
@@ -135,7 +136,16 @@ const REPLAY_ABOUT: &str = "Says whether a trace is a run of a model";
 
 const REPLAY_HELP: &str = "\
 A path `-` is standard input. Where both are, the model is what stands before the first
-line `---`, and the trace what stands behind it.";
+line `---`, and the trace what stands behind it.
+
+With --end, where the trace is that of a run, behind `run N` stands what each component is in,
+and then what may run there: a line for each interaction that is enabled.
+
+    at C NEXT L V=N ..   the number of its next move, 0 where none is left; its location, and
+                         the values of its variables
+    may X                X may run
+    below X Y            X may not, since Y is enabled, the lowest above it
+    nothing may run      no interaction is enabled";
 
 const TRACE_BASE: &str = "the number that each component has used before the trace";
 
@@ -222,6 +232,20 @@ request tokens; how many requests were refused, and how many found a row busy; a
 grants words were drawn for, and how many of these stand in the trace. These figures are
 counted, and promise nothing.";
 
+const WALK_ABOUT: &str = "Walks a model: writes a run of it, by chance";
+
+const WALK_HELP: &str = "\
+The run is one of the model itself, without classes and messages: each next grant is drawn
+among those that can be next, with all that it looks at. It ends early where there is none,
+and then `nothing may run after K grants` goes to standard error. A seed walks the same way
+each time, and `bipr replay` takes what is written.
+
+    bipr walk MODEL --seed 1 --grants 20
+
+How often an interaction comes is chance's alone: no fairness is meant.";
+
+const WALK_BASE: &str = "the number that each component has used before the walk";
+
 /// What names an option may have: the resolvers, and how threads share a table.
 #[derive(Clone, Copy)]
 pub struct Choices<'a> {
@@ -240,6 +264,7 @@ pub fn program<'a>(alloc: Global, choices: Choices<'a>) -> Result<Command<'a>, A
         .subcommand(check(alloc)?)?
         .subcommand(draw(alloc)?)?
         .subcommand(replay(alloc)?)?
+        .subcommand(walk(alloc)?)?
         .subcommand(steps(alloc, choices.resolvers)?)?
         .subcommand(explore(alloc, choices.resolvers)?)?
         .subcommand(seed(alloc, choices.resolvers)?)?
@@ -313,6 +338,7 @@ fn replay<'a>(alloc: Global) -> Result<Command<'a>, AllocError>
         .arg(model(alloc))?
         .arg(trace(alloc))?
         .arg(base(alloc).help(TRACE_BASE))?
+        .arg(end(alloc))?
         .arg(explain(alloc))
 }
 
@@ -351,14 +377,26 @@ fn explore<'a>(alloc: Global, resolvers: &'a [&'a str]) -> Result<Command<'a>, A
 fn seed<'a>(alloc: Global, resolvers: &'a [&'a str]) -> Result<Command<'a>, AllocError>
     ensures { IfOk result (HasShape (seed_command resolvers.entry)) }
 {
-    let seed = number(alloc, "seed", "S", 1, 1_000_000).required(true);
     Command::new(alloc, "seed")
         .about(SEED_ABOUT)
         .after_help(SEED_HELP)
         .arg(model(alloc))?
         .arg(resolver(alloc, resolvers))?
-        .arg(seed.help("which seed: 1 to 1000000"))?
+        .arg(which_seed(alloc))?
         .arg(events(alloc))?
+        .arg(explain(alloc))
+}
+
+fn walk<'a>(alloc: Global) -> Result<Command<'a>, AllocError>
+    ensures { IfOk result (HasShape walk_command) }
+{
+    Command::new(alloc, "walk")
+        .about(WALK_ABOUT)
+        .after_help(WALK_HELP)
+        .arg(model(alloc))?
+        .arg(which_seed(alloc))?
+        .arg(grants(alloc))?
+        .arg(base(alloc).help(WALK_BASE))?
         .arg(explain(alloc))
 }
 
@@ -420,6 +458,24 @@ fn seeds<'a>(alloc: Global) -> Arg<'a>
     number(alloc, "seeds", "K", 1, 1_000_000)
         .required(true)
         .help("how many seeds, from 1 on: 1 to 1000000")
+}
+
+// The option of which seed.
+fn which_seed<'a>(alloc: Global) -> Arg<'a>
+    ensures { HasRule (needed (codes "seed") (numbers 1 1000000)) result }
+{
+    number(alloc, "seed", "S", 1, 1_000_000)
+        .required(true)
+        .help("which seed: 1 to 1000000")
+}
+
+// The option of how many grants.
+fn grants<'a>(alloc: Global) -> Arg<'a>
+    ensures { HasRule (needed (codes "grants") (numbers 0 1000000)) result }
+{
+    number(alloc, "grants", "N", 0, 1_000_000)
+        .required(true)
+        .help("how many grants at most: 0 to 1000000")
 }
 
 // The option of how many events.
@@ -493,6 +549,13 @@ fn values<'a>(alloc: Global) -> Arg<'a>
     ensures { HasRule (flag (codes "values")) result }
 {
     flag(alloc, "values").help("show the values of variables too, where they change")
+}
+
+// The option that shows the end of a run.
+fn end<'a>(alloc: Global) -> Arg<'a>
+    ensures { HasRule (flag (codes "end")) result }
+{
+    flag(alloc, "end").help("write behind `run N` where the run leads, and what may run there")
 }
 
 // The option that shows the plan.

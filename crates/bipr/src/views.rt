@@ -1,4 +1,4 @@
-//! What is answered of a trace: its verdict, or its chart.
+//! What is answered of a trace: its verdict, with its end or without, or its chart.
 ghost use Rattle.std.specs.Prelude.{◌≤◌, ℕ, List, IfOk};
 ghost use Rattle.bip_model.specs.Partitions.{AreClassesOf};
 ghost use Rattle.bip_reader.specs.Texts.{Means};
@@ -7,14 +7,17 @@ ghost use Rattle.bipr.specs.Views.{IsViewed};
 
 use crate::answers::{Answer, answer_trace};
 use crate::charted::{Shown, answer_chart};
+use crate::ended::answer_ended;
 use bip_explain::Explanation;
 use bip_model::{Classes, Model, Number};
 use std::alloc::{AllocError, Global};
 
-/// What is asked of a trace: its verdict, or the chart of its run, in which these rows are shown.
+/// What is asked of a trace: its verdict; that, and where its run leads; or the chart of its run,
+/// in which these rows are shown.
 #[derive(Clone, Copy)]
 pub enum View<'a> {
     Verdict,
+    End,
     Chart(&'a Shown),
 }
 
@@ -37,6 +40,7 @@ impl<'a> View<'a> {
     {
         match self {
             View::Verdict => answer_trace(alloc, explanation, model, trace, base),
+            View::End => answer_ended(alloc, explanation, model, trace, base),
             View::Chart(shown) => {
                 answer_chart(alloc, explanation, model, classes, trace, base, shown)
             }

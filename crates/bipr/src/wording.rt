@@ -6,7 +6,7 @@ ghost use Rattle.bipr.specs.Wording.{counts_text, interaction_on, model_refusal,
 ghost use Rattle.bipr.specs.Wording.{decisions_text, losses_text, report_text, run_text};
 ghost use Rattle.bipr.specs.Wording.{progress_text, schedule_refusal, seed_verdict, seeds_text};
 ghost use Rattle.bipr.specs.Wording.{asking_text, drawn_text, host_end_text, host_work_text};
-ghost use Rattle.bipr.specs.Wording.{sharing_text};
+ghost use Rattle.bipr.specs.Wording.{sharing_text, stuck_text};
 ghost use Rattle.bipr.specs.Wording.{pace_text, reached_text, seconds_text, stats_text, step_text};
 ghost use Rattle.bipr.specs.Wording.{timed_text, trace_refusal, verdict_text};
 
@@ -67,6 +67,13 @@ pub fn run_text(alloc: Global, count: u64) -> Result<Vec<u8>, AllocError>
     ensures { IfOk result (λ text. text.items ≡ run_text count) }
 {
     Ok(format!(in alloc; "run {count}\n")?.into_bytes())
+}
+
+/// `nothing may run after K grants`.
+pub fn stuck_text(alloc: Global, count: u64) -> Result<Vec<u8>, AllocError>
+    ensures { IfOk result (λ text. text.items ≡ stuck_text count) }
+{
+    Ok(format!(in alloc; "nothing may run after {count} grants\n")?.into_bytes())
 }
 
 /// The complaint of a model's text.

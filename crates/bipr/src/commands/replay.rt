@@ -1,13 +1,13 @@
 //! The command `replay`, and what is read for it and for `chart`.
 ghost use Rattle.std.specs.Prelude.{◌≡◌, ◌≤◌, []};
 ghost use Rattle.clap.specs.Words.{found_of, rows_of};
-ghost use Rattle.bipr.specs.CommandLine.{IsReadAs, IsReplayAsked, greatest_base};
-ghost use Rattle.bipr.specs.Commands.{IsReplay, IsReplayBy};
+ghost use Rattle.bipr.specs.CommandLine.{IsReadAs, IsReplayAsked, IsVerdictAsked, greatest_base};
+ghost use Rattle.bipr.specs.Commands.{IsReplayBy, IsReplayShowing};
 ghost use Rattle.bipr.specs.Endings.{AllOutcomes, AllOutcomesTelling};
-ghost use Rattle.bipr.specs.Views.{IsViewed};
+ghost use Rattle.bipr.specs.Views.{IsViewed, verdict_view};
 
 use crate::answers::{Answer, answer_fault};
-use crate::command_line::{base_asked, text_asked};
+use crate::command_line::{base_asked, is_set, text_asked};
 use crate::inputs::Inputs;
 use crate::invocations::Invocation;
 use crate::loading::{load, parts};
@@ -29,7 +29,7 @@ pub struct ReplayArguments<'p> {
 }
 
 impl<'p> ReplayArguments<'p> {
-    /// What the words behind `replay` ask.
+    /// What the words behind `replay` or `chart` ask of it.
     pub fn read(matches: &ArgMatches<'p>) -> Option<ReplayArguments<'p>>
         ensures { IsReadAs (IsReplayAsked (rows_of (found_of matches.now))) result }
     {
@@ -41,19 +41,51 @@ impl<'p> ReplayArguments<'p> {
     }
 }
 
+/// The verdict on a replay, and where its run leads, where that is asked for.
+#[derive(Drop)]
+pub struct VerdictArguments<'p> {
+    pub replay: ReplayArguments<'p>,
+    pub with_end: bool,
+}
+
+impl<'p> VerdictArguments<'p> {
+    /// What the words behind `replay` ask.
+    pub fn read(matches: &ArgMatches<'p>) -> Option<VerdictArguments<'p>>
+        ensures { IsReadAs (IsVerdictAsked (rows_of (found_of matches.now))) result }
+    {
+        Some(VerdictArguments {
+            replay: ReplayArguments::read(matches)?,
+            with_end: is_set(matches, "end"),
+        })
+    }
+}
+
 impl<R, I: Inputs, H, O, E: Stream> Invocation<'_, R, I, H, O, E> {
     /// Replays the trace that the second path names on the model that the first path names. The
     /// trace is read only where the model's text is one; where both paths are standard input, that
     /// has both texts (docs/ANSWERS.md, "The replay that is asked for").
-    pub fn replay<'p>(&mut self, asked: &ReplayArguments<'p>) -> Result<Answer, Stop<'p>>
-        requires { asked.now.base ≤ greatest_base }
+    pub fn replay<'p>(&mut self, asked: &VerdictArguments<'p>) -> Result<Answer, Stop<'p>>
+        requires { asked.now.replay.base ≤ greatest_base }
         ensures says { AllOutcomesTelling E.writes self.old.errors self.new.errors result
-            (IsReplay (I.gives self.old.inputs.now) asked.now) }
+            (IsReplayShowing (I.gives self.old.inputs.now) asked.now) }
         ensures output { self.new.output ≡ self.old.output }
     {
-        let view = View::Verdict;
-        answer_viewed(self.alloc, &mut self.explanation, self.inputs, asked, &view)
+        let view = verdict_view(asked.with_end);
+        answer_viewed(
+            self.alloc,
+            &mut self.explanation,
+            self.inputs,
+            &asked.replay,
+            &view,
+        )
     }
+}
+
+// What is asked of a trace whose verdict is, with its end or without.
+fn verdict_view<'a>(with_end: bool) -> View<'a>
+    ensures { result ≡ verdict_view with_end }
+{
+    if with_end { View::End } else { View::Verdict }
 }
 
 /// The answer to the two texts that are asked for, by what is asked of them.

@@ -16,7 +16,9 @@ returns c =
     c.in_ok-arg-2.ensures in
     let three =
     has_shape _ _ c.help.result _ (base_option) two (search rules) c.in_ok-arg-3.ensures in
-    IfOk-weaker c.arg-4.result _ _
+    let four =
+    has_shape _ _ c.end.result _ (flag (codes "end")) three c.end.ensures c.in_ok-arg-4.ensures in
+    IfOk-weaker c.arg-5.result _ _
     (λ command adds.
-    has_shape _ command c.explain.result _ (flag (codes "explain")) three c.explain.ensures adds)
-    c.arg-4.ensures
+    has_shape _ command c.explain.result _ (flag (codes "explain")) four c.explain.ensures adds)
+    c.arg-5.ensures

@@ -15,8 +15,8 @@ returns c =
     has_shape _ _ c.resolver.result _ (resolver_option c.args.resolvers) one c.resolver.ensures
     c.in_ok-arg-2.ensures in
     let three =
-    has_shape _ _ c.help.result _ (needed (codes "seed") (numbers 1 1000000)) two (search rules)
-    c.in_ok-arg-3.ensures in
+    has_shape _ _ c.which_seed.result _ (needed (codes "seed") (numbers 1 1000000)) two
+    c.which_seed.ensures c.in_ok-arg-3.ensures in
     let four =
     has_shape _ _ c.events.result _ (needed (codes "events") (numbers 0 1000000)) three
     c.events.ensures c.in_ok-arg-4.ensures in

@@ -178,6 +178,23 @@ returns-in_ok-asked-in-Some-Seed-clause-says g c =
     (asked_for g.E.Stream.writes _ _ _ _ _ c.read-in-Some-Seed.result _ c.read-in-Some-Seed.ensures
     c.in_ok-asked-in-Some-Seed.ensures.ok c.seed.ensures.says)
 
+pub returns-in_err-asked-in-Some-Walk-clause-says :
+    goal.returns-in_err-asked-in-Some-Walk-clause-says
+returns-in_err-asked-in-Some-Walk-clause-says g c =
+    carried g.E.Stream.writes _ _ _ _ _ _ command.Walk _
+    (at_name c.in-Some-Walk.field-0-is c.in-Some-Walk.ensures.some)
+    (not_asked g.E.Stream.writes _ _ _ _ _ c.read-in-Some-Walk.result _ refl
+    c.read-in-Some-Walk.ensures
+    c.in_err-asked-in-Some-Walk.ensures.err c.from_residual-in_err-asked-in-Some-Walk.ensures.1)
+
+pub returns-in_ok-asked-in-Some-Walk-clause-says :
+    goal.returns-in_ok-asked-in-Some-Walk-clause-says
+returns-in_ok-asked-in-Some-Walk-clause-says g c =
+    carried g.E.Stream.writes _ _ _ _ _ _ command.Walk _
+    (at_name c.in-Some-Walk.field-0-is c.in-Some-Walk.ensures.some)
+    (asked_for g.E.Stream.writes _ _ _ _ _ c.read-in-Some-Walk.result _ c.read-in-Some-Walk.ensures
+    c.in_ok-asked-in-Some-Walk.ensures.ok c.walk.ensures.says)
+
 pub returns-in-None-clause-says : goal.returns-in-None-clause-says
 returns-in-None-clause-says g c =
     let gives = g.I.Inputs.gives c.args.self.now.inputs.now in

@@ -4,4 +4,5 @@ use Rattle.bipr.proofs.invocations.Invocation.replay.Goals as goal
 
 pub returns-clause-says : goal.returns-clause-says
 returns-clause-says g c =
-    outcomes_quiet g.E.Stream.writes _ _ c.answer_viewed.result _ refl c.answer_viewed.ensures
+    outcomes_quiet g.E.Stream.writes _ _ c.answer_viewed.result _ refl
+    (rw c.verdict_view-view.ensures at c.answer_viewed.ensures)

@@ -10,3 +10,11 @@ returns-in-Verdict c =
     subst (λ view. IsViewed view c.args.base text c.args.trace.now answer) (sym c.in-Verdict.is)
     (is text c.args.classes.now means))
     c.answer_trace.ensures
+
+pub returns-in-End : goal.returns-in-End
+returns-in-End c =
+    IfOk-weaker c.answer_ended.result _ _
+    (λ answer is text means.
+    subst (λ view. IsViewed view c.args.base text c.args.trace.now answer) (sym c.in-End.is)
+    (is text c.args.classes.now means))
+    c.answer_ended.ensures
