@@ -15,8 +15,8 @@ use Rattle.bipr.specs.declared.commands.walk.WalkArguments.{WalkArguments}
 abbrev pub walk_end : ℕ → List Grant → List ℕ
 walk_end count gs = if nat_lt (length gs) count then stuck_text (length gs) else []
 
--- the answer to a walk of a plan's model: the trace of the walk of the seed, which is that of a run,
--- of as many grants
+-- the answer to a walk of a plan's model: the trace of the walk of the seed, which is that of a
+-- run, of as many grants
 pub data IsWalkAnswer (p : Planned) (asked : WalkArguments) : Answer → Type 0 where
   walked : (gs : List Grant) → IsWalk p.model asked.base asked.seed asked.grants gs
       → IsRunOf p.model asked.base (text_of p.model gs) (length gs)
