@@ -8,3 +8,4 @@ pub mod Laws
 pub mod Layout
 pub mod Locals
 pub mod Shapes
+pub mod Tallies

@@ -68,14 +68,15 @@ fn write_place(
     let location = location_at(state, comp) as usize;
     text.extend_from_slice(b"at")?;
     write_word(text, name)?;
-    write_number(text, next)?;
+    write_number_word(text, next)?;
     write_word(text, name_at(component.locations.as_slice(), location))?;
     write_values(text, component, comp, state)?;
     text.push(b'\n')?;
     Ok(())
 }
 
-fn write_number(text: &mut Vec<u8>, number: Number) -> Result<(), AllocError>
+/// Puts a number last in a text, behind a space.
+pub(crate) fn write_number_word(text: &mut Vec<u8>, number: u64) -> Result<(), AllocError>
     ensures { OnOk result (text.new.items ≡ text.old.items ++ spaced (decimal number)) }
 {
     write_word(text, Buffer::new().format(number).as_bytes())

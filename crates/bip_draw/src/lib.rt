@@ -12,8 +12,10 @@ mod layout;
 mod locals;
 mod lookups;
 mod shapes;
+mod tallies;
 
 pub use charts::{Chart, draw_chart};
 pub use drawing::draw_model;
 pub use ends::write_end;
 pub use laws::picture_laws;
+pub use tallies::write_tally;

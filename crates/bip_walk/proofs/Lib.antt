@@ -1,2 +1,5 @@
 pub mod ChoiceLemmas
+pub mod SeedLemmas
+pub mod SurveyLemmas
+pub mod TallyLemmas
 pub mod WalkingLemmas
