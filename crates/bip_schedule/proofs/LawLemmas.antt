@@ -1,7 +1,7 @@
 -- The laws of schedules and seeds: one reading, one trace.
 use Rattle.std.proofs.Common.{◌≡◌, ◌≢◌, ℕ, List, [], ◌∷◌, ◌++◌, Option, Some, None, Result, Ok, Err}
-use Rattle.std.proofs.Common.{length, refl, sym, ap, ◌∙◌, subst, inl, inr, arith}
-use Rattle.std.specs.Prelude.{◌⊎◌}
+use Rattle.std.proofs.Common.{Bool, false, length, refl, sym, ap, ◌∙◌, subst, inl, inr, arith, true}
+use Rattle.std.specs.Prelude.{◌↔◌, ◌⊎◌}
 use Rattle.std.proofs.lemmas.List.{length-append}
 use Rattle.rand_pcg.specs.Lcg.{Lcg}
 use Rattle.rand_pcg.specs.Pcg.{pcg32}
@@ -15,6 +15,7 @@ use Rattle.bip_core.specs.Worlds.{WorldContent}
 use Rattle.bip_core.specs.declared.events.Did.{Did}
 use Rattle.bip_core.specs.declared.events.Event.{Event}
 use Rattle.bip_core.specs.declared.runs.Report.{Report}
+use Rattle.bip_model.specs.declared.grants.Grant.{Grant}
 use Rattle.bip_model.specs.declared.numbering.InterId.{InterId}
 use Rattle.bip_partition.specs.Plans.{AreStations, Planned}
 use Rattle.bip_replay.specs.Items.{IsTextFault, items_of}
@@ -28,7 +29,9 @@ use Rattle.bip_schedule.specs.Laws.{EventsOrFault, IsFault, EventsHaveNoFault, O
 use Rattle.bip_schedule.specs.Laws.{OneScheduleFault, OneSeedTrace}
 use Rattle.bip_schedule.specs.Lines.{event_on}
 use Rattle.bip_schedule.specs.Schedules.{IsEventText}
+use Rattle.bip_replay.specs.Runs.{NothingMayRun, state_after}
 use Rattle.bip_walk.specs.Chance.{generator_of}
+use Rattle.bip_walk.specs.Tallies.{Traced}
 use Rattle.bip_schedule.specs.Seeding.{AreDrawn, none_drawn, one_drawn}
 
 -- Schedules.
@@ -198,6 +201,15 @@ drawn_once start w x _ _ _ _ _ _ _ _ alike way (one_drawn es v ws r e next later
       ap (λ (ds : List Event). ds ++ e ∷ []) before.3 ∙ ap (λ (d : Event). fs ++ d ∷ []) event,
     )
 
+-- a trace has one end
+same_end : (A : Type 0) (a b : Bool) → (a ≡ true) ↔ A → (b ≡ true) ↔ A → a ≡ b
+same_end A true b one other = sym (other.1 (one.0 refl))
+same_end A false true one other = one.1 (other.0 refl)
+same_end A false false one other = refl
+
+abbrev traced : ℕ → List Grant → Bool → Traced
+traced seed grants is_stuck = record { seed = seed; grants = grants; is_stuck = is_stuck }
+
 pub one_seed_trace : OneSeedTrace
 one_seed_trace sharing p base count seed m n way one other =
     let a = one.of_seed in
@@ -209,7 +221,18 @@ one_seed_trace sharing p base count seed m n way one other =
     (subst MovesInOneWay (sym b.shared) way)
     (subst (λ (w : WorldContent). AreDrawn (generator_of seed) w a.events a.last a.seeded.words
     a.report) worlds a.seeded.drawn) b.seeded.drawn
-    (a.seeded.each ∙ sym b.seeded.each) one.whole other.whole in
-    let trace : one.trace ≡ other.trace = a.is
+    (a.seeded.each ∙ sym b.seeded.each) (subst IsLossless one.reported one.whole)
+    (subst IsLossless other.reported other.whole) in
+    let grants : m.traced.grants ≡ n.traced.grants = a.is
     ∙ (ap (λ (w : WorldContent). w.trace) drawn.0 ∙ sym b.is) in
-    (drawn.3, trace, one.counted ∙ (ap length trace ∙ sym other.counted))
+    let stuck : m.traced.is_stuck ≡ n.traced.is_stuck =
+    same_end (NothingMayRun p.model (state_after p.model n.traced.grants)) m.traced.is_stuck
+    n.traced.is_stuck
+    (subst (λ (gs : List Grant).
+    (m.traced.is_stuck ≡ true) ↔ NothingMayRun p.model (state_after p.model gs)) grants one.stuck)
+    other.stuck in (
+      drawn.3,
+      ap (λ (s : ℕ). traced s m.traced.grants m.traced.is_stuck) (one.named ∙ sym other.named)
+          ∙ (ap (λ (gs : List Grant). traced n.traced.seed gs m.traced.is_stuck) grants
+          ∙ ap (traced n.traced.seed n.traced.grants) stuck),
+    )

@@ -1,5 +1,6 @@
 pub mod DrawLemmas
 pub mod DrawnSpellingLemmas
+pub mod FigureLemmas
 pub mod FollowLemmas
 pub mod LawLemmas
 pub mod LineLemmas

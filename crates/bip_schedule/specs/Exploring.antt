@@ -1,9 +1,11 @@
 -- Exploring: many seeds, each of whose traces is checked to be a run of the model, as it is.
 use Rattle.std.specs.Fmt.{decimal}
-use Rattle.std.specs.Prelude.{List, Ok, Result, codes, length, ⊤, ℕ, ◌++◌, ◌+◌, ◌≡◌, ◌∷◌}
+use Rattle.std.specs.Prelude.{Bool, List, Ok, Result, codes, length, map, ⊤, ℕ, ◌++◌, ◌+◌}
+use Rattle.std.specs.Prelude.{◌≡◌, ◌≤◌, ◌*◌, ◌∷◌}
+use Rattle.std.specs.List.{sum_by}
 use Rattle.bip_bank.specs.Banks.{KeptBank}
 use Rattle.bip_bank.specs.Sharing.{Sharing}
-use Rattle.bip_core.specs.Runs.{IsLossless}
+use Rattle.bip_core.specs.Runs.{AddsUp, IsLossless}
 use Rattle.bip_core.specs.Starting.{IsNewWorld}
 use Rattle.bip_core.specs.Worlds.{WorldContent}
 use Rattle.bip_core.specs.declared.events.Event.{Event}
@@ -17,6 +19,7 @@ use Rattle.bip_replay.specs.declared.faults.StepFault.{StepFault}
 use Rattle.bip_schedule.specs.Seeding.{AreSeeded}
 use Rattle.bip_schedule.specs.declared.exploring.ExploreFault.TheVariants.{Memory, NotARun}
 use Rattle.bip_schedule.specs.declared.exploring.ExploreFault.{ExploreFault}
+use Rattle.bip_walk.specs.Tallies.{EachSeed, IsStuckAfter, Tallied, Traced, tally_of}
 
 -- what stations share is what those of some bank do that may be made
 abbrev pub IsSharedBy : {B E : Type 0} → (B → KeptBank) → (Result B E → Type 0) → Sharing → Type 0
@@ -35,23 +38,59 @@ pub record IsSeedTrace (shares : Sharing → Type 0) (p : Planned) (base count s
   pub seeded : AreSeeded seed count events first last report
   pub is : trace ≡ last.trace
 
--- the trace of a seed, all of whose events were done, is a run of the model, of so many grants
-pub record IsSeedRun (shares : Sharing → Type 0) (p : Planned) (base count seed : ℕ) (grants : ℕ)
-    : Type 0 where
-  pub trace : List Grant
-  pub of_seed : IsSeedTrace shares p base count seed trace
-  pub whole : IsLossless of_seed.report
-  pub run : IsModelRun p.model base trace
-  pub counted : grants ≡ length trace
+-- what came of a seed: its trace with its end, and the report of its events
+pub record SeedRun : Type 0 where
+  pub traced : Traced
+  pub report : Report
 
--- the seeds from 1 to this one are explored: the trace of each is a run, and they have so many
--- grants in all
-pub data AreExplored (shares : Sharing → Type 0) (p : Planned) (base count : ℕ) :
-    ℕ → ℕ → Type 0 where
-  none_explored : AreExplored shares p base count 0 0
-  one_explored : (seed before grants : ℕ) → AreExplored shares p base count seed before
-      → IsSeedRun shares p base count (seed + 1) grants
-      → AreExplored shares p base count (seed + 1) (before + grants)
+-- a seed came to this, all of its events were done, and its trace is a run of the model
+pub record IsSeedRun (shares : Sharing → Type 0) (p : Planned) (base count seed : ℕ) (run : SeedRun)
+    : Type 0 where
+  pub named : run.traced.seed ≡ seed
+  pub of_seed : IsSeedTrace shares p base count seed run.traced.grants
+  pub reported : run.report ≡ of_seed.report
+  pub whole : IsLossless run.report
+  pub is_run : IsModelRun p.model base run.traced.grants
+  pub stuck : IsStuckAfter p.model run.traced.grants run.traced.is_stuck
+
+-- the sums of reports
+abbrev pub report_of_runs : List SeedRun → Report
+report_of_runs runs =
+    record {
+      lost = sum_by (λ (run : SeedRun). run.report.lost) runs;
+      events = sum_by (λ (run : SeedRun). run.report.events) runs;
+      grants = sum_by (λ (run : SeedRun). run.report.grants) runs;
+      refusals = sum_by (λ (run : SeedRun). run.report.refusals) runs;
+      idle = sum_by (λ (run : SeedRun). run.report.idle) runs;
+      skipped = sum_by (λ (run : SeedRun). run.report.skipped) runs;
+    }
+
+-- what seeds come to together: the sums of their reports, and the tally of their traces
+pub record SeedFigures : Type 0 where
+  pub report : Report
+  pub tally : Tallied
+
+-- over so many interactions
+abbrev pub seed_figures : ℕ → List SeedRun → SeedFigures
+seed_figures n runs =
+    record {
+      report = report_of_runs runs;
+      tally = tally_of n (map (λ (run : SeedRun). run.traced) runs);
+    }
+
+-- figures join those of further seeds: of whatever seeds the two are, they are those of all
+abbrev pub JoinsSeedFigures : SeedFigures → SeedFigures → SeedFigures → Type 0
+JoinsSeedFigures old more new =
+    (n : ℕ) (xs ys : List SeedRun) → old ≡ seed_figures n xs → more ≡ seed_figures n ys
+    → new ≡ seed_figures n (xs ++ ys)
+
+-- these are the figures of so many seeds, from the first one on
+pub record AreSeedFigures (shares : Sharing → Type 0) (p : Planned) (base count first seeds : ℕ)
+    (figures : SeedFigures) : Type 0 where
+  pub runs : List SeedRun
+  pub each : length runs ≡ seeds
+  pub explored : EachSeed (IsSeedRun shares p base count) first runs
+  pub are : figures ≡ seed_figures (length p.model.interactions) runs
 
 -- why a trace is no run: the grants before one of its grants are, and that has this fault then
 pub record IsNoRun (m : System) (base : ℕ) (trace : List Grant) (fault : StepFault) : Type 0 where
@@ -80,3 +119,25 @@ abbrev pub IsCheckFault : System → ℕ → ℕ → List Grant → ExploreFault
 IsCheckFault m base seed trace (NotARun number fault) =
     (number ≡ seed) × IsNoRun m base trace fault
 IsCheckFault m base seed trace Memory = ⊤
+
+-- the sums of two reports
+abbrev pub joined_report : Report → Report → Report
+joined_report x y =
+    record {
+      lost = x.lost + y.lost;
+      events = x.events + y.events;
+      grants = x.grants + y.grants;
+      refusals = x.refusals + y.refusals;
+      idle = x.idle + y.idle;
+      skipped = x.skipped + y.skipped;
+    }
+
+-- figures of seeds each of which has fewer than 2^32 events
+pub record HaveFewEvents (figures : SeedFigures) : Type 0 where
+  pub adds_up : AddsUp figures.report
+  pub events : figures.report.events ≤ figures.tally.traces * 4294967295
+
+-- what the check of a trace finds: a run behind which nothing may run, or something
+pub record IsFoundRun (m : System) (base : ℕ) (trace : List Grant) (is_stuck : Bool) : Type 0 where
+  pub run : IsModelRun m base trace
+  pub stuck : IsStuckAfter m trace is_stuck

@@ -15,7 +15,7 @@ use Rattle.bip_partition.specs.Plans.{AreStations, Planned}
 use Rattle.bip_replay.specs.declared.faults.LineFault.TheVariants.{Unknown}
 use Rattle.bip_replay.specs.declared.faults.TraceFault.{TraceFault}
 use Rattle.bip_replay.specs.declared.faults.TraceFault.TheVariants.{Memory}
-use Rattle.bip_schedule.specs.Exploring.{IsSeedRun}
+use Rattle.bip_schedule.specs.Exploring.{IsSeedRun, SeedRun}
 use Rattle.bip_schedule.specs.Lines.{event_on}
 use Rattle.bip_schedule.specs.Schedules.{IsEventText, IsScheduleFault}
 
@@ -120,7 +120,7 @@ LinesAreUnknown =
 -- same events and have one trace, where no event was skipped and no message lost
 abbrev pub OneSeedTrace : Type 0
 OneSeedTrace =
-    (sharing : Sharing) (p : Planned) (base count seed m n : ℕ) → MovesInOneWay sharing
+    (sharing : Sharing) (p : Planned) (base count seed : ℕ) (m n : SeedRun) → MovesInOneWay sharing
     → (one : IsSeedRun (λ x. x ≡ sharing) p base count seed m)
     → (other : IsSeedRun (λ x. x ≡ sharing) p base count seed n)
-    → (one.of_seed.events ≡ other.of_seed.events) × (one.trace ≡ other.trace) × (m ≡ n)
+    → (one.of_seed.events ≡ other.of_seed.events) × (m.traced ≡ n.traced)

@@ -1,13 +1,12 @@
 //! The explorer: many runs by chance, each checked to be a run of the model.
-ghost use Rattle.std.specs.Prelude.{◌≡◌, ◌↔◌, ◌<◌, ◌≤◌, IfErr, IfOk, IsTrue, Ok};
-ghost use Rattle.std.specs.Prelude.{Some};
+ghost use Rattle.std.specs.Prelude.{◌≡◌, ◌↔◌, ◌<◌, IfErr, IfOk, IsTrue, Ok, Some};
 ghost use Rattle.bip_model.specs.Numbering.{last_number};
 ghost use Rattle.bip_bank.specs.Banks.{content_of};
 ghost use Rattle.bip_core.specs.Runs.{IsLossless};
 ghost use Rattle.bip_core.specs.Starting.{IsNewWorld, IsUnasked};
 ghost use Rattle.bip_core.specs.Worlds.{world_of};
-ghost use Rattle.bip_schedule.specs.Exploring.{AreExplored, IsSeedRun};
-ghost use Rattle.bip_schedule.specs.Exploring.{IsSharedBy, number_of_explore, text_of_explore};
+ghost use Rattle.bip_schedule.specs.Exploring.{AreSeedFigures, IsSharedBy};
+ghost use Rattle.bip_schedule.specs.Exploring.{number_of_explore, text_of_explore};
 ghost use Rattle.bip_schedule.specs.declared.exploring.ExploreFault.TheVariants.{Memory};
 
 use crate::checking::Checked;
@@ -20,13 +19,6 @@ use bip_replay::StepFault;
 use std::alloc::{AllocError, Global};
 use std::fmt;
 use thiserror::Error;
-
-/// What was explored: how many seeds, and how many grants their traces have in all.
-#[derive(Clone, Copy, Debug, PartialEq, Eq)]
-pub struct Explored {
-    pub runs: u32,
-    pub grants: u64,
-}
 
 /// Why seeds aren't explored.
 #[derive(Debug, Drop, Error)]
@@ -72,7 +64,7 @@ impl From<AllocError> for ExploreFault {
 /// Explores the seeds from 1 on, so many of them: each draws so many events in the new world of the
 /// plan above the base, and its trace is checked to be a run of the model. Ends at the first seed
 /// whose trace is none, or where memory is out: also where an event was skipped or a message lost
-/// for want of it, so that a seed's grants are always the same. No seeds want no memory. `make`
+/// for want of it, so that a seed's trace is always the same. No seeds want no memory. `make`
 /// gives a bank of that plan and base without grants or open requests. One seed's world is kept
 /// at a time (docs/ANSWERS.md, "Exploring").
 pub fn explore<'p, B: Bank + Drop, F: Fn() -> Result<B, AllocError>>(
@@ -82,25 +74,21 @@ pub fn explore<'p, B: Bank + Drop, F: Fn() -> Result<B, AllocError>>(
     base: Number,
     seeds: u32,
     count: u32,
-) -> Result<Explored, ExploreFault>
+) -> Result<Checked, ExploreFault>
     requires base { base < last_number }
     requires callable { F.IsAlwaysCallable make }
     requires unasked { (bank : B) → F.post make (Ok bank)
         → IsUnasked plan.now base (content_of (B.kept bank)) }
-    ensures runs { IfOk result (λ done. done.runs ≡ seeds) }
-    ensures explored { IfOk result (λ done. AreExplored (IsSharedBy B.kept (F.post make)) plan.now
-        base count seeds done.grants) }
+    ensures explored { IfOk result (AreSeedFigures (IsSharedBy B.kept (F.post make)) plan.now base
+        count 1 seeds) }
     ensures fault { IfErr result (λ fault. (fault ≡ Memory) × (0 < seeds)) }
 {
-    let mut grants = 0;
+    let mut all = Checked::none(plan.model());
     for done in 0..seeds {
         let checked = explore_seed(alloc, plan, &make, base, done + 1, count)?;
-        grants += checked.grants();
+        all.join(&checked);
     }
-    Ok(Explored {
-        runs: seeds,
-        grants,
-    })
+    Ok(all)
 }
 
 /// Explores one seed, as `explore` does: its trace was checked (docs/ANSWERS.md, "Exploring").
@@ -116,14 +104,13 @@ pub fn explore_seed<'p, B: Bank + Drop, F: Fn() -> Result<B, AllocError>>(
     requires callable { F.IsAlwaysCallable make.now }
     requires unasked { (bank : B) → F.post make.now (Ok bank)
         → IsUnasked plan.now base (content_of (B.kept bank)) }
-    ensures run { IfOk result (IsSeedRun (IsSharedBy B.kept (F.post make.now)) plan.now base count
-        seed) }
-    ensures few { IfOk result (λ grants. grants ≤ count) }
+    ensures explored { IfOk result (AreSeedFigures (IsSharedBy B.kept (F.post make.now)) plan.now
+        base count seed 1) }
     ensures fault { IfErr result (λ fault. fault ≡ Memory) }
 {
     let mut world = new_world(alloc, plan, make, base)?;
     let report = run_seed(&mut world, u64::from(seed), count);
-    let checked = Checked::of(alloc, plan.model(), base, seed, world.trace())?;
+    let checked = Checked::of(alloc, plan.model(), base, seed, world.trace(), report)?;
     if !is_whole(&report) {
         return Err(ExploreFault::Memory);
     }

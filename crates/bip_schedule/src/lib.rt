@@ -13,7 +13,7 @@ mod writing;
 
 pub use checking::Checked;
 pub use drawing::event_of;
-pub use exploring::{ExploreFault, Explored, explore, explore_seed};
+pub use exploring::{ExploreFault, explore, explore_seed};
 pub use following::Schedule;
 pub use laws::schedule_laws;
 pub use schedules::read_schedule;

@@ -45,8 +45,10 @@ pub fn seeded<'p, B: Bank>(
 
 /// Does what `seeded` does, and keeps no list of the events.
 pub(crate) fn run_seed<'p, B: Bank>(world: &mut World<'p, B>, seed: u64, count: u32) -> Report
-    ensures { (events : List Event) × AreSeeded seed count events (world_of world.old)
+    ensures drawn { (events : List Event) × AreSeeded seed count events (world_of world.old)
         (world_of world.new) result }
+    ensures counted { result.events ≡ count }
+    ensures adds_up { AddsUp result }
 {
     let mut words = generator_of(seed);
     let mut report = Report::empty();

@@ -1,19 +1,19 @@
 -- What is told on the way while seeds are explored, and the answers.
-use Rattle.std.proofs.Common.{◌≡◌, ◌∙◌, ◌+◌, ◌++◌, ◌∷◌, add-one, ap, ℕ, true, false, List, []}
+use Rattle.std.proofs.Common.{◌≡◌, ◌+◌, ◌++◌, ◌∷◌, add-one, ℕ, true, false, List, []}
 use Rattle.std.proofs.Common.{Result, Ok, Err, refl, subst, sym}
 use Rattle.std.specs.Prelude.{IfOk}
 use Rattle.bip_partition.specs.Plans.{Planned}
 use Rattle.bip_bank.specs.Sharing.{Sharing}
-use Rattle.bip_schedule.specs.Exploring.{AreExplored, IsSeedRun}
+use Rattle.bip_schedule.proofs.FigureLemmas.{figures_shared}
+use Rattle.bip_schedule.specs.Exploring.{AreSeedFigures, SeedFigures}
 use Rattle.bip_schedule.specs.declared.exploring.ExploreFault.{ExploreFault}
-use Rattle.bipr.specs.Answers.{saying}
 use Rattle.bipr.specs.Explored.{IsExploreAnswer, IsProgressAt, IsProgressUntil, by_count}
-use Rattle.bipr.specs.Explored.{ends_hundredth, explored, more_progress, told_at}
+use Rattle.bipr.specs.Explored.{ends_hundredth, explored, exploring_stats, more_progress, told_at}
 use Rattle.bipr.specs.Resolvers.{IsSharedAtFirst}
+use Rattle.bipr.specs.Scheduled.{reporting}
 use Rattle.bipr.specs.Streams.{Put, texts}
 use Rattle.bipr.specs.Wording.{progress_text, seeds_text}
 use Rattle.bipr.specs.declared.answers.Answer.{Answer}
-use Rattle.bipr.specs.declared.answers.Status.TheVariants.{Done}
 use Rattle.bipr.specs.declared.commands.explore.ExploreArguments.{ExploreArguments}
 
 -- the line of a hundredth, or none
@@ -53,35 +53,22 @@ told_more asked done told more so here =
     subst (λ (n : ℕ). IsProgressAt asked n more → IsProgressUntil asked n (told ++ more))
     (sym (add-one done)) (more_progress done told more so) here
 
--- that all are runs is said
-pub explored_said : (p : Planned) (asked : ExploreArguments) (grants : ℕ) (told : List Put)
-    (answer : Answer) (text : List ℕ)
-    → AreExplored (IsSharedAtFirst asked.resolver p) p 0 asked.events asked.seeds grants
+-- that all are runs is said, with what they come to
+pub explored_said : (p : Planned) (asked : ExploreArguments) (figures : SeedFigures)
+    (told : List Put) (answer : Answer)
+    → AreSeedFigures (IsSharedAtFirst asked.resolver p) p 0 asked.events 1 asked.seeds figures
     → IsProgressUntil asked asked.seeds (texts told)
-    → answer ≡ saying Done text → text ≡ seeds_text asked.seeds
+    → answer ≡ reporting (seeds_text asked.seeds)
+    (exploring_stats p.model asked.with_stats figures)
     → IsExploreAnswer p asked told answer
-explored_said p asked grants told answer text so lines said spelled =
-    subst (IsExploreAnswer p asked told) (sym (said ∙ ap (saying Done) spelled))
-    (explored grants told so lines)
+explored_said p asked figures told answer so lines said =
+    subst (IsExploreAnswer p asked told) (sym said) (explored figures told so lines)
 
--- the run of a seed with a bank that may be made is one with what its stations share
-pub shared_run : (shares others : Sharing → Type 0) (p : Planned) (count seed : ℕ)
-    (result : Result ℕ ExploreFault) → ((x : Sharing) → shares x → others x)
-    → IfOk result (IsSeedRun shares p 0 count seed) → IfOk result (IsSeedRun others p 0 count seed)
-shared_run shares others p count seed (Ok grants) is run = record {
-  trace = run.trace;
-  of_seed = record {
-    first = run.of_seed.first;
-    last = run.of_seed.last;
-    events = run.of_seed.events;
-    report = run.of_seed.report;
-    new = run.of_seed.new;
-    shared = is run.of_seed.first.bank.sharing run.of_seed.shared;
-    seeded = run.of_seed.seeded;
-    is = run.of_seed.is;
-  };
-  whole = run.whole;
-  run = run.run;
-  counted = run.counted;
-}
-shared_run shares others p count seed (Err fault) is run = tt
+-- seeds that are explored with a bank that may be made are, with what its stations share
+pub shared_figures : (shares others : Sharing → Type 0) (p : Planned) (count seed : ℕ)
+    (result : Result SeedFigures ExploreFault) → ((x : Sharing) → shares x → others x)
+    → IfOk result (AreSeedFigures shares p 0 count seed 1)
+    → IfOk result (AreSeedFigures others p 0 count seed 1)
+shared_figures shares others p count seed (Ok figures) is so =
+    figures_shared shares others p 0 count is seed 1 figures so
+shared_figures shares others p count seed (Err fault) is so = tt

@@ -16,7 +16,7 @@ use Rattle.bip_partition.specs.Plans.{Planned}
 use Rattle.bip_replay.specs.Writing.{text_of}
 use Rattle.bip_schedule.proofs.DrawLemmas.{seeded_run}
 use Rattle.bip_schedule.proofs.LawLemmas.{one_schedule, one_seed_trace}
-use Rattle.bip_schedule.specs.Exploring.{IsSeedRun}
+use Rattle.bip_schedule.specs.Exploring.{IsSeedRun, SeedRun}
 use Rattle.bip_schedule.specs.Schedules.{IsEventText}
 use Rattle.bipr.specs.Laws.{OneStepsAnswer, OneTraceOfASeed, SeedsAreSteps, ToldOrNot}
 use Rattle.bipr.specs.Resolvers.{IsSharedAtFirst}
@@ -83,11 +83,11 @@ told_or_not p base resolver schedule report other told a b one two whole so =
     one_steps_answer p base resolver schedule report other a b one.stepped two whole so
 
 -- a run of a seed by what its stations share
-shared_as : (resolver : Resolver) (p : Planned) (count seed n : ℕ) (x : Sharing)
+shared_as : (resolver : Resolver) (p : Planned) (count seed : ℕ) (n : SeedRun) (x : Sharing)
     → IsSharedAtFirst resolver p x → IsSeedRun (IsSharedAtFirst resolver p) p 0 count seed n
     → IsSeedRun (λ y. y ≡ x) p 0 count seed n
 shared_as resolver p count seed n x first run = record {
-  trace = run.trace;
+  named = run.named;
   of_seed = record {
     first = run.of_seed.first;
     last = run.of_seed.last;
@@ -98,9 +98,10 @@ shared_as resolver p count seed n x first run = record {
     seeded = run.of_seed.seeded;
     is = run.of_seed.is;
   };
+  reported = run.reported;
   whole = run.whole;
-  run = run.run;
-  counted = run.counted;
+  is_run = run.is_run;
+  stuck = run.stuck;
 }
 
 pub one_trace_of_a_seed : OneTraceOfASeed

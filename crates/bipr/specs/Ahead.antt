@@ -1,20 +1,18 @@
 -- What is explored ahead of the seed whose turn it is: rounds of blocks of seeds.
-use Rattle.std.specs.Prelude.{ℕ, length, max, min, slice_index, ◌%◌, ◌*◌, ◌+◌, ◌-◌, ◌/◌, ◌<◌, ◌≤◌}
+use Rattle.std.specs.Prelude.{All, Some, ℕ, length, max, min, slice_get, ◌*◌, ◌+◌, ◌-◌, ◌/◌, ◌<◌}
+use Rattle.std.specs.Prelude.{◌≡◌, ◌≤◌}
 use Rattle.bip_partition.specs.Plans.{Planned}
-use Rattle.bip_schedule.specs.Exploring.{IsSeedRun}
+use Rattle.bip_schedule.specs.Exploring.{AreSeedFigures, SeedFigures}
 use Rattle.bipr.specs.Resolvers.{IsSharedAtFirst}
 use Rattle.bipr.specs.declared.ahead.Ahead.{Ahead}
 use Rattle.bipr.specs.declared.commands.explore.ExploreArguments.{ExploreArguments}
 
--- a seed is explored, with a resolver's bank: its trace is a run of the model
-abbrev pub IsExplored : Planned → ExploreArguments → ℕ → Type 0
-IsExplored p asked seed = (grants : ℕ)
-    × IsSeedRun (IsSharedAtFirst asked.resolver p) p 0 asked.events seed grants
-
--- behind so many seeds, so many are explored
-abbrev pub AreExploredBehind : Planned → ExploreArguments → ℕ → ℕ → Type 0
-AreExploredBehind p asked from count =
-    (place : ℕ) → place < count → IsExplored p asked (from + place + 1)
+-- figures are those of the seeds behind so many, explored with a resolver's bank: of as many of
+-- them as they count
+abbrev pub AreExploredBehind : Planned → ExploreArguments → ℕ → SeedFigures → Type 0
+AreExploredBehind p asked from figures =
+    AreSeedFigures (IsSharedAtFirst asked.resolver p) p 0 asked.events (from + 1)
+    figures.tally.traces figures
 
 -- how many seeds of so many events a block has, of those that are left for so many blocks: an
 -- eighth of its share, and no more than have four million events; but one at least
@@ -29,18 +27,19 @@ round_end asked jobs done =
     let blocks = min jobs left in
     done + blocks * block_size left blocks asked.events
 
--- blocks stand one behind the other, up to the round's last seed at most, and of each those seeds
--- are explored that it says
+-- blocks stand one behind the other, up to the round's last seed at most, and of each the first
+-- seeds are explored, with these figures
 pub record AreAhead (p : Planned) (asked : ExploreArguments) (ahead : Ahead) : Type 0 where
   pub sized : 0 < ahead.size
-  pub within : ahead.from + length ahead.explored.items * ahead.size ≤ ahead.last
-  pub explored : (block : ℕ) → block < length ahead.explored.items
-      → AreExploredBehind p asked (ahead.from + block * ahead.size)
-      (slice_index ahead.explored.items block)
+  pub within : ahead.from + length ahead.blocks.items * ahead.size ≤ ahead.last
+  pub ends : ahead.last ≤ asked.seeds
+  pub few : All (λ (block : SeedFigures). block.tally.traces ≤ ahead.size) ahead.blocks.items
+  pub explored : (place : ℕ) (block : SeedFigures) → slice_get ahead.blocks.items place ≡ Some block
+      → AreExploredBehind p asked (ahead.from + place * ahead.size) block
 
--- the seed behind so many stands in a block, among those of its first seeds that are explored
-pub record IsAhead (ahead : Ahead) (done : ℕ) : Type 0 where
-  pub behind : ahead.from ≤ done
-  pub within : (done - ahead.from) / ahead.size < length ahead.explored.items
-  pub explored : (done - ahead.from) % ahead.size
-      < slice_index ahead.explored.items ((done - ahead.from) / ahead.size)
+-- these are the figures of the block that stands behind so many seeds, of which some are explored
+pub record IsBlockBehind (ahead : Ahead) (done : ℕ) (block : SeedFigures) : Type 0 where
+  pub place : ℕ
+  pub at : slice_get ahead.blocks.items place ≡ Some block
+  pub behind : done ≡ ahead.from + place * ahead.size
+  pub some : 0 < block.tally.traces

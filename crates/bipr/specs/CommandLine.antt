@@ -118,13 +118,16 @@ pub record IsExploreAsked (values : List Row) (arguments : ExploreArguments) : T
   pub events : IsNumberAsked values (codes "events") 32 arguments.events
   pub progress : IsFlagAsked values (codes "progress") arguments.is_told
   pub jobs : MayAskNumber values (codes "jobs") 32 arguments.jobs
+  pub stats : IsFlagAsked values (codes "stats") arguments.with_stats
 
 -- the values behind `walk` ask
 pub record IsWalkAsked (values : List Row) (arguments : WalkArguments) : Type 0 where
   pub model : first_of (codes "model") values ≡ Some arguments.model.now
-  pub seed : IsNumberAsked values (codes "seed") 32 arguments.seed
+  pub seed : MayAskNumber values (codes "seed") 32 arguments.seed
+  pub seeds : MayAskNumber values (codes "seeds") 32 arguments.seeds
   pub grants : IsNumberAsked values (codes "grants") 32 arguments.grants
   pub base : IsBaseAsked values arguments.base
+  pub stats : IsFlagAsked values (codes "stats") arguments.with_stats
 
 -- the values behind `seed` ask
 pub record IsSeedAsked (values : List Row) (arguments : SeedArguments) : Type 0 where

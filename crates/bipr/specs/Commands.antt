@@ -1,6 +1,6 @@
 -- What the program may answer to the words of a command line.
-use Rattle.std.specs.Prelude.{◌≡◌, ◌≢◌, Bool, List, [], ℕ, Option, Some, false, Result, Ok, Err}
-use Rattle.std.specs.Prelude.{codes}
+use Rattle.std.specs.Prelude.{◌≡◌, ◌≢◌, Bool, List, [], ℕ, Option, None, Some, false, Result, Ok}
+use Rattle.std.specs.Prelude.{Err, codes}
 use Rattle.std.specs.declared.io.Error as io_error
 use Rattle.clap.specs.Words.{Row, Text}
 use Rattle.clap.specs.declared.error.Error.{Error}
@@ -22,10 +22,11 @@ use Rattle.bipr.specs.Renderings.{IsRenderingAnswer}
 use Rattle.bipr.specs.Resolvers.{NeedsCentral}
 use Rattle.bipr.specs.Scheduled.{IsScheduleAnswered}
 use Rattle.bipr.specs.Seeds.{IsSeedAnswer}
-use Rattle.bipr.specs.Stops.{bad_base, bad_range, out_of_memory, words_need_central}
+use Rattle.bipr.specs.Stops.{bad_base, bad_range, bad_seeds, out_of_memory}
+use Rattle.bipr.specs.Stops.{words_need_central}
 use Rattle.bipr.specs.Streams.{Put, Puts}
 use Rattle.bipr.specs.Views.{IsViewed, verdict_view}
-use Rattle.bipr.specs.Walked.{IsWalkAnswer}
+use Rattle.bipr.specs.Walked.{IsWalkAnswer, walks_of}
 use Rattle.bipr.specs.declared.answers.Answer.{Answer}
 use Rattle.bipr.specs.declared.answers.Status.{Status}
 use Rattle.bipr.specs.declared.commands.Command.{Command}
@@ -45,6 +46,7 @@ use Rattle.bipr.specs.declared.inputs.InputFault.{InputFault}
 use Rattle.bipr.specs.declared.renderings.Rendering.{Rendering}
 use Rattle.bipr.specs.declared.renderings.Rendering.TheVariants.{Canonical, Drawing}
 use Rattle.bipr.specs.declared.resolvers.HostForm.{HostForm}
+use Rattle.bipr.specs.declared.walked.Walks.{Walks}
 
 -- Below, reading the text that a path names may give what `gives` says, and running the nodes of a
 -- plan in a form, for so many turns each, what `hosts` says.
@@ -109,11 +111,17 @@ abbrev pub IsSeedWritten : (List ℕ → Result (List ℕ) InputFault → Type 0
 IsSeedWritten gives asked =
     OfText gives asked.model.now (λ model. OfPlan model (λ p. Silently (IsSeedAnswer p asked)))
 
--- the walk of the model
-abbrev pub IsWalkWritten : (List ℕ → Result (List ℕ) InputFault → Type 0) → WalkArguments
-    → List Put → Answer → Type 0
-IsWalkWritten gives asked =
-    OfText gives asked.model.now (λ model. OfPlan model (λ p. Silently (IsWalkAnswer p asked)))
+-- the walks of the model
+pub data AreWalksWritten (gives : List ℕ → Result (List ℕ) InputFault → Type 0)
+    (asked : WalkArguments) : List Put → Answer → Type 0 where
+  -- not just one of a seed and of how many seeds is said: no path is read
+  unclear : walks_of asked.seed asked.seeds ≡ None → AreWalksWritten gives asked [] bad_seeds
+  -- these walks of the plan of the text that the path names
+  clear : (walks : Walks) (told : List Put) (answer : Answer)
+      → walks_of asked.seed asked.seeds ≡ Some walks
+      → OfText gives asked.model.now
+      (λ model. OfPlan model (λ p. Silently (IsWalkAnswer p asked walks))) told answer
+      → AreWalksWritten gives asked told answer
 
 -- the run of nodes as threads
 pub data IsThreadedRun (gives : List ℕ → Result (List ℕ) InputFault → Type 0)
@@ -168,7 +176,7 @@ IsSaidTo command.Seed values gives hosts =
 IsSaidTo command.Run values gives hosts =
     IsAnsweredTo (IsRunAsked values) (IsThreadedRun gives hosts)
 IsSaidTo command.Walk values gives hosts =
-    IsAnsweredTo (IsWalkAsked values) (IsWalkWritten gives)
+    IsAnsweredTo (IsWalkAsked values) (AreWalksWritten gives)
 
 -- what words that name a command, with the values behind it, may tell on the way and answer; those
 -- that name none are refused as if the base were out of range

@@ -2,16 +2,17 @@
 use Rattle.std.specs.Prelude.{List, [], ℕ, zero, suc, nat_lt, if◌then◌else◌, ◌&&◌, ◌*◌, ◌++◌}
 use Rattle.std.specs.Prelude.{Bool, ◌-◌, ◌/◌, ◌∷◌, ◌≡◌, ◌≤◌, false, true}
 use Rattle.bip_partition.specs.Plans.{Planned}
-use Rattle.bip_schedule.specs.Exploring.{AreExplored}
+use Rattle.bip_draw.specs.Tallies.{tally_text}
+use Rattle.bip_model.specs.declared.parts.System.{System}
+use Rattle.bip_schedule.specs.Exploring.{AreSeedFigures, SeedFigures}
 use Rattle.bip_schedule.specs.declared.exploring.ExploreFault.TheVariants as explore_fault
 use Rattle.bip_schedule.specs.declared.exploring.ExploreFault.{ExploreFault}
-use Rattle.bipr.specs.Answers.{saying}
 use Rattle.bipr.specs.Resolvers.{IsSharedAtFirst}
+use Rattle.bipr.specs.Scheduled.{reporting}
 use Rattle.bipr.specs.Stops.{out_of_memory}
 use Rattle.bipr.specs.Streams.{Put, texts}
-use Rattle.bipr.specs.Wording.{progress_text, seeds_text, timed_text}
+use Rattle.bipr.specs.Wording.{progress_text, report_text, seeds_text, timed_text}
 use Rattle.bipr.specs.declared.answers.Answer.{Answer}
-use Rattle.bipr.specs.declared.answers.Status.TheVariants.{Done}
 use Rattle.bipr.specs.declared.commands.explore.ExploreArguments.{ExploreArguments}
 use Rattle.bipr.specs.declared.stops.Stop.TheVariants as stop
 use Rattle.bipr.specs.declared.stops.Stop.{Stop}
@@ -41,17 +42,25 @@ pub data IsProgressUntil (asked : ExploreArguments) : ℕ → List (List ℕ) �
   more_progress : (done : ℕ) (told more : List (List ℕ)) → IsProgressUntil asked done told
       → IsProgressAt asked (suc done) more → IsProgressUntil asked (suc done) (told ++ more)
 
+-- what is said beside the answer, where that is asked for: the sums of the reports of the seeds,
+-- and the tally of their traces
+abbrev pub exploring_stats : System → Bool → SeedFigures → List ℕ
+exploring_stats m true figures = report_text figures.report ++ tally_text m figures.tally
+exploring_stats m false figures = []
+
 -- the answer to exploring a plan with a resolver's bank, and what is told on the way
 pub data IsExploreAnswer (p : Planned) (asked : ExploreArguments) :
     List Put → Answer → Type 0 where
-  -- the trace of each seed is a run of the model: that one is none can't be
-  explored : (grants : ℕ) (told : List Put)
-      → AreExplored (IsSharedAtFirst asked.resolver p) p 0 asked.events asked.seeds grants
+  -- the trace of each seed is a run of the model: that one is none can't be; and these are the
+  -- figures of all
+  explored : (figures : SeedFigures) (told : List Put)
+      → AreSeedFigures (IsSharedAtFirst asked.resolver p) p 0 asked.events 1 asked.seeds figures
       → IsProgressUntil asked asked.seeds (texts told)
-      → IsExploreAnswer p asked told (saying Done (seeds_text asked.seeds))
+      → IsExploreAnswer p asked told
+      (reporting (seeds_text asked.seeds) (exploring_stats p.model asked.with_stats figures))
   -- so many seeds are explored, and memory is out
-  ends_without_memory : (done grants : ℕ) (told : List Put) → done ≤ asked.seeds
-      → AreExplored (IsSharedAtFirst asked.resolver p) p 0 asked.events done grants
+  ends_without_memory : (done : ℕ) (figures : SeedFigures) (told : List Put) → done ≤ asked.seeds
+      → AreSeedFigures (IsSharedAtFirst asked.resolver p) p 0 asked.events 1 done figures
       → IsProgressUntil asked done (texts told)
       → IsExploreAnswer p asked told out_of_memory
 

@@ -14,7 +14,7 @@ use Rattle.bip_replay.specs.Writing.{text_of}
 use Rattle.bip_replay.specs.declared.faults.BookFault.{BookFault}
 use Rattle.bip_replay.specs.declared.faults.ReplayFault.TheVariants as replay_fault
 use Rattle.bip_replay.specs.declared.faults.TraceFault.{TraceFault}
-use Rattle.bip_schedule.specs.Exploring.{IsSeedRun}
+use Rattle.bip_schedule.specs.Exploring.{IsSeedRun, SeedRun}
 use Rattle.bip_schedule.specs.Laws.{IsFault}
 use Rattle.bip_schedule.specs.Schedules.{IsEventText}
 use Rattle.bipr.specs.Answers.{HasPlan, IsAnswer, IsCheckAnswer, IsRefusedModel, complaining}
@@ -104,10 +104,10 @@ ToldOrNot =
 -- with each resolver, a seed that is explored again does the same events, and has the same trace
 abbrev pub OneTraceOfASeed : Type 0
 OneTraceOfASeed =
-    (p : Planned) (resolver : Resolver) (count seed m n : ℕ)
+    (p : Planned) (resolver : Resolver) (count seed : ℕ) (m n : SeedRun)
     → (one : IsSeedRun (IsSharedAtFirst resolver p) p 0 count seed m)
     → (other : IsSeedRun (IsSharedAtFirst resolver p) p 0 count seed n)
-    → (one.of_seed.events ≡ other.of_seed.events) × (one.trace ≡ other.trace) × (m ≡ n)
+    → (one.of_seed.events ≡ other.of_seed.events) × (m.traced ≡ n.traced)
 
 -- the steps of a seed's schedule are the seed's: with its resolver they have its trace and its
 -- report, where no event was skipped and no message lost

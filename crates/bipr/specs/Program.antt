@@ -102,8 +102,8 @@ abbrev pub explore_command : Bor (List (Bor Text)) → Shape
 explore_command resolvers = with_arguments (codes "explore")
     (path (codes "model") ∷ resolver_option resolvers
     ∷ needed (codes "seeds") (numbers 1 1000000) ∷ needed (codes "events") (numbers 0 1000000)
-    ∷ flag (codes "progress") ∷ option (codes "jobs") (numbers 1 256) ∷ flag (codes "explain")
-    ∷ [])
+    ∷ flag (codes "progress") ∷ option (codes "jobs") (numbers 1 256) ∷ flag (codes "stats")
+    ∷ flag (codes "explain") ∷ [])
 
 abbrev pub run_command : Bor (List (Bor Text)) → Bor (List (Bor Text)) → Shape
 run_command resolvers tables = with_arguments (codes "run")
@@ -118,8 +118,9 @@ seed_command resolvers = with_arguments (codes "seed")
 
 abbrev pub walk_command : Shape
 walk_command = with_arguments (codes "walk")
-    (path (codes "model") ∷ needed (codes "seed") (numbers 1 1000000)
-    ∷ needed (codes "grants") (numbers 0 1000000) ∷ base_option ∷ flag (codes "explain") ∷ [])
+    (path (codes "model") ∷ option (codes "seed") (numbers 1 1000000)
+    ∷ option (codes "seeds") (numbers 1 1000000) ∷ needed (codes "grants") (numbers 0 1000000)
+    ∷ base_option ∷ flag (codes "stats") ∷ flag (codes "explain") ∷ [])
 
 -- the program without its commands
 abbrev pub bare_program : Shape

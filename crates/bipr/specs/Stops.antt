@@ -66,6 +66,10 @@ bad_base = bad_command_line (codes "error: --base is 0 to 18446744073709551614" 
 abbrev pub bad_range : Answer
 bad_range = bad_command_line (codes "error: --from is 1 to --to" ++ line_feed ∷ [])
 
+-- what is said where not just one of a seed and of how many seeds is
+abbrev pub bad_seeds : Answer
+bad_seeds = bad_command_line (codes "error: a walk has --seed or --seeds" ++ line_feed ∷ [])
+
 -- what is said where row words are asked for without the central bank, and where more components
 -- have a row than these can
 abbrev pub words_need_central : Answer
@@ -85,6 +89,7 @@ answer_of_stop (stop.CannotRead path) = complaining Refused (unread_text path.no
 answer_of_stop stop.CannotWrite = complaining Refused unwritten_text
 answer_of_stop stop.BaseOutOfRange = bad_base
 answer_of_stop stop.RowsOutOfOrder = bad_range
+answer_of_stop stop.SeedOrSeeds = bad_seeds
 answer_of_stop stop.WordsNeedCentral = words_need_central
 answer_of_stop stop.TooManyRows = too_many_rows
 answer_of_stop stop.ScheduleTooLong = long_schedule

@@ -25,6 +25,11 @@ run_text count = codes "run " ++ (decimal count ++ line_feed ∷ [])
 abbrev pub stuck_text : ℕ → List ℕ
 stuck_text count = codes "nothing may run after " ++ (decimal count ++ codes " grants\n")
 
+-- `walks K grants G`
+abbrev pub walks_text : ℕ → ℕ → List ℕ
+walks_text walks grants =
+    codes "walks " ++ (decimal walks ++ (codes " grants " ++ (decimal grants ++ line_feed ∷ [])))
+
 -- the word behind `grant` on the line of a trace with this number, which names the interaction
 abbrev pub interaction_on : List ℕ → ℕ → List ℕ
 interaction_on trace number = slice_index_or (words (line_at trace number)) 1 []

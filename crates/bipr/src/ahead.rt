@@ -1,10 +1,10 @@
 //! Seeds that are explored ahead of the one whose turn it is, by threads.
-ghost use Rattle.std.specs.Prelude.{◌≡◌, ◌↔◌, ◌+◌, ◌*◌, ◌<◌, ◌≤◌, ◌^◌, IfErr, IfNone, IfOk, IfSome};
-ghost use Rattle.std.specs.Prelude.{IsTrue, OnOk, length};
-ghost use Rattle.bip_schedule.specs.Exploring.{IsSeedRun};
+ghost use Rattle.std.specs.Prelude.{◌≡◌, ◌+◌, ◌*◌, ◌<◌, ◌≤◌, ◌^◌, IfErr, IfNone, IfOk, IfSome};
+ghost use Rattle.std.specs.Prelude.{OnErr, OnOk, length};
+ghost use Rattle.bip_schedule.specs.Exploring.{AreSeedFigures};
 ghost use Rattle.bip_schedule.specs.declared.exploring.ExploreFault.TheVariants.{Memory};
-ghost use Rattle.bipr.specs.Ahead.{AreAhead, AreExploredBehind, IsAhead, IsExplored};
-ghost use Rattle.bipr.specs.Ahead.{block_size, round_end};
+ghost use Rattle.bipr.specs.Ahead.{AreAhead, AreExploredBehind, IsBlockBehind, block_size};
+ghost use Rattle.bipr.specs.Ahead.{round_end};
 ghost use Rattle.bipr.specs.Resolvers.{IsSharedAtFirst};
 
 use crate::commands::explore::ExploreArguments;
@@ -30,20 +30,20 @@ const LARGEST_BLOCK: u32 = 4_000_000;
 const ROUNDS: u32 = 8;
 
 /// What was explored ahead, in a round of blocks: behind the first `from` seeds stands a block of
-/// `size` seeds for each thread, of which so many of the first were explored. The round's last seed
-/// is the one with the number `last`, whatever was explored.
+/// `size` seeds for each thread, of which the first were explored, with these figures. The round's
+/// last seed is the one with the number `last`, whatever was explored.
 #[derive(Drop)]
 pub struct Ahead {
     from: u32,
     size: u32,
     last: u32,
-    explored: Vec<u32>,
+    blocks: Vec<Checked>,
 }
 
 impl Ahead {
     /// Nothing that was explored ahead, in a round with this last seed.
     pub fn nothing(alloc: Global, last: u32) -> Ahead
-        ensures none { length result.explored.items ≡ 0 }
+        ensures none { length result.blocks.items ≡ 0 }
         ensures sized { 0 < result.size }
         ensures first { result.from ≡ 0 }
         ensures last { result.last ≡ last }
@@ -52,22 +52,24 @@ impl Ahead {
             from: 0,
             size: 1,
             last,
-            explored: Vec::new(alloc),
+            blocks: Vec::new(alloc),
         }
     }
 
-    /// Whether the seed behind so many was explored ahead.
-    pub fn reaches(&self, done: u32) -> bool
+    /// What was explored of the block behind so many seeds: some of them.
+    fn block_behind(&self, done: u32) -> Option<&Checked>
         requires { 0 < self.now.size }
-        ensures { IsTrue result ↔ IsAhead self.now done }
+        ensures { IfSome result (λ block. IsBlockBehind self.now done block.now) }
     {
-        let Some(place) = done.checked_sub(self.from) else {
-            return false;
-        };
-        match self.explored.get((place / self.size) as usize) {
-            Some(explored) => place % self.size < *explored,
-            None => false,
+        let place = done.checked_sub(self.from)?;
+        if place % self.size != 0 {
+            return None;
         }
+        let block = self.blocks.get((place / self.size) as usize)?;
+        if block.seeds() == 0 {
+            return None;
+        }
+        Some(block)
     }
 }
 
@@ -109,7 +111,7 @@ pub fn keep_ahead<R: Threads + Sync>(
     ensures alone { jobs ≤ 1 → ahead.new ≡ ahead.old }
     ensures begun { 1 < jobs → ahead.old.last ≤ done
         → ahead.new.last ≡ round_end asked.now jobs done }
-    ensures few { 1 < jobs → ahead.old.last ≤ done → length ahead.new.explored.items ≤ jobs }
+    ensures few { 1 < jobs → ahead.old.last ≤ done → length ahead.new.blocks.items ≤ jobs }
 {
     if jobs > 1 && ahead.last <= done {
         *ahead = explore_ahead(rt, alloc, plan, asked, jobs, done);
@@ -132,7 +134,7 @@ fn explore_ahead<R: Threads + Sync>(
     ensures ahead { AreAhead plan.now asked.now result }
     ensures planned { result.last ≡ round_end asked.now jobs done }
     ensures further { done < result.last }
-    ensures few { length result.explored.items ≤ jobs }
+    ensures few { length result.blocks.items ≤ jobs }
 {
     let left = asked.seeds - done;
     let blocks = jobs.min(left);
@@ -140,31 +142,43 @@ fn explore_ahead<R: Threads + Sync>(
     let last = done + blocks * size;
     let explore = |block: usize| explore_block_of(alloc, plan, asked, done, size, block as u32);
     match thread::map_indices(rt, alloc, blocks as usize, &explore) {
-        Ok(explored) => Ahead {
+        Ok(blocks) => Ahead {
             from: done,
             size,
             last,
-            explored,
+            blocks,
         },
         Err(_) => Ahead::nothing(alloc, last),
     }
 }
 
-/// What becomes of the seed behind so many: its trace is a run, as was seen ahead or is seen now.
-pub fn outcome(
+/// Explores on, to more than so many seeds: joins what was explored ahead of those that are, or
+/// else explores the next one.
+pub fn go_on(
     alloc: Global,
     plan: &Plan,
     asked: &ExploreArguments<'_>,
     ahead: &Ahead,
+    all: &mut Checked,
     done: u32,
 ) -> Result<(), ExploreFault>
     requires left { done < asked.now.seeds }
+    requires reached { done ≤ all.old.tally.traces }
     requires ahead { AreAhead plan.now asked.now ahead.now }
-    ensures run { OnOk result (IsExplored plan.now asked.now (done + 1)) }
+    requires explored { AreExploredBehind plan.now asked.now 0 all.old }
+    ensures explored { AreExploredBehind plan.now asked.now 0 all.new }
+    ensures further { OnOk result (done < all.new.tally.traces) }
+    ensures kept { all.old.tally.traces ≤ asked.now.seeds → all.new.tally.traces ≤ asked.now.seeds }
+    ensures err { OnErr result (all.new ≡ all.old) }
     ensures fault { IfErr result (λ fault. fault ≡ Memory) }
 {
-    if !ahead.reaches(done) {
-        explore_one(alloc, plan, asked, done + 1)?;
+    let _seeds = asked.seeds;
+    if all.seeds() > done {
+        return Ok(());
+    }
+    match ahead.block_behind(done) {
+        Some(block) => all.join(block),
+        None => all.join(&explore_one(alloc, plan, asked, done + 1)?),
     }
     Ok(())
 }
@@ -189,32 +203,35 @@ fn explore_block_of(
     from: u32,
     size: u32,
     block: u32,
-) -> u32
+) -> Checked
     requires { from + block * size + size < 2 ^ 32 }
-    ensures { AreExploredBehind plan.now asked.now (from + block * size) result }
+    ensures few { result.tally.traces ≤ size }
+    ensures explored { AreExploredBehind plan.now asked.now (from + block * size) result }
 {
     explore_block(alloc, plan, asked, from + block * size, size)
 }
 
-// Explores a block of seeds behind so many, one after another, and says how many of the first were
-// explored: all, or those before the first that wasn't.
+// Explores a block of seeds behind so many, one after another: all, or those before the first that
+// isn't explored.
 fn explore_block(
     alloc: Global,
     plan: &Plan,
     asked: &ExploreArguments<'_>,
     from: u32,
     size: u32,
-) -> u32
+) -> Checked
     requires { from + size < 2 ^ 32 }
-    ensures few { result ≤ size }
+    ensures few { result.tally.traces ≤ size }
     ensures explored { AreExploredBehind plan.now asked.now from result }
 {
+    let mut block = Checked::none(plan.model());
     for done in 0..size {
-        let Ok(_) = explore_one(alloc, plan, asked, from + done + 1) else {
-            return done;
+        let Ok(checked) = explore_one(alloc, plan, asked, from + done + 1) else {
+            return block;
         };
+        block.join(&checked);
     }
-    size
+    block
 }
 
 // Explores one seed from base 0, with a resolver's new bank.
@@ -224,8 +241,8 @@ fn explore_one(
     asked: &ExploreArguments<'_>,
     seed: u32,
 ) -> Result<Checked, ExploreFault>
-    ensures run { IfOk result (IsSeedRun (IsSharedAtFirst asked.now.resolver plan.now) plan.now 0
-        asked.now.events seed) }
+    ensures explored { IfOk result (AreSeedFigures (IsSharedAtFirst asked.now.resolver plan.now)
+        plan.now 0 asked.now.events seed 1) }
     ensures fault { IfErr result (λ fault. fault ≡ Memory) }
 {
     match asked.resolver {

@@ -11,8 +11,8 @@ ghost use Rattle.bipr.specs.Streams.{Puts};
 use crate::answers::{Answer, Status};
 use crate::invocations::Invocation;
 use crate::stops::{
-    BAD_BASE, BAD_RANGE, CANNOT_WRITE, NO_MEMORY, NO_THREAD, NOT_A_RUN, SCHEDULE_TOO_LONG, Stop,
-    TOO_MANY_ROWS, WORDS_NEED_CENTRAL, unread_text,
+    BAD_BASE, BAD_RANGE, BAD_SEEDS, CANNOT_WRITE, NO_MEMORY, NO_THREAD, NOT_A_RUN,
+    SCHEDULE_TOO_LONG, Stop, TOO_MANY_ROWS, WORDS_NEED_CENTRAL, unread_text,
 };
 use crate::streams::{Stream, put};
 use crate::wording::seed_verdict;
@@ -64,6 +64,7 @@ impl<R, I, H, O: Stream, E: Stream> Invocation<'_, R, I, H, O, E> {
             Stop::CannotWrite => self.complain(Status::Refused, CANNOT_WRITE),
             Stop::BaseOutOfRange => self.complain(Status::BadCommandLine, BAD_BASE),
             Stop::RowsOutOfOrder => self.complain(Status::BadCommandLine, BAD_RANGE),
+            Stop::SeedOrSeeds => self.complain(Status::BadCommandLine, BAD_SEEDS),
             Stop::WordsNeedCentral => self.complain(Status::BadCommandLine, WORDS_NEED_CENTRAL),
             Stop::TooManyRows => self.complain(Status::Refused, TOO_MANY_ROWS),
             Stop::ScheduleTooLong => self.complain(Status::Refused, SCHEDULE_TOO_LONG),

@@ -197,7 +197,14 @@ none, the answer would be `seed S: not a run`, of the lowest such seed. A seed d
 same steps each time. Where there is memory for all threads, the answer is the same however
 many explore. The steps of one seed are written by `bipr seed`. Most steps that are drawn
 do nothing: with a ring or forks, and with many components, seeds of fewer than 100,000
-steps may grant little or nothing, of which the answer doesn't tell.";
+steps may grant little or nothing, of which the answer doesn't tell. With --stats, standard
+error does: the sums of the reports of all seeds, as `bipr steps` has them; how often each
+interaction is granted, and in how many seeds; and behind how many traces nothing may run,
+with the first of these seeds and how many grants it has:
+
+    events 600 grants 3 refusals 0 idle 593 skipped 0 lost 0
+    granted x 3 seeds 3
+    ended 3 first 1 after 1";
 
 const SEED_ABOUT: &str = "Writes the steps of a seed of `explore` as a schedule";
 
@@ -241,6 +248,18 @@ and then `nothing may run after K grants` goes to standard error. A seed walks t
 each time, and `bipr replay` takes what is written.
 
     bipr walk MODEL --seed 1 --grants 20
+
+With --stats, standard error says what the walk comes to: how often each interaction is granted,
+and whether nothing may run behind the last grant. With --seeds K in place of --seed no trace is
+written, but what the walks of the seeds from 1 to K come to. Of the model of `bipr --help`,
+
+    bipr walk MODEL --seeds 3 --grants 20
+
+writes
+
+    walks 3 grants 3         so many grants in all
+    granted x 3 seeds 3      x, three times, in the walks of three seeds
+    ended 3 first 1 after 1  behind three nothing may run: seed 1 is the first, after one grant
 
 How often an interaction comes is chance's alone: no fairness is meant.";
 
@@ -371,6 +390,7 @@ fn explore<'a>(alloc: Global, resolvers: &'a [&'a str]) -> Result<Command<'a>, A
         .arg(events(alloc))?
         .arg(progress(alloc))?
         .arg(jobs(alloc))?
+        .arg(stats(alloc))?
         .arg(explain(alloc))
 }
 
@@ -394,9 +414,11 @@ fn walk<'a>(alloc: Global) -> Result<Command<'a>, AllocError>
         .about(WALK_ABOUT)
         .after_help(WALK_HELP)
         .arg(model(alloc))?
-        .arg(which_seed(alloc))?
+        .arg(walk_seed(alloc))?
+        .arg(walk_seeds(alloc))?
         .arg(grants(alloc))?
         .arg(base(alloc).help(WALK_BASE))?
+        .arg(stats(alloc))?
         .arg(explain(alloc))
 }
 
@@ -467,6 +489,21 @@ fn which_seed<'a>(alloc: Global) -> Arg<'a>
     number(alloc, "seed", "S", 1, 1_000_000)
         .required(true)
         .help("which seed: 1 to 1000000")
+}
+
+// The options of which seed is walked, and of how many are.
+fn walk_seed<'a>(alloc: Global) -> Arg<'a>
+    ensures { HasRule (option (codes "seed") (numbers 1 1000000)) result }
+{
+    number(alloc, "seed", "S", 1, 1_000_000).help("which seed is walked: 1 to 1000000")
+}
+
+fn walk_seeds<'a>(alloc: Global) -> Arg<'a>
+    ensures { HasRule (option (codes "seeds") (numbers 1 1000000)) result }
+{
+    number(alloc, "seeds", "K", 1, 1_000_000).help(
+        "how many seeds are walked, from 1 on, in place of one: 1 to 1000000",
+    )
 }
 
 // The option of how many grants.
@@ -569,7 +606,7 @@ fn plan<'a>(alloc: Global) -> Arg<'a>
 fn stats<'a>(alloc: Global) -> Arg<'a>
     ensures { HasRule (flag (codes "stats")) result }
 {
-    flag(alloc, "stats").help("write what is counted in one line on standard error")
+    flag(alloc, "stats").help("write what is counted on standard error")
 }
 
 // The option that tells each event.

@@ -19,6 +19,8 @@ pub enum Stop<'a> {
     BaseOutOfRange,
     /// The rows of a chart end before they begin.
     RowsOutOfOrder,
+    /// Not just one of a seed and of how many seeds is said.
+    SeedOrSeeds,
     /// Row words are asked for without the central bank.
     WordsNeedCentral,
     /// More components have a row than row words can.
@@ -52,6 +54,9 @@ pub const NO_THREAD: &[u8] = b"bipr: no thread\n";
 pub const BAD_BASE: &[u8] = b"bipr: bad command line\nerror: --base is 0 to 18446744073709551614\n";
 
 pub const BAD_RANGE: &[u8] = b"bipr: bad command line\nerror: --from is 1 to --to\n";
+
+/// The complaint where not just one of a seed and of how many seeds is said.
+pub const BAD_SEEDS: &[u8] = b"bipr: bad command line\nerror: a walk has --seed or --seeds\n";
 
 /// The complaint where row words are asked for without the central bank; and where more components
 /// have a row than these can.

@@ -8,7 +8,7 @@ ghost use Rattle.bipr.specs.Wording.{progress_text, schedule_refusal, seed_verdi
 ghost use Rattle.bipr.specs.Wording.{asking_text, drawn_text, host_end_text, host_work_text};
 ghost use Rattle.bipr.specs.Wording.{sharing_text, stuck_text};
 ghost use Rattle.bipr.specs.Wording.{pace_text, reached_text, seconds_text, stats_text, step_text};
-ghost use Rattle.bipr.specs.Wording.{timed_text, trace_refusal, verdict_text};
+ghost use Rattle.bipr.specs.Wording.{timed_text, trace_refusal, verdict_text, walks_text};
 
 use crate::hosted::Hosted;
 use crate::progress::Pace;
@@ -74,6 +74,13 @@ pub fn stuck_text(alloc: Global, count: u64) -> Result<Vec<u8>, AllocError>
     ensures { IfOk result (λ text. text.items ≡ stuck_text count) }
 {
     Ok(format!(in alloc; "nothing may run after {count} grants\n")?.into_bytes())
+}
+
+/// `walks K grants G`.
+pub fn walks_text(alloc: Global, walks: u32, grants: u64) -> Result<Vec<u8>, AllocError>
+    ensures { IfOk result (λ text. text.items ≡ walks_text walks grants) }
+{
+    Ok(format!(in alloc; "walks {walks} grants {grants}\n")?.into_bytes())
 }
 
 /// The complaint of a model's text.

@@ -84,8 +84,8 @@ fn explores(rt: &impl Abort, alloc: Global, plan: &Plan, (seeds, reports): (u32,
     let grants = reports
         .iter()
         .fold(0u64, |sum, report| sum.saturating_add(report.grants));
-    assert!(rt; explored.runs == seeds);
-    assert!(rt; explored.grants == grants);
+    assert!(rt; explored.seeds() == seeds && explored.report().events == u64::from(seeds) * 200);
+    assert!(rt; explored.report().grants == grants && explored.tally().grants() == grants);
 }
 
 #[test]
@@ -133,13 +133,13 @@ const SEEDS: (u32, u32) = (20, 2000);
 fn grants_with_central(rt: &impl Abort, alloc: Global, plan: &Plan, grants: u64) {
     let make = || Central::new(alloc, plan, 0);
     let explored = explore(alloc, plan, make, 0, SEEDS.0, SEEDS.1).expect(rt, "runs");
-    assert!(rt; explored.grants == grants);
+    assert!(rt; explored.report().grants == grants);
 }
 
 fn grants_with_forks(rt: &impl Abort, alloc: Global, plan: &Plan, grants: u64) {
     let make = || Forks::new(alloc, plan, 0);
     let explored = explore(alloc, plan, make, 0, SEEDS.0, SEEDS.1).expect(rt, "runs");
-    assert!(rt; explored.grants == grants);
+    assert!(rt; explored.report().grants == grants);
 }
 
 #[test]

@@ -390,12 +390,12 @@ fn explores_counted(rt: &(impl Abort + Print), alloc: Global, plan: &Plan, seeds
     let first = explore(alloc, plan, make, 0, seeds, 200);
     called(rt);
     match first {
-        Ok(done) => assert!(rt; done.runs == seeds && done.grants <= u64::from(seeds)),
+        Ok(done) => assert!(rt; done.seeds() == seeds && done.report().grants <= u64::from(seeds)),
         Err(fault) => assert!(rt; matches!(fault, ExploreFault::Memory)),
     }
     let make = || Central::new(alloc, plan, 0);
     let again = explore(alloc, plan, make, 0, seeds, 200).expect(rt, "memory");
-    assert!(rt; again.runs == seeds && again.grants == u64::from(seeds));
+    assert!(rt; again.seeds() == seeds && again.report().grants == u64::from(seeds));
 }
 
 #[test]

@@ -19,7 +19,8 @@ use std::thread::Threads;
 use std::time::Clock;
 
 /// The exploring of the model that a path names, with a resolver's bank, by the seeds from 1 on,
-/// with so many events each, in so many threads if that is said; and whether progress is told.
+/// with so many events each, in so many threads if that is said; whether progress is told, and
+/// whether what they come to is.
 #[derive(Drop)]
 pub struct ExploreArguments<'p> {
     pub model: &'p str,
@@ -28,6 +29,7 @@ pub struct ExploreArguments<'p> {
     pub events: u32,
     pub is_told: bool,
     pub jobs: Option<u32>,
+    pub with_stats: bool,
 }
 
 impl<'p> ExploreArguments<'p> {
@@ -42,14 +44,15 @@ impl<'p> ExploreArguments<'p> {
             events: number_asked(matches, "events")?,
             is_told: is_set(matches, "progress"),
             jobs: number_asked(matches, "jobs"),
+            with_stats: is_set(matches, "stats"),
         })
     }
 }
 
 impl<R: Threads + Clock + Sync, I: Inputs, H, O, E: Stream> Invocation<'_, R, I, H, O, E> {
     /// Explores the plan of the model that the path names by so many seeds, with the resolver's
-    /// bank, and tells progress on standard error where that is asked for (docs/ANSWERS.md, "The
-    /// exploring that is asked for").
+    /// bank, and tells progress on standard error where that is asked for, and what the seeds come
+    /// to (docs/ANSWERS.md, "The exploring that is asked for").
     pub fn explore<'p>(&mut self, asked: &ExploreArguments<'p>) -> Result<Answer, Stop<'p>>
         ensures says { AllOutcomesTelling E.writes self.old.errors self.new.errors result
             (IsExplore (I.gives self.old.inputs.now) asked.now) }

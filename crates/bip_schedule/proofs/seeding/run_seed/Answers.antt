@@ -23,3 +23,8 @@ loop-preserved g c = (
   drawing_more _ _ _ (world_of c.loop.world) _ _ _ _ _ _ _ c.loop.invariant.1 c.draw.ensures.drawn
       c.draw.ensures.word c.draw.ensures.done c.draw.ensures.adds_up,
 )
+
+pub returns-clause-counted : goal.returns-clause-counted
+returns-clause-counted g c =
+    let counted = drawing_counted _ _ _ _ _ _ _ c.loop.invariant.1 in
+    omega (arith, counted, c.loop-test.false)

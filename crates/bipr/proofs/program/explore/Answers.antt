@@ -26,7 +26,10 @@ returns c =
     let six =
     has_shape _ _ c.jobs.result _ (option (codes "jobs") (numbers 1 256)) five c.jobs.ensures
     c.in_ok-arg-6.ensures in
-    IfOk-weaker c.arg-7.result _ _
+    let seven =
+    has_shape _ _ c.stats.result _ (flag (codes "stats")) six c.stats.ensures
+    c.in_ok-arg-7.ensures in
+    IfOk-weaker c.arg-8.result _ _
     (λ command adds.
-    has_shape _ command c.explain.result _ (flag (codes "explain")) six c.explain.ensures adds)
-    c.arg-7.ensures
+    has_shape _ command c.explain.result _ (flag (codes "explain")) seven c.explain.ensures adds)
+    c.arg-8.ensures

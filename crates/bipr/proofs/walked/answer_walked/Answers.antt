@@ -2,6 +2,7 @@ use Rattle.std.proofs.Common.{length, refl, subst, sym}
 use Rattle.bip_model.specs.Parts.{IsSystem}
 use Rattle.bip_replay.specs.Replays.{IsRunOf}
 use Rattle.bip_replay.specs.Writing.{text_of}
+use Rattle.bip_walk.specs.Tallies.{Traced}
 use Rattle.bip_walk.specs.Walking.{IsWalk}
 use Rattle.bipr.specs.Walked.{walked}
 use Rattle.bipr.proofs.walked.answer_walked.Goals as goal
@@ -15,12 +16,11 @@ write_trace-requires c =
 
 pub returns : goal.returns
 returns c =
-    let walk : IsWalk c.args.plan.now.model c.args.asked.now.base c.args.asked.now.seed
-    c.args.asked.now.grants c.in_ok-book.book.grants =
-    rw c.from.ensures at c.in_ok-book.ensures.walk in
+    let m = c.args.plan.now.model in
     let book = c.in_ok-book.book in
-    let run : IsRunOf c.args.plan.now.model c.args.asked.now.base
-    (text_of c.args.plan.now.model book.grants) (length book.grants) =
+    let walk : IsWalk m c.args.asked.now.base c.args.seed c.args.asked.now.grants book.grants =
+    rw c.from.ensures at c.in_ok-book.ensures.walk in
+    let run : IsRunOf m c.args.asked.now.base (text_of m book.grants) (length book.grants) =
     record {
       grants = book.grants;
       reads =
@@ -33,11 +33,17 @@ returns c =
           rw (c.in_ok-book.ensures.model, c.in_ok-book.ensures.base_is) at c.grants.ensures.run;
       counted = refl;
     } in
+    let beside = rw c.model-2.ensures at c.in_ok-beside.ensures in
+    let traced : Traced = record {
+      seed = c.args.seed;
+      grants = book.grants;
+      is_stuck = beside.is_stuck;
+    } in
     rw (
       c.reported.ensures,
       c.in_ok-trace.ensures.text,
-      c.in_ok-end.ensures,
+      c.in_ok-beside.ensures.is,
       c.model.ensures,
+      c.model-2.ensures,
       c.grants.ensures.grants,
-      c.grants-2.ensures.grants,
-    ) (walked book.grants walk run)
+    ) (walked traced walk beside.stuck run)

@@ -5,13 +5,7 @@ pub returns-in_err-number_asked : goal.returns-in_err-number_asked
 returns-in_err-number_asked c =
     read_none c.from_residual-in_err-number_asked.result _
     c.from_residual-in_err-number_asked.ensures
-    (λ asked is. c.in_err-number_asked.ensures.none asked.seed is.seed)
-
-pub returns-in_err-number_asked-2 : goal.returns-in_err-number_asked-2
-returns-in_err-number_asked-2 c =
-    read_none c.from_residual-in_err-number_asked-2.result _
-    c.from_residual-in_err-number_asked-2.ensures
-    (λ asked is. c.in_err-number_asked-2.ensures.none asked.grants is.grants)
+    (λ asked is. c.in_err-number_asked.ensures.none asked.grants is.grants)
 
 pub returns-in_err-base_asked : goal.returns-in_err-base_asked
 returns-in_err-base_asked c =
