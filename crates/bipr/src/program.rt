@@ -202,7 +202,7 @@ error does: the sums of the reports of all seeds, as `bipr steps` has them; how 
 interaction is granted, and in how many seeds; and behind how many traces nothing may run,
 with the first of these seeds and how many grants it has:
 
-    events 600 grants 3 refusals 0 idle 593 skipped 0 lost 0
+    events 600 grants 3 refusals 0 idle 588 skipped 0 lost 0
     granted x 3 seeds 3
     ended 3 first 1 after 1";
 
