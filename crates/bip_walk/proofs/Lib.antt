@@ -1,4 +1,5 @@
 pub mod ChoiceLemmas
+pub mod RenewLemmas
 pub mod SeedLemmas
 pub mod SurveyLemmas
 pub mod TallyLemmas

@@ -19,7 +19,7 @@ pub record Traced : Type 0 where
 abbrev pub IsStuckAfter : System → List Grant → Bool → Type 0
 IsStuckAfter m gs is_stuck = (is_stuck ≡ true) ↔ NothingMayRun m (state_after m gs)
 
--- what came of the seeds from the first one on, one after another, is so of each
+-- each of a list came of its own seed: the first of this one, and each other one of the next seed
 abbrev pub EachSeed : {X : Type 0} → (ℕ → X → Type 0) → ℕ → List X → Type 0
 EachSeed came first [] = ⊤
 EachSeed came first (x ∷ xs) = came first x × EachSeed came (first + 1) xs

@@ -10,7 +10,7 @@ use Rattle.bip_model.specs.declared.parts.System.{System}
 use Rattle.bip_replay.specs.Book.{Content}
 use Rattle.bip_replay.specs.Runs.{Standing, standing_after}
 use Rattle.bip_walk.specs.Chance.{generator_of}
-use Rattle.bip_walk.specs.Choices.{AreDrawable, CanBeDrawn, IsFullGrant}
+use Rattle.bip_walk.specs.Choices.{TellDrawable, AreDrawable, CanBeDrawn, IsFullGrant}
 
 -- the grant of a word where a run stands: of the interactions that can be drawn it takes the one
 -- whose place is the word modulo their count
@@ -46,6 +46,10 @@ pub record IsBookOfWalk (m : System) (base seed count : ℕ) (b : Content) : Typ
   pub walk : IsWalk m base seed count b.grants
 
 -- What contracts of private functions say.
+
+-- of each interaction whether it can be drawn where a book's grants lead
+abbrev pub TellDrawableOf : Content → List Bool → Type 0
+TellDrawableOf b choices = TellDrawable (standing_after b.model b.base b.grants) choices
 
 -- a book goes on by the grant of a word, or nothing can be drawn
 abbrev pub WalksOn : Content → Lcg → Result Bool AllocError → Content → Lcg → Type 0

@@ -1,10 +1,11 @@
-//! What can be drawn where a run stands, to whom sees all that is looked at.
+//! Which interactions can be drawn where a run stands, and the grants of them that look at all that
+//! they may.
 ghost use Rattle.std.specs.Prelude.{◌≡◌, ◌↔◌, ◌<◌, IsTrue, length};
 ghost use Rattle.std.specs.List.{list_all};
 ghost use Rattle.bip_model.specs.Numbering.{last_number};
 ghost use Rattle.bip_replay.specs.Runs.{standing_of};
-ghost use Rattle.bip_walk.specs.Choices.{AreDrawable, CanBeDrawn, IsFullGrant, is_unspent};
-ghost use Rattle.bip_walk.specs.Choices.{want_next};
+ghost use Rattle.bip_walk.specs.Choices.{AreRenewed, CanBeDrawn, IsChanged, IsFullGrant};
+ghost use Rattle.bip_walk.specs.Choices.{IsListChosen, is_unspent, want_next};
 
 use arrayvec::ArrayVec;
 use bip_model::{
@@ -13,23 +14,54 @@ use bip_model::{
 use bip_partition::Plan;
 use bip_replay::Position;
 
+/// Whether each interaction can be drawn, by its number: false for numbers that the model lacks.
+pub(crate) type Choices = [bool; MOST_INTERACTIONS];
+
+/// Asks anew whether interactions can be drawn, each of which it may have changed that this one was
+/// granted: those that are in conflict with it; all where none was.
+pub(crate) fn renew(
+    choices: &mut Choices,
+    position: &Position<'_>,
+    plan: &Plan,
+    granted: Option<InterId>,
+)
+    requires { position.now.model ≡ plan.now.model }
+    ensures { AreRenewed plan.now.model (standing_of position.now) granted
+        (length plan.now.model.interactions) choices.old choices.new }
+{
+    for number in 0..plan.model().interactions().len() {
+        let inter = InterId(number as u16);
+        if is_changed(plan, granted, inter) {
+            choices[number] = can_be_drawn(position, plan, inter);
+        }
+    }
+}
+
+/// Whether it may have changed that an interaction can be drawn.
+fn is_changed(plan: &Plan, granted: Option<InterId>, inter: InterId) -> bool
+    ensures { IsTrue result ↔ IsChanged plan.now.model granted inter.0 }
+{
+    match granted {
+        Some(granted) => plan.conflict(granted, inter),
+        None => true,
+    }
+}
+
 /// The interactions that can be drawn, in order of their numbers: those that may run, each of whose
 /// components has a next move (docs/DEFINITIONS.md, "Walks").
-pub fn drawable(position: &Position<'_>, plan: &Plan) -> ArrayVec<InterId, MOST_INTERACTIONS>
-    requires { position.now.model ≡ plan.now.model }
-    ensures { AreDrawable (standing_of position.now) result.items }
+pub(crate) fn drawable(plan: &Plan, choices: &Choices) -> ArrayVec<InterId, MOST_INTERACTIONS>
+    ensures { IsListChosen choices.now (length plan.now.model.interactions) result.items }
 {
     let mut list = ArrayVec::new();
     for number in 0..plan.model().interactions().len() {
-        let inter = InterId(number as u16);
-        if can_be_drawn(position, plan, inter) {
-            list.push(inter);
+        if choices[number] {
+            list.push(InterId(number as u16));
         }
     }
     list
 }
 
-/// Whether an interaction can be drawn.
+/// Whether an interaction can be drawn (docs/DEFINITIONS.md, "Walks").
 pub fn can_be_drawn(position: &Position<'_>, plan: &Plan, inter: InterId) -> bool
     requires model { position.now.model ≡ plan.now.model }
     requires declared { inter.0 < length plan.now.model.interactions }

@@ -8,7 +8,7 @@ mod tallies;
 mod walking;
 
 pub use chance::generator_of;
-pub use choices::{can_be_drawn, drawable, grant_of};
+pub use choices::{can_be_drawn, grant_of};
 pub use surveys::{survey, tally_of_book};
 pub use tallies::{FirstEnd, GrantCount, Tally};
 pub use walking::walk;
