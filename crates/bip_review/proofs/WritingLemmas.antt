@@ -108,7 +108,7 @@ is_reserving p a None some none = none
 is_reserving p a (Some c) some none = some
 
 -- one text behind another
-joined : (old a mid b new : List ℕ) → mid ≡ old ++ a → new ≡ mid ++ b → new ≡ old ++ (a ++ b)
+pub joined : (old a mid b new : List ℕ) → mid ≡ old ++ a → new ≡ mid ++ b → new ≡ old ++ (a ++ b)
 joined old a mid b new first second = second ∙ (ap (λ t. t ++ b) first ∙ append_assoc old a b)
 
 -- the same where a call that may fail adds the second

@@ -1,5 +1,5 @@
 //! Plans as people review them: why each component has a row in the table, through which one an
-//! interaction is reserved, and a text that says so.
+//! interaction is reserved, and a text that says so, and which stations are in conflict.
 #![tactic(auto)]
 
 mod reasons;

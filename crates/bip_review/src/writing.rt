@@ -1,5 +1,5 @@
 //! Writing plans.
-ghost use Rattle.std.specs.Prelude.{◌≡◌, ◌<◌, ◌++◌, All, IfOk, OnOk, length};
+ghost use Rattle.std.specs.Prelude.{◌≡◌, ◌<◌, ◌++◌, ◌↔◌, All, IfOk, IsTrue, OnOk, length};
 ghost use Rattle.std.specs.Option.{ForSome};
 ghost use Rattle.bip_model.specs.Naming.{name_in};
 ghost use Rattle.bip_model.specs.Partitions.{class_in};
@@ -8,10 +8,12 @@ ghost use Rattle.bip_model.specs.Steps.{participants_of};
 ghost use Rattle.bip_model.specs.Texts.{spaced};
 ghost use Rattle.bip_model.specs.declared.numbering.ClassId.{ClassId};
 ghost use Rattle.bip_model.specs.declared.numbering.CompId.{CompId};
-ghost use Rattle.bip_review.specs.Writing.{AddsLine, AddsLines, AddsLooks, IsComponentLine};
-ghost use Rattle.bip_review.specs.Writing.{IsInteractionLine, IsOfPlan, IsPlanText, classes_text};
-ghost use Rattle.bip_review.specs.Writing.{look_text, moved_text, names_text, reason_text};
-ghost use Rattle.bip_review.specs.Writing.{reserving_text, standing_text};
+ghost use Rattle.bip_partition.specs.Plans.{IsReserved};
+ghost use Rattle.bip_review.specs.Writing.{AddsConflicts, AddsLine, AddsLines, AddsLooks};
+ghost use Rattle.bip_review.specs.Writing.{AddsStations, ConflictsWith, IsComponentLine};
+ghost use Rattle.bip_review.specs.Writing.{IsInteractionLine, IsOfPlan, IsPlanText, IsStationLine};
+ghost use Rattle.bip_review.specs.Writing.{classes_text, look_text, moved_text, names_text};
+ghost use Rattle.bip_review.specs.Writing.{reason_text, reserving_text, standing_text};
 
 use crate::{RowReason, cause_of_look, reserving, row_reason};
 use bip_model::{ClassId, CompId, InterId, Name, write_word};
@@ -19,14 +21,15 @@ use bip_partition::Plan;
 use std::alloc::{AllocError, Global};
 
 /// The text in which a plan shows itself to its reviewers: a line for each interaction and then one
-/// for each component, in order of their numbers, each with the reasons for what it says
-/// (docs/REVIEW.md).
+/// for each component, each with the reasons for what it says, and then one for each station, with
+/// the stations in conflict with it; all in order of their numbers (docs/REVIEW.md).
 pub fn write_plan(alloc: Global, plan: &Plan) -> Result<Vec<u8>, AllocError>
     ensures { IfOk result (λ text. IsPlanText plan.now text.items) }
 {
     let mut text = Vec::new(alloc);
     write_interactions(&mut text, plan)?;
     write_components(&mut text, plan)?;
+    write_stations(&mut text, plan)?;
     Ok(text)
 }
 
@@ -46,6 +49,16 @@ fn write_components(text: &mut Vec<u8>, plan: &Plan) -> Result<(), AllocError>
 {
     for number in 0..plan.model().components().len() {
         write_component(text, plan, CompId(number as u16))?;
+    }
+    Ok(())
+}
+
+fn write_stations(text: &mut Vec<u8>, plan: &Plan) -> Result<(), AllocError>
+    ensures { OnOk result (AddsStations plan.now text.old.items text.new.items) }
+{
+    let stations = plan.stations();
+    for station in stations {
+        write_station(text, plan, *station)?;
     }
     Ok(())
 }
@@ -76,6 +89,43 @@ fn write_component(text: &mut Vec<u8>, plan: &Plan, comp: CompId) -> Result<(), 
     write_standing(text, plan, plan.classes_of(comp), row_reason(plan, comp))?;
     text.push(b'\n')?;
     Ok(())
+}
+
+/// Writes the line of the station that decides for an interaction.
+fn write_station(text: &mut Vec<u8>, plan: &Plan, inter: InterId) -> Result<(), AllocError>
+    requires { IsReserved plan.now inter.0 }
+    ensures { OnOk result
+        (AddsLine (IsStationLine plan.now inter.0) text.old.items text.new.items) }
+{
+    plan.recall();
+    text.extend_from_slice(b"station")?;
+    write_inter_name(text, plan, inter)?;
+    text.extend_from_slice(b" conflicts")?;
+    write_conflicts(text, plan, inter)?;
+    text.push(b'\n')?;
+    Ok(())
+}
+
+/// Writes the interactions of the stations that are in conflict with that of an interaction.
+fn write_conflicts(text: &mut Vec<u8>, plan: &Plan, inter: InterId) -> Result<(), AllocError>
+    ensures { OnOk result (AddsConflicts plan.now inter.0 text.old.items text.new.items) }
+{
+    for number in 0..plan.model().interactions().len() {
+        let other = InterId(number as u16);
+        if conflicts_with(plan, inter, other) {
+            write_inter_name(text, plan, other)?;
+        }
+    }
+    Ok(())
+}
+
+fn conflicts_with(plan: &Plan, inter: InterId, other: InterId) -> bool
+    ensures { IsTrue result ↔ ConflictsWith plan.now inter.0 other.0 }
+{
+    if other == inter || !plan.reserved(other) {
+        return false;
+    }
+    plan.conflict(inter, other)
 }
 
 /// Writes the class of an interaction and what it moves.

@@ -20,7 +20,9 @@ const TEXT: &str = "interaction x class P moves A R looks B for y reserved throu
     component A tabled beside B in x\n\
     component B tabled looked at by x\n\
     component R tabled touched from P Q\n\
-    component C untabled\n";
+    component C untabled\n\
+    station x conflicts y\n\
+    station y conflicts x\n";
 
 const A: CompId = CompId(0);
 
