@@ -1,8 +1,7 @@
 -- The chart of a run, as SVG: a lane for each component, a row for each grant with a mark for each
 -- of its wants, and what the components are in.
-use Rattle.std.specs.Prelude.{ℕ, ◌+◌, ◌-◌, ◌*◌, ◌/◌, ◌%◌, List, ◌++◌, codes, length, max, Option}
+use Rattle.std.specs.Prelude.{ℕ, ◌+◌, ◌-◌, ◌*◌, ◌/◌, ◌%◌, List, ◌++◌, codes, length, max}
 use Rattle.std.specs.Prelude.{[], slice_index, slice_index_or, take}
-use Rattle.std.specs.Option.{option_map, option_map_or}
 use Rattle.std.specs.List.{flat_map, range_with_len}
 use Rattle.bip_model.specs.Naming.{name_in}
 use Rattle.bip_model.specs.Partitions.{class_in}
@@ -14,10 +13,11 @@ use Rattle.bip_model.specs.declared.partitions.Partition.{Partition}
 use Rattle.bip_model.specs.declared.wants.Want.{Want}
 use Rattle.bip_replay.specs.Runs.{state_after}
 use Rattle.bip_draw.specs.Escaping.{escaped}
-use Rattle.bip_draw.specs.Layout.{lane_x, layout_of, legend_width, reason_width, row_y}
+use Rattle.bip_draw.specs.Feet.{foot_height, foot_text, foot_width}
+use Rattle.bip_draw.specs.Layout.{lane_x, layout_of, legend_width, row_y}
 use Rattle.bip_draw.specs.Locals.{changes_text, state_text}
 use Rattle.bip_draw.specs.Shapes.{bar_text, beside_text, chart_front, circle_end, circle_text}
-use Rattle.bip_draw.specs.Shapes.{colour_text, ended, fault_front, group_end, head_front}
+use Rattle.bip_draw.specs.Shapes.{colour_text, ended, group_end, head_front}
 use Rattle.bip_draw.specs.Shapes.{lane_line, number_text, place_text, square_text}
 use Rattle.bip_draw.specs.declared.charts.Chart.{Chart}
 use Rattle.bip_draw.specs.declared.layout.Layout.{Layout}
@@ -93,29 +93,21 @@ shown_run p l =
     state_text l p.model.now (state_at p.model.now p.book.now.grants p.first)
     ++ flat_map (numbered_row p l) (range_with_len 0 l.rows)
 
--- a reason, behind the last row
-abbrev pub fault_row : Layout → List ℕ → List ℕ
-fault_row l reason =
-    place_text 0 (row_y l l.rows) ++ (fault_front ++ (ended reason ++ group_end))
-
-unfoldable pub fault_text : Layout → Option (List ℕ) → List ℕ
-fault_text l fault = option_map_or (fault_row l) fault []
-
--- how wide a chart is: as its lanes, its legend or its reason
+-- how wide a chart is: as its lanes, its legend or its foot
 abbrev pub chart_width : Chart → Layout → ℕ
 chart_width p l =
     max
     (max (lane_x l (length p.model.now.components)) (legend_width (length p.classes.now.names)))
-    (option_map_or (λ reason. reason_width (length reason.now)) p.fault 0)
+    (foot_width p.foot)
 
 -- a chart that is laid out
 abbrev pub chart_on : Chart → Layout → List ℕ
 chart_on p l =
-    chart_front (chart_width p l) (row_y l (l.rows + 1))
+    chart_front (chart_width p l) (row_y l l.rows + foot_height l p.foot)
     ++ (legend_of p.classes.now
     ++ (lanes_text l p.model.now
     ++ (shown_run p l
-    ++ (fault_text l (option_map (λ reason. reason.now) p.fault) ++ codes "</svg>\n"))))
+    ++ (foot_text l p.foot ++ codes "</svg>\n"))))
 
 -- the chart: its rows are the grants from a first one on
 abbrev pub chart_of : Chart → List ℕ

@@ -3,6 +3,7 @@ pub mod Clauses
 pub mod Drawing
 pub mod Ends
 pub mod Escaping
+pub mod Feet
 pub mod Hues
 pub mod Laws
 pub mod Layout

@@ -90,6 +90,23 @@ below_front x y =
 unfoldable pub fault_front : List ℕ
 fault_front = codes " class=\"fault\">\n<line x2=\"100%\"/>\n<text x=\"10\" y=\"18\">"
 
+-- lines that stand below all rows, in the group of a row: their front, each of them below the one
+-- before, and their end
+unfoldable pub foot_front : List ℕ
+foot_front = codes ">\n<line class=\"guide\" x2=\"100%\"/>\n<text y=\"4\">\n"
+
+unfoldable pub span_front : List ℕ
+span_front = codes "<tspan x=\"10\" dy=\"14\">"
+
+unfoldable pub span_end : List ℕ
+span_end = codes "</tspan>\n"
+
+unfoldable pub foot_line : List ℕ → List ℕ
+foot_line line = span_front ++ (escaped line ++ span_end)
+
+unfoldable pub foot_end : List ℕ
+foot_end = text_end ++ group_end
+
 -- the end of a group's front, where no more is said of it
 unfoldable pub front_end : List ℕ
 front_end = codes ">\n"

@@ -2,41 +2,42 @@
 ghost use Rattle.std.specs.Prelude.{◌≡◌, ◌<◌, ◌+◌, ◌-◌, ◌^◌, ◌++◌, IfOk, OnOk, codes, length};
 ghost use Rattle.std.specs.Prelude.{max, slice_index};
 ghost use Rattle.std.specs.List.{flat_map, range_with_len};
-ghost use Rattle.std.specs.Option.{option_map, option_map_or};
 ghost use Rattle.bip_model.specs.Naming.{name_in};
 ghost use Rattle.bip_model.specs.Partitions.{AreClassesOf, class_in};
 ghost use Rattle.bip_model.specs.States.{state_of};
 ghost use Rattle.bip_model.specs.Wants.{IsWants, components_of};
-ghost use Rattle.bip_draw.specs.Charts.{bar_of, chart_of, chart_on, chart_width, fault_row};
-ghost use Rattle.bip_draw.specs.Charts.{fault_text, grant_at, lane_text, lanes_text, legend_entry};
-ghost use Rattle.bip_draw.specs.Charts.{legend_of, mark_text, numbered_row, row_head, row_text};
-ghost use Rattle.bip_draw.specs.Charts.{shown_run, state_at, wants_text};
+ghost use Rattle.bip_draw.specs.Charts.{bar_of, chart_of, chart_on, chart_width, grant_at};
+ghost use Rattle.bip_draw.specs.Charts.{lane_text, lanes_text, legend_entry, legend_of, mark_text};
+ghost use Rattle.bip_draw.specs.Charts.{numbered_row, row_head, row_text, shown_run, state_at};
+ghost use Rattle.bip_draw.specs.Charts.{wants_text};
+ghost use Rattle.bip_draw.specs.Feet.{foot_height, foot_text, foot_width};
 ghost use Rattle.bip_draw.specs.Layout.{IsLayout, lane_x, layout_of, row_y};
 ghost use Rattle.bip_draw.specs.Shapes.{chart_front};
 
 use crate::escaping::write_escaped;
+use crate::feet::{Foot, write_foot};
 use crate::hues::class_of;
-use crate::layout::{Layout, legend_width, reason_width};
+use crate::layout::{Layout, legend_width};
 use crate::locals::{write_changes, write_state};
 use crate::lookups::{count_of, name_at};
 use crate::shapes::{
     write_bar, write_beside, write_chart_front, write_circle, write_circle_end, write_colour,
-    write_ended, write_fault_front, write_group_end, write_head_front, write_lane_line,
-    write_place, write_row_number, write_square,
+    write_ended, write_group_end, write_head_front, write_lane_line, write_place, write_row_number,
+    write_square,
 };
 use bip_model::{Classes, Grant, InterId, Model, Name, State, Want};
 use bip_replay::Book;
 use std::alloc::{AllocError, Global};
 
-/// What a chart shows: the grants of a model's book from a first one on, counted from 0; behind
-/// them a reason, where there is one; and values of variables, where these are wanted.
+/// What a chart shows: the grants of a model's book from a first one on, counted from 0; what
+/// stands behind them; and values of variables, where these are wanted.
 #[derive(Clone, Copy)]
 pub struct Chart<'a, 'r> {
     pub model: &'a Model,
     pub classes: &'a Classes,
     pub book: &'a Book<'a>,
     pub first: usize,
-    pub fault: Option<&'r [u8]>,
+    pub foot: Foot<'r>,
     pub values: bool,
 }
 
@@ -55,7 +56,7 @@ pub fn draw_chart(alloc: Global, chart: &Chart<'_, '_>) -> Result<Vec<u8>, Alloc
     write_legend(&mut text, chart.classes)?;
     write_lanes(&mut text, &layout, chart.model)?;
     write_run(alloc, &mut text, chart, &layout)?;
-    write_fault(&mut text, &layout, chart.fault)?;
+    write_foot(&mut text, &layout, &chart.foot)?;
     text.extend_from_slice(b"</svg>\n")?;
     Ok(text)
 }
@@ -64,10 +65,11 @@ fn write_front(text: &mut Vec<u8>, chart: &Chart<'_, '_>, layout: &Layout) -> Re
     requires { IsLayout layout.now }
     ensures { OnOk result (text.new.items ≡ text.old.items
         ++ chart_front (chart_width chart.now layout.now)
-        (row_y layout.now (layout.now.rows + 1))) }
+        (row_y layout.now layout.now.rows + foot_height layout.now chart.now.foot)) }
 {
     let width = chart_width(chart, layout);
-    write_chart_front(text, width, layout.row_y(layout.rows + 1))
+    let bottom = layout.row_y(layout.rows) + chart.foot.height(layout);
+    write_chart_front(text, width, bottom)
 }
 
 fn chart_width(chart: &Chart<'_, '_>, layout: &Layout) -> u64
@@ -76,10 +78,7 @@ fn chart_width(chart: &Chart<'_, '_>, layout: &Layout) -> u64
 {
     let lanes = layout.lane_x(count_of(chart.model));
     let legend = legend_width(chart.classes.len());
-    match chart.fault {
-        Some(reason) => lanes.max(legend).max(reason_width(reason.len())),
-        None => lanes.max(legend),
-    }
+    lanes.max(legend).max(chart.foot.width())
 }
 
 fn write_legend(text: &mut Vec<u8>, classes: &Classes) -> Result<(), AllocError>
@@ -331,28 +330,4 @@ fn write_mark(
     write_escaped(text, name_at(names, want.comp.0 as usize))?;
     write_circle_end(text)?;
     write_beside(text, x + 8, want.number)
-}
-
-/// A reason, behind the last row; nothing where there is none.
-#[tactic(auto, unfolding(crate::specs::Charts::fault_text))]
-fn write_fault(text: &mut Vec<u8>, layout: &Layout, fault: Option<&[u8]>) -> Result<(), AllocError>
-    requires { IsLayout layout.now }
-    ensures { OnOk result (text.new.items ≡ text.old.items
-        ++ fault_text layout.now (option_map (λ reason. reason.now) fault.entry)) }
-{
-    match fault {
-        Some(reason) => write_fault_row(text, layout, reason),
-        None => Ok(()),
-    }
-}
-
-fn write_fault_row(text: &mut Vec<u8>, layout: &Layout, reason: &[u8]) -> Result<(), AllocError>
-    requires { IsLayout layout.now }
-    ensures { OnOk result
-        (text.new.items ≡ text.old.items ++ fault_row layout.now reason.now) }
-{
-    write_place(text, 0, layout.row_y(layout.rows))?;
-    write_fault_front(text)?;
-    write_ended(text, reason)?;
-    write_group_end(text)
 }

@@ -113,8 +113,10 @@ fn write_value(
     Ok(())
 }
 
-/// What may run where a run stands.
-pub(crate) fn write_runnable(text: &mut Vec<u8>, position: &Position<'_>) -> Result<(), AllocError>
+/// Puts last in a text what may run where a run stands: for each enabled interaction whether it may
+/// run, or else which one is above it; or that nothing may run (docs/ANSWERS.md, "The end of a
+/// run"). Without memory the text may have a part of it.
+pub fn write_runnable(text: &mut Vec<u8>, position: &Position<'_>) -> Result<(), AllocError>
     ensures { OnOk result (AddsRunnable position.now.model (standing_of position.now).state
         text.old.items text.new.items) }
 {

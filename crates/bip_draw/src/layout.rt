@@ -51,7 +51,8 @@ impl Layout {
     pub(crate) fn row_y(&self, row: u64) -> u64
         requires layout { IsLayout self.now }
         requires row { row ≤ self.now.rows + 1 }
-        ensures { result ≡ row_y self.now row }
+        ensures y { result ≡ row_y self.now row }
+        ensures low { result < 2 ^ 62 }
     {
         self.top + self.height * (row + 1)
     }

@@ -6,6 +6,7 @@ mod clauses;
 mod drawing;
 mod ends;
 mod escaping;
+mod feet;
 mod hues;
 mod laws;
 mod layout;
@@ -16,6 +17,7 @@ mod tallies;
 
 pub use charts::{Chart, draw_chart};
 pub use drawing::draw_model;
-pub use ends::write_end;
+pub use ends::{write_end, write_runnable};
+pub use feet::Foot;
 pub use laws::picture_laws;
 pub use tallies::write_tally;

@@ -2,9 +2,10 @@
 ghost use Rattle.std.specs.Prelude.{◌≡◌, ◌++◌, OnOk};
 ghost use Rattle.bip_draw.specs.Shapes.{bar_text, below_front, beside_text, between, chart_front};
 ghost use Rattle.bip_draw.specs.Shapes.{circle_end, circle_front, circle_text, colour_text, ended};
-ghost use Rattle.bip_draw.specs.Shapes.{fault_front, front_end, group_end, head_front, lane_line};
-ghost use Rattle.bip_draw.specs.Shapes.{lane_style, mark_style, number_text, place_text};
-ghost use Rattle.bip_draw.specs.Shapes.{square_text, style_text, text_end, text_style};
+ghost use Rattle.bip_draw.specs.Shapes.{fault_front, foot_end, foot_front, foot_line, front_end};
+ghost use Rattle.bip_draw.specs.Shapes.{group_end, head_front, lane_line, lane_style, mark_style};
+ghost use Rattle.bip_draw.specs.Shapes.{number_text, place_text, span_end, span_front, square_text};
+ghost use Rattle.bip_draw.specs.Shapes.{style_text, text_end, text_style};
 
 use crate::escaping::{write_escaped, write_number};
 use crate::hues::hue_of;
@@ -193,6 +194,47 @@ pub(crate) fn write_fault_front(text: &mut Vec<u8>) -> Result<(), AllocError>
     ensures { OnOk result (text.new.items ≡ text.old.items ++ fault_front) }
 {
     text.extend_from_slice(b" class=\"fault\">\n<line x2=\"100%\"/>\n<text x=\"10\" y=\"18\">")
+}
+
+/// The front of lines that stand below all rows, in the group of a row.
+#[tactic(auto, unfolding(crate::specs::Shapes::foot_front))]
+pub(crate) fn write_foot_front(text: &mut Vec<u8>) -> Result<(), AllocError>
+    ensures { OnOk result (text.new.items ≡ text.old.items ++ foot_front) }
+{
+    text.extend_from_slice(b">\n<line class=\"guide\" x2=\"100%\"/>\n<text y=\"4\">\n")
+}
+
+/// One of these lines, below the one before.
+#[tactic(auto, unfolding(crate::specs::Shapes::foot_line))]
+pub(crate) fn write_foot_line(text: &mut Vec<u8>, line: &[u8]) -> Result<(), AllocError>
+    ensures { OnOk result (text.new.items ≡ text.old.items ++ foot_line line.now) }
+{
+    write_span_front(text)?;
+    write_escaped(text, line)?;
+    write_span_end(text)
+}
+
+#[tactic(auto, unfolding(crate::specs::Shapes::span_front))]
+fn write_span_front(text: &mut Vec<u8>) -> Result<(), AllocError>
+    ensures { OnOk result (text.new.items ≡ text.old.items ++ span_front) }
+{
+    text.extend_from_slice(b"<tspan x=\"10\" dy=\"14\">")
+}
+
+#[tactic(auto, unfolding(crate::specs::Shapes::span_end))]
+fn write_span_end(text: &mut Vec<u8>) -> Result<(), AllocError>
+    ensures { OnOk result (text.new.items ≡ text.old.items ++ span_end) }
+{
+    text.extend_from_slice(b"</tspan>\n")
+}
+
+/// The end of these lines, and of their group.
+#[tactic(auto, unfolding(crate::specs::Shapes::foot_end))]
+pub(crate) fn write_foot_end(text: &mut Vec<u8>) -> Result<(), AllocError>
+    ensures { OnOk result (text.new.items ≡ text.old.items ++ foot_end) }
+{
+    write_text_end(text)?;
+    write_group_end(text)
 }
 
 #[tactic(auto, unfolding(crate::specs::Shapes::front_end))]

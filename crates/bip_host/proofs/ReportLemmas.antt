@@ -4,8 +4,8 @@ use Rattle.std.proofs.Common.{drop, get_or, length, map, refl, subst, sym, take}
 use Rattle.std.proofs.lemmas.Grind.{common_steps}
 use Rattle.std.specs.Prelude.{Err, IfOk, IsTrue, Ok, Result}
 use Rattle.bip_host.specs.Books.{SharedContent, blames_grant}
-use Rattle.bip_host.specs.Reports.{AreFiguresOf, AreTotalsOf, IsReportOf, IsThreadCount, IsWhyNoRun}
-use Rattle.bip_host.specs.Reports.{IsWhyNone, no_memory, no_run, of_book, refused}
+use Rattle.bip_host.specs.Reports.{AreFiguresOf, AreTotalsOf, IsEndedBy, IsReportOf, IsThreadCount}
+use Rattle.bip_host.specs.Reports.{IsWhyNoRun, IsWhyNone, no_memory, no_run, of_book, refused}
 use Rattle.bip_host.specs.declared.faults.HostFault.TheVariants as host
 use Rattle.bip_host.specs.declared.faults.HostFault.{HostFault}
 use Rattle.bip_host.specs.declared.hosts.Asked.{Asked}
@@ -91,10 +91,10 @@ no_run_told m b lacks short host.Thread gs same none is = absurd is
 pub figures_of : (p : Planned) (asked : Asked) (t : Totals) (b : SharedContent) (entered : ℕ)
     (r : Result (HostReport × HostFigures) HostFault) → AreTotalsOf asked t
     → IsThreadCount p asked.kind asked.threads
-    → IfOk r (λ done. IsReportOf b entered t done.0 done.1)
-    → IfOk r (λ done. AreFiguresOf p asked.kind asked.tables asked.turns done.1)
+    → IfOk r (λ done. IsReportOf asked.limits b entered t done.0 done.1)
+    → IfOk r (λ done. AreFiguresOf p asked.kind asked.tables asked.limits.turns done.1)
 figures_of p asked t b entered (Ok done) of count told =
-    subst (AreFiguresOf p asked.kind asked.tables asked.turns) (sym told.figures)
+    subst (AreFiguresOf p asked.kind asked.tables asked.limits.turns) (sym told.figures)
     (record {
       kind = of.kind;
       tables = of.tables;
@@ -102,3 +102,12 @@ figures_of p asked t b entered (Ok done) of count told =
       turns = of.turns;
     })
 figures_of p asked t b entered (Err why) of count told = tt
+
+-- a report says why its host ended
+pub ended_by : (asked : Asked) (t : Totals) (b : SharedContent) (entered : ℕ)
+    (r : Result (HostReport × HostFigures) HostFault) → AreTotalsOf asked t
+    → IfOk r (λ done. IsReportOf asked.limits b entered t done.0 done.1)
+    → IfOk r (λ done. IsEndedBy asked.limits done.0.grants.items done.1)
+ended_by asked t b entered (Ok done) of told =
+    rw (told.figures, told.grants) (record { most = of.most; ended = refl })
+ended_by asked t b entered (Err why) of told = tt

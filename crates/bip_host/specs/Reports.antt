@@ -1,12 +1,15 @@
 -- What a host reports, and why it gives no report.
-use Rattle.std.specs.Prelude.{◌≡◌, ℕ, ◌+◌, ◌*◌, ◌≤◌, ◌||◌, Bool, IsTrue, List, None, Some}
-use Rattle.std.specs.Prelude.{false, length, true, ⊤}
+use Rattle.std.specs.Prelude.{◌≡◌, ℕ, ◌+◌, ◌*◌, ◌==◌, ◌≤◌, ◌||◌, Bool, IsTrue, List, None, Option}
+use Rattle.std.specs.Prelude.{Some, false, if◌then◌else◌, length, max, nat_le, true, ⊤}
 use Rattle.bip_host.specs.Starting.{IsStationCount}
 use Rattle.bip_partition.specs.Plans.{Planned}
 use Rattle.bip_host.specs.Counts.{sum_of}
 use Rattle.bip_host.specs.declared.actors.NodeEnd.{NodeEnd}
 use Rattle.bip_host.specs.declared.hosts.Asked.{Asked}
+use Rattle.bip_host.specs.declared.hosts.Ended.{Ended}
+use Rattle.bip_host.specs.declared.hosts.Ended.TheVariants.{ByGrants, ByQuiet, ByTurns}
 use Rattle.bip_host.specs.declared.hosts.Kind.{Kind}
+use Rattle.bip_host.specs.declared.hosts.Limits.{Limits}
 use Rattle.bip_host.specs.declared.hosts.Tables.{Tables}
 use Rattle.bip_model.specs.declared.grants.Grant.{Grant}
 use Rattle.bip_model.specs.declared.parts.System.{System}
@@ -36,8 +39,10 @@ no_totals k tables =
           record {
             kind = k;
             tables = tables;
+            ended = ByTurns;
             threads = 0;
             turns = 0;
+            most_turns = 0;
             passes = 0;
             asks = 0;
             refusals = 0;
@@ -59,6 +64,7 @@ with_end e t =
           record t.figures {
             threads = t.figures.threads + 1;
             turns = sum_of t.figures.turns e.turns;
+            most_turns = max t.figures.most_turns e.turns;
             passes = sum_of t.figures.passes e.counts.passes;
             asks = sum_of t.figures.asks e.counts.asks;
             refusals = sum_of t.figures.refusals e.counts.refusals;
@@ -76,7 +82,8 @@ with_end e t =
 pub record AreTotalsOf (asked : Asked) (t : Totals) : Type 0 where
   pub kind : t.figures.kind ≡ asked.kind
   pub tables : t.figures.tables ≡ asked.tables
-  pub turns : t.figures.turns ≤ t.figures.threads * asked.turns
+  pub turns : t.figures.turns ≤ t.figures.threads * asked.limits.turns
+  pub most : t.figures.most_turns ≤ asked.limits.turns
   pub threads : t.is_short ≡ false → t.figures.threads ≡ asked.threads
 
 -- the figures of a host: it had this kind of third layer, whose tables were shared so, as many
@@ -87,6 +94,19 @@ pub record AreFiguresOf (p : Planned) (k : Kind) (how : Tables) (limit : ℕ) (f
   pub tables : f.tables ≡ how
   pub threads : IsThreadCount p k f.threads
   pub turns : f.turns ≤ f.threads * limit
+
+-- why a host ended, where the first that applies is told: no number of grants was asked for; its
+-- book has as many; a thread made all its turns; all were quiet
+abbrev pub ended_of : Option ℕ → ℕ → Bool → Ended
+ended_of None grants spent = ByTurns
+ended_of (Some wanted) grants spent =
+    (if nat_le wanted grants then ByGrants else (if spent then ByTurns else ByQuiet))
+
+-- why a host with these limits ended that reports these grants; none of its threads made more turns
+-- than it could
+pub record IsEndedBy (limits : Limits) (gs : List Grant) (f : HostFigures) : Type 0 where
+  pub most : f.most_turns ≤ limits.turns
+  pub ended : f.ended ≡ ended_of limits.grants (length gs) (f.most_turns == limits.turns)
 
 -- a host's fault is one: what is told as refused isn't want of memory
 abbrev pub IsHostFault : HostFault → Type 0
@@ -124,13 +144,18 @@ pub data IsWhyNone (m : System) (b : SharedContent) (lacks short : Bool) : HostF
       → IsModelRun m 0 b.book.grants → IsWhyNone m b lacks short host.Thread
 
 -- a report of what the book holds, of which so many grants came by their serials, with the totals
--- of all threads: nothing was refused, nobody wanted memory, and each thread was started
-pub record IsReportOf (b : SharedContent) (entered : ℕ) (t : Totals) (r : HostReport)
-    (f : HostFigures) : Type 0
+-- of all threads, and why they ended: nothing was refused, nobody wanted memory, and each thread
+-- was started
+pub record IsReportOf (limits : Limits) (b : SharedContent) (entered : ℕ) (t : Totals)
+    (r : HostReport) (f : HostFigures) : Type 0
   where
     pub grants : r.grants.items ≡ b.book.grants
     pub counted : (r.told ≡ t.told) × (r.lost ≡ t.lost)
-    pub figures : f ≡ record t.figures { entered = entered }
+    pub figures : f ≡ record t.figures {
+      ended = ended_of limits.grants (length b.book.grants)
+          (t.figures.most_turns == limits.turns);
+      entered = entered;
+    }
     pub all_taken : b.refused ≡ None
     pub with_memory : (b.wanted_memory ≡ false) × (t.wanted_memory ≡ false)
     pub with_threads : t.is_short ≡ false

@@ -2,6 +2,7 @@
 //! hands.
 ghost use Rattle.std.specs.Prelude.{◌≤◌};
 
+use crate::aims::Watch;
 use crate::counts::Counts;
 use crate::rests::Rest;
 use std::sync::Wait;
@@ -87,6 +88,11 @@ pub trait Actor {
     /// What it has counted so far.
     fn counts(&self) -> Counts
         ensures { result ≡ counted self.now };
+
+    /// Whether a request of its own is open, whose answer another node owes it.
+    fn has_open_request(&self) -> bool {
+        false
+    }
 }
 
 /// What an actor hears with, and acts with: inboxes, the third layer, the book, a gate.
@@ -117,12 +123,14 @@ pub struct NodeEnd {
     pub drawn: u64,
 }
 
-/// Starts an actor, and makes so many turns, or fewer where it ends before (docs/HOST.md, "Turns").
+/// Starts an actor, and makes so many turns, or fewer where it ends before, or its host is over
+/// (docs/HOST.md, "Turns").
 pub fn run_actor<A: Actor + Drop, H: Hands<A> + Drop, R: Wait>(
     rt: &R,
     mut actor: A,
     mut hands: H,
     turns: u32,
+    mut watch: Watch<'_>,
 ) -> NodeEnd
     ensures { result.turns ≤ turns }
 {
@@ -132,10 +140,16 @@ pub fn run_actor<A: Actor + Drop, H: Hands<A> + Drop, R: Wait>(
     let mut rest = Rest::new();
     let mut made = 0;
     for number in 0..turns {
+        if watch.is_over() {
+            break;
+        }
         made = u64::from(number) + 1;
         match make_turn(rt, &mut actor, &mut hands) {
-            Turn::Done => {}
-            Turn::Nothing => rest.give_way(),
+            Turn::Done => watch.stir(),
+            Turn::Nothing => {
+                watch.idle(&actor);
+                rest.give_way();
+            }
             Turn::Ends => break,
         }
     }

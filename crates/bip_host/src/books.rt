@@ -1,6 +1,6 @@
 //! The locked book, entries in it, and the report's grants.
 ghost use Rattle.std.specs.Prelude.{◌≡◌, ◌↔◌, ◌++◌, ◌∷◌, [], false, IfErr, IfOk, IfNone, IfSome};
-ghost use Rattle.std.specs.Prelude.{IsTrue, None, OnSome, Some};
+ghost use Rattle.std.specs.Prelude.{IsTrue, None, OnSome, Some, length};
 ghost use Rattle.bip_host.specs.Books.{IsKeptOf, blames_grant};
 ghost use Rattle.bip_host.specs.Keepers.{IsEntryOf};
 ghost use Rattle.bip_host.specs.Movers.{CanTell, mover_in};
@@ -130,6 +130,13 @@ impl<'m> SharedBook<'m> {
                 None
             }
         }
+    }
+
+    /// How many grants the book has.
+    pub fn count_grants(&self) -> u64
+        ensures { result ≡ length self.now.book.grants }
+    {
+        self.book.grants().len() as u64
     }
 
     /// Whether memory was wanted for a grant.

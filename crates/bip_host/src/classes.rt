@@ -525,4 +525,10 @@ impl<'p> Actor for ClassActor<'p> {
     fn counts(&self) -> Counts {
         self.counts
     }
+
+    fn has_open_request(&self) -> bool {
+        self.members.iter().any(|inter| {
+            matches!(self.node.why_not(*inter), Some(WhyNot::Pending(_)))
+        })
+    }
 }

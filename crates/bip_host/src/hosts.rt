@@ -1,19 +1,23 @@
 //! Hosts: a plan's nodes as threads, round one locked book, with one table, a ring or forks.
-ghost use Rattle.std.specs.Prelude.{◌≡◌, ◌+◌, ◌<◌, ◌≤◌, ◌^◌, All, IfErr, IfOk, length, max};
+ghost use Rattle.std.specs.Prelude.{◌≡◌, ◌==◌, ◌+◌, ◌<◌, ◌≤◌, ◌^◌, All, IfErr, IfOk, length};
+ghost use Rattle.std.specs.Prelude.{max};
 ghost use Rattle.bip_host.specs.Mailboxes.{AreEndsOfEach};
 ghost use Rattle.bip_host.specs.Nodes.{kind_of};
-ghost use Rattle.bip_host.specs.Reports.{AreFiguresOf, AreTotalsOf, IsHostFault, IsReportOf};
-ghost use Rattle.bip_host.specs.Reports.{IsThreadCount, IsWhyNone, no_totals, with_end};
+ghost use Rattle.bip_host.specs.Reports.{AreFiguresOf, AreTotalsOf, IsEndedBy, IsHostFault};
+ghost use Rattle.bip_host.specs.Reports.{IsReportOf, IsThreadCount, IsWhyNone, ended_of, no_totals};
+ghost use Rattle.bip_host.specs.Reports.{with_end};
 ghost use Rattle.bip_host.specs.Seats.{CanHave};
 ghost use Rattle.bip_host.specs.Starting.{HaveForm};
 ghost use Rattle.bip_host.specs.Tables.{IsAccessTo, form_asked, form_of_table};
 ghost use Rattle.bip_replay.specs.Runs.{IsModelRun};
 
 use crate::actors::NodeEnd;
+use crate::aims::{Aim, Watch};
 use crate::books::{SharedBook, as_run};
 use crate::faults::HostFault;
 use crate::gates::Gate;
 use crate::joining::{join_all, part_all};
+use crate::keepers::BookLock;
 use crate::layers::StationLayers;
 use crate::mailboxes::LooseEnds;
 use crate::messages::{ToClass, ToStation};
@@ -29,8 +33,8 @@ use bip_partition::Plan;
 use bip_replay::Book;
 use std::alloc::{AllocError, Global};
 use std::marker::Brand;
+use std::sync::Wait;
 use std::sync::ledger::{Blank, Ledger};
-use std::sync::{Mutex, Wait};
 use std::thread;
 use std::thread::{Promise, PromisedHandle, Threads};
 
@@ -55,10 +59,25 @@ pub enum Tables {
     Words,
 }
 
-/// How long a host runs: each thread ends after so many turns.
+/// How long a host runs (docs/HOST.md, "Turns").
 #[derive(Clone, Copy, Debug, PartialEq, Eq)]
 pub struct Limits {
+    /// Each thread ends after so many turns, if it goes on so long.
     pub turns: u32,
+    /// Where that is a number, threads end before: once the book has so many grants, or more, since
+    /// threads race; or all are quiet.
+    pub grants: Option<u64>,
+}
+
+/// Why a host ended, where the first that applies is told.
+#[derive(Clone, Copy, Debug, PartialEq, Eq)]
+pub enum Ended {
+    /// Its book has as many grants as were asked for, or more.
+    ByGrants,
+    /// No number of grants was asked for, or a thread made all its turns.
+    ByTurns,
+    /// Its threads were quiet, all at once.
+    ByQuiet,
 }
 
 /// What a host did: the grants of its book, in its order; of how many of them a class went on to
@@ -75,9 +94,13 @@ pub struct HostReport {
 pub struct HostFigures {
     pub kind: Kind,
     pub tables: Tables,
-    /// How many threads ran, and how many turns they made together.
+    /// Why it ended.
+    pub ended: Ended,
+    /// How many threads ran, how many turns they made together, and how many the one that made
+    /// most.
     pub threads: u64,
     pub turns: u64,
+    pub most_turns: u64,
     /// How many tokens and forks stations sent, and how many request tokens; none with one table.
     pub passes: u64,
     pub asks: u64,
@@ -108,8 +131,10 @@ impl Totals {
         let figures = HostFigures {
             kind,
             tables,
+            ended: Ended::ByTurns,
             threads: 0,
             turns: 0,
+            most_turns: 0,
             passes: 0,
             asks: 0,
             refusals: 0,
@@ -133,6 +158,7 @@ impl Totals {
     {
         self.figures.threads += 1;
         self.figures.turns = self.figures.turns.saturating_add(end.turns);
+        self.figures.most_turns = self.figures.most_turns.max(end.turns);
         self.figures.passes = self.figures.passes.saturating_add(end.counts.passes);
         self.figures.asks = self.figures.asks.saturating_add(end.counts.asks);
         self.figures.refusals = self.figures.refusals.saturating_add(end.counts.refusals);
@@ -144,9 +170,9 @@ impl Totals {
     }
 }
 
-/// Runs the nodes of a plan, each in a thread of its own that ends after so many turns: one of each
-/// component, one of each class, and with a ring or forks one of each station; row words want one
-/// table of at most 32 rows. **The grants of the
+/// Runs the nodes of a plan, each in a thread of its own that ends after so many turns, or once
+/// there are enough grants: one of each component, one of each class, and with a ring or forks one
+/// of each station; row words want one table of at most 32 rows. **The grants of the
 /// report are a run of the plan's model, with exact numbers above 0.** A grant that were none is
 /// refused by the book before anybody is told of it, and the fault is NotARun then; else Memory,
 /// where it was wanted; else Thread, where one couldn't be started. Each thread that was started is
@@ -168,7 +194,8 @@ pub fn run_host<G: Gate + Sync, R: Threads + Wait + Sync>(
     Ok(report)
 }
 
-/// Runs a host as `run_host` does, and counts its threads and their turns beside.
+/// Runs a host as `run_host` does, counts its threads and their turns beside, and says why it
+/// ended, which is worked out after the joins.
 pub fn run_host_counted<G: Gate + Sync, R: Threads + Wait + Sync>(
     rt: &R,
     alloc: Global,
@@ -181,13 +208,14 @@ pub fn run_host_counted<G: Gate + Sync, R: Threads + Wait + Sync>(
     requires { CanHave plan.now kind tables }
     ensures run { IfOk result (λ done. IsModelRun plan.now.model 0 done.0.grants.items) }
     ensures figures { IfOk result (λ done. AreFiguresOf plan.now kind tables limits.turns done.1) }
+    ensures ended { IfOk result (λ done. IsEndedBy limits done.0.grants.items done.1) }
     ensures fault { IfErr result IsHostFault }
 {
     let asked = Asked {
         kind,
         tables,
         threads: count_threads(plan, kind),
-        turns: limits.turns,
+        limits,
     };
     let passes = plan.classes().len().max(1);
     let blank = Blank::new(passes as u64);
@@ -210,14 +238,21 @@ fn run_kind<L: Ledger + Send + Sync, G: Gate + Sync, R: Threads + Wait + Sync>(
         × (blank.parts ≡ max 1 (length plan.now.classes.members)) }
     ensures run { IfOk result (λ done. IsModelRun plan.now.model 0 done.0.grants.items) }
     ensures fault { IfErr result IsHostFault }
-    ensures figures { IfOk result (λ done. AreFiguresOf plan.now asked.kind asked.tables asked.turns
-        done.1) }
+    ensures figures { IfOk result (λ done. AreFiguresOf plan.now asked.kind asked.tables
+        asked.limits.turns done.1) }
+    ensures ended { IfOk result (λ done. IsEndedBy asked.limits done.0.grants.items done.1) }
 {
-    let Asked { kind, tables, .. } = asked;
+    let Asked {
+        kind,
+        tables,
+        limits,
+        ..
+    } = asked;
     let passes = plan.classes().len().max(1);
     let (table, access) = open_table::<L>(alloc, plan, kind, tables, blank, passes)?;
     let book = SharedBook::of(Book::start(alloc, plan.model(), 0)?);
-    let book = Mutex::new(WaitingBook::of(alloc, book, plan.classes().len())?);
+    let book = WaitingBook::of(alloc, book, plan.classes().len())?;
+    let book = BookLock::of(book, limits.grants.map(Aim::of));
     let has_stations = kind != Kind::Central;
     let (offers, offer_ends) = part_all(alloc, class_mailboxes(alloc, plan, has_stations)?)?;
     let (notices, notice_ends) = part_all(alloc, component_mailboxes(alloc, plan)?)?;
@@ -236,10 +271,10 @@ fn run_kind<L: Ledger + Send + Sync, G: Gate + Sync, R: Threads + Wait + Sync>(
         access,
     };
     let nodes = start_nodes(alloc, plan, kind, &commons, ends, gate)?;
-    let totals = run_threads(rt, alloc, nodes, asked)?;
+    let totals = run_threads(rt, alloc, nodes, asked, commons.book.aim())?;
     let Commons { book, .. } = commons;
-    let (book, entered) = book.into_inner().close();
-    report(alloc, plan, book, entered, totals)
+    let (book, entered) = book.into_book().close();
+    report(alloc, plan, book, entered, totals, limits)
 }
 
 /// The ends of all inboxes of a host, which aren't handed out yet, and by what its table is asked.
@@ -303,13 +338,13 @@ fn count_threads(plan: &Plan, kind: Kind) -> u128
 }
 
 /// What is asked of a host: its kind of third layer, how its tables are shared, how many threads,
-/// and how many turns of each.
+/// and how long it runs.
 #[derive(Clone, Copy)]
 pub(crate) struct Asked {
     kind: Kind,
     tables: Tables,
     threads: u128,
-    turns: u32,
+    limits: Limits,
 }
 
 /// That a node makes no more turns than this.
@@ -331,6 +366,7 @@ fn run_threads<'h, 'p, 'm, 'g, L: Ledger + Send + Sync, G: Gate + Sync, R: Threa
     alloc: Global,
     nodes: Nodes<'h, 'p, 'm, 'g, L, G>,
     asked: Asked,
+    aim: Option<&'h Aim>,
 ) -> Result<Totals, AllocError>
     requires kind { kind_of nodes.stations ≡ asked.kind }
     requires form { HaveForm (form_asked asked.kind asked.tables) nodes.classes.items }
@@ -343,14 +379,18 @@ fn run_threads<'h, 'p, 'm, 'g, L: Ledger + Send + Sync, G: Gate + Sync, R: Threa
         |scope| -> Result<Totals, AllocError>
             ensures { IfOk result (AreTotalsOf asked) }
         {
-            let turns = asked.turns;
+            let turns = asked.limits.turns;
+            // Who starts them counts too, until all are started.
+            let starting = Watch::counted(aim);
             let mut running = Vec::with_capacity(alloc, nodes.len())?;
             for node in nodes {
-                match scope.spawn_with(AtMost { turns }, move || node.run(rt, turns)) {
+                let watch = node.watch(aim);
+                match scope.spawn_with(AtMost { turns }, move || node.run(rt, turns, watch)) {
                     Ok(handle) => running.push(handle)?,
                     Err(_) => break,
                 }
             }
+            drop(starting);
             Ok(join_threads(rt, running, asked))
         },
     )
@@ -362,7 +402,7 @@ fn join_threads<R: Threads>(
     running: Vec<PromisedHandle<NodeEnd, AtMost>>,
     asked: Asked,
 ) -> Totals
-    requires { All (λ h. h.promise.turns ≤ asked.turns) running.items }
+    requires { All (λ h. h.promise.turns ≤ asked.limits.turns) running.items }
     ensures { AreTotalsOf asked result }
 {
     let mut totals = Totals::of(asked.kind, asked.tables);
@@ -381,9 +421,10 @@ fn report(
     book: SharedBook<'_>,
     entered: u64,
     totals: Totals,
+    limits: Limits,
 ) -> Result<(HostReport, HostFigures), HostFault>
     ensures run { IfOk result (λ done. IsModelRun plan.now.model 0 done.0.grants.items) }
-    ensures all { IfOk result (λ done. IsReportOf book.entry entered totals done.0 done.1) }
+    ensures all { IfOk result (λ done. IsReportOf limits book.entry entered totals done.0 done.1) }
     ensures fault { IfErr result IsHostFault }
     ensures why { IfErr result (IsWhyNone plan.now.model book.entry totals.wanted_memory
         totals.is_short) }
@@ -396,14 +437,28 @@ fn report(
     if totals.is_short {
         return Err(HostFault::Thread);
     }
+    let figures = HostFigures {
+        ended: why_ended(limits, grants.len() as u64, totals.figures.most_turns),
+        entered,
+        ..totals.figures
+    };
     let report = HostReport {
         grants,
         told: totals.told,
         lost: totals.lost,
     };
-    let figures = HostFigures {
-        entered,
-        ..totals.figures
-    };
     Ok((report, figures))
+}
+
+/// Why a host ended whose book has so many grants, and that one of whose threads which made most
+/// turns made so many.
+fn why_ended(limits: Limits, grants: u64, most_turns: u64) -> Ended
+    ensures { result ≡ ended_of limits.grants grants (most_turns == limits.turns) }
+{
+    match limits.grants {
+        None => Ended::ByTurns,
+        Some(wanted) if wanted <= grants => Ended::ByGrants,
+        Some(_) if most_turns == u64::from(limits.turns) => Ended::ByTurns,
+        Some(_) => Ended::ByQuiet,
+    }
 }

@@ -4,6 +4,7 @@
 
 mod actors;
 mod addressed;
+mod aims;
 mod books;
 mod classes;
 mod components;
@@ -37,6 +38,7 @@ mod tables;
 mod waiting;
 
 pub use actors::{Actor, Hands, NodeEnd, Step, Turn, run_actor};
+pub use aims::Watch;
 pub use books::{Entry, SharedBook};
 pub use classes::{ClassAct, ClassActor, ClassAnswer, Reserved};
 pub use components::{ComponentActor, Offering};
@@ -45,7 +47,7 @@ pub use drawn::Drawn;
 pub use faults::HostFault;
 pub use forks::ForkActor;
 pub use gates::{Gate, Open, Point};
-pub use hosts::{HostFigures, HostReport, Kind, Limits, Tables, run_host, run_host_counted};
+pub use hosts::{Ended, HostFigures, HostReport, Kind, Limits, Tables, run_host, run_host_counted};
 pub use inboxes::{Inbox, Reader, Writer};
 pub use laws::{drain_laws, inbox_laws};
 pub use messages::{ToClass, ToStation};

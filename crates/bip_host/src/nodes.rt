@@ -3,6 +3,7 @@ ghost use Rattle.std.specs.Prelude.{◌≡◌, ◌+◌, ◌≤◌, IfOk, OnOk, l
 ghost use Rattle.bip_host.specs.Nodes.{count_nodes, count_stations, kind_of};
 
 use crate::actors::{NodeEnd, run_actor};
+use crate::aims::{Aim, Watch};
 use crate::classes::ClassActor;
 use crate::components::ComponentActor;
 use crate::forks::ForkActor;
@@ -41,15 +42,27 @@ pub(crate) enum Node<'h, 'p, 'm, 'g, L: Ledger, G> {
 }
 
 impl<'h, 'p, 'm, 'g, L: Ledger, G: Gate> Node<'h, 'p, 'm, 'g, L, G> {
-    /// Makes so many turns, or fewer where the node ends before (docs/HOST.md, "Turns").
-    pub(crate) fn run<R: Wait>(self, rt: &R, turns: u32) -> NodeEnd
+    /// What its thread sees of an aim. Stations don't count: a ring's token goes round all the
+    /// time, and what else they do is for a class whose request is open.
+    pub(crate) fn watch(&self, aim: Option<&'h Aim>) -> Watch<'h> {
+        match self {
+            Node::Component(..) => Watch::counted(aim),
+            Node::Class(..) => Watch::counted(aim),
+            Node::Ring(..) => Watch::beside(aim),
+            Node::Forks(..) => Watch::beside(aim),
+        }
+    }
+
+    /// Makes so many turns, or fewer where the node ends before, or the host is over (docs/HOST.md,
+    /// "Turns").
+    pub(crate) fn run<R: Wait>(self, rt: &R, turns: u32, watch: Watch<'h>) -> NodeEnd
         ensures { result.turns ≤ turns }
     {
         match self {
-            Node::Component(actor, hands) => run_actor(rt, actor, hands, turns),
-            Node::Class(actor, hands) => run_actor(rt, actor, hands, turns),
-            Node::Ring(actor, hands) => run_actor(rt, actor, hands, turns),
-            Node::Forks(actor, hands) => run_actor(rt, actor, hands, turns),
+            Node::Component(actor, hands) => run_actor(rt, actor, hands, turns, watch),
+            Node::Class(actor, hands) => run_actor(rt, actor, hands, turns, watch),
+            Node::Ring(actor, hands) => run_actor(rt, actor, hands, turns, watch),
+            Node::Forks(actor, hands) => run_actor(rt, actor, hands, turns, watch),
         }
     }
 }

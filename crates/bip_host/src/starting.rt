@@ -11,16 +11,14 @@ use crate::ends::{Intake, Outlets};
 use crate::gates::Gate;
 use crate::hands::{ClassHands, ComponentHands};
 use crate::inboxes::Inbox;
-use crate::keepers::BookKeeper;
+use crate::keepers::{BookKeeper, BookLock};
 use crate::layers::Layers;
 use crate::mailboxes::Mailbox;
 use crate::messages::{ToClass, ToStation};
 use crate::tables::CommonTable;
-use crate::waiting::WaitingBook;
 use bip_model::{ClassId, CompId, InterId, Notify};
 use bip_partition::Plan;
 use std::alloc::{AllocError, Global};
-use std::sync::Mutex;
 use std::sync::ledger::Ledger;
 
 /// What the nodes of a host share, in one place, so that they borrow it for one lifetime.
@@ -28,7 +26,7 @@ use std::sync::ledger::Ledger;
 pub(crate) struct Commons<'m, L: Ledger> {
     /// The table that all classes ask, where one decides.
     pub(crate) table: CommonTable<L>,
-    pub(crate) book: Mutex<WaitingBook<'m>>,
+    pub(crate) book: BookLock<'m>,
     /// By class: what components offer it, and stations answer it.
     pub(crate) offers: Vec<Inbox<ToClass>>,
     /// By component: what classes notify it of.
@@ -149,7 +147,7 @@ fn class_outlets<'h>(
 pub(crate) fn start_classes<'h, 'p, 'm, 'g, L: Ledger, G: Gate>(
     alloc: Global,
     plan: &'p Plan,
-    book: &'h Mutex<WaitingBook<'m>>,
+    book: &'h BookLock<'m>,
     intakes: Vec<Intake<'h, ToClass>>,
     notices: &mut Outlets<'h, Notify>,
     mut layers: Layers<'h, 'p, L>,

@@ -15,21 +15,19 @@ use crate::ends::{Intake, Outlet, Outlets};
 use crate::forks::ForkActor;
 use crate::hands::StationHands;
 use crate::hosts::Kind;
-use crate::keepers::BookKeeper;
+use crate::keepers::{BookKeeper, BookLock};
 use crate::mailboxes::Mailbox;
 use crate::messages::{ToClass, ToStation};
 use crate::nodes::Stations;
 use crate::rings::RingActor;
 use crate::settled::Settled;
 use crate::starting::decided_at;
-use crate::waiting::WaitingBook;
 use bip_bank::StationId;
 use bip_forks::Station;
 use bip_model::InterId;
 use bip_partition::Plan;
 use bip_ring::Token;
 use std::alloc::{AllocError, Global};
-use std::sync::Mutex;
 
 /// The writers of the inbox of a ring's station: the class of its interaction, and the station
 /// before it.
@@ -62,7 +60,7 @@ pub(crate) fn start_stations<'h, 'm>(
     alloc: Global,
     plan: &Plan,
     kind: Kind,
-    book: &'h Mutex<WaitingBook<'m>>,
+    book: &'h BookLock<'m>,
     intakes: Vec<Intake<'h, ToStation>>,
     stations: &mut Outlets<'h, ToStation>,
     classes: &mut Outlets<'h, ToClass>,
@@ -88,7 +86,7 @@ pub(crate) fn start_stations<'h, 'm>(
 fn start_ring<'h, 'm>(
     alloc: Global,
     plan: &Plan,
-    book: &'h Mutex<WaitingBook<'m>>,
+    book: &'h BookLock<'m>,
     intakes: Vec<Intake<'h, ToStation>>,
     stations: &mut Outlets<'h, ToStation>,
     classes: &mut Outlets<'h, ToClass>,
@@ -189,7 +187,7 @@ fn are_neighbours(plan: &Plan, stations: &[InterId], place: usize, other: usize)
 fn start_forks<'h, 'm>(
     alloc: Global,
     plan: &Plan,
-    book: &'h Mutex<WaitingBook<'m>>,
+    book: &'h BookLock<'m>,
     intakes: Vec<Intake<'h, ToStation>>,
     stations: &mut Outlets<'h, ToStation>,
     classes: &mut Outlets<'h, ToClass>,

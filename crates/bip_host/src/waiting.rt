@@ -1,6 +1,6 @@
 //! The book that threads share, with the places beside it where grants wait for their turn.
 ghost use Rattle.std.specs.Prelude.{◌≡◌, ◌↔◌, ◌++◌, ◌∷◌, [], false, IfErr, IfNone, IfOk, IfSome};
-ghost use Rattle.std.specs.Prelude.{IsTrue, OnSome, replicate};
+ghost use Rattle.std.specs.Prelude.{IsTrue, OnSome, length, replicate};
 ghost use Rattle.bip_host.specs.Books.{IsKeptOf};
 ghost use Rattle.bip_host.specs.Keepers.{IsEntryOf};
 ghost use Rattle.bip_host.specs.Waiting.{CanBeLaid, ComesNext, HasNoEntry, IsDrained, IsEntered};
@@ -177,6 +177,13 @@ impl<'m> WaitingBook<'m> {
     {
         self.lay(place, drawn)?;
         Ok(self.look(place))
+    }
+
+    /// How many grants the book has.
+    pub fn count_grants(&self) -> u64
+        ensures { result ≡ length self.now.book.book.grants }
+    {
+        self.book.count_grants()
     }
 
     /// The serial of the grant that the book takes next: how many it took by serial.

@@ -68,7 +68,7 @@ module _ (shares : Sharing → Type 0) (p : Planned) (base count : ℕ) where
 -- seeds whose stations share this are seeds whose stations share what is implied
 module _ (shares others : Sharing → Type 0) (p : Planned) (base count : ℕ)
     (weaker : (x : Sharing) → shares x → others x) where
-  run_shared : (seed : ℕ) (run : SeedRun) → IsSeedRun shares p base count seed run
+  pub run_shared : (seed : ℕ) (run : SeedRun) → IsSeedRun shares p base count seed run
       → IsSeedRun others p base count seed run
   run_shared seed run is = record {
     named = is.named;

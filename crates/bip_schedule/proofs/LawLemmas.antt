@@ -8,9 +8,9 @@ use Rattle.rand_pcg.specs.Pcg.{pcg32}
 use Rattle.bip_bank.specs.Laws.{MovesInOneWay}
 use Rattle.bip_bank.specs.Sharing.{in_flight}
 use Rattle.bip_core.proofs.RepeatLemmas.{same_lengths, step_once}
-use Rattle.bip_core.proofs.RepeatRunLemmas.{one_new_world}
+use Rattle.bip_core.proofs.RepeatRunLemmas.{one_new_world, one_run}
 use Rattle.bip_core.specs.Repeats.{AreAlike}
-use Rattle.bip_core.specs.Runs.{AreSteps, IsEventCounted, IsLossless, report_with}
+use Rattle.bip_core.specs.Runs.{AreSteps, IsEventCounted, IsLossless, IsRunOfEvents, report_with}
 use Rattle.bip_core.specs.Worlds.{WorldContent}
 use Rattle.bip_core.specs.declared.events.Did.{Did}
 use Rattle.bip_core.specs.declared.events.Event.{Event}
@@ -23,8 +23,10 @@ use Rattle.bip_replay.specs.declared.faults.LineFault.{LineFault}
 use Rattle.bip_replay.specs.declared.faults.LineFault.TheVariants as line_fault
 use Rattle.bip_replay.specs.declared.faults.TraceFault.{TraceFault}
 use Rattle.bip_replay.specs.declared.faults.TraceFault.TheVariants.{Memory, Syntax, Unknown}
+use Rattle.bip_schedule.proofs.DrawLemmas.{seeded_run}
 use Rattle.bip_schedule.proofs.StationLemmas.{one_stations}
 use Rattle.bip_schedule.specs.Drawing.{IsDrawn}
+use Rattle.bip_schedule.specs.Exploring.{SeedRun}
 use Rattle.bip_schedule.specs.Laws.{EventsOrFault, IsFault, EventsHaveNoFault, OneSchedule}
 use Rattle.bip_schedule.specs.Laws.{OneScheduleFault, OneSeedTrace}
 use Rattle.bip_schedule.specs.Lines.{event_on}
@@ -207,6 +209,9 @@ same_end A true b one other = sym (other.1 (one.0 refl))
 same_end A false true one other = one.1 (other.0 refl)
 same_end A false false one other = refl
 
+abbrev came_to : Traced → Report → SeedRun
+came_to traced report = record { traced = traced; report = report }
+
 abbrev traced : ℕ → List Grant → Bool → Traced
 traced seed grants is_stuck = record { seed = seed; grants = grants; is_stuck = is_stuck }
 
@@ -223,8 +228,16 @@ one_seed_trace sharing p base count seed m n way one other =
     a.report) worlds a.seeded.drawn) b.seeded.drawn
     (a.seeded.each ∙ sym b.seeded.each) (subst IsLossless one.reported one.whole)
     (subst IsLossless other.reported other.whole) in
-    let grants : m.traced.grants ≡ n.traced.grants = a.is
-    ∙ (ap (λ (w : WorldContent). w.trace) drawn.0 ∙ sym b.is) in
+    let ran : IsRunOfEvents b.events b.first a.last a.report =
+    subst (λ (w : WorldContent). IsRunOfEvents b.events w a.last a.report) worlds
+    (subst (λ (es : List Event). IsRunOfEvents es a.first a.last a.report) drawn.3
+    (seeded_run seed count a.events a.first a.last a.report a.seeded)) in
+    let same = one_run b.events b.first a.last b.last a.report b.report
+    (subst MovesInOneWay (sym b.shared) way) ran
+    (seeded_run seed count b.events b.first b.last b.report b.seeded)
+    (subst IsLossless one.reported one.whole) (subst IsLossless other.reported other.whole) in
+    let report : m.report ≡ n.report = one.reported ∙ same.reports ∙ sym other.reported in
+    let grants : m.traced.grants ≡ n.traced.grants = a.is ∙ same.traces ∙ sym b.is in
     let stuck : m.traced.is_stuck ≡ n.traced.is_stuck =
     same_end (NothingMayRun p.model (state_after p.model n.traced.grants)) m.traced.is_stuck
     n.traced.is_stuck
@@ -232,7 +245,10 @@ one_seed_trace sharing p base count seed m n way one other =
     (m.traced.is_stuck ≡ true) ↔ NothingMayRun p.model (state_after p.model gs)) grants one.stuck)
     other.stuck in (
       drawn.3,
-      ap (λ (s : ℕ). traced s m.traced.grants m.traced.is_stuck) (one.named ∙ sym other.named)
-          ∙ (ap (λ (gs : List Grant). traced n.traced.seed gs m.traced.is_stuck) grants
-          ∙ ap (traced n.traced.seed n.traced.grants) stuck),
+      ap (λ (s : ℕ). came_to (traced s m.traced.grants m.traced.is_stuck) m.report)
+          (one.named ∙ sym other.named)
+          ∙ (ap (λ (gs : List Grant). came_to (traced n.traced.seed gs m.traced.is_stuck) m.report)
+          grants
+          ∙ (ap (λ (b : Bool). came_to (traced n.traced.seed n.traced.grants b) m.report) stuck
+          ∙ ap (came_to n.traced) report)),
     )

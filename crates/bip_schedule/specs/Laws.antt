@@ -117,10 +117,11 @@ LinesAreUnknown =
 
 -- a seed draws the same each time: two runs of so many events that are drawn from it, each in the
 -- new world of one plan and base, whose stations share this and move it in one way, did the
--- same events and have one trace, where no event was skipped and no message lost
+-- same events and came to the same: one trace with its end, and one report, where no event was
+-- skipped and no message lost
 abbrev pub OneSeedTrace : Type 0
 OneSeedTrace =
     (sharing : Sharing) (p : Planned) (base count seed : ℕ) (m n : SeedRun) → MovesInOneWay sharing
     → (one : IsSeedRun (λ x. x ≡ sharing) p base count seed m)
     → (other : IsSeedRun (λ x. x ≡ sharing) p base count seed n)
-    → (one.of_seed.events ≡ other.of_seed.events) × (m.traced ≡ n.traced)
+    → (one.of_seed.events ≡ other.of_seed.events) × (m ≡ n)

@@ -1,5 +1,5 @@
 //! The explorer: many runs by chance, each checked to be a run of the model.
-ghost use Rattle.std.specs.Prelude.{◌≡◌, ◌↔◌, ◌<◌, IfErr, IfOk, IsTrue, Ok, Some};
+ghost use Rattle.std.specs.Prelude.{◌≡◌, ◌↔◌, ◌<◌, ◌≤◌, IfErr, IfOk, IsTrue, Ok, Some};
 ghost use Rattle.bip_model.specs.Numbering.{last_number};
 ghost use Rattle.bip_bank.specs.Banks.{content_of};
 ghost use Rattle.bip_core.specs.Runs.{IsLossless};
@@ -106,6 +106,7 @@ pub fn explore_seed<'p, B: Bank + Drop, F: Fn() -> Result<B, AllocError>>(
         → IsUnasked plan.now base (content_of (B.kept bank)) }
     ensures explored { IfOk result (AreSeedFigures (IsSharedBy B.kept (F.post make.now)) plan.now
         base count seed 1) }
+    ensures few { IfOk result (λ figures. figures.tally.grants ≤ count) }
     ensures fault { IfErr result (λ fault. fault ≡ Memory) }
 {
     let mut world = new_world(alloc, plan, make, base)?;

@@ -1,6 +1,6 @@
 -- Lines that are written piece by piece.
 use Rattle.std.proofs.Common.{◌≡◌, ◌∙◌, ◌+◌, ◌++◌, ◌∷◌, ◌<◌, ℕ, List, Option, Some, Result, Ok, Err}
-use Rattle.std.proofs.Common.{[], ap, codes, drop, length, slice_get, subst, sym}
+use Rattle.std.proofs.Common.{[], ap, drop, length, slice_get, subst, sym}
 use Rattle.std.specs.List.{flat_map}
 use Rattle.std.specs.Prelude.{IfErr}
 use Rattle.std.proofs.lemmas.List.{append_assoc, drop_more}
@@ -16,31 +16,23 @@ use Rattle.bip_model.specs.declared.reasons.Why.{Why}
 use Rattle.bip_model.specs.declared.numbering.InterId.{InterId}
 use Rattle.bip_partition.specs.Plans.{AreStations, Planned}
 use Rattle.bip_tell.specs.Lines.{IsLackedBy, IsToldEvent, count_left, done_text, handed_on}
-use Rattle.bip_tell.specs.Lines.{line_head, put_text, told_line}
-use Rattle.bip_tell.specs.Messages.{message_text}
+use Rattle.bip_tell.specs.Lines.{each_placed, line_head, told_line}
 use Rattle.bip_tell.specs.Reasons.{told_reason}
-use Rattle.bip_tell.specs.Words.{counted}
 
 -- one message more is written
-pub put_one : (p : Planned) (place : ℕ) (m : Message) (mail : List Message) (start t a b c : List ℕ)
-    → place < length mail → slice_get mail place ≡ Some m → a ≡ t ++ codes ","
-    → b ≡ a ++ counted place → c ≡ b ++ message_text p m
-    → t ++ put_text p place (drop place mail) ≡ start
-    → c ++ put_text p (place + 1) (drop (place + 1) mail) ≡ start
-put_one p place m mail start t a b c within found behind number message before =
+pub placed_one : (told : ℕ → Message → List ℕ) (place : ℕ) (m : Message) (mail : List Message)
+    (start t c : List ℕ) → place < length mail → slice_get mail place ≡ Some m
+    → c ≡ t ++ told place m → t ++ each_placed told place (drop place mail) ≡ start
+    → c ++ each_placed told (place + 1) (drop (place + 1) mail) ≡ start
+placed_one told place m mail start t c within found written before =
     let rest = drop (place + 1) mail in
     let here : drop place mail ≡ m ∷ rest =
     drop_more mail place m within ∙ ap (λ (x : Message). x ∷ rest)
     (get_or_from_slice_get mail place m m found) in
-    let more = put_text p (place + 1) rest in
-    let whole : c ≡ ((t ++ codes ",") ++ counted place) ++ message_text p m =
-    message ∙ ap (λ (x : List ℕ). x ++ message_text p m)
-    (number ∙ ap (λ (x : List ℕ). x ++ counted place) behind) in
-    ap (λ (x : List ℕ). x ++ more) whole
-    ∙ (append_assoc ((t ++ codes ",") ++ counted place) (message_text p m) more
-    ∙ (append_assoc (t ++ codes ",") (counted place) (message_text p m ++ more)
-    ∙ (append_assoc t (codes ",") (counted place ++ (message_text p m ++ more))
-    ∙ (sym (ap (λ (x : List Message). t ++ put_text p place x) here) ∙ before))))
+    let more = each_placed told (place + 1) rest in
+    ap (λ (x : List ℕ). x ++ more) written
+    ∙ (append_assoc t (told place m) more
+    ∙ (sym (ap (λ (x : List Message). t ++ each_placed told place x) here) ∙ before))
 
 -- one reason more is written
 pub reason_one : (m : System) (place : ℕ) (y : Why) (reasons : List Why) (start t c : List ℕ)

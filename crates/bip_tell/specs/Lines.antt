@@ -1,4 +1,5 @@
--- The line of an event: what it did, and what that put into flight.
+-- The line of an event: what it did, and what that put into flight; and what is in flight before
+-- the first one.
 use Rattle.std.specs.Fmt.{decimal}
 use Rattle.std.specs.Option.{option_map_or}
 use Rattle.std.specs.Prelude.{List, None, Option, Some, [], codes, drop, length}
@@ -31,11 +32,24 @@ abbrev pub count_left : Option Message → ℕ → ℕ
 count_left None count = count
 count_left (Some m) count = count - 1
 
--- messages with their places, the first at this one: `, 4 offer A:2 to P`
+-- messages told one behind another, each with its place, of which this is the first
+abbrev pub each_placed : (ℕ → Message → List ℕ) → ℕ → List Message → List ℕ
+each_placed told place [] = []
+each_placed told place (m ∷ more) = told place m ++ each_placed told (place + 1) more
+
+-- a message with its place: `, 4 offer A:2 to P`
+abbrev pub one_put : Planned → ℕ → Message → List ℕ
+one_put p place m = codes "," ++ (counted place ++ message_text p m)
+
 abbrev pub put_text : Planned → ℕ → List Message → List ℕ
-put_text p place [] = []
-put_text p place (m ∷ more) =
-    codes "," ++ (counted place ++ (message_text p m ++ put_text p (place + 1) more))
+put_text p place mail = each_placed (one_put p) place mail
+
+-- what is in flight before the first event, a line for each message: `0 first: 4 offer A:1 to P`
+abbrev pub first_line : Planned → ℕ → Message → List ℕ
+first_line p place m = codes "0 first:" ++ (counted place ++ (message_text p m ++ line_feed ∷ []))
+
+abbrev pub first_lines : Planned → List Message → List ℕ
+first_lines p mail = each_placed (first_line p) 0 mail
 
 -- how many were lost, if any: `, lost 2`
 abbrev pub lost_text : ℕ → List ℕ
@@ -96,3 +110,11 @@ pub data AreTold (w : WorldContent) :
       {v x : WorldContent} (e : Event) (d : Option Did) (line : List ℕ)
       → AreTold w es ds lines v → IsToldEvent (length es + 1) e d v x line
       → AreTold w (es ++ e ∷ []) (ds ++ d ∷ []) (lines ++ line ∷ []) x
+
+-- texts tell events that lead from one world to another: first what is in flight before them, then
+-- each by its line
+pub record AreToldFrom (w : WorldContent) (es : List Event) (ds : List (Option Did))
+    (told : List (List ℕ)) (v : WorldContent) : Type 0 where
+  pub lines : List (List ℕ)
+  pub begun : told ≡ first_lines w.plan w.mail ∷ lines
+  pub each : AreTold w es ds lines v

@@ -8,4 +8,4 @@ mod messages;
 mod reasons;
 mod words;
 
-pub use lines::tell_event;
+pub use lines::{tell_event, tell_first};

@@ -1,4 +1,4 @@
-//! The line of an event.
+//! The line of an event, and what is in flight before the first one.
 ghost use Rattle.std.specs.Prelude.{◌≡◌, ◌<◌, ◌++◌, ◌+◌, [], ◌∷◌, List, Option, OnOk, IfErr, IfOk};
 ghost use Rattle.std.specs.Prelude.{codes, drop, length, map, ℕ};
 ghost use Rattle.std.specs.Fmt.{decimal};
@@ -9,8 +9,8 @@ ghost use Rattle.bip_core.specs.Worlds.{world_of};
 ghost use Rattle.bip_core.specs.declared.events.Did.{Did};
 ghost use Rattle.bip_schedule.specs.Writing.{HasSpelling, HaveSpelling, event_line};
 ghost use Rattle.bip_tell.specs.Lines.{IsLackedBy, IsLeftUntold, IsToldEvent, count_left};
-ghost use Rattle.bip_tell.specs.Lines.{done_text, handed_on, handed_text, line_head, lost_text};
-ghost use Rattle.bip_tell.specs.Lines.{put_text};
+ghost use Rattle.bip_tell.specs.Lines.{done_text, first_line, first_lines, handed_on, handed_text};
+ghost use Rattle.bip_tell.specs.Lines.{line_head, lost_text, one_put, put_text};
 
 use crate::answers::write_what;
 use crate::messages::write_message;
@@ -22,6 +22,40 @@ use bip_partition::Plan;
 use bip_schedule::write_event;
 use itoa::Buffer;
 use std::alloc::AllocError;
+
+/// Puts last in a text what is in flight in a world before its first event: a line for each
+/// message, with its place (docs/TELL.md). The only error is want of memory for the text, which may
+/// have a part of it then.
+pub fn tell_first<'p, B: Bank>(text: &mut Vec<u8>, world: &World<'p, B>) -> Result<(), AllocError>
+    ensures { OnOk result (text.new.items
+        ≡ text.old.items ++ first_lines world.now.plan world.now.mail) }
+{
+    let plan = world.plan();
+    for place in 0..world.mails() {
+        let Some(message) = world.message(place) else {
+            unreachable!();
+        };
+        write_first(text, plan, place, &message)?;
+    }
+    Ok(())
+}
+
+/// Writes the line of a message that is in flight at first.
+fn write_first(
+    text: &mut Vec<u8>,
+    plan: &Plan,
+    place: usize,
+    message: &Message,
+) -> Result<(), AllocError>
+    ensures { OnOk result
+        (text.new.items ≡ text.old.items ++ first_line plan.now place message.now) }
+{
+    text.extend_from_slice(b"0 first:")?;
+    write_count(text, place as u64)?;
+    write_message(text, plan, message)?;
+    text.push(b'\n')?;
+    Ok(())
+}
 
 /// Does one event, counts it, and tells it in a line, which is put last in a text: its number in
 /// the run, as the report counts it; the event as schedules spell it; the message that it hands on;
@@ -179,11 +213,24 @@ fn write_put<'p, B: Bank>(
         let Some(message) = world.message(place) else {
             unreachable!();
         };
-        text.push(b',')?;
-        write_count(text, place as u64)?;
-        write_message(text, plan, &message)?;
+        write_one_put(text, plan, place, &message)?;
     }
     Ok(())
+}
+
+/// Writes a message in flight with its place.
+fn write_one_put(
+    text: &mut Vec<u8>,
+    plan: &Plan,
+    place: usize,
+    message: &Message,
+) -> Result<(), AllocError>
+    ensures { OnOk result
+        (text.new.items ≡ text.old.items ++ one_put plan.now place message.now) }
+{
+    text.push(b',')?;
+    write_count(text, place as u64)?;
+    write_message(text, plan, message)
 }
 
 /// Writes how many messages were lost, if any.

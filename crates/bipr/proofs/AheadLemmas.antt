@@ -2,7 +2,8 @@
 use Rattle.std.proofs.Common.{◌≡◌, ◌+◌, ◌-◌, ◌*◌, ◌/◌, ◌%◌, ◌<◌, ◌≤◌, ℕ, [], arith}
 use Rattle.std.proofs.Common.{length}
 use Rattle.std.proofs.Common.{ap, subst, sym}
-use Rattle.std.proofs.Math.Nat.{div-mul-le_self, mod-eq-sub-div-mul, mul-le-mul_right}
+use Rattle.std.proofs.Math.Nat.{div-mul-le_self, mod-eq-sub-div-mul, mul-div_cancel}
+use Rattle.std.proofs.Math.Nat.{mul-le-mul_right, mul-mod_left}
 use Rattle.std.proofs.lemmas.Option.{slice_get_within}
 use Rattle.bip_bank.specs.Sharing.{Sharing}
 use Rattle.bip_partition.specs.Plans.{Planned}
@@ -24,6 +25,16 @@ placed from done size behind whole =
     let rest = mod-eq-sub-div-mul (done - from) size in
     let most = div-mul-le_self (done - from) size in
     omega arith
+
+-- and the other way round
+pub places_back : (from done size place : ℕ) → 0 < size → done ≡ from + place * size
+    → (from ≤ done) × ((done - from) % size ≡ 0) × ((done - from) / size ≡ place)
+places_back from done size place sized behind =
+    let rest : done - from ≡ place * size = omega (arith, behind) in (
+      omega (arith, behind),
+      rw rest (mul-mod_left place size),
+      rw rest (mul-div_cancel place sized),
+    )
 
 -- where nothing is ahead, each of its blocks is so
 pub none_ahead : (p : Planned) (asked : ExploreArguments) (ahead : Ahead)

@@ -4,6 +4,7 @@ use Rattle.std.proofs.Common.{◌≡◌, ℕ, Bool, List, Option, Some, Result, 
 use Rattle.std.specs.Result.{IsErrAnd}
 use Rattle.clap.specs.Words.{Row, Text}
 use Rattle.bip_host.specs.declared.faults.HostFault.{HostFault}
+use Rattle.bip_host.specs.declared.hosts.Limits.{Limits}
 use Rattle.bip_partition.specs.Plans.{Planned}
 use Rattle.bipr.specs.CommandLine.{IsReadAs}
 use Rattle.bipr.specs.Commands.{IsAnsweredTo, IsCarriedOutBy, IsSaidTo, asked, named, spelled}
@@ -44,7 +45,7 @@ module _ {S : Type 0} (writes : S → List ℕ → Bool → S → Type 0) (befor
   -- words that name it
   pub carried : (parsed : Option (Text × List Row))
       (gives : List ℕ → Result (List ℕ) InputFault → Type 0)
-      (hosts : Planned → HostForm → ℕ → Result Hosted HostFault → Type 0) (command : Command)
+      (hosts : Planned → HostForm → Limits → Result Hosted HostFault → Type 0) (command : Command)
       (values : List Row) → parsed ≡ Some (spelled command, values)
       → AllOutcomesTelling writes before after given (IsSaidTo command values gives hosts)
       → AllOutcomesTelling writes before after given (IsCarriedOutBy parsed gives hosts)

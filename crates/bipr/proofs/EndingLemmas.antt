@@ -15,7 +15,7 @@ use Rattle.bipr.specs.declared.stops.Stop.TheVariants.{BaseOutOfRange, CannotRea
 use Rattle.bipr.specs.declared.stops.Stop.TheVariants.{GrantRefused, OutOfMemory, RowsOutOfOrder}
 use Rattle.bipr.specs.declared.stops.Stop.TheVariants.{ScheduleTooLong, SeedNotARun}
 use Rattle.bipr.specs.declared.stops.Stop.TheVariants.{ThreadRefused, TooManyRows}
-use Rattle.bipr.specs.declared.stops.Stop.TheVariants.{SeedOrSeeds, WordsNeedCentral}
+use Rattle.bipr.specs.declared.stops.Stop.TheVariants.{SeedOrSeeds, TurnsOrGrants, WordsNeedCentral}
 
 -- an answer is said as it is
 pub outcome_answered : (P : Answer → Type 0) (given : Answer) → P given → (answer : Answer)
@@ -38,6 +38,7 @@ outcome_stopped (Err why) P given is told lacking =
     by_why BaseOutOfRange answer held same = subst P (sym same) held
     by_why RowsOutOfOrder answer held same = subst P (sym same) held
     by_why SeedOrSeeds answer held same = subst P (sym same) held
+    by_why TurnsOrGrants answer held same = subst P (sym same) held
     by_why WordsNeedCentral answer held same = subst P (sym same) held
     by_why TooManyRows answer held same = subst P (sym same) held
     by_why ScheduleTooLong answer held same = subst P (sym same) held

@@ -20,8 +20,8 @@ use Rattle.bip_replay.specs.Traces.{grants_of}
 use Rattle.bip_replay.specs.Writing.{text_of}
 use Rattle.bip_schedule.specs.Schedules.{IsEventText}
 use Rattle.bip_schedule.specs.Writing.{HasSpelling, HaveSpelling}
-use Rattle.bip_tell.specs.Lines.{AreTold, IsLeftUntold, IsToldEvent, done_untold, none_told}
-use Rattle.bip_tell.specs.Lines.{not_done, one_told}
+use Rattle.bip_tell.specs.Lines.{AreTold, AreToldFrom, IsLeftUntold, IsToldEvent, done_untold}
+use Rattle.bip_tell.specs.Lines.{none_told, not_done, one_told}
 use Rattle.bipr.specs.Answers.{complaining}
 use Rattle.bipr.specs.Resolvers.{IsSharedAtFirst}
 use Rattle.bipr.specs.Scheduled.{IsAtMostOneDone, IsScheduleAnswered, IsTelling, IsToldUntil, aloud}
@@ -111,7 +111,7 @@ module _ (p : Planned) (base : ℕ) (resolver : Resolver) (is_told : Bool) (sche
       → answer ≡ reporting (text_of p.model v.trace) (report_text report)
       → grants_of p.model (text_of p.model v.trace) ≡ Ok v.trace → Answered answer
   told_all report keep ran (all_told events dids _ says lines heard sums) answer is reads =
-      let steps = told_steps lines in
+      let steps = told_steps lines.each in
       let run : IsRunOfEvents events w v report =
       record { dids = dids; steps = steps; sums = sums } in
       let more = steps_grow events dids w v steps in
@@ -129,7 +129,7 @@ module _ (p : Planned) (base : ℕ) (resolver : Resolver) (is_told : Bool) (sche
 
   -- so far as it is told
   until : (last : WorldContent) (done rest : List Event) (dids : List (Option Did))
-      → IsEventText p schedule (done ++ rest) → AreTold w done dids (texts told) last
+      → IsEventText p schedule (done ++ rest) → AreToldFrom w done dids (texts told) last
       → IsToldUntil p base resolver schedule told
   until last done rest dids says lines =
       record {

@@ -1,14 +1,18 @@
 -- The answer to a chart: the picture of the run with which a trace begins, beside its verdict.
 use Rattle.std.specs.Prelude.{◌≡◌, ◌<◌, ◌≤◌, ◌-◌, ◌&&◌, ℕ, Bool, true, List, length, nat_le, nat_lt}
-use Rattle.std.specs.Prelude.{Option, None, Some, if◌then◌else◌, take, ⊤}
-use Rattle.std.specs.Option.{option_map, option_map_or}
+use Rattle.std.specs.Prelude.{Option, None, Some, [], false, take, ⊤}
+use Rattle.std.specs.Option.{option_map_or}
 use Rattle.bip_draw.specs.Charts.{chart_of}
+use Rattle.bip_draw.specs.Ends.{AddsRunnable}
 use Rattle.bip_draw.specs.declared.charts.Chart.{Chart}
+use Rattle.bip_draw.specs.declared.feet.Foot.TheVariants.{Fault, Nothing, Runnable}
+use Rattle.bip_draw.specs.declared.feet.Foot.{Foot}
 use Rattle.bip_model.specs.declared.grants.Grant.{Grant}
 use Rattle.bip_model.specs.declared.parts.System.{System}
 use Rattle.bip_model.specs.declared.partitions.Partition.{Partition}
 use Rattle.bip_reader.specs.Texts.{Means}
 use Rattle.bip_replay.specs.Replays.{IsFirstFault, IsRunOf}
+use Rattle.bip_replay.specs.Runs.{state_after}
 use Rattle.bip_replay.specs.declared.faults.BookFault.{BookFault}
 use Rattle.bip_replay.specs.declared.faults.ReplayFault.TheVariants as replay_fault
 use Rattle.bipr.specs.Answers.{IsAnswer, complaining, saying}
@@ -58,10 +62,6 @@ reason_of verdict = by_status verdict.status
     by_status NotARun = Some (take (length verdict.output - 1) verdict.output)
     by_status status = None
 
--- the same of a run of so many grants, where that row is shown
-abbrev pub reason_shown : Shown → ℕ → Answer → Option (List ℕ)
-reason_shown shown count verdict = if shows_behind shown count then reason_of verdict else None
-
 -- the run with which a trace begins, by its grants: all of the trace, or what stands before the
 -- first line whose grant can't be next; and the verdict on the trace
 pub data IsFrontRun (m : System) (base : ℕ) (trace : List ℕ) : List Grant → Answer → Type 0 where
@@ -71,24 +71,41 @@ pub data IsFrontRun (m : System) (base : ℕ) (trace : List ℕ) : List Grant �
       → (first : IsFirstFault m base trace number (replay_fault.NotARun fault))
       → IsFrontRun m base trace first.grants (saying NotARun (verdict_text m trace number fault))
 
--- a chart has the rows of these grants from the first one on that is shown, and behind them this
--- reason
-pub record IsChartOf (m : System) (classes : Partition) (shown : Shown) (grants : List Grant)
-    (reason : Option (List ℕ)) (chart : Chart) : Type 0 where
+-- what stands behind the rows of a run of so many grants, which has this verdict and behind which
+-- this may run: nothing where the row behind all isn't shown; why the run stops there; or that
+abbrev pub IsFootOf : Shown → ℕ → Answer → List ℕ → Foot → Type 0
+IsFootOf shown count verdict runnable Nothing = shows_behind shown count ≡ false
+IsFootOf shown count verdict runnable (Fault why) =
+    (shows_behind shown count ≡ true) × (reason_of verdict ≡ Some why.now)
+IsFootOf shown count verdict runnable (Runnable text) =
+    (shows_behind shown count ≡ true) × (reason_of verdict ≡ None) × (text.now ≡ runnable)
+
+-- a chart has these rows, from the first one on that is shown, and this foot
+pub record IsDrawnAs (m : System) (classes : Partition) (shown : Shown) (grants : List Grant)
+    (foot : Foot) (chart : Chart) : Type 0 where
   pub model : chart.model.now ≡ m
   pub parted : chart.classes.now ≡ classes
   pub rows : chart.book.now.grants ≡ grants
   pub first : chart.first ≡ shown.from - 1
   pub values : chart.values ≡ shown.values
-  pub why : option_map (λ why. why.now) chart.fault ≡ reason
+  pub below : chart.foot ≡ foot
+
+-- a chart of a run has the rows of its grants that are shown, and what stands behind them; what may
+-- run there may run in the state to which these lead, which are all where that is shown
+pub record IsChartOf (m : System) (classes : Partition) (shown : Shown) (grants : List Grant)
+    (verdict : Answer) (chart : Chart) : Type 0 where
+  pub foot : Foot
+  pub runnable : List ℕ
+  pub drawn : IsDrawnAs m classes shown (until_last shown grants) foot chart
+  pub behind : IsFootOf shown (length grants) verdict runnable foot
+  pub runs : AddsRunnable m (state_after m (until_last shown grants)) [] runnable
 
 -- what is answered of a run that has this verdict: its chart, with the verdict beside it, or that
 -- it has too many rows
 pub data IsPictured (m : System) (classes : Partition) (shown : Shown) (grants : List Grant)
     (verdict : Answer) : Answer → Type 0 where
   fitting : (chart : Chart) → count_shown shown grants ≤ most_rows
-      → IsChartOf m classes shown (until_last shown grants)
-      (reason_shown shown (length grants) verdict) chart
+      → IsChartOf m classes shown grants verdict chart
       → IsPictured m classes shown grants verdict
       (record { status = verdict.status; output = chart_of chart; complaint = verdict.output })
   too_long : most_rows < count_shown shown grants

@@ -141,5 +141,6 @@ pub record IsRunAsked (values : List Row) (arguments : RunArguments) : Type 0 wh
   pub model : first_of (codes "model") values ≡ Some arguments.model.now
   pub resolver : IsResolverAsked values arguments.form.resolver
   pub tables : AreTablesAsked values arguments.form.tables
-  pub turns : IsNumberAsked values (codes "turns") 32 arguments.turns
+  pub turns : MayAskNumber values (codes "turns") 32 arguments.turns
+  pub grants : MayAskNumber values (codes "grants") 32 arguments.grants
   pub stats : IsFlagAsked values (codes "stats") arguments.with_stats

@@ -5,6 +5,7 @@ use Rattle.std.specs.declared.io.Error as io_error
 use Rattle.clap.specs.Words.{Row, Text}
 use Rattle.clap.specs.declared.error.Error.{Error}
 use Rattle.bip_host.specs.declared.faults.HostFault.{HostFault}
+use Rattle.bip_host.specs.declared.hosts.Limits.{Limits}
 use Rattle.bip_partition.specs.Plans.{Planned}
 use Rattle.bipr.specs.Answers.{IsAnswer, IsCheckShowing, IsRefusedModel, code_of}
 use Rattle.bipr.specs.Charted.{AreRowsDisordered, AreRowsInOrder, IsChartAnswer}
@@ -13,7 +14,7 @@ use Rattle.bipr.specs.CommandLine.{IsExploreAsked, IsRenderAsked, IsRunAsked, Is
 use Rattle.bipr.specs.CommandLine.{IsVerdictAsked, IsWalkAsked}
 use Rattle.bipr.specs.Endings.{Ends, EndsExplaining}
 use Rattle.bipr.specs.Explored.{IsExploreAnswer}
-use Rattle.bipr.specs.Hosted.{IsPlanHosted}
+use Rattle.bipr.specs.Hosted.{IsPlanHosted, limits_of}
 use Rattle.bipr.specs.Loading.{IsModelText, IsNoModel, IsPlannedText, OfPlan, OfText, OfTexts}
 use Rattle.bipr.specs.Loading.{Silently}
 use Rattle.bipr.specs.Program.{IsNoParse, IsParse, Parsed}
@@ -22,7 +23,7 @@ use Rattle.bipr.specs.Renderings.{IsRenderingAnswer}
 use Rattle.bipr.specs.Resolvers.{NeedsCentral}
 use Rattle.bipr.specs.Scheduled.{IsScheduleAnswered}
 use Rattle.bipr.specs.Seeds.{IsSeedAnswer}
-use Rattle.bipr.specs.Stops.{bad_base, bad_range, bad_seeds, out_of_memory}
+use Rattle.bipr.specs.Stops.{bad_base, bad_limits, bad_range, bad_seeds, out_of_memory}
 use Rattle.bipr.specs.Stops.{words_need_central}
 use Rattle.bipr.specs.Streams.{Put, Puts}
 use Rattle.bipr.specs.Views.{IsViewed, verdict_view}
@@ -125,14 +126,19 @@ pub data AreWalksWritten (gives : List ℕ → Result (List ℕ) InputFault → 
 
 -- the run of nodes as threads
 pub data IsThreadedRun (gives : List ℕ → Result (List ℕ) InputFault → Type 0)
-    (hosts : Planned → HostForm → ℕ → Result Hosted HostFault → Type 0) (asked : RunArguments)
+    (hosts : Planned → HostForm → Limits → Result Hosted HostFault → Type 0) (asked : RunArguments)
     : List Put → Answer → Type 0 where
+  -- not just one of turns and of grants is said: nothing is read
+  of_no_limits : limits_of asked.turns asked.grants ≡ None
+      → IsThreadedRun gives hosts asked [] bad_limits
   -- row words are asked for without the central bank: nothing is read
-  of_no_bank : NeedsCentral asked.form → IsThreadedRun gives hosts asked [] words_need_central
+  of_no_bank : (limits : Limits) → limits_of asked.turns asked.grants ≡ Some limits
+      → NeedsCentral asked.form → IsThreadedRun gives hosts asked [] words_need_central
   -- the plan of the text that the path names is run
-  of_bank : (told : List Put) (answer : Answer) → ¬ NeedsCentral asked.form
+  of_bank : (limits : Limits) (told : List Put) (answer : Answer)
+      → limits_of asked.turns asked.grants ≡ Some limits → ¬ NeedsCentral asked.form
       → OfText gives asked.model.now
-      (λ model. OfPlan model (λ p. Silently (IsPlanHosted p hosts asked))) told answer
+      (λ model. OfPlan model (λ p. Silently (IsPlanHosted p hosts asked limits))) told answer
       → IsThreadedRun gives hosts asked told answer
 
 -- ---- the commands
@@ -160,7 +166,7 @@ pub data IsAnsweredTo {A : Type 0} (asks : A → Type 0) (does : A → List Put 
 
 -- the same of each command, by the values behind it
 abbrev pub IsSaidTo : Command → List Row → (List ℕ → Result (List ℕ) InputFault → Type 0)
-    → (Planned → HostForm → ℕ → Result Hosted HostFault → Type 0) → List Put → Answer → Type 0
+    → (Planned → HostForm → Limits → Result Hosted HostFault → Type 0) → List Put → Answer → Type 0
 IsSaidTo command.Canon values gives hosts =
     IsAnsweredTo (IsRenderAsked values) (IsRender Canonical gives)
 IsSaidTo command.Chart values gives hosts = IsAnsweredTo (IsChartAsked values) (IsChart gives)
@@ -182,7 +188,7 @@ IsSaidTo command.Walk values gives hosts =
 -- that name none are refused as if the base were out of range
 pub data IsCarriedOutBy (parsed : Option (Text × List Row))
     (gives : List ℕ → Result (List ℕ) InputFault → Type 0)
-    (hosts : Planned → HostForm → ℕ → Result Hosted HostFault → Type 0)
+    (hosts : Planned → HostForm → Limits → Result Hosted HostFault → Type 0)
     : List Put → Answer → Type 0 where
   named : (command : Command) (values : List Row) (told : List Put) (answer : Answer)
       → parsed ≡ Some (spelled command, values) → IsSaidTo command values gives hosts told answer
@@ -194,7 +200,7 @@ pub data IsCarriedOutBy (parsed : Option (Text × List Row))
 -- it refuses
 pub data IsCarriedOut (words : List Text)
     (gives : List ℕ → Result (List ℕ) InputFault → Type 0)
-    (hosts : Planned → HostForm → ℕ → Result Hosted HostFault → Type 0) :
+    (hosts : Planned → HostForm → Limits → Result Hosted HostFault → Type 0) :
     Bool → List Put → Answer → Type 0 where
   parsed : (said : Parsed) (is_asked : Bool) (told : List Put) (answer : Answer)
       → IsParse words said → IsExplainAsked said is_asked
@@ -208,7 +214,7 @@ pub data IsCarriedOut (words : List Text)
 -- texts: the words can't be had, or they were carried out
 pub data IsProgramEnd {S : Type 0} (asks : Result (List Text) io_error.Error → Type 0)
     (gives : List ℕ → Result (List ℕ) InputFault → Type 0)
-    (hosts : Planned → HostForm → ℕ → Result Hosted HostFault → Type 0)
+    (hosts : Planned → HostForm → Limits → Result Hosted HostFault → Type 0)
     (says : List ℕ → Bool → Type 0)
     (writes : S → List ℕ → Bool → S → Type 0) (before after : S) (status : Status) : Type 0 where
   wordless : (error : io_error.Error) → asks (Err error)

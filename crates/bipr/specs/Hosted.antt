@@ -1,8 +1,10 @@
 -- The answer to running the nodes of a plan as threads.
-use Rattle.std.specs.Prelude.{Bool, true, false, List, [], ℕ, Result, Ok, Err, length}
+use Rattle.std.specs.Prelude.{◌≡◌, Bool, true, false, List, [], None, Option, Some, ℕ, Result, Ok}
+use Rattle.std.specs.Prelude.{Err, length}
 use Rattle.bip_host.specs.declared.faults.HostFault.TheVariants as host_fault
 use Rattle.bip_host.specs.declared.faults.HostFault.{HostFault}
-use Rattle.bip_host.specs.Reports.{AreFiguresOf}
+use Rattle.bip_host.specs.declared.hosts.Limits.{Limits}
+use Rattle.bip_host.specs.Reports.{AreFiguresOf, IsEndedBy}
 use Rattle.bip_host.specs.Seats.{CanHave}
 use Rattle.bip_partition.specs.Plans.{Planned}
 use Rattle.bip_replay.specs.Replays.{IsRunOf}
@@ -20,12 +22,22 @@ use Rattle.bipr.specs.declared.commands.run.RunArguments.{RunArguments}
 use Rattle.bipr.specs.declared.hosted.Hosted.{Hosted}
 use Rattle.bipr.specs.declared.resolvers.HostForm.{HostForm}
 
--- what a host gave in a form, for so many turns of each thread: a run of the plan's model, by the
--- third layer that the resolver names, whose tables were shared so, in as many threads as that asks
--- for, none of which made more turns
-pub record IsHostedAs (p : Planned) (form : HostForm) (turns : ℕ) (hosted : Hosted) : Type 0 where
-  pub run : IsModelRun p.model 0 hosted.report.grants.items
-  pub figures : AreFiguresOf p (kind_named form.resolver) form.tables turns hosted.figures
+-- how long a host runs: each thread for so many turns, or until there are so many grants and for at
+-- most 10^9 turns each; by just one of the two
+abbrev pub limits_of : Option ℕ → Option ℕ → Option Limits
+limits_of (Some turns) None = Some (record { turns = turns; grants = None })
+limits_of None (Some grants) = Some (record { turns = 1000000000; grants = Some grants })
+limits_of turns grants = None
+
+-- what a host gave in a form, with these limits: a run of the plan's model, by the third layer that
+-- the resolver names, whose tables were shared so, in as many threads as that asks for, none of
+-- which made more turns; and why it ended
+pub record IsHostedAs (p : Planned) (form : HostForm) (limits : Limits) (hosted : Hosted) : Type 0
+  where
+    pub run : IsModelRun p.model 0 hosted.report.grants.items
+    pub figures : AreFiguresOf p (kind_named form.resolver) form.tables limits.turns hosted.figures
+    pub limited : hosted.limits ≡ limits
+    pub ended : IsEndedBy limits hosted.report.grants.items hosted.figures
 
 -- what is told of a host on standard error: what is counted, where that is asked for
 abbrev pub stats_told : Bool → Hosted → List ℕ
@@ -56,14 +68,13 @@ pub data IsHostAnswer (gives : Result Hosted HostFault → Type 0) (p : Planned)
 abbrev pub FitsPlan : Planned → HostForm → Type 0
 FitsPlan p form = CanHave p (kind_named form.resolver) form.tables
 
--- what may be answered where running the nodes of a plan in a form, for so many turns each, may
--- give that
+-- what may be answered where running the nodes of a plan in a form, with limits, may give that
 pub data IsPlanHosted (p : Planned)
-    (hosts : Planned → HostForm → ℕ → Result Hosted HostFault → Type 0) (asked : RunArguments)
-    : Answer → Type 0 where
+    (hosts : Planned → HostForm → Limits → Result Hosted HostFault → Type 0) (asked : RunArguments)
+    (limits : Limits) : Answer → Type 0 where
   -- the plan can have the form that is asked for
   of_host : (answer : Answer) → FitsPlan p asked.form
-      → IsHostAnswer (hosts p asked.form asked.turns) p asked.with_stats answer
-      → IsPlanHosted p hosts asked answer
+      → IsHostAnswer (hosts p asked.form limits) p asked.with_stats answer
+      → IsPlanHosted p hosts asked limits answer
   -- more of its components have a row than row words can
-  of_many_rows : ¬ FitsPlan p asked.form → IsPlanHosted p hosts asked too_many_rows
+  of_many_rows : ¬ FitsPlan p asked.form → IsPlanHosted p hosts asked limits too_many_rows

@@ -101,13 +101,14 @@ ToldOrNot =
     (told : List Put) (a b : Answer) → IsToldStepped p base resolver schedule report told a
     → IsStepped p base resolver schedule other b → IsLossless report → IsLossless other → a ≡ b
 
--- with each resolver, a seed that is explored again does the same events, and has the same trace
+-- with each resolver, a seed that is explored again does the same events, and comes to the same:
+-- one trace with its end, and one report
 abbrev pub OneTraceOfASeed : Type 0
 OneTraceOfASeed =
     (p : Planned) (resolver : Resolver) (count seed : ℕ) (m n : SeedRun)
     → (one : IsSeedRun (IsSharedAtFirst resolver p) p 0 count seed m)
     → (other : IsSeedRun (IsSharedAtFirst resolver p) p 0 count seed n)
-    → (one.of_seed.events ≡ other.of_seed.events) × (m.traced ≡ n.traced)
+    → (one.of_seed.events ≡ other.of_seed.events) × (m ≡ n)
 
 -- the steps of a seed's schedule are the seed's: with its resolver they have its trace and its
 -- report, where no event was skipped and no message lost

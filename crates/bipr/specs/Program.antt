@@ -108,8 +108,8 @@ explore_command resolvers = with_arguments (codes "explore")
 abbrev pub run_command : Bor (List (Bor Text)) → Bor (List (Bor Text)) → Shape
 run_command resolvers tables = with_arguments (codes "run")
     (path (codes "model") ∷ resolver_option resolvers
-    ∷ needed (codes "turns") (numbers 1 1000000) ∷ table_option tables ∷ flag (codes "stats")
-    ∷ flag (codes "explain") ∷ [])
+    ∷ option (codes "turns") (numbers 1 1000000) ∷ option (codes "grants") (numbers 1 1000000)
+    ∷ table_option tables ∷ flag (codes "stats") ∷ flag (codes "explain") ∷ [])
 
 abbrev pub seed_command : Bor (List (Bor Text)) → Shape
 seed_command resolvers = with_arguments (codes "seed")

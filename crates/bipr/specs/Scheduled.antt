@@ -14,7 +14,7 @@ use Rattle.bip_replay.specs.Writing.{text_of}
 use Rattle.bip_replay.specs.declared.faults.TraceFault.TheVariants.{Memory}
 use Rattle.bip_replay.specs.declared.faults.TraceFault.{TraceFault}
 use Rattle.bip_schedule.specs.Schedules.{IsEventText, IsScheduleFault}
-use Rattle.bip_tell.specs.Lines.{AreTold}
+use Rattle.bip_tell.specs.Lines.{AreToldFrom}
 use Rattle.bipr.specs.Answers.{complaining}
 use Rattle.bipr.specs.Resolvers.{IsSharedAtFirst}
 use Rattle.bipr.specs.Stops.{out_of_memory, unwritten_text}
@@ -44,16 +44,16 @@ pub record IsStepped (p : Planned) (base : ℕ) (resolver : Resolver) (schedule 
   pub run : IsRunOf p.model base (text_of p.model last.trace) report.grants
   pub is : answer ≡ reporting (text_of p.model last.trace) (report_text report)
 
--- the same, where each event was told on the way by its line
+-- the same, where what is in flight at first was told, and each event on the way by its line
 pub record IsToldStepped (p : Planned) (base : ℕ) (resolver : Resolver) (schedule : List ℕ)
     (report : Report) (told : List Put) (answer : Answer) : Type 0 where
   pub stepped : IsStepped p base resolver schedule report answer
   pub dids : List (Option Did)
-  pub lines : AreTold stepped.first stepped.events dids (texts told) stepped.last
+  pub lines : AreToldFrom stepped.first stepped.events dids (texts told) stepped.last
   pub heard : AreOut told
   pub sums : report ≡ report_of dids
 
--- the first events of a schedule are done, each told by its line
+-- the first events of a schedule are done, each told by its line, behind what is in flight at first
 pub record IsToldUntil (p : Planned) (base : ℕ) (resolver : Resolver) (schedule : List ℕ)
     (told : List Put) : Type 0 where
   pub done : List Event
@@ -64,7 +64,7 @@ pub record IsToldUntil (p : Planned) (base : ℕ) (resolver : Resolver) (schedul
   pub says : IsEventText p schedule (done ++ rest)
   pub new : IsNewWorld p base first
   pub shared : IsSharedAtFirst resolver p first.bank.sharing
-  pub lines : AreTold first done dids (texts told) last
+  pub lines : AreToldFrom first done dids (texts told) last
 
 -- a text that is no schedule is refused by its first fault
 pub record IsScheduleRefused (p : Planned) (schedule : List ℕ) (answer : Answer) : Type 0 where
@@ -91,7 +91,7 @@ pub data IsToldAnswer (p : Planned) (base : ℕ) (resolver : Resolver) (schedule
   told_stepped : (report : Report) (told : List Put) (answer : Answer)
       → IsToldStepped p base resolver schedule report told answer
       → IsToldAnswer p base resolver schedule told answer
-  -- the line of an event isn't out, and no more are done
+  -- a text isn't out, and no more events are done
   unheard : (told : List Put) → IsLastUnheard told → IsToldUntil p base resolver schedule told
       → IsToldAnswer p base resolver schedule told (complaining Refused unwritten_text)
   -- memory is out on the way
@@ -130,13 +130,13 @@ pub data IsAtMostOneDone (rest : List Event) (w v : WorldContent) : Type 0 where
 pub data IsTelling (p : Planned) (schedule : List ℕ) (w v : WorldContent) (told : List Put)
     : Result (Option Report) AllocError → Type 0 where
   all_told : (events : List Event) (dids : List (Option Did)) (report : Report)
-      → IsEventText p schedule events → AreTold w events dids (texts told) v → AreOut told
+      → IsEventText p schedule events → AreToldFrom w events dids (texts told) v → AreOut told
       → report ≡ report_of dids → IsTelling p schedule w v told (Ok (Some report))
   one_unheard : (done rest : List Event) (dids : List (Option Did))
-      → IsEventText p schedule (done ++ rest) → AreTold w done dids (texts told) v
+      → IsEventText p schedule (done ++ rest) → AreToldFrom w done dids (texts told) v
       → IsLastUnheard told → IsTelling p schedule w v told (Ok None)
   nothing_told : (e : AllocError) → told ≡ [] → v ≡ w → IsTelling p schedule w v told (Err e)
   some_told : (done rest : List Event) (dids : List (Option Did)) (last : WorldContent)
       (e : AllocError) → IsEventText p schedule (done ++ rest)
-      → AreTold w done dids (texts told) last → AreOut told → IsAtMostOneDone rest last v
+      → AreToldFrom w done dids (texts told) last → AreOut told → IsAtMostOneDone rest last v
       → IsTelling p schedule w v told (Err e)

@@ -70,6 +70,10 @@ bad_range = bad_command_line (codes "error: --from is 1 to --to" ++ line_feed �
 abbrev pub bad_seeds : Answer
 bad_seeds = bad_command_line (codes "error: a walk has --seed or --seeds" ++ line_feed ∷ [])
 
+-- what is said where not just one of turns and of grants is
+abbrev pub bad_limits : Answer
+bad_limits = bad_command_line (codes "error: a run has --turns or --grants" ++ line_feed ∷ [])
+
 -- what is said where row words are asked for without the central bank, and where more components
 -- have a row than these can
 abbrev pub words_need_central : Answer
@@ -90,6 +94,7 @@ answer_of_stop stop.CannotWrite = complaining Refused unwritten_text
 answer_of_stop stop.BaseOutOfRange = bad_base
 answer_of_stop stop.RowsOutOfOrder = bad_range
 answer_of_stop stop.SeedOrSeeds = bad_seeds
+answer_of_stop stop.TurnsOrGrants = bad_limits
 answer_of_stop stop.WordsNeedCentral = words_need_central
 answer_of_stop stop.TooManyRows = too_many_rows
 answer_of_stop stop.ScheduleTooLong = long_schedule

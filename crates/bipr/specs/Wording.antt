@@ -1,7 +1,9 @@
 -- What the program writes: verdicts on standard output, complaints on standard error.
 use Rattle.std.specs.Prelude.{ℕ, List, [], ◌∷◌, ◌++◌, ◌/◌, ◌%◌, codes, length}
-use Rattle.std.specs.Prelude.{slice_index_or}
+use Rattle.std.specs.Prelude.{None, Option, Some, slice_index_or}
 use Rattle.std.specs.Fmt.{decimal}
+use Rattle.bip_host.specs.declared.hosts.Ended.TheVariants.{ByGrants, ByQuiet, ByTurns}
+use Rattle.bip_host.specs.declared.hosts.Ended.{Ended}
 use Rattle.bip_model.specs.Texts.{line_at, line_feed, words}
 use Rattle.bip_model.specs.declared.parts.System.{System}
 use Rattle.bip_reader.specs.Faults.{text_of_fault}
@@ -139,11 +141,24 @@ drawn_text hosted =
     codes " words " ++ (decimal hosted.figures.drawn
     ++ (codes " entered " ++ (decimal hosted.figures.entered ++ line_feed ∷ [])))
 
+-- why a host ended, where a number of grants was asked for
+abbrev pub ended_by : Ended → List ℕ
+ended_by ByGrants = codes "ended by grants\n"
+ended_by ByQuiet = codes "ended by quiet\n"
+ended_by ByTurns = codes "ended by turns\n"
+
+abbrev pub ended_of_limit : Option ℕ → Ended → List ℕ
+ended_of_limit None ended = []
+ended_of_limit (Some grants) ended = ended_by ended
+
+abbrev pub ended_text : Hosted → List ℕ
+ended_text hosted = ended_of_limit hosted.limits.grants hosted.figures.ended
+
 abbrev pub stats_text : Hosted → List ℕ
 stats_text hosted =
     host_work_text hosted
     ++ (host_end_text hosted ++ (seconds_text hosted.milliseconds ++ (sharing_text hosted
-    ++ (asking_text hosted ++ drawn_text hosted))))
+    ++ (asking_text hosted ++ (drawn_text hosted ++ ended_text hosted)))))
 
 -- a host's book refused a grant
 abbrev pub host_refusal : List ℕ

@@ -1,7 +1,7 @@
 //! Seeds that are explored ahead of the one whose turn it is, by threads.
 ghost use Rattle.std.specs.Prelude.{◌≡◌, ◌+◌, ◌*◌, ◌<◌, ◌≤◌, ◌^◌, IfErr, IfNone, IfOk, IfSome};
 ghost use Rattle.std.specs.Prelude.{OnErr, OnOk, length};
-ghost use Rattle.bip_schedule.specs.Exploring.{AreSeedFigures};
+ghost use Rattle.bip_schedule.specs.Exploring.{AreSeedFigures, SeedFigures};
 ghost use Rattle.bip_schedule.specs.declared.exploring.ExploreFault.TheVariants.{Memory};
 ghost use Rattle.bipr.specs.Ahead.{AreAhead, AreExploredBehind, IsBlockBehind, block_size};
 ghost use Rattle.bipr.specs.Ahead.{round_end};
@@ -59,13 +59,17 @@ impl Ahead {
     /// What was explored of the block behind so many seeds: some of them.
     fn block_behind(&self, done: u32) -> Option<&Checked>
         requires { 0 < self.now.size }
-        ensures { IfSome result (λ block. IsBlockBehind self.now done block.now) }
+        ensures some { IfSome result (λ block. IsBlockBehind self.now done block.now) }
+        ensures none { IfNone result ((block : SeedFigures)
+            → ¬ IsBlockBehind self.now done block) }
     {
         let place = done.checked_sub(self.from)?;
         if place % self.size != 0 {
             return None;
         }
-        let block = self.blocks.get((place / self.size) as usize)?;
+        let Some(block) = self.blocks.get((place / self.size) as usize) else {
+            return None;
+        };
         if block.seeds() == 0 {
             return None;
         }
@@ -172,6 +176,7 @@ pub fn go_on(
     ensures err { OnErr result (all.new ≡ all.old) }
     ensures fault { IfErr result (λ fault. fault ≡ Memory) }
 {
+    // Read, so that it is known to be a number of 32 bits.
     let _seeds = asked.seeds;
     if all.seeds() > done {
         return Ok(());

@@ -9,13 +9,13 @@ ghost use Rattle.bip_model.specs.Texts.{lines};
 ghost use Rattle.bip_reader.specs.Texts.{Means};
 ghost use Rattle.bip_replay.specs.Runs.{IsModelRun};
 ghost use Rattle.bip_replay.specs.Traces.{grants_from, grants_of};
-ghost use Rattle.bipr.specs.Charted.{IsChartAnswer, IsChartOf, IsPictured, reason_of, reason_shown};
+ghost use Rattle.bipr.specs.Charted.{IsChartAnswer, IsDrawnAs, IsFootOf, IsPictured, reason_of};
 ghost use Rattle.bipr.specs.Charted.{shows_behind, until_last};
 ghost use Rattle.bipr.specs.CommandLine.{greatest_base};
 
 use crate::answers::{Answer, Status, answer_replayed, complained};
 use crate::wording::chart_refusal;
-use bip_draw::{Chart, draw_chart};
+use bip_draw::{Chart, Foot, draw_chart, write_runnable};
 use bip_explain::Explanation;
 use bip_model::{Classes, Grant, Model, Number, Seq};
 use bip_replay::{Book, ReplayFault, TraceFault, read_front, read_trace, replay};
@@ -34,9 +34,9 @@ pub struct Shown {
 pub const MOST_ROWS: usize = 2_000;
 
 /// The answer to the chart of a trace, where the model's text is one: the shown rows of the run
-/// with which the trace begins, and why it stops, with the verdict on the trace beside it; or that
-/// they are too many rows; or the first fault of the trace's text (docs/ANSWERS.md, "Answers"). The
-/// only error is want of memory.
+/// with which the trace begins, behind them why it stops or what may run there, and the verdict on
+/// the trace beside it; or that they are too many rows; or the first fault of the trace's text
+/// (docs/ANSWERS.md, "Answers"). The only error is want of memory.
 pub fn answer_chart(
     alloc: Global,
     explanation: &mut Explanation,
@@ -127,7 +127,10 @@ fn answer_begun(
         return Ok(complained(alloc, Status::Refused, complaint));
     }
     let book = book_of(alloc, model, base, drawn)?;
-    let picture = draw_shown(alloc, model, classes, &book, &verdict, shown, count)?;
+    let mut runnable = Vec::new(alloc);
+    write_runnable(&mut runnable, book.position())?;
+    let foot = foot_of(&verdict, shown, count, runnable.as_slice());
+    let picture = draw_shown(alloc, model, classes, &book, foot, shown)?;
     Ok(Answer {
         status: verdict.status,
         output: Seq::of(picture),
@@ -135,21 +138,19 @@ fn answer_begun(
     })
 }
 
-// The picture of the rows of a book that are shown, where so many grants have this verdict.
+// The picture of the rows of a book that are shown, and behind them this foot.
 fn draw_shown<'x, 'r>(
     alloc: Global,
     model: &'x Model,
     classes: &'x Classes,
     book: &'x Book<'x>,
-    verdict: &'r Answer,
+    foot: Foot<'r>,
     shown: &Shown,
-    count: usize,
 ) -> Result<Vec<u8>, AllocError>
     requires classes { AreClassesOf model.now classes.now }
     requires book { book.now.model ≡ model.now }
     ensures { IfOk result (λ text. (chart : Chart)
-        × IsChartOf model.now classes.now shown.now book.now.grants
-        (reason_shown shown.now count verdict.now) chart
+        × IsDrawnAs model.now classes.now shown.now book.now.grants foot.entry chart
         × (text.items ≡ chart_of chart)) }
 {
     let chart = Chart {
@@ -157,10 +158,24 @@ fn draw_shown<'x, 'r>(
         classes,
         book,
         first: shown.from.saturating_sub(1) as usize,
-        fault: reason_shown(verdict, shown, count),
+        foot,
         values: shown.values,
     };
     draw_chart(alloc, &chart)
+}
+
+// What stands behind the rows that are shown of a run of so many grants, which has this verdict,
+// and behind which this may run.
+fn foot_of<'r>(verdict: &'r Answer, shown: &Shown, count: usize, runnable: &'r [u8]) -> Foot<'r>
+    ensures { IsFootOf shown.now count verdict.now runnable.now result }
+{
+    if !shows_behind(shown, count as u64) {
+        return Foot::Nothing;
+    }
+    match reason_of(verdict) {
+        Some(reason) => Foot::Fault(reason),
+        None => Foot::Runnable(runnable),
+    }
 }
 
 // The book of a run; the only error is want of memory.
@@ -198,17 +213,6 @@ fn count_rows(shown: &Shown, drawn: &[Grant]) -> usize
 {
     let first = shown.from.saturating_sub(1) as usize;
     drawn.len().saturating_sub(first)
-}
-
-// Why a run of so many grants stops, where that row is shown.
-fn reason_shown<'v>(verdict: &'v Answer, shown: &Shown, count: usize) -> Option<&'v [u8]>
-    ensures { option_map (λ why. why.now) result ≡ reason_shown shown.now count verdict.now }
-{
-    if shows_behind(shown, count as u64) {
-        reason_of(verdict)
-    } else {
-        None
-    }
 }
 
 // Whether the row behind so many is shown.

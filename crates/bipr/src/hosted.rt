@@ -5,7 +5,7 @@ ghost use Rattle.bip_replay.specs.Replays.{IsRunOf};
 ghost use Rattle.bip_replay.specs.Runs.{IsModelRun};
 ghost use Rattle.bip_replay.specs.Writing.{text_of};
 ghost use Rattle.bipr.specs.Endings.{AllOutcomes};
-ghost use Rattle.bipr.specs.Hosted.{IsHostAnswer, stats_told};
+ghost use Rattle.bipr.specs.Hosted.{IsHostAnswer, limits_of, stats_told};
 ghost use Rattle.bipr.specs.Resolvers.{kind_named};
 ghost use Rattle.bipr.specs.Scheduled.{reporting};
 
@@ -16,7 +16,7 @@ use crate::scheduled::reported;
 use crate::stops::Stop;
 use crate::wording::stats_text;
 use bip_explain::Explanation;
-use bip_host::{HostFault, HostFigures, HostReport};
+use bip_host::{HostFault, HostFigures, HostReport, Limits};
 use bip_partition::Plan;
 use bip_replay::{BookFault, run_laws, write_trace};
 use std::alloc::{AllocError, Global};
@@ -24,12 +24,34 @@ use std::sync::Wait;
 use std::thread::Threads;
 use std::time::Clock;
 
-/// What a host gave: its report, its threads and their turns, and how long they took.
+/// What a host gave: its report, its threads and their turns, with which limits they ran, and how
+/// long they took.
 #[derive(Drop)]
 pub struct Hosted {
     pub report: HostReport,
     pub figures: HostFigures,
+    pub limits: Limits,
     pub milliseconds: u64,
+}
+
+/// In how many turns a thread ends, whatever grants are asked for.
+const MOST_TURNS: u32 = 1_000_000_000;
+
+/// How long a host runs, where just one is said of turns and of grants.
+pub fn limits_of(turns: Option<u32>, grants: Option<u32>) -> Option<Limits>
+    ensures { result ≡ limits_of turns grants }
+{
+    match (turns, grants) {
+        (Some(turns), None) => Some(Limits {
+            turns,
+            grants: None,
+        }),
+        (None, Some(grants)) => Some(Limits {
+            turns: MOST_TURNS,
+            grants: Some(u64::from(grants)),
+        }),
+        _ => None,
+    }
 }
 
 /// The answer to running the nodes of a plan as threads: the trace of the host's grants, which are
@@ -43,13 +65,13 @@ pub fn answer_host<'a, R: Threads + Wait + Clock + Sync, H: Hosting>(
     plan: &Plan,
     hosting: &H,
     asked: &RunArguments<'a>,
+    limits: Limits,
 ) -> Result<Answer, Stop<'a>>
     requires { CanHave plan.now (kind_named asked.now.form.resolver) asked.now.form.tables }
     ensures { AllOutcomes result (IsHostAnswer
-        (H.hosts hosting.now plan.now asked.now.form asked.now.turns) plan.now
-        asked.now.with_stats) }
+        (H.hosts hosting.now plan.now asked.now.form limits) plan.now asked.now.with_stats) }
 {
-    match hosting.host(rt, alloc, plan, asked.form, asked.turns) {
+    match hosting.host(rt, alloc, plan, asked.form, limits) {
         Ok(hosted) => Ok(answer_hosted(alloc, plan, &hosted, asked.with_stats)?),
         Err(HostFault::NotARun(fault)) => {
             explain_refused(explanation, &fault);

@@ -1,8 +1,9 @@
 //! What runs the nodes of a plan as threads.
 ghost use denote.Param.Send.{IsSync};
-ghost use Rattle.std.specs.Prelude.{ℕ, IfOk, Result};
+ghost use Rattle.std.specs.Prelude.{IfOk, Result};
 ghost use Rattle.bip_partition.specs.Plans.{Planned};
 ghost use Rattle.bip_host.specs.declared.faults.HostFault.{HostFault};
+ghost use Rattle.bip_host.specs.declared.hosts.Limits.{Limits};
 ghost use Rattle.bip_replay.specs.Runs.{IsModelRun};
 ghost use Rattle.bip_host.specs.Seats.{CanHave};
 ghost use Rattle.bipr.specs.Resolvers.{kind_named};
@@ -21,29 +22,29 @@ use std::time::{Clock, Instant};
 /// What runs the nodes of a plan, each in a thread of its own, which may wait for one another. A
 /// command is proved for every such thing: of what it gives it knows what `host` says.
 pub trait Hosting {
-    /// Running the nodes of a plan in a form, for so many turns each, may give this.
-    ghost hosts: { Self → Planned → HostForm → ℕ → Result Hosted HostFault → Type 0 };
+    /// Running the nodes of a plan in a form, with limits, may give this.
+    ghost hosts: { Self → Planned → HostForm → Limits → Result Hosted HostFault → Type 0 };
 
-    /// Runs the nodes of a plan in a form that it can have, for so many turns each, in threads that
-    /// share the runtime. The grants are a run of the plan's model.
+    /// Runs the nodes of a plan in a form that it can have, with limits, in threads that share the
+    /// runtime. The grants are a run of the plan's model.
     fn host<R: Threads + Wait + Clock + Sync>(
         &self,
         rt: &R,
         alloc: Global,
         plan: &Plan,
         form: HostForm,
-        turns: u32,
+        limits: Limits,
     ) -> Result<Hosted, HostFault>
         requires shared { IsSync R.row }
         requires form { CanHave plan.now (kind_named form.resolver) form.tables }
-        ensures gives { hosts self.now plan.now form turns result }
+        ensures gives { hosts self.now plan.now form limits result }
         ensures run { IfOk result (λ hosted.
             IsModelRun plan.now.model 0 hosted.report.grants.items) };
 }
 
 /// Runs nodes as threads of the process. The third layer is the one that the resolver names, and
 /// its tables are shared as is asked; there are as many threads as that and the plan ask for, and
-/// none makes more turns than so many.
+/// none makes more turns than the limit.
 #[derive(Drop)]
 pub struct Threaded;
 
@@ -51,7 +52,7 @@ impl Hosting for Threaded {
     ghost use Rattle.std.specs.Prelude.{IfOk};
     ghost use Rattle.bipr.specs.Hosted.{IsHostedAs};
 
-    ghost hosts = { λ _ p form turns given. IfOk given (IsHostedAs p form turns) };
+    ghost hosts = { λ _ p form limits given. IfOk given (IsHostedAs p form limits) };
 
     fn host<R: Threads + Wait + Clock + Sync>(
         &self,
@@ -59,7 +60,7 @@ impl Hosting for Threaded {
         alloc: Global,
         plan: &Plan,
         form: HostForm,
-        turns: u32,
+        limits: Limits,
     ) -> Result<Hosted, HostFault> {
         let start = Instant::now(rt);
         let (report, figures) = run_host_counted(
@@ -68,7 +69,7 @@ impl Hosting for Threaded {
             plan,
             form.kind(),
             form.tables,
-            Limits { turns },
+            limits,
             &Open,
         )?;
         let milliseconds = match start {
@@ -78,6 +79,7 @@ impl Hosting for Threaded {
         Ok(Hosted {
             report,
             figures,
+            limits,
             milliseconds,
         })
     }

@@ -98,8 +98,9 @@ const CHART_HELP: &str = "\
 Each component has a lane and each grant of the trace a row, with the interaction's name; a
 full mark with its number where a component moves, an open one where it is looked at, and a
 bar between them in the colour of the interaction's class. The names of locations stand on
-their lanes where they change. The verdict of `bipr replay` goes to standard error, and where
-the trace is no run, the first line that can't be next is drawn in red, and nothing behind it.
+their lanes where they change. The verdict of `bipr replay` goes to standard error. Where the
+trace is no run, the first line that can't be next is drawn in red, and nothing behind it; of
+a run the foot says what may run behind it, as `bipr replay --end` does.
 
     bipr chart MODEL TRACE > run.svg
 
@@ -108,7 +109,8 @@ A chart has at most 2000 rows: of a longer trace, --from and --to show some.";
 const CHECK_ABOUT: &str = "Counts what a model's partition costs";
 
 const CHECK_HELP: &str = "\
-The answer is one line, and with --plan one more for each interaction and component:
+The answer is one line, and with --plan one more for each interaction and component, with
+reasons, and for each station, with those it shares a fork with:
 
     components C interactions I classes K tabled T reserved R
 
@@ -163,7 +165,8 @@ A schedule is a text of protocol steps, one a line:
 
 S and T are reserved interactions. At first the token is at the first one of the text;
 it goes to the next, and behind the last to the first. A fork is with the lower of its
-two at first, and goes only where it was asked for and is dirty. At first each
+two at first, and goes only where it was asked for and is dirty; who shares one with whom
+is said by `bipr check --plan`. At first each
 component's offer is in flight to each class that touches it, by component, then class.
 Requests of classes, the bank's replies, what granted components are told and their next
 offers are mail too, put last: for a reserved interaction the request has to be handed
@@ -176,10 +179,12 @@ on before `serve`, and then the reply, and what its components are told. Of the 
 are steps that lead to the trace `grant x A:1`, which `bipr replay` takes, as any of at most
 16,777,216 bytes. The report on standard error has one line: events, grants, refused requests,
 steps that did nothing, and what was skipped or lost for want of memory: a trace is cut short
-where that isn't 0. With --tell a line for each step stands before
-it: the message that it hands on, what was answered, with the reasons of a request that is
-sent, and each message that this sent, with its place in flight from then on:
+where that isn't 0. With --tell stands before it what is in flight at first, each message
+with its place, and a line for each step: the message that it hands on, what was answered,
+with the reasons of a request that is sent, and each message that this sent, with its place
+in flight from then on:
 
+    0 first: 0 offer A:1 to P
     1 mail 0: offer A:1 to P held
     2 try P x: granted A:1, 0 notify A:1 s";
 
@@ -237,7 +242,13 @@ the grants, of how many the components were told, how many messages were lost fo
 memory, how many seconds it took, how many tokens and forks stations sent, and how many
 request tokens; how many requests were refused, and how many found a row busy; and how many
 grants words were drawn for, and how many of these stand in the trace. These figures are
-counted, and promise nothing.";
+counted, and promise nothing.
+
+With `--grants N` in place of `--turns` threads go on until there are N grants, or a few
+more, since they race; or until each component and each class had 100,000 turns in a row
+without anything to do, or 10,000,000 while a request of its own is open; or until one
+thread made 1,000,000,000 turns. With --stats one more line says then which of these ended
+the run: `ended by grants`, `ended by quiet` or `ended by turns`.";
 
 const WALK_ABOUT: &str = "Walks a model: writes a run of it, by chance";
 
@@ -435,6 +446,7 @@ fn run<'a>(
         .arg(model(alloc))?
         .arg(resolver(alloc, resolvers))?
         .arg(turns(alloc))?
+        .arg(run_grants(alloc))?
         .arg(table(alloc, tables))?
         .arg(stats(alloc))?
         .arg(explain(alloc))
@@ -526,11 +538,18 @@ fn events<'a>(alloc: Global) -> Arg<'a>
 
 // The option of how many turns.
 fn turns<'a>(alloc: Global) -> Arg<'a>
-    ensures { HasRule (needed (codes "turns") (numbers 1 1000000)) result }
+    ensures { HasRule (option (codes "turns") (numbers 1 1000000)) result }
 {
-    number(alloc, "turns", "N", 1, 1_000_000)
-        .required(true)
-        .help("how many turns each thread makes: 1 to 1000000")
+    number(alloc, "turns", "N", 1, 1_000_000).help("how many turns each thread makes: 1 to 1000000")
+}
+
+// The option of how many grants threads make, in place of that.
+fn run_grants<'a>(alloc: Global) -> Arg<'a>
+    ensures { HasRule (option (codes "grants") (numbers 1 1000000)) result }
+{
+    number(alloc, "grants", "N", 1, 1_000_000).help(
+        "how many grants there are at least when threads end, in place of turns: 1 to 1000000",
+    )
 }
 
 // The option that names how tables are shared.
@@ -613,7 +632,8 @@ fn stats<'a>(alloc: Global) -> Arg<'a>
 fn tell<'a>(alloc: Global) -> Arg<'a>
     ensures { HasRule (flag (codes "tell")) result }
 {
-    let help = "tell on standard error what each step did, and what it put into flight";
+    let help = "tell on standard error what is in flight at first, what each step did, and what it \
+        put into flight";
     flag(alloc, "tell").help(help)
 }
 

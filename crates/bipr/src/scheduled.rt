@@ -1,5 +1,5 @@
 //! Answers to schedules: what their events lead to, and what is told on the way.
-ghost use Rattle.std.specs.Prelude.{◌≡◌, ◌≤◌, IfOk, List, Ok, true};
+ghost use Rattle.std.specs.Prelude.{◌≡◌, ◌≤◌, [], IfOk, List, Ok, OnErr, true};
 ghost use Rattle.bip_bank.specs.Banks.{content_of};
 ghost use Rattle.bip_core.specs.Starting.{IsUnasked};
 ghost use Rattle.bip_core.specs.Worlds.{world_of};
@@ -15,7 +15,8 @@ ghost use Rattle.bipr.specs.CommandLine.{greatest_base};
 ghost use Rattle.bipr.specs.Endings.{AllOutcomesTelling};
 ghost use Rattle.bipr.specs.Resolvers.{IsSharedAtFirst};
 ghost use Rattle.bipr.specs.Scheduled.{IsScheduleAnswer, IsScheduleOf, IsTelling, reporting};
-ghost use Rattle.bipr.specs.Streams.{Put, PutsEach};
+ghost use Rattle.bip_tell.specs.Lines.{first_lines};
+ghost use Rattle.bipr.specs.Streams.{Put, PutsEach, Puts};
 ghost use Rattle.bipr.specs.Wording.{report_text, schedule_refusal};
 ghost use Rattle.bipr.specs.declared.answers.Status.TheVariants.{Refused};
 
@@ -34,7 +35,7 @@ use bip_partition::Plan;
 use bip_replay::{TraceFault, write_trace};
 use bip_ring::Ring;
 use bip_schedule::Schedule;
-use bip_tell::tell_event;
+use bip_tell::{tell_event, tell_first};
 use std::alloc::{AllocError, Global};
 
 /// The answer to a schedule's text for a plan, with a resolver's bank, from a base: the trace of
@@ -141,7 +142,7 @@ fn answer_with_bank<'a, B: Bank + Drop, E: Stream>(
     }
 }
 
-// The same where each event is told.
+// The same where what is in flight at first is told, and then each event.
 fn answer_telling<'a, B: Bank + Drop, E: Stream>(
     alloc: Global,
     plan: &Plan,
@@ -166,8 +167,8 @@ fn answer_telling<'a, B: Bank + Drop, E: Stream>(
     }
 }
 
-// Does the events of a schedule one after another, and tells each by its line; no report where a
-// line isn't out. The only error is want of memory.
+// Tells what is in flight at first, does the events of a schedule one after another, and tells each
+// by its line; no report where a text isn't out. The only error is want of memory.
 fn tell_events<'p, B: Bank, E: Stream>(
     alloc: Global,
     schedule: &Schedule<'_>,
@@ -181,8 +182,11 @@ fn tell_events<'p, B: Bank, E: Stream>(
         told result }
 {
     let events = schedule.events(alloc)?;
-    let mut report = Report::empty();
     let mut line = Vec::new(alloc);
+    if !tell_beginning(&mut line, world, errors)? {
+        return Ok(None);
+    }
+    let mut report = Report::empty();
     for event in &events {
         line.clear();
         tell_event(&mut line, world, *event, &mut report)?;
@@ -191,6 +195,22 @@ fn tell_events<'p, B: Bank, E: Stream>(
         }
     }
     Ok(Some(report))
+}
+
+// Tells what is in flight before the first event, and says whether that is out. The only error is
+// want of memory: nothing is told then.
+fn tell_beginning<'p, B: Bank, E: Stream>(
+    line: &mut Vec<u8>,
+    world: &World<'p, B>,
+    errors: &mut E,
+) -> Result<bool, AllocError>
+    requires { line.old.items ≡ [] }
+    ensures told { IfOk result
+        (Puts E.writes errors.old errors.new (first_lines world.now.plan world.now.mail)) }
+    ensures err { OnErr result (errors.new ≡ errors.old) }
+{
+    tell_first(line, world)?;
+    Ok(put(errors, line.as_slice()))
 }
 
 // The answer to a schedule of the plan, with a new bank, where nothing is told on the way.

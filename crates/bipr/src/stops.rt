@@ -21,6 +21,8 @@ pub enum Stop<'a> {
     RowsOutOfOrder,
     /// Not just one of a seed and of how many seeds is said.
     SeedOrSeeds,
+    /// Not just one of turns and of grants is said.
+    TurnsOrGrants,
     /// Row words are asked for without the central bank.
     WordsNeedCentral,
     /// More components have a row than row words can.
@@ -57,6 +59,9 @@ pub const BAD_RANGE: &[u8] = b"bipr: bad command line\nerror: --from is 1 to --t
 
 /// The complaint where not just one of a seed and of how many seeds is said.
 pub const BAD_SEEDS: &[u8] = b"bipr: bad command line\nerror: a walk has --seed or --seeds\n";
+
+/// The complaint where not just one of turns and of grants is said.
+pub const BAD_LIMITS: &[u8] = b"bipr: bad command line\nerror: a run has --turns or --grants\n";
 
 /// The complaint where row words are asked for without the central bank; and where more components
 /// have a row than these can.

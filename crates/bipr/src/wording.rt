@@ -6,7 +6,7 @@ ghost use Rattle.bipr.specs.Wording.{counts_text, interaction_on, model_refusal,
 ghost use Rattle.bipr.specs.Wording.{decisions_text, losses_text, report_text, run_text};
 ghost use Rattle.bipr.specs.Wording.{progress_text, schedule_refusal, seed_verdict, seeds_text};
 ghost use Rattle.bipr.specs.Wording.{asking_text, drawn_text, host_end_text, host_work_text};
-ghost use Rattle.bipr.specs.Wording.{sharing_text, stuck_text};
+ghost use Rattle.bipr.specs.Wording.{ended_text, sharing_text, stuck_text};
 ghost use Rattle.bipr.specs.Wording.{pace_text, reached_text, seconds_text, stats_text, step_text};
 ghost use Rattle.bipr.specs.Wording.{timed_text, trace_refusal, verdict_text, walks_text};
 
@@ -14,6 +14,7 @@ use crate::hosted::Hosted;
 use crate::progress::Pace;
 use arrayvec::ArrayVec;
 use bip_core::Report;
+use bip_host::Ended;
 use bip_model::{CompId, InterId, Model, line_at, split_word};
 use bip_reader::ReadFault;
 use bip_replay::{BookFault, ReplayFault, TraceFault};
@@ -146,7 +147,8 @@ fn losses_text(alloc: Global, report: &Report) -> Result<String, AllocError>
 }
 
 /// `threads H turns N grants G told T lost L seconds S passes P asks A refusals R busy B words W
-/// entered E`, where S has three places behind the point.
+/// entered E`, where S has three places behind the point; and where a number of grants was asked
+/// for, why the host ended.
 pub fn stats_text(alloc: Global, hosted: &Hosted) -> Result<Vec<u8>, AllocError>
     ensures { IfOk result (λ text. text.items ≡ stats_text hosted.now) }
 {
@@ -156,7 +158,22 @@ pub fn stats_text(alloc: Global, hosted: &Hosted) -> Result<Vec<u8>, AllocError>
     text.extend_from_slice(sharing_text(alloc, hosted)?.as_bytes())?;
     text.extend_from_slice(asking_text(alloc, hosted)?.as_bytes())?;
     text.extend_from_slice(drawn_text(alloc, hosted)?.as_bytes())?;
+    text.extend_from_slice(ended_text(hosted))?;
     Ok(text)
+}
+
+/// Why a host ended, where a number of grants was asked for.
+fn ended_text(hosted: &Hosted) -> &'static [u8]
+    ensures { result.now ≡ ended_text hosted.now }
+{
+    if hosted.limits.grants.is_none() {
+        return &[];
+    }
+    match hosted.figures.ended {
+        Ended::ByGrants => b"ended by grants\n",
+        Ended::ByQuiet => b"ended by quiet\n",
+        Ended::ByTurns => b"ended by turns\n",
+    }
 }
 
 fn host_work_text(alloc: Global, hosted: &Hosted) -> Result<String, AllocError>

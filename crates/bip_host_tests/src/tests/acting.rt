@@ -7,7 +7,7 @@ use bip_bank::{Queue, StationId};
 use bip_forks::Station;
 use bip_host::{
     ClassActor, ComponentActor, Counts, ForkActor, NodeEnd, Point, RingActor, Settled, ToClass,
-    ToStation, run_actor,
+    ToStation, Watch, run_actor,
 };
 use bip_model::{ClassId, CompId, Grant, InterId, Want, Wants};
 use bip_partition::Plan;
@@ -69,7 +69,7 @@ fn a_component<W: Abort + Wait>(rt: &W, alloc: Global, plan: &Plan, outcome: &Ou
     let actor = ComponentActor::new(plan, R);
     let mut desk = Desk::new(rt, alloc, plan, Third::Stations, 3);
     let hands = Fake::at(&mut desk, heard);
-    let end = run_actor(rt, actor, hands, 3);
+    let end = run_actor(rt, actor, hands, 3, Watch::nothing());
     comes_to(rt, &end, desk, outcome);
 }
 
@@ -115,7 +115,7 @@ fn run_class<W: Abort + Wait>(
 ) -> NodeEnd {
     assert!(rt; plan.classes().len() > 0);
     let actor = ClassActor::new(alloc, plan, P, MOST).expect(rt, "memory");
-    run_actor(rt, actor, hands, turns)
+    run_actor(rt, actor, hands, turns, Watch::nothing())
 }
 
 /// R has moved once by z, which the class doesn't know at first.
@@ -300,7 +300,8 @@ fn in_a_ring<W: Abort + Wait>(rt: &W, alloc: Global, plan: &Plan, outcome: &Outc
     then(rt, &mut heard, Some(ToStation::Token(token)));
     let mut desk = Desk::new(rt, alloc, plan, Third::Stations, 2);
     let hands = Fake::at(&mut desk, heard);
-    let end = run_actor(rt, RingActor::new(alloc, StationId(1), None), hands, 5);
+    let actor = RingActor::new(alloc, StationId(1), None);
+    let end = run_actor(rt, actor, hands, 5, Watch::nothing());
     comes_to(rt, &end, desk, outcome);
 }
 
@@ -345,7 +346,8 @@ fn run_station<W: Abort + Wait>(
     let station = Settled::<Station>::first(alloc, plan, StationId(number)).expect(rt, "memory");
     let neighbours = Vec::from_slice(alloc, &[StationId(other)]).expect(rt, "memory");
     let hands = Fake::at(desk, heard);
-    run_actor(rt, ForkActor::new(neighbours, station), hands, 3)
+    let actor = ForkActor::new(neighbours, station);
+    run_actor(rt, actor, hands, 3, Watch::nothing())
 }
 
 /// The second station asks for the fork, which comes back once; the first one grants, and sends the

@@ -1,7 +1,10 @@
-//! Hosts: two classes that meet between their grants and their notifications, and a class that
-//! waits for another one's grant.
+//! Hosts: two classes that meet between their grants and their notifications, a class that waits
+//! for another one's grant, and hosts that run until there are enough grants.
 use super::{COMPETE, COMPETE_TWICE, plan};
-use bip_host::{Gate, HostReport, Kind, Limits, Point, Tables, can_have, run_host};
+use bip_host::{
+    Ended, Gate, HostReport, Kind, Limits, Open, Point, Tables, can_have, run_host,
+    run_host_counted,
+};
 use bip_model::{ClassId, CompId, Want};
 use std::alloc::Global;
 use std::process::Abort;
@@ -40,9 +43,15 @@ pub(super) const FORMS: [(Kind, Tables); 4] = [
     (Kind::Forks, Tables::Locked),
 ];
 
-const TURNS: Limits = Limits { turns: 1_000_000 };
+const TURNS: Limits = Limits {
+    turns: 1_000_000,
+    grants: None,
+};
 
-const FEW: Limits = Limits { turns: 200_000 };
+const FEW: Limits = Limits {
+    turns: 200_000,
+    grants: None,
+};
 
 /// How often a host runs at most until each class gets on: where other programs have the
 /// processors, a node may make all its turns before another one begins, or while one is held.
@@ -256,5 +265,44 @@ fn nobody_moves_on_before_it_is_told(rt: HostRuntime) {
             }
         }
         assert_eq!(&rt; most, 2);
+    }
+}
+
+/// Two components that move together for ever.
+const FOR_EVER: &str = "bip 1\n\
+    component A\nloc l\nport s\ntrans s l l\nend\n\
+    component B\nloc l\nport s\ntrans s l l\nend\n\
+    interaction x A.s B.s\ninteraction y B.s\nclass P x\nclass Q y\n";
+
+/// Why a host ended that runs until there are five grants, far within its turns.
+fn end_by_grants<R: Threads + Wait + Abort + Sync>(
+    rt: &R,
+    alloc: Global,
+    text: &str,
+    (kind, tables): (Kind, Tables),
+) -> Ended {
+    let plan = plan(rt, alloc, text);
+    assert!(rt; can_have(&plan, kind, tables));
+    let limits = Limits {
+        turns: 1_000_000_000,
+        grants: Some(5),
+    };
+    let (_report, figures) = run_host_counted(rt, alloc, &plan, kind, tables, limits, &Open).expect(
+        rt, "a report",
+    );
+    figures.ended
+}
+
+#[test]
+fn hosts_end_by_grants_or_quiet(rt: HostRuntime) {
+    for form in FORMS {
+        assert_eq!(&rt;
+            end_by_grants(&rt, rt.alloc(), FOR_EVER, form),
+            Ended::ByGrants
+        );
+        assert_eq!(&rt;
+            end_by_grants(&rt, rt.alloc(), COMPETE, form),
+            Ended::ByQuiet
+        );
     }
 }

@@ -39,7 +39,10 @@ fn a_table_in_words_is_made_where_memory_is_refused(rt: HostRuntime) {
     assert!(&rt; closed.expect(&rt, "no grants").rows.as_slice() == ROWS);
 }
 
-const TURNS: Limits = Limits { turns: 300 };
+const TURNS: Limits = Limits {
+    turns: 300,
+    grants: None,
+};
 
 /// Whether the grants of a report are a run: a new book takes each.
 fn is_run(rt: &impl Abort, alloc: Global, plan: &Plan, report: &HostReport) -> bool {

@@ -3,7 +3,7 @@ ghost use Rattle.std.specs.Prelude.{◌≡◌};
 ghost use Rattle.bip_model.specs.Partitions.{AreClassesOf};
 
 use super::{grants, read};
-use bip_draw::{Chart, draw_chart};
+use bip_draw::{Chart, Foot, draw_chart};
 use bip_model::{Classes, Model};
 use bip_replay::Book;
 use std::alloc::Global;
@@ -89,7 +89,7 @@ fn draw<'m>(rt: &impl Abort, alloc: Global, model: &'m Model, classes: &'m Class
         classes,
         book: &book,
         first: 0,
-        fault: Some(REASON.as_bytes()),
+        foot: Foot::Fault(REASON.as_bytes()),
         values: true,
     };
     draw_chart(alloc, &chart).expect(rt, "a chart")

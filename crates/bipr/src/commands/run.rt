@@ -1,14 +1,14 @@
 //! The command `run`.
-ghost use Rattle.std.specs.Prelude.{◌≡◌};
+ghost use Rattle.std.specs.Prelude.{◌≡◌, Some};
 ghost use Rattle.clap.specs.Words.{found_of, rows_of};
 ghost use Rattle.bipr.specs.CommandLine.{IsReadAs, IsRunAsked};
 ghost use Rattle.bipr.specs.Commands.{IsThreadedRun};
 ghost use Rattle.bipr.specs.Endings.{AllOutcomes, AllOutcomesTelling};
-ghost use Rattle.bipr.specs.Hosted.{IsPlanHosted};
+ghost use Rattle.bipr.specs.Hosted.{IsPlanHosted, limits_of};
 
 use crate::answers::{Answer, PlanOrRefusal, plan_text};
 use crate::command_line::{is_set, number_asked, resolver_asked, tables_asked, text_asked};
-use crate::hosted::answer_host;
+use crate::hosted::{answer_host, limits_of};
 use crate::hosting::Hosting;
 use crate::inputs::Inputs;
 use crate::invocations::Invocation;
@@ -16,7 +16,7 @@ use crate::loading::load;
 use crate::resolvers::HostForm;
 use crate::stops::Stop;
 use crate::streams::Stream;
-use bip_host::can_have;
+use bip_host::{Limits, can_have};
 use bip_partition::Plan;
 use clap::ArgMatches;
 use std::sync::Wait;
@@ -24,12 +24,14 @@ use std::thread::Threads;
 use std::time::Clock;
 
 /// The running of the nodes of the model that a path names as threads, in a form, for so many turns
-/// each; and whether what is counted is told.
+/// each or until there are so many grants, as far as either is said; and whether what is counted is
+/// told.
 #[derive(Drop)]
 pub struct RunArguments<'p> {
     pub model: &'p str,
     pub form: HostForm,
-    pub turns: u32,
+    pub turns: Option<u32>,
+    pub grants: Option<u32>,
     pub with_stats: bool,
 }
 
@@ -43,7 +45,8 @@ impl<'p> RunArguments<'p> {
         Some(RunArguments {
             model: text_asked(matches, "model")?,
             form: HostForm { resolver, tables },
-            turns: number_asked(matches, "turns")?,
+            turns: number_asked(matches, "turns"),
+            grants: number_asked(matches, "grants"),
             with_stats: is_set(matches, "stats"),
         })
     }
@@ -57,10 +60,32 @@ impl<R: Threads + Wait + Clock + Sync, I: Inputs, H: Hosting, O, E: Stream> Invo
     O,
     E,
 > {
-    /// Runs the nodes of the model that the path names as threads, for so many turns each: the
-    /// trace of their grants, and beside it what is counted, where that is asked for
-    /// (docs/ANSWERS.md, "The run that is asked for").
+    /// Runs the nodes of the model that the path names as threads, for so many turns each or until
+    /// there are so many grants: the trace of their grants, and beside it what is counted, where
+    /// that is asked for (docs/ANSWERS.md, "The run that is asked for").
     pub fn run<'p>(&mut self, asked: &RunArguments<'p>) -> Result<Answer, Stop<'p>>
+        ensures says { AllOutcomesTelling E.writes self.old.errors self.new.errors result
+            (IsThreadedRun (I.gives self.old.inputs.now) (H.hosts self.old.hosting.now)
+            asked.now) }
+        ensures output { self.new.output ≡ self.old.output }
+    {
+        match limits_of(asked.turns, asked.grants) {
+            Some(limits) => self.run_within(asked, limits),
+            None => {
+                self.explanation
+                    .say(b"a run has one of `--turns` and `--grants`");
+                Err(Stop::TurnsOrGrants)
+            }
+        }
+    }
+
+    // The same, with these limits.
+    fn run_within<'p>(
+        &mut self,
+        asked: &RunArguments<'p>,
+        limits: Limits,
+    ) -> Result<Answer, Stop<'p>>
+        requires limits { limits_of asked.now.turns asked.now.grants ≡ Some limits }
         ensures says { AllOutcomesTelling E.writes self.old.errors self.new.errors result
             (IsThreadedRun (I.gives self.old.inputs.now) (H.hosts self.old.hosting.now)
             asked.now) }
@@ -74,15 +99,20 @@ impl<R: Threads + Wait + Clock + Sync, I: Inputs, H: Hosting, O, E: Stream> Invo
         let (alloc, explanation) = (self.alloc, &mut self.explanation);
         let text = load(alloc, explanation, self.inputs, asked.model)?;
         match plan_text(alloc, explanation, text.as_slice())? {
-            PlanOrRefusal::Plan(plan) => self.run_plan(&plan, asked),
+            PlanOrRefusal::Plan(plan) => self.run_plan(&plan, asked, limits),
             PlanOrRefusal::Refusal(answer) => Ok(answer),
         }
     }
 
     // The same, where the text has this plan.
-    fn run_plan<'p>(&mut self, plan: &Plan, asked: &RunArguments<'p>) -> Result<Answer, Stop<'p>>
+    fn run_plan<'p>(
+        &mut self,
+        plan: &Plan,
+        asked: &RunArguments<'p>,
+        limits: Limits,
+    ) -> Result<Answer, Stop<'p>>
         ensures says { AllOutcomes result
-            (IsPlanHosted plan.now (H.hosts self.old.hosting.now) asked.now) }
+            (IsPlanHosted plan.now (H.hosts self.old.hosting.now) asked.now limits) }
         ensures errors { self.new.errors ≡ self.old.errors }
         ensures output { self.new.output ≡ self.old.output }
     {
@@ -91,6 +121,14 @@ impl<R: Threads + Wait + Clock + Sync, I: Inputs, H: Hosting, O, E: Stream> Invo
             explanation.say(b"row words are of at most 32 components, and more have a row");
             return Err(Stop::TooManyRows);
         }
-        answer_host(self.rt, alloc, explanation, plan, self.hosting, asked)
+        answer_host(
+            self.rt,
+            alloc,
+            explanation,
+            plan,
+            self.hosting,
+            asked,
+            limits,
+        )
     }
 }

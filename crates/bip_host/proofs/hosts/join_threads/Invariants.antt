@@ -8,4 +8,5 @@ invariant-loop-handle g l =
     × (l.totals.figures.kind ≡ l.asked.kind) × (l.totals.figures.tables ≡ l.asked.tables)
     × (l.totals.is_short ≡ false)
     × (l.totals.figures.threads ≡ length l.yielded)
-    × (l.totals.figures.turns ≤ l.totals.figures.threads * l.asked.turns)
+    × (l.totals.figures.turns ≤ l.totals.figures.threads * l.asked.limits.turns)
+    × (l.totals.figures.most_turns ≤ l.asked.limits.turns)

@@ -21,6 +21,18 @@ of-requires-clause-few g c =
     let each = ap length c.trace.ensures.trace in
     omega (arith, each, few, small)
 
+-- the tally of one trace has its grants
+pub returns-clause-few : goal.returns-clause-few
+returns-clause-few g c =
+    let few : length (world_of c.run_seed-report.new.world).trace ≤ c.args.count =
+    seeded_few c.from.result c.args.count _ (world_of c.in_ok-world.world)
+    (world_of c.run_seed-report.new.world) _ c.run_seed-report.ensures.drawn.1
+    c.in_ok-world.ensures.new.trace in
+    let each = ap length c.trace.ensures.trace in
+    let checked = c.in_ok-checked.ensures.checked in
+    let tally = ap (λ (f : SeedFigures). f.tally.grants) checked.2 in
+    omega (arith, each, few, tally)
+
 pub returns-clause-explored : goal.returns-clause-explored
 returns-clause-explored g c =
     let checked = c.in_ok-checked.ensures.checked in

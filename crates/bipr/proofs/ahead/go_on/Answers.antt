@@ -7,14 +7,14 @@ join-requires-clause-same c =
     let p = c.args.plan.now in
     let asked = c.args.asked.now in
     let block = block_explored p asked c.args.ahead.now c.args.done c.in-Some.block.now
-    c.requires.ahead c.in-Some.ensures in
+    c.requires.ahead c.in-Some.ensures.some in
     explored_counts p asked 0 c.args.all.now c.requires.explored
     ∙ sym (explored_counts p asked c.args.done c.in-Some.block.now block.0)
 
 pub join-requires-clause-few : goal.join-requires-clause-few
 join-requires-clause-few c =
     let block = block_explored c.args.plan.now c.args.asked.now c.args.ahead.now c.args.done
-    c.in-Some.block.now c.requires.ahead c.in-Some.ensures in
+    c.in-Some.block.now c.requires.ahead c.in-Some.ensures.some in
     let small : c.args.asked.now.seeds < 2 ^ 32 = search rules in
     omega (arith, block.1, small, c.if-seeds-done.false, c.seeds.ensures)
 
@@ -23,7 +23,7 @@ returns-in-Some-clause-explored c =
     let p = c.args.plan.now in
     let asked = c.args.asked.now in
     let block = block_explored p asked c.args.ahead.now c.args.done c.in-Some.block.now
-    c.requires.ahead c.in-Some.ensures in
+    c.requires.ahead c.in-Some.ensures.some in
     let at : c.args.all.now.tally.traces ≡ c.args.done =
     omega (arith, c.requires.reached, c.if-seeds-done.false, c.seeds.ensures) in
     (more_explored p asked 0 c.args.done c.args.all.now c.in-Some.block.now c.join.new.self
@@ -34,12 +34,12 @@ returns-in-Some-clause-further c =
     let p = c.args.plan.now in
     let asked = c.args.asked.now in
     let block = block_explored p asked c.args.ahead.now c.args.done c.in-Some.block.now
-    c.requires.ahead c.in-Some.ensures in
+    c.requires.ahead c.in-Some.ensures.some in
     let at : c.args.all.now.tally.traces ≡ c.args.done =
     omega (arith, c.requires.reached, c.if-seeds-done.false, c.seeds.ensures) in
     let more = (more_explored p asked 0 c.args.done c.args.all.now c.in-Some.block.now
     c.join.new.self c.requires.explored block.0 (omega (arith, at)) c.join.ensures).1 in
-    omega (arith, more, at, c.in-Some.ensures.some)
+    omega (arith, more, at, c.in-Some.ensures.some.some)
 
 pub returns-in-Some-clause-kept : goal.returns-in-Some-clause-kept
 returns-in-Some-clause-kept c =
@@ -47,7 +47,7 @@ returns-in-Some-clause-kept c =
     let p = c.args.plan.now in
     let asked = c.args.asked.now in
     let block = block_explored p asked c.args.ahead.now c.args.done c.in-Some.block.now
-    c.requires.ahead c.in-Some.ensures in
+    c.requires.ahead c.in-Some.ensures.some in
     let at : c.args.all.now.tally.traces ≡ c.args.done =
     omega (arith, c.requires.reached, c.if-seeds-done.false, c.seeds.ensures) in
     let more = (more_explored p asked 0 c.args.done c.args.all.now c.in-Some.block.now

@@ -1,9 +1,11 @@
-use Rattle.std.proofs.Common.{◌≡◌, ◌<◌, ◌≤◌, ◌-◌, ◌∙◌, ℕ, List, ap, arith, length, subst, sym}
+use Rattle.std.proofs.Common.{◌≡◌, ◌<◌, ◌≤◌, ◌-◌, ◌∙◌, ℕ, List, [], ap, arith, length, subst, sym}
+use Rattle.bip_draw.specs.Ends.{AddsRunnable}
 use Rattle.bip_model.specs.declared.grants.Grant.{Grant}
-use Rattle.bip_replay.specs.Runs.{IsModelRun}
+use Rattle.bip_model.specs.declared.parts.System.{System}
+use Rattle.bip_replay.specs.Runs.{IsModelRun, Standing, state_after}
 use Rattle.bipr.specs.Answers.{complaining}
-use Rattle.bipr.specs.Charted.{IsChartOf, IsPictured, fitting, most_rows, reason_shown, count_shown}
-use Rattle.bipr.specs.Charted.{too_long}
+use Rattle.bipr.specs.Charted.{IsChartOf, IsFootOf, IsPictured, count_shown, fitting}
+use Rattle.bipr.specs.Charted.{most_rows, too_long, until_last}
 use Rattle.bipr.specs.declared.answers.Status.TheVariants.{Refused}
 use Rattle.bipr.proofs.ChartLemmas.{run_until_last}
 use Rattle.bipr.proofs.charted.answer_begun.Goals as goal
@@ -38,16 +40,28 @@ returns c =
     (c.as_slice.ensures.value ∙ c.until_last-drawn.ensures) in
     let fits : count_shown shown grants ≤ most_rows =
     omega (arith, c.if-count_rows-gt-MOST_ROWS.false, counted) in
-    let (chart, is, same) = c.in_ok-picture.ensures in
-    let of_grants =
-    subst (λ (n : ℕ).
-    IsChartOf m classes shown c.in_ok-book.book.grants (reason_shown shown n verdict) chart)
-    (ap length c.as_slice-count.ensures.value) is in
-    let of_shown =
-    subst (λ (gs : List Grant).
-    IsChartOf m classes shown gs (reason_shown shown (length grants) verdict) chart)
-    (c.in_ok-book.ensures.1 ∙ c.until_last-drawn.ensures) of_grants in
+    let (chart, drawn, same) = c.in_ok-picture.ensures in
+    let book = c.in_ok-book.book in
+    let rows : c.in_ok-book.book.grants ≡ until_last shown grants =
+    c.in_ok-book.ensures.1 ∙ c.until_last-drawn.ensures in
+    let is : IsChartOf m classes shown grants verdict chart = record {
+      foot = c.foot_of-foot.result;
+      runnable = c.write_runnable.new.text.items;
+      drawn = rw (← rows) drawn;
+      behind = subst (λ (n : ℕ).
+          IsFootOf shown n verdict c.write_runnable.new.text.items c.foot_of-foot.result)
+          (ap length c.as_slice-count.ensures.value)
+          (rw c.as_slice-2.ensures.value at c.foot_of-foot.ensures);
+      runs = subst (λ (gs : List Grant).
+          AddsRunnable m (state_after m gs) [] c.write_runnable.new.text.items) rows
+          (subst (λ (x : System).
+          AddsRunnable x (state_after x book.grants) [] c.write_runnable.new.text.items)
+          c.in_ok-book.ensures.0
+          (subst (λ (s : Standing).
+          AddsRunnable s.model s.state [] c.write_runnable.new.text.items) c.position.ensures.there
+          (rw c.new-runnable.ensures.items at c.in_ok-write_runnable.ensures)));
+    } in
     subst (λ (output : List ℕ).
     IsPictured m classes shown grants verdict
     (record { status = verdict.status; output = output; complaint = verdict.output }))
-    (sym (c.of.ensures ∙ same)) (fitting chart fits of_shown)
+    (sym (c.of.ensures ∙ same)) (fitting chart fits is)

@@ -10,7 +10,7 @@ returns c =
       classes = c.args.classes;
       book = c.args.book;
       first = c.saturating_sub.result;
-      fault = c.reason_shown.result;
+      foot = c.args.foot;
       values = c.args.shown.now.values;
     } in
     IfOk-weaker c.draw_chart.result _ _
@@ -22,7 +22,7 @@ returns c =
         rows = refl;
         first = c.saturating_sub.ensures;
         values = refl;
-        why = c.reason_shown.ensures;
+        below = refl;
       },
       is,
     ))

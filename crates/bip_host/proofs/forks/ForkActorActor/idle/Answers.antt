@@ -1,6 +1,6 @@
 use Rattle.std.proofs.Common.{◌∙◌, ap, inl, inr, refl, sym, subst}
 use Rattle.std.proofs.lemmas.Bool.{false≢true}
-use Rattle.std.specs.Prelude.{None, Some}
+use Rattle.std.specs.Prelude.{None}
 use Rattle.bip_host.specs.Forks.{ForkHearsWith}
 use Rattle.bip_host.specs.declared.actors.Step.TheVariants.{Over}
 use Rattle.bip_host.specs.declared.actors.Turn.TheVariants.{Nothing}

@@ -7,7 +7,7 @@ pub returns-then-not-can_have-clause-says : goal.returns-then-not-can_have-claus
 returns-then-not-can_have-clause-says g c =
     let hosts = g.H.Hosting.hosts c.args.self.now.hosting.now in
     let misfit : FitsPlan c.args.plan.now c.args.asked.now.form → ⊥ = search rules in
-    outcome_answered (IsPlanHosted c.args.plan.now hosts c.args.asked.now) _ (of_many_rows misfit)
+    outcome_answered (IsPlanHosted c.args.plan.now hosts c.args.asked.now c.args.limits) _ (of_many_rows misfit)
 
 pub returns-clause-says : goal.returns-clause-says
 returns-clause-says g c =
