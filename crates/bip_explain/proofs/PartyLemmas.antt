@@ -16,7 +16,7 @@ use Rattle.bip_model.specs.Expressions.{holds}
 use Rattle.bip_model.specs.Parties.{AreParties, Cover, HasWantOf, IsWanted, has_want_of, is_moving}
 use Rattle.bip_model.specs.Parties.{is_seeing}
 use Rattle.bip_model.specs.Parts.{IsInteraction, IsPortIn, IsSystem, Participant}
-use Rattle.bip_model.specs.Priorities.{IsAbove, IsListAbove}
+use Rattle.bip_model.specs.Priorities.{HasAbove, IsListAbove}
 use Rattle.bip_model.specs.States.{State}
 use Rattle.bip_model.specs.Steps.{IsEnabled, IsLookedAt, IsLowestAbove, MayRun, guard_of, moves}
 use Rattle.bip_model.specs.Steps.{offered, participants_of, values_of}
@@ -344,7 +344,7 @@ module _ (m : System) (a : ℕ) (row : List InterId) (i : ℕ) (is : IsListAbove
     (P : ℕ → Type 0) (earlier : (k : ℕ) (d : InterId) → k < i → P (get_or row k d).0) where
   -- holds of each lower one above
   pub holds_lower : (d : InterId) → i < length row → (c : ℕ) → c < (get_or row i d).0
-      → IsAbove m.priorities a c → P c
+      → HasAbove m.priorities a c → P c
   holds_lower d within c below above =
       let n : InterId = record { 0 = c } in
       let here : Contains row n = (is.exact c).1 above in
@@ -364,7 +364,7 @@ module _ (m : System) (a : ℕ) (row : List InterId) (i : ℕ) (is : IsListAbove
       ]
 
   -- holds of all above at its end
-  pub holds_all : length row ≤ i → (c : ℕ) → IsAbove m.priorities a c → P c
+  pub holds_all : length row ≤ i → (c : ℕ) → HasAbove m.priorities a c → P c
   holds_all past c above =
       let n : InterId = record { 0 = c } in
       let here : Contains row n = (is.exact c).1 above in

@@ -7,7 +7,7 @@ use Rattle.bip_model.specs.Components.{transition_for}
 use Rattle.bip_model.specs.Expressions.{holds, holds_in, value_of}
 use Rattle.bip_model.specs.Parts.{Participant}
 use Rattle.bip_model.specs.States.{State, state_of}
-use Rattle.bip_model.specs.Priorities.{IsAbove}
+use Rattle.bip_model.specs.Priorities.{HasAbove}
 use Rattle.bip_model.specs.Steps.{IsEnabled, IsLowestAbove, MayRun, after, guard_of, offered}
 use Rattle.bip_model.specs.Steps.{participants_of, values_of}
 use Rattle.bip_model.specs.Texts.{lines}
@@ -106,7 +106,7 @@ IsHindrance m s a fault reason = ⊥
 -- this doesn't keep an interaction from running in a state
 abbrev pub IsUnhindered : System → State → ℕ → BookFault → Type 0
 IsUnhindered m s a NotEnabled = IsEnabled m s a
-IsUnhindered m s a (Below other) = (b : ℕ) → IsAbove m.priorities a b → ¬ IsEnabled m s b
+IsUnhindered m s a (Below other) = (b : ℕ) → HasAbove m.priorities a b → ¬ IsEnabled m s b
 IsUnhindered m s a fault = ⊥
 
 -- a fault is one of a state: the interaction isn't enabled there, or is below one that is

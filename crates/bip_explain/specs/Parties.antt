@@ -6,7 +6,7 @@ use Rattle.std.specs.List.{list_all}
 use Rattle.bip_model.specs.Expressions.{holds}
 use Rattle.bip_model.specs.Parts.{Participant}
 use Rattle.bip_model.specs.Parties.{AreParties, Cover, HasWantOf, IsWanted, has_want_of}
-use Rattle.bip_model.specs.Priorities.{IsAbove}
+use Rattle.bip_model.specs.Priorities.{HasAbove}
 use Rattle.bip_model.specs.States.{State}
 use Rattle.bip_model.specs.Steps.{IsLookedAt, guard_of, moves, offered, participants_of, values_of}
 use Rattle.bip_model.specs.Texts.{line_at}
@@ -48,9 +48,9 @@ IsNamedSo m a c Absent = (moves m a c ≡ false) × ¬ IsLookedAt m a c
 -- the lowest interaction above one that wants don't cover in a state
 pub record IsLowestUncovered (m : System) (s : State) (a : ℕ) (wants : List Want) (b : ℕ) : Type 0
   where
-    pub above : IsAbove m.priorities a b
+    pub above : HasAbove m.priorities a b
     pub uncovered : ¬ Cover m s wants b
-    pub lower : (c : ℕ) → c < b → IsAbove m.priorities a c → Cover m s wants c
+    pub lower : (c : ℕ) → c < b → HasAbove m.priorities a c → Cover m s wants c
 
 -- those of participants whose ports aren't offered in a state, in their order
 abbrev pub off_among : System → State → List Participant → List CompId

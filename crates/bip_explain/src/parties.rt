@@ -11,7 +11,7 @@ ghost use Rattle.bip_explain.specs.Parties.{cover_lack_parts, named_text, names_
 ghost use Rattle.bip_explain.specs.Parties.{parties_parts, seen_text, unseen_among};
 ghost use Rattle.bip_model.specs.Parties.{Cover, CoverAbove, IsWanted, has_want_of};
 ghost use Rattle.bip_model.specs.Parts.{IsPortIn};
-ghost use Rattle.bip_model.specs.Priorities.{IsAbove};
+ghost use Rattle.bip_model.specs.Priorities.{HasAbove};
 ghost use Rattle.bip_model.specs.States.{IsStateOf, state_of};
 ghost use Rattle.bip_model.specs.Steps.{IsEnabled};
 ghost use Rattle.bip_model.specs.declared.grants.Grant.{Grant};
@@ -242,7 +242,7 @@ fn find_uncovered(
 ) -> Option<(InterId, Lack)>
     requires declared { inter.0 < length model.now.interactions }
     requires state { IsStateOf model.now (state_of state.now) }
-    requires clear { (b : ℕ) → IsAbove model.now.priorities inter.0 b
+    requires clear { (b : ℕ) → HasAbove model.now.priorities inter.0 b
         → ¬ IsEnabled model.now (state_of state.now) b }
     ensures some { IfSome result (λ found.
         IsLowestUncovered model.now (state_of state.now) inter.0 wants.now found.0.0

@@ -6,29 +6,29 @@ use Rattle.std.proofs.lemmas.Bool.{and_parts, and_cases, or_cases, or_left, or_r
 use Rattle.std.proofs.lemmas.Bool.{not-false, eqb-true, eq-eqb, false≢true}
 use Rattle.std.proofs.lemmas.List.Elements.{All-contains}
 use Rattle.bip_model.specs.Sets.{has}
-use Rattle.bip_model.specs.Priorities.{IsAbove, declared, through, IsPairOf, leads, pair}
+use Rattle.bip_model.specs.Priorities.{HasAbove, declared, through, IsPairOf, leads, pair}
 use Rattle.bip_model.specs.declared.parts.Pair.{Pair}
 use Rattle.bip_model.proofs.ListLemmas.{found_at, not_found}
 
-pub IsAbove-trans : {pairs : List Pair} {a b c : ℕ} → IsAbove pairs a b → IsAbove pairs b c
-    → IsAbove pairs a c
-IsAbove-trans (declared at) second = through at second
-IsAbove-trans (through at rest) second = through at (IsAbove-trans rest second)
+pub HasAbove-trans : {pairs : List Pair} {a b c : ℕ} → HasAbove pairs a b → HasAbove pairs b c
+    → HasAbove pairs a c
+HasAbove-trans (declared at) second = through at second
+HasAbove-trans (through at rest) second = through at (HasAbove-trans rest second)
 
 -- what stands above something is there
-pub IsAbove-high : (count : ℕ) (pairs : List Pair) (a b : ℕ) → All (IsPairOf count) pairs
-    → IsAbove pairs a b → b < count
-IsAbove-high count pairs a b known (declared at) =
+pub HasAbove-high : (count : ℕ) (pairs : List Pair) (a b : ℕ) → All (IsPairOf count) pairs
+    → HasAbove pairs a b → b < count
+HasAbove-high count pairs a b known (declared at) =
     (All-contains (IsPairOf count) pairs _ known at).high
-IsAbove-high count pairs a b known (through at rest) = IsAbove-high count pairs _ b known rest
+HasAbove-high count pairs a b known (through at rest) = HasAbove-high count pairs _ b known rest
 
 -- all in a set stand above an interaction
 abbrev pub IsWithin : List Pair → ℕ → ℕ → Type 0
-IsWithin pairs a set = (b : ℕ) → has set b ≡ true → IsAbove pairs a b
+IsWithin pairs a set = (b : ℕ) → has set b ≡ true → HasAbove pairs a b
 
 -- an interaction outside of a set that stands above, if all in the set do
 pub record IsNext (pairs : List Pair) (a set b : ℕ) : Type 0 where
-  pub above : IsAbove pairs a b
+  pub above : HasAbove pairs a b
   pub out : has set b ≡ false
 
 -- what a search finds leads to such an interaction, and to one that is there
@@ -40,7 +40,7 @@ IsNext-found pairs a set p is within =
     record {
       above = elim (or_cases (eqb p.low.0 a) (has set p.low.0) parts.0) [
         | inl here ↦ rw (← eqb-true p.low.0 a here) (declared both.0)
-        | inr in' ↦ IsAbove-trans (within p.low.0 in') (declared both.0)
+        | inr in' ↦ HasAbove-trans (within p.low.0 in') (declared both.0)
       ];
       out = not-true (has set p.high.0) parts.1;
     }
@@ -61,7 +61,7 @@ IsWithin-more pairs a set more c within next is b in' =
 
 -- where no pair leads on, all that stand above are in the set
 pub all_within : (pairs : List Pair) (a set : ℕ) → None ≡ find (leads a set) pairs → (b : ℕ)
-    → IsAbove pairs a b → has set b ≡ true
+    → HasAbove pairs a b → has set b ≡ true
 all_within pairs a set none b above = from a b
     (or_left (eqb a a) (has set a) (eq-eqb a a refl)) above
   where
@@ -75,7 +75,7 @@ all_within pairs a set none b above = from a b
           | inr yes' ↦ not-false (has set y) yes'
         ]
 
-    from : (x y : ℕ) → (eqb x a || has set x) ≡ true → IsAbove pairs x y → has set y ≡ true
+    from : (x y : ℕ) → (eqb x a || has set x) ≡ true → HasAbove pairs x y → has set y ≡ true
     from x y in' (declared at) = step x y in' at
     from x y in' (through {b} at rest) = from b y
         (or_right (eqb b a) (has set b) (step x b in' at)) rest

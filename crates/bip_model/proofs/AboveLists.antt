@@ -11,7 +11,7 @@ use Rattle.std.proofs.lemmas.List.FromFn.{length-range_with_len, get_or-range_wi
 use Rattle.std.proofs.lemmas.List.FromFn.{length-map-range_with_len, get_or-map-range_with_len}
 use Rattle.std.proofs.lemmas.List.Kept.{IsStrictlyIncreasing-filter}
 use Rattle.bip_model.specs.Sets.{has}
-use Rattle.bip_model.specs.Priorities.{AreListsAbove, IsAbove, IsPairOf, IsListAbove, inter}
+use Rattle.bip_model.specs.Priorities.{AreListsAbove, HasAbove, IsPairOf, IsListAbove, inter}
 use Rattle.bip_model.specs.Priorities.{inters_in}
 use Rattle.bip_model.specs.declared.numbering.InterId.{InterId}
 use Rattle.bip_model.specs.declared.parts.Pair.{Pair}
@@ -23,8 +23,8 @@ use Rattle.bip_model.specs.declared.parts.System.{System}
 use Rattle.bip_model.proofs.LookLemmas.{looked_at, looked_known, looks_where}
 use Rattle.std.proofs.Common.{false}
 use Rattle.std.proofs.lemmas.Bool.{false≢true}
-use Rattle.bip_model.proofs.ClimbLemmas.{Decided, IsAbove-decided}
-use Rattle.bip_model.proofs.AboveLemmas.{IsAbove-high}
+use Rattle.bip_model.proofs.ClimbLemmas.{Decided, HasAbove-decided}
+use Rattle.bip_model.proofs.AboveLemmas.{HasAbove-high}
 use Rattle.bip_model.proofs.ListLemmas.{Contains-filter}
 
 range-rises : (n : ℕ) → IsStrictlyIncreasing (range_with_len 0 n)
@@ -73,19 +73,20 @@ module _ {X : Type 0} (number : X → ℕ) (make : ℕ → X) (same : (n : ℕ) 
 
 -- the inters_in of the set of all above an interaction
 list_by : (pairs : List Pair) (count a : ℕ) (test : ℕ → Bool) → All (IsPairOf count) pairs
-    → ((b : ℕ) → (test b ≡ true) ↔ IsAbove pairs a b)
+    → ((b : ℕ) → (test b ≡ true) ↔ HasAbove pairs a b)
     → IsListAbove pairs a (kept (λ (b : InterId). b.0) inter (λ n. refl) test count)
 list_by pairs count a test known above = record {
   rising = kept-rises (λ (b : InterId). b.0) inter (λ n. refl) test count;
   exact = λ b. (
     λ at. (above b).0 (kept_passes (λ (x : InterId). x.0) inter (λ n. refl) test count b at),
     λ up. is_kept (λ (x : InterId). x.0) inter (λ n. refl) test count b
-        (IsAbove-high count pairs a b known up) ((above b).1 up),
+        (HasAbove-high count pairs a b known up) ((above b).1 up),
   );
 }
 
 pub list-above : (pairs : List Pair) (count a set : ℕ) → All (IsPairOf count) pairs
-    → ((b : ℕ) → (has set b ≡ true) ↔ IsAbove pairs a b) → IsListAbove pairs a (inters_in count set)
+    → ((b : ℕ) → (has set b ≡ true) ↔ HasAbove pairs a b)
+    → IsListAbove pairs a (inters_in count set)
 list-above pairs count a set known above = list_by pairs count a (has set) known above
 
 -- the components that are kept are those that an interaction looks at
@@ -118,8 +119,8 @@ pub above_listed : (m : System) (a : ℕ) → IsSystemSoFar m → (above : List 
 above_listed m a valid = (
   _,
   list_by m.priorities (length m.interactions) a (λ b. tested
-      (IsAbove-decided m.priorities a b)) valid.priorities
-      (λ b. tested_is (IsAbove-decided m.priorities a b)),
+      (HasAbove-decided m.priorities a b)) valid.priorities
+      (λ b. tested_is (HasAbove-decided m.priorities a b)),
 )
 
 -- what an interaction looks at can be listed
@@ -127,8 +128,8 @@ pub looks_listed : (m : System) (a : ℕ) → IsSystemSoFar m → (looks : List 
     × IsListLookedAt m a looks
 looks_listed m a valid =
     let above = list_by m.priorities (length m.interactions) a
-    (λ b. tested (IsAbove-decided m.priorities a b)) valid.priorities
-    (λ b. tested_is (IsAbove-decided m.priorities a b)) in
+    (λ b. tested (HasAbove-decided m.priorities a b)) valid.priorities
+    (λ b. tested_is (HasAbove-decided m.priorities a b)) in
     (_, list_looked_at m a _ valid above)
 
 -- one more list

@@ -10,11 +10,11 @@ use Rattle.bip_model.specs.declared.numbering.InterId.{InterId}
 use Rattle.bip_model.specs.declared.parts.System.{System}
 use Rattle.bip_model.specs.Laws.{AgreeOnTouched, MayRunIsLocal, SomethingMayRun}
 use Rattle.bip_model.specs.Parts.{IsInteraction, IsPortIn, IsSystem, IsSystemSoFar, Participant}
-use Rattle.bip_model.specs.Priorities.{IsAbove, IsListAbove, inter}
+use Rattle.bip_model.specs.Priorities.{HasAbove, IsListAbove, inter}
 use Rattle.bip_model.specs.States.{State}
 use Rattle.bip_model.specs.Steps.{IsEnabled, IsLookedAt, MayRun, looks_at, moves}
-use Rattle.bip_model.proofs.AboveLemmas.{IsAbove-trans}
-use Rattle.bip_model.proofs.ClimbLemmas.{Decided, IsAbove-decided, IsUpTo, highest, up_to_decided}
+use Rattle.bip_model.proofs.AboveLemmas.{HasAbove-trans}
+use Rattle.bip_model.proofs.ClimbLemmas.{Decided, HasAbove-decided, IsUpTo, highest, up_to_decided}
 use Rattle.bip_model.specs.declared.parts.Pair.{Pair}
 use Rattle.bip_model.proofs.LawLemmas.{enabled-agree}
 use Rattle.bip_model.proofs.ListLemmas.{All-slice_get}
@@ -72,7 +72,7 @@ looked_known m a c valid is = moves_known m is.higher c valid is.moved
 
 -- whether an interaction stands there or above, and is enabled
 test : (m : System) (s : State) (a b : ℕ) → Decided (IsUpTo m.priorities a b × IsEnabled m s b)
-test m s a b = elim (up_to_decided a b (IsAbove-decided m.priorities a b)) [
+test m s a b = elim (up_to_decided a b (HasAbove-decided m.priorities a b)) [
   | inr apart ↦ inr (λ both. apart both.0)
   | inl up ↦ elim (enabled_or_not m s b) [
     | inl on ↦ inl (up, on)
@@ -80,9 +80,9 @@ test m s a b = elim (up_to_decided a b (IsAbove-decided m.priorities a b)) [
   ]
 ]
 
-beyond : {pairs : List Pair} {a b d : ℕ} → IsUpTo pairs a b → IsAbove pairs b d → IsUpTo pairs a d
+beyond : {pairs : List Pair} {a b d : ℕ} → IsUpTo pairs a b → HasAbove pairs b d → IsUpTo pairs a d
 beyond (inl same) above = inr (rw same above)
-beyond (inr up) above = inr (IsAbove-trans up above)
+beyond (inr up) above = inr (HasAbove-trans up above)
 
 pub something_may_run : (m : System) → IsSystem m → SomethingMayRun m
 something_may_run m valid s a enabled =
@@ -108,7 +108,7 @@ may_agree m s t a agree may = record {
       (enabled-agree m t s b (λ c takes. sym (agree c (touched b above c takes))) enabled);
 }
   where
-    touched : (b : ℕ) → IsAbove m.priorities a b → (c : ℕ) → moves m b c ≡ true
+    touched : (b : ℕ) → HasAbove m.priorities a b → (c : ℕ) → moves m b c ≡ true
         → (moves m a c ≡ true) ⊎ IsLookedAt m a c
     touched b above c takes = elim (cases_Bool (moves m a c)) [
       | inl own ↦ inl own

@@ -8,8 +8,8 @@ use Rattle.std.proofs.lemmas.List.{get_or-map, get_or_default, length-map}
 use Rattle.std.proofs.lemmas.List.Kept.{AllPairs-from_increasing}
 use Rattle.bip_model.specs.declared.numbering.InterId.{InterId}
 use Rattle.bip_model.specs.declared.parts.System.{System}
-use Rattle.bip_model.specs.Priorities.{IsAbove, IsListAbove}
-use Rattle.bip_model.proofs.ClimbLemmas.{IsAbove-decided}
+use Rattle.bip_model.specs.Priorities.{HasAbove, IsListAbove}
+use Rattle.bip_model.proofs.ClimbLemmas.{HasAbove-decided}
 use Rattle.bip_model.proofs.StepLemmas.{enabled_or_not}
 use Rattle.bip_model.specs.Steps.{IsEnabled, IsLowestAbove, MayRun}
 use Rattle.bip_model.specs.States.{State}
@@ -40,7 +40,7 @@ lowest_above m s a row i d is within enabled earlier = record {
   lower = lower;
 }
   where
-    lower : (c : ℕ) → c < (get_or row i d).0 → IsAbove m.priorities a c → ¬ IsEnabled m s c
+    lower : (c : ℕ) → c < (get_or row i d).0 → HasAbove m.priorities a c → ¬ IsEnabled m s c
     lower c below above =
         let n : InterId = record { 0 = c } in
         let here : Contains row n = (is.exact c).1 above in
@@ -62,18 +62,18 @@ lowest_above m s a row i d is within enabled earlier = record {
 
 -- the lowest of those above one that are enabled, below a bound, or none
 lowest_below : (m : System) (s : State) (a n : ℕ)
-    → ((c : ℕ) → c < n → IsAbove m.priorities a c → ¬ IsEnabled m s c)
+    → ((c : ℕ) → c < n → HasAbove m.priorities a c → ¬ IsEnabled m s c)
     ⊎ ((b : ℕ) × IsLowestAbove m s a b)
 lowest_below m s a zero = inl (λ c below. absurd (omega (arith, below)))
 lowest_below m s a (suc n) =
     elim (lowest_below m s a n) [
       | inr found ↦ inr found
       | inl none ↦
-          elim (IsAbove-decided m.priorities a n) [
+          elim (HasAbove-decided m.priorities a n) [
             | inr apart ↦ inl (λ c below above. elim (cases_lt c n) [
               | inl less ↦ none c less above
               | inr past ↦
-                  absurd (apart (subst (IsAbove m.priorities a) (omega arith) above))
+                  absurd (apart (subst (HasAbove m.priorities a) (omega arith) above))
             ])
             | inl up ↦
                 elim (enabled_or_not m s n) [

@@ -19,7 +19,7 @@ use Rattle.std.proofs.lemmas.List.Folds.{list_any_at}
 use Rattle.std.proofs.lemmas.List.Sums.{AllPass-from_list_all, list_all-from_AllPass}
 use Rattle.bip_model.specs.declared.numbering.CompId.{CompId}
 use Rattle.bip_model.specs.declared.numbering.InterId.{InterId}
-use Rattle.bip_model.specs.Priorities.{IsAbove, IsListAbove, inter}
+use Rattle.bip_model.specs.Priorities.{HasAbove, IsListAbove, inter}
 use Rattle.bip_model.specs.States.{State}
 use Rattle.bip_model.specs.Steps.{IsListLookedAt, IsLookedAt}
 use Rattle.bip_model.proofs.LookLemmas.{looked_known, moves_known}
@@ -29,7 +29,7 @@ use Rattle.bip_model.specs.Laws.{AllPartiesCover, HasItsRole, PartiesAreWanted, 
 use Rattle.bip_model.specs.Parties.{AreParties, CoverAbove, HasWantOf, Cover, IsWanted, SeeAll}
 use Rattle.bip_model.specs.Parties.{are_parties, has_want_of, is_covered, is_moving, is_party}
 use Rattle.bip_model.specs.Parties.{is_seeing, see_all}
-use Rattle.bip_model.proofs.AboveLemmas.{IsAbove-high}
+use Rattle.bip_model.proofs.AboveLemmas.{HasAbove-high}
 use Rattle.bip_model.proofs.AboveLists.{above_listed, looks_listed}
 
 -- the role that is moved, and the one that isn't
@@ -237,7 +237,7 @@ moves_one_of m a k d within =
     (eq-eqb q.0.0 q.0.0 refl)
 
 -- an interaction touches what one above it moves
-pub touches_above : (m : System) (a b c : ℕ) → IsAbove m.priorities a b → moves m b c ≡ true
+pub touches_above : (m : System) (a b c : ℕ) → HasAbove m.priorities a b → moves m b c ≡ true
     → (moves m a c ≡ true) ⊎ IsLookedAt m a c
 touches_above m a b c above takes = elim (cases_Bool (moves m a c)) [
   | inl own ↦ inl own
@@ -325,5 +325,5 @@ pub above_declared : (m : System) (a : ℕ) (above : List InterId) → IsSystem 
     → IsListAbove m.priorities a above → All (λ (b : InterId). b.0 < length m.interactions) above
 above_declared m a above valid list k d within =
     let b = get_or above k d in
-    IsAbove-high (length m.interactions) m.priorities a b.0 valid.so_far.priorities
+    HasAbove-high (length m.interactions) m.priorities a b.0 valid.so_far.priorities
     ((list.exact b.0).0 (Contains-get_or above k d within))

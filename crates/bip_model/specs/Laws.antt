@@ -14,7 +14,7 @@ use Rattle.bip_model.specs.Wants.{components_of, is_moved, moved_in}
 use Rattle.bip_model.specs.Naming.{AreApart}
 use Rattle.bip_model.specs.Partitions.{IsPartition, numbers_in, times_in}
 use Rattle.bip_model.specs.Parts.{Participant, components_in}
-use Rattle.bip_model.specs.Priorities.{IsAbove, put_pair}
+use Rattle.bip_model.specs.Priorities.{HasAbove, put_pair}
 use Rattle.bip_model.specs.Scopes.{shared}
 use Rattle.bip_model.specs.Parties.{AreParties, AreWantsBy, CoverAbove, HasWantOf, SeeAll}
 use Rattle.bip_model.specs.declared.messages.Offer.{Offer}
@@ -206,14 +206,14 @@ GoesOnByWhatMayRun m =
 -- what stands above stands above what is below
 abbrev pub AboveGoesOn : Type 0
 AboveGoesOn =
-    (pairs : List Pair) (a b c : ℕ) → IsAbove pairs a b → IsAbove pairs b c → IsAbove pairs a c
+    (pairs : List Pair) (a b c : ℕ) → HasAbove pairs a b → HasAbove pairs b c → HasAbove pairs a c
 
 -- where an interaction is enabled it may run, or one above it may: priorities alone never stop a
 -- model
 abbrev pub SomethingMayRun : System → Type 0
 SomethingMayRun m =
     (s : State) (a : ℕ) → IsEnabled m s a
-    → (b : ℕ) × ((a ≡ b) ⊎ IsAbove m.priorities a b) × MayRun m s b
+    → (b : ℕ) × ((a ≡ b) ⊎ HasAbove m.priorities a b) × MayRun m s b
 
 -- two states agree on all that an interaction moves or looks at
 abbrev pub AgreeOnTouched : System → ℕ → State → State → Type 0

@@ -5,7 +5,7 @@ use Rattle.std.specs.Prelude.{All, Any, IsTrue, false, if◌then◌else◌, true
 use Rattle.std.specs.List.{list_all, list_any}
 use Rattle.std.specs.List.Sorted.{IsStrictlyIncreasing}
 use Rattle.bip_model.specs.Parts.{Participant}
-use Rattle.bip_model.specs.Priorities.{IsAbove}
+use Rattle.bip_model.specs.Priorities.{HasAbove}
 use Rattle.bip_model.specs.Reasons.{AreForEach, AreNaming, IsNamedBy}
 use Rattle.bip_model.specs.States.{State}
 use Rattle.bip_model.specs.Steps.{IsLookedAt, moves, offered, participants_of}
@@ -44,7 +44,7 @@ Cover m s wants b =
 
 -- they cover each interaction above one
 abbrev pub CoverAbove : System → State → ℕ → List Want → Type 0
-CoverAbove m s a wants = (b : ℕ) → IsAbove m.priorities a b → Cover m s wants b
+CoverAbove m s a wants = (b : ℕ) → HasAbove m.priorities a b → Cover m s wants b
 
 -- what an interaction's reason names is among its participants, and wanted
 abbrev pub IsBorne : System → List Want → Why → Type 0

@@ -35,13 +35,13 @@ abbrev pub pair : ℕ → ℕ → Pair
 pair a b = record { low = inter a; high = inter b }
 
 -- the second interaction stands above the first: declared pairs lead from the one to the other
-pub data IsAbove (pairs : List Pair) : ℕ → ℕ → Type 0 where
-  declared : {a b : ℕ} → Contains pairs (pair a b) → IsAbove pairs a b
-  through : {a b c : ℕ} → Contains pairs (pair a b) → IsAbove pairs b c → IsAbove pairs a c
+pub data HasAbove (pairs : List Pair) : ℕ → ℕ → Type 0 where
+  declared : {a b : ℕ} → Contains pairs (pair a b) → HasAbove pairs a b
+  through : {a b c : ℕ} → Contains pairs (pair a b) → HasAbove pairs b c → HasAbove pairs a c
 
 -- some interaction stands above itself
 abbrev pub IsCyclic : List Pair → Type 0
-IsCyclic pairs = (a : ℕ) × IsAbove pairs a a
+IsCyclic pairs = (a : ℕ) × HasAbove pairs a a
 
 -- a pair of interactions of which there are so many
 pub record IsPairOf (count : ℕ) (p : Pair) : Type 0 where
@@ -51,7 +51,7 @@ pub record IsPairOf (count : ℕ) (p : Pair) : Type 0 where
 -- the list of those above an interaction, in order of their numbers
 pub record IsListAbove (pairs : List Pair) (a : ℕ) (list : List InterId) : Type 0 where
   pub rising : IsStrictlyIncreasing (map (λ (b : InterId). b.0) list)
-  pub exact : (b : ℕ) → Contains list (inter b) ↔ IsAbove pairs a b
+  pub exact : (b : ℕ) → Contains list (inter b) ↔ HasAbove pairs a b
 
 -- such a list for each of so many interactions in turn
 pub record AreListsAbove (pairs : List Pair) (count : ℕ) (lists : List (List InterId)) : Type 0

@@ -2,7 +2,7 @@
 use Rattle.std.specs.Prelude.{◌≡◌, ◌↔◌, ℕ, ◌≤◌, ◌<◌, ◌==◌, List, [], length, map, take, true}
 use Rattle.std.specs.Prelude.{All, Any, Option, None, Some, ⊤, if◌then◌else◌}
 use Rattle.std.specs.List.Sorted.{IsStrictlyIncreasing}
-use Rattle.bip_model.specs.Priorities.{IsAbove}
+use Rattle.bip_model.specs.Priorities.{HasAbove}
 use Rattle.bip_model.specs.Steps.{moves}
 use Rattle.bip_model.specs.declared.parts.System.{System}
 use Rattle.bip_model.specs.declared.reasons.Cause.{Cause}
@@ -38,7 +38,7 @@ AreNaming m reasons c = Any (λ (y : Why). IsNamedBy m y.inter.0 y.cause c) reas
 -- there is a reason for each interaction above one, and for no other
 abbrev pub AreForEach : System → ℕ → List Why → Type 0
 AreForEach m a reasons =
-    (b : ℕ) → Any (λ (y : Why). y.inter.0 ≡ b) reasons ↔ IsAbove m.priorities a b
+    (b : ℕ) → Any (λ (y : Why). y.inter.0 ≡ b) reasons ↔ HasAbove m.priorities a b
 
 -- the number that stands for a cause: that of the component whose port is off, or 65535
 abbrev pub cause_number : Cause → ℕ

@@ -21,7 +21,7 @@ use Rattle.bip_model.specs.Components.{offers_at, moved, transition_for}
 use Rattle.bip_model.specs.Expressions.{holds, transferred}
 use Rattle.bip_model.specs.Parts.{IsSystem, Participant}
 use Rattle.bip_model.specs.Places.{ArePlacesOfEach}
-use Rattle.bip_model.specs.Priorities.{AreListsAbove, IsAbove}
+use Rattle.bip_model.specs.Priorities.{AreListsAbove, HasAbove}
 use Rattle.bip_model.specs.States.{State, with_values}
 
 -- the state in which each component is in its first location, with the values of its start
@@ -65,13 +65,13 @@ pub record IsEnabled (m : System) (s : State) (a : ℕ) : Type 0 where
 -- an interaction may run: it is enabled, and nothing above it is
 pub record MayRun (m : System) (s : State) (a : ℕ) : Type 0 where
   pub enabled : IsEnabled m s a
-  pub clear : (b : ℕ) → IsAbove m.priorities a b → ¬ IsEnabled m s b
+  pub clear : (b : ℕ) → HasAbove m.priorities a b → ¬ IsEnabled m s b
 
 -- the lowest-numbered of the interactions above one that are enabled
 pub record IsLowestAbove (m : System) (s : State) (a b : ℕ) : Type 0 where
-  pub above : IsAbove m.priorities a b
+  pub above : HasAbove m.priorities a b
   pub enabled : IsEnabled m s b
-  pub lower : (c : ℕ) → c < b → IsAbove m.priorities a c → ¬ IsEnabled m s c
+  pub lower : (c : ℕ) → c < b → HasAbove m.priorities a c → ¬ IsEnabled m s c
 
 -- why an interaction may not run, the first that applies: it isn't enabled, or one above it is
 abbrev pub IsHeldBack : System → State → ℕ → NotNow → Type 0
@@ -86,7 +86,7 @@ moves m a c = list_any (λ (q : Participant). q.0.0 == c) (participants_of m a)
 pub record IsLookedAt (m : System) (a c : ℕ) : Type 0 where
   pub other : moves m a c ≡ false
   pub higher : ℕ
-  pub above : IsAbove m.priorities a higher
+  pub above : HasAbove m.priorities a higher
   pub moved : moves m higher c ≡ true
 
 -- the list of the components that an interaction looks at, in order of their numbers

@@ -244,8 +244,11 @@ impl Builder {
     {
         let Builder { draft, alloc } = self;
         if draft.begun.is_some() || draft.system.components.is_empty() {
+            drop(draft);
             return Err(BuildFault::Missing);
         }
-        Model::of(alloc, draft.system)
+        let Draft { system, begun } = draft;
+        drop(begun);
+        Model::of(alloc, system)
     }
 }

@@ -1,7 +1,7 @@
 //! Priorities: which interactions stand above which. They are closed when a model is built.
 ghost use Rattle.std.specs.Prelude.{◌≡◌, ◌≤◌, ◌↔◌, ℕ, IsTrue, All, IfOk, find};
 ghost use Rattle.bip_model.specs.Sets.{has};
-ghost use Rattle.bip_model.specs.Priorities.{AreListsAbove, IsAbove, IsCyclic, IsListAbove};
+ghost use Rattle.bip_model.specs.Priorities.{AreListsAbove, HasAbove, IsCyclic, IsListAbove};
 ghost use Rattle.bip_model.specs.Priorities.{IsPairOf, inters_in, leads};
 
 use crate::sets::{has_inter, with_inter};
@@ -68,7 +68,7 @@ fn inters_in(alloc: Global, count: u16, set: u128) -> Result<Vec<InterId>, Alloc
 /// The set of the interactions above one.
 fn set_above(pairs: &[Pair], inter: InterId) -> u128
     requires { All (IsPairOf 128) pairs.now }
-    ensures { (b : ℕ) → IsTrue (has result b) ↔ IsAbove pairs.now inter.0 b }
+    ensures { (b : ℕ) → IsTrue (has result b) ↔ HasAbove pairs.now inter.0 b }
 {
     let mut set = 0u128;
     while let Some(pair) = next_pair(pairs, inter, set) {

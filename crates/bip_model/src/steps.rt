@@ -10,7 +10,7 @@ ghost use Rattle.bip_model.specs.Expressions.{AreAssignmentsIn, counts, holds, t
 ghost use Rattle.bip_model.specs.Messages.{IsOfferIn};
 ghost use Rattle.bip_model.specs.Parts.{IsInteraction, IsSystem, components_in, count_of};
 ghost use Rattle.bip_model.specs.Parts.{counts_of};
-ghost use Rattle.bip_model.specs.Priorities.{IsAbove, IsListAbove};
+ghost use Rattle.bip_model.specs.Priorities.{HasAbove, IsListAbove};
 ghost use Rattle.bip_model.specs.States.{IsLocalStateOf, IsStateOf, local_of, state_of};
 ghost use Rattle.bip_model.specs.Steps.{IsEnabled, IsHeldBack, IsLowestAbove, MayRun, after};
 ghost use Rattle.bip_model.specs.Steps.{guard_of, led, led_all, offered, participants_of};
@@ -91,7 +91,7 @@ impl Model {
     pub fn blocked_by(&self, state: &State, inter: InterId) -> Option<InterId>
         ensures some { IfSome result (λ b.
             IsLowestAbove self.now (state_of state.now) inter.0 b.0) }
-        ensures none { IfNone result ((b : ℕ) → IsAbove self.now.priorities inter.0 b
+        ensures none { IfNone result ((b : ℕ) → HasAbove self.now.priorities inter.0 b
             → ¬ IsEnabled self.now (state_of state.now) b) }
     {
         if inter.0 as usize >= self.interactions().len() {
@@ -104,7 +104,7 @@ impl Model {
         requires { IsListAbove self.now.priorities inter.0 above.now }
         ensures some { IfSome result (λ b.
             IsLowestAbove self.now (state_of state.now) inter.0 b.0) }
-        ensures none { IfNone result ((b : ℕ) → IsAbove self.now.priorities inter.0 b
+        ensures none { IfNone result ((b : ℕ) → HasAbove self.now.priorities inter.0 b
             → ¬ IsEnabled self.now (state_of state.now) b) }
     {
         for higher in above {

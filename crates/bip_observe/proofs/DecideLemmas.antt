@@ -10,7 +10,7 @@ use Rattle.std.proofs.lemmas.List.Folds.{Any-from_list_any, list_any-from_Any}
 use Rattle.bip_model.specs.Expressions.{counts}
 use Rattle.bip_model.specs.Messages.{IsOfferOf}
 use Rattle.bip_model.specs.Parts.{IsInteraction, IsSystem, Participant, count_of, counts_of}
-use Rattle.bip_model.specs.Priorities.{IsAbove, IsListAbove, inter}
+use Rattle.bip_model.specs.Priorities.{HasAbove, IsListAbove, inter}
 use Rattle.bip_model.specs.Steps.{moves, participants_of}
 use Rattle.bip_model.specs.declared.messages.Offer.{Offer}
 use Rattle.bip_model.specs.declared.numbering.CompId.{CompId}
@@ -159,7 +159,7 @@ open_found v a above b list is =
 pub none_open : (v : Observed) (a : ℕ) (above : List InterId)
     → IsListAbove v.plan.model.priorities a above
     → None ≡ find (λ (d : InterId). not (excludes v d.0)) above → (b : ℕ)
-    → IsAbove v.plan.model.priorities a b → Exclude v.plan.model (offers_of v) (OfferCounts v) b
+    → HasAbove v.plan.model.priorities a b → Exclude v.plan.model (offers_of v) (OfferCounts v) b
 none_open v a above list is b higher =
     let test : InterId → Bool = λ d. not (excludes v d.0) in
     let fails = All-contains (λ (d : InterId). test d ≡ false) above (inter b)

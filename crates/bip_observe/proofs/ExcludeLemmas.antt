@@ -6,7 +6,7 @@ use Rattle.std.proofs.lemmas.List.Folds.{Any-from_list_any, list_any-from_Any}
 use Rattle.std.proofs.lemmas.List.Sums.{AllPass-from_list_all, list_all-from_AllPass}
 use Rattle.bip_model.specs.Parts.{Participant}
 use Rattle.bip_model.specs.Steps.{participants_of}
-use Rattle.bip_model.proofs.ClimbLemmas.{Decided, IsAbove-decided}
+use Rattle.bip_model.proofs.ClimbLemmas.{Decided, HasAbove-decided}
 use Rattle.bip_observe.specs.Offers.{Observed}
 use Rattle.bip_observe.specs.Verdicts.{OfferCounts, Exclude, IsOpenAbove, excludes, guard_holds}
 use Rattle.bip_observe.specs.Verdicts.{is_counted, is_known_off, offers_of, port_on}
@@ -55,7 +55,7 @@ module _ (v : Observed) (b : ℕ) where
 
 -- an interaction above another is open, or it isn't
 pub open_decided : (v : Observed) (a b : ℕ) → Decided (IsOpenAbove v a b)
-open_decided v a b = elim (IsAbove-decided v.plan.model.priorities a b) [
+open_decided v a b = elim (HasAbove-decided v.plan.model.priorities a b) [
   | inr apart ↦ inr (λ both. apart both.0)
   | inl above ↦ elim (exclude_decided v b) [
     | inl exclude ↦ inr (λ both. both.1 exclude)

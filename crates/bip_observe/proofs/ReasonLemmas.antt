@@ -17,7 +17,7 @@ use Rattle.std.proofs.lemmas.List.Elements.{All-contains, All-map, Contains-get_
 use Rattle.std.proofs.lemmas.List.Folds.{Any-from_list_any, list_any-append}
 use Rattle.bip_model.specs.Parties.{HasWantOf, IsBorne}
 use Rattle.bip_model.specs.Parts.{IsSystem, Participant}
-use Rattle.bip_model.specs.Priorities.{IsAbove, IsListAbove, inter}
+use Rattle.bip_model.specs.Priorities.{HasAbove, IsListAbove, inter}
 use Rattle.bip_model.specs.Reasons.{IsNameable, IsNamedBy, IsReasons, inters_of}
 use Rattle.bip_model.specs.Steps.{moves, participants_of}
 use Rattle.bip_model.specs.declared.messages.Offer.{Offer}
@@ -30,7 +30,7 @@ use Rattle.bip_model.specs.declared.reasons.Why.{Why}
 use Rattle.bip_model.specs.declared.wants.Want.{Want}
 use Rattle.bip_model.proofs.ListLemmas.{found_at, not_found}
 use Rattle.bip_model.proofs.NumberingLemmas.{apart_from_rises, rises_from_increasing, same_list}
-use Rattle.bip_model.proofs.AboveLemmas.{IsAbove-high}
+use Rattle.bip_model.proofs.AboveLemmas.{HasAbove-high}
 use Rattle.bip_model.proofs.LookLemmas.{moves_known}
 use Rattle.bip_model.proofs.PartyLemmas.{moving_is_wanted}
 use Rattle.bip_observe.specs.Laws.{OneReasonsEach, ReasonsAreSound, ReasonsSuffice}
@@ -234,7 +234,7 @@ few_above m a above valid declared list =
     numbers : List ℕ
     numbers = map (λ (b : InterId). b.0) above
 
-    is_above : (q : ℕ) → list_any (eqb q) numbers ≡ true → IsAbove m.priorities a q
+    is_above : (q : ℕ) → list_any (eqb q) numbers ≡ true → HasAbove m.priorities a q
     is_above q test =
         let at = Any-from_list_any (eqb q) numbers test in
         let inside : at.0 < length above = simp length-map at at.2 in
@@ -242,7 +242,7 @@ few_above m a above valid declared list =
         let here : (get_or above at.0 d).0 ≡ q =
         sym (get_or-map (λ (b : InterId). b.0) above at.0 d at.1 inside)
         ∙ (at.3 ∙ sym (eqb-true q at.1 at.4)) in
-        subst (IsAbove m.priorities a) here ((list.exact (get_or above at.0 d).0).0
+        subst (HasAbove m.priorities a) here ((list.exact (get_or above at.0 d).0).0
         (Contains-get_or above at.0 d inside))
 
     apart : list_any (eqb a) numbers ≡ false
@@ -254,7 +254,7 @@ few_above m a above valid declared list =
     below : (q : ℕ) → list_any (eqb q) (numbers ++ a ∷ []) ≡ true → q < length m.interactions
     below q known = elim (or_cases (list_any (eqb q) numbers) (eqb q a || false)
         (sym (list_any-append (eqb q) numbers (a ∷ [])) ∙ known)) [
-          | inl higher ↦ IsAbove-high (length m.interactions) m.priorities a q
+          | inl higher ↦ HasAbove-high (length m.interactions) m.priorities a q
               valid.so_far.priorities
               (is_above q higher)
           | inr last ↦ elim (or_cases (eqb q a) false last) [
@@ -311,7 +311,7 @@ whys_found v a above list = record {
         let d = get_or above at.0 at.1.inter in
         let same : why_by v a d ≡ at.1 = sym (get_or-map
         (why_by v a) above at.0 at.1.inter at.1 inside) ∙ at.3 in
-        subst (IsAbove v.plan.model.priorities a) (ap (λ (y : Why). y.inter.0) same ∙ at.4)
+        subst (HasAbove v.plan.model.priorities a) (ap (λ (y : Why). y.inter.0) same ∙ at.4)
         ((list.exact d.0).0 (Contains-get_or above at.0 at.1.inter inside)),
     λ higher.
         let at = (list.exact b).1 higher in

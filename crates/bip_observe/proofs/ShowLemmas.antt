@@ -11,7 +11,7 @@ use Rattle.bip_model.specs.Messages.{Shows, ShowsState}
 use Rattle.bip_model.specs.Parties.{HasWantOf, Cover}
 use Rattle.bip_model.specs.Parts.{Participant}
 use Rattle.bip_model.specs.declared.wants.Want.{Want}
-use Rattle.bip_model.specs.Priorities.{IsAbove}
+use Rattle.bip_model.specs.Priorities.{HasAbove}
 use Rattle.bip_model.specs.Sets.{has}
 use Rattle.bip_model.specs.States.{State}
 use Rattle.bip_model.specs.Steps.{IsEnabled, MayRun, guard_of, moves, offered, participants_of}
@@ -19,7 +19,7 @@ use Rattle.bip_model.specs.Steps.{values_at, values_of}
 use Rattle.bip_model.specs.declared.messages.Offer.{Offer}
 use Rattle.bip_model.specs.declared.parts.System.{System}
 use Rattle.bip_model.specs.declared.states.LocalState.{LocalState}
-use Rattle.bip_model.proofs.AboveLemmas.{IsAbove-high}
+use Rattle.bip_model.proofs.AboveLemmas.{HasAbove-high}
 use Rattle.bip_model.proofs.ListLemmas.{found_at, not_found}
 use Rattle.bip_partition.specs.Plans.{Touches}
 use Rattle.bip_model.specs.Expressions.{holds}
@@ -110,7 +110,7 @@ moves_each m a k d within =
     (eq-eqb q.0.0 q.0.0 refl)
 
 -- it touches what one above it moves
-pub touches_higher : (m : System) (a b c : ℕ) → IsAbove m.priorities a b → moves m b c ≡ true
+pub touches_higher : (m : System) (a b c : ℕ) → HasAbove m.priorities a b → moves m b c ≡ true
     → Touches m a c
 touches_higher m a b c above takes = elim (cases_Bool (moves m a c)) [
   | inl own ↦ inl own
@@ -227,7 +227,7 @@ may_run_ready m valid o s a own show may = record {
   enabled = enabled_here m o s a (shown_own m o (Touches m a) s a own show (λ c takes. inl takes))
       may.enabled;
   clear = λ b above.
-      let declared = IsAbove-high (length m.interactions) m.priorities a b valid.so_far.priorities
+      let declared = HasAbove-high (length m.interactions) m.priorities a b valid.so_far.priorities
       above in
       let all : (c : ℕ) → moves m b c ≡ true → Touches m a c =
       λ c takes. touches_higher m a b c above takes in

@@ -17,7 +17,7 @@ use Rattle.bip_model.specs.States.{State}
 use Rattle.bip_model.specs.Steps.{moves, participants_of}
 use Rattle.bip_model.specs.declared.messages.Offer.{Offer}
 use Rattle.bip_model.specs.declared.parts.System.{System}
-use Rattle.bip_model.proofs.AboveLemmas.{IsAbove-high}
+use Rattle.bip_model.proofs.AboveLemmas.{HasAbove-high}
 use Rattle.bip_model.proofs.ClimbLemmas.{Decided}
 use Rattle.bip_model.proofs.LookLemmas.{moves_known}
 use Rattle.bip_model.specs.Numbering.{IsLowest}
@@ -230,7 +230,7 @@ enabled_verdict v a valid own declared all enable =
           enabled = enable;
           clear = λ b above. elim (exclude_decided v b) [
             | inl exclude ↦ exclude
-            | inr open_ ↦ absurd (none b (IsAbove-high
+            | inr open_ ↦ absurd (none b (HasAbove-high
                 (length m.interactions) m.priorities a b valid.so_far.priorities above)
                 (above, open_))
           ];
@@ -296,7 +296,7 @@ verdicts_true v valid own s show a declared (Below b) verdict =
     let m = v.plan.model in
     let o = offers_of v in
     let lowest = verdict.2 in
-    let known = IsAbove-high (length m.interactions) m.priorities a b.0 valid.so_far.priorities
+    let known = HasAbove-high (length m.interactions) m.priorities a b.0 valid.so_far.priorities
     lowest.here.0 in (
       enabled_there m o s a declared (shown_in v s own show a verdict.0) verdict.1,
       record {

@@ -4,7 +4,7 @@ use Rattle.std.specs.Prelude.{All, Any, IsTrue}
 use Rattle.bip_model.specs.Expressions.{holds}
 use Rattle.bip_model.specs.Messages.{IsOfferIn, ShowsState}
 use Rattle.bip_model.specs.Parties.{AreParties, AreReasonsFor, HasWantOf}
-use Rattle.bip_model.specs.Priorities.{IsAbove}
+use Rattle.bip_model.specs.Priorities.{HasAbove}
 use Rattle.bip_model.specs.Reasons.{IsNamedBy}
 use Rattle.bip_model.specs.declared.reasons.Why.{Why}
 use Rattle.bip_model.specs.declared.wants.Want.{Want}
@@ -103,7 +103,7 @@ MayRunMeansReady =
 -- a reason of a class for an interaction that is ready: it is for one above; what it names are
 -- participants of that one, of which the offers count; and it is true of these
 pub record IsSound (v : Observed) (a : ℕ) (y : Why) : Type 0 where
-  pub above : IsAbove v.plan.model.priorities a y.inter.0
+  pub above : HasAbove v.plan.model.priorities a y.inter.0
   pub named : (c : ℕ) → IsNamedBy v.plan.model y.inter.0 y.cause c
       → (moves v.plan.model y.inter.0 c ≡ true) × OfferCounts v c
   pub so : IsTrueOf v.plan.model (offers_of v) y.inter.0 y.cause

@@ -8,7 +8,7 @@ use Rattle.std.specs.Option.{option_map, option_map_or}
 use Rattle.bip_model.specs.Expressions.{holds}
 use Rattle.bip_model.specs.Numbering.{IsLowest}
 use Rattle.bip_model.specs.Parts.{Participant}
-use Rattle.bip_model.specs.Priorities.{IsAbove}
+use Rattle.bip_model.specs.Priorities.{HasAbove}
 use Rattle.bip_model.specs.Reasons.{AreForEach, inters_of}
 use Rattle.bip_model.specs.Sets.{has}
 use Rattle.bip_model.specs.Steps.{guard_of, moves, participants_of}
@@ -57,7 +57,7 @@ pub record IsReady (m : System) (o : ℕ → Offer) (of : ℕ → Type 0) (a : �
   pub moved : (c : ℕ) → moves m a c ≡ true → of c
   pub own : (c : ℕ) → of c → (o c).comp.0 ≡ c
   pub enabled : Enable m o a
-  pub clear : (b : ℕ) → IsAbove m.priorities a b → Exclude m o of b
+  pub clear : (b : ℕ) → HasAbove m.priorities a b → Exclude m o of b
 
 -- whether a class holds an offer of a component that counts: its number is above the known used one
 abbrev pub is_counted : Observed → ℕ → Bool
@@ -91,7 +91,7 @@ IsOff m o a c =
 -- an interaction above another that the offers that count don't exclude
 abbrev pub IsOpenAbove : Observed → ℕ → ℕ → Type 0
 IsOpenAbove v a b =
-    IsAbove v.plan.model.priorities a b × ¬ Exclude v.plan.model (offers_of v) (OfferCounts v) b
+    HasAbove v.plan.model.priorities a b × ¬ Exclude v.plan.model (offers_of v) (OfferCounts v) b
 
 -- an interaction above another is open, and of this component of its own no offer counts
 pub record LacksAbove (v : Observed) (a c : ℕ) : Type 0 where

@@ -11,7 +11,7 @@ use Rattle.std.proofs.lemmas.List.Folds.{Any-from_list_any, list_any_at}
 use Rattle.std.proofs.lemmas.List.Sums.{AllPass-from_list_all, list_all-from_AllPass}
 use Rattle.bip_model.specs.Parties.{AreExplained, AreReasonsFor, HasWantOf, IsBorne, has_want_of}
 use Rattle.bip_model.specs.Parts.{Participant}
-use Rattle.bip_model.specs.Priorities.{IsAbove, IsListAbove, inter}
+use Rattle.bip_model.specs.Priorities.{HasAbove, IsListAbove, inter}
 use Rattle.bip_model.specs.Reasons.{AreForEach, IsNamedBy, inters_of}
 use Rattle.bip_model.specs.Steps.{moves, participants_of}
 use Rattle.bip_model.specs.declared.numbering.InterId.{InterId}
@@ -87,7 +87,7 @@ module _ (m : System) (a : ℕ) (wants : List Want) (reasons : List Why) (above 
   pub for_from_turn : AreInTurn m above wants reasons → AreReasonsFor m a wants reasons
   for_from_turn are = record {
     each = λ b. (
-      λ at. subst (IsAbove m.priorities a) at.4
+      λ at. subst (HasAbove m.priorities a) at.4
           ((list.exact at.1.inter.0).0 (there are at.0 at.1 at.2 at.3).inter),
       λ higher.
           let at = (list.exact b).1 higher in
@@ -137,7 +137,7 @@ module _ (m : System) (a : ℕ) (wants : List Want) (reasons : List Why) (above 
           let e = get_or above at.0 (inter b) in
           let same : e.0 ≡ b = sym (get_or-map (λ (f : InterId). f.0) above at.0 (inter b) b inside)
           ∙ at.2 in
-          let found = (each b).1 (subst (IsAbove m.priorities a) same
+          let found = (each b).1 (subst (HasAbove m.priorities a) same
           ((list.exact e.0).0 (Contains-get_or above at.0 (inter b) inside))) in (
             found.0,
             simp length-map found.2,

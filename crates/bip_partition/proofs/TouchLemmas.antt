@@ -1,7 +1,7 @@
 -- What is touched is a component of the model, and what touches is an interaction of it.
 use Rattle.std.proofs.Common.{◌≡◌, ℕ, ◌<◌, true, false, List, [], length, inl, inr, arith}
 use Rattle.bip_model.specs.Parts.{IsSystem}
-use Rattle.bip_model.specs.Priorities.{IsAbove, IsPairOf, declared, through}
+use Rattle.bip_model.specs.Priorities.{HasAbove, IsPairOf, declared, through}
 use Rattle.bip_model.specs.Steps.{IsLookedAt, moves}
 use Rattle.bip_model.specs.declared.parts.Pair.{Pair}
 use Rattle.bip_model.specs.declared.parts.System.{System}
@@ -24,7 +24,7 @@ touching_known p k c at = elim (cases_lt k (length p.classes.members)) [
       absurd (omega (arith, none.2))
 ]
 
-above_known : (count a b : ℕ) (pairs : List Pair) → All (IsPairOf count) pairs → IsAbove pairs a b
+above_known : (count a b : ℕ) (pairs : List Pair) → All (IsPairOf count) pairs → HasAbove pairs a b
     → a < count
 above_known count a b pairs known (declared at) =
     (All-contains (IsPairOf count) pairs _ known at).low

@@ -52,6 +52,8 @@ impl Plan {
         ensures fault { IfErr result (IsPlanFault model) }
     {
         if let Some(inter) = first_touching_too_many(&model) {
+            drop(classes);
+            drop(model);
             return Err(PlanFault::TooManyTouched(inter));
         }
         let _parted = classes.len();
@@ -61,7 +63,11 @@ impl Plan {
                 classes,
                 tables,
             }),
-            Err(_) => Err(PlanFault::Memory),
+            Err(_) => {
+                drop(classes);
+                drop(model);
+                Err(PlanFault::Memory)
+            }
         }
     }
 

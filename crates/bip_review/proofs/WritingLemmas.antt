@@ -21,7 +21,7 @@ use Rattle.bip_model.specs.Steps.{IsListLookedAt, IsLookedAt, moves, participant
 use Rattle.bip_model.specs.declared.numbering.ClassId.{ClassId}
 use Rattle.bip_model.specs.declared.numbering.CompId.{CompId}
 use Rattle.bip_model.specs.declared.parts.System.{System}
-use Rattle.bip_model.proofs.AboveLemmas.{IsAbove-high}
+use Rattle.bip_model.proofs.AboveLemmas.{HasAbove-high}
 use Rattle.bip_model.proofs.ListLemmas.{Contains-none}
 use Rattle.bip_model.proofs.LookLemmas.{moves_known}
 use Rattle.bip_partition.specs.Laws.{IsPlanned}
@@ -62,7 +62,7 @@ participant_known m a i d valid within =
 -- so is the interaction for whose sake it looks
 pub cause_known : (m : System) (a c b : ℕ) → IsSystem m → MovesFromAbove m a c b
     → b < length m.interactions
-cause_known m a c b valid cause = IsAbove-high
+cause_known m a c b valid cause = HasAbove-high
     (length m.interactions) m.priorities a b valid.so_far.priorities cause.above
 
 -- classes that touch a component are of the plan

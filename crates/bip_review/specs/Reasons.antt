@@ -2,7 +2,7 @@
 -- interaction is reserved, and for whose sake it looks at what it doesn't move.
 use Rattle.std.specs.Prelude.{◌≡◌, ◌≢◌, ℕ, true}
 use Rattle.bip_model.specs.Numbering.{IsLowest}
-use Rattle.bip_model.specs.Priorities.{IsAbove}
+use Rattle.bip_model.specs.Priorities.{HasAbove}
 use Rattle.bip_model.specs.Steps.{IsLookedAt, moves}
 use Rattle.bip_model.specs.declared.parts.System.{System}
 use Rattle.bip_partition.specs.Plans.{ClassTouches, IsTabled, Planned, Touches}
@@ -11,7 +11,7 @@ use Rattle.bip_review.specs.declared.reasons.RowReason.TheVariants.{LookedAt, Sh
 
 -- an interaction above one moves a component: for its sake the one below looks at it
 pub record MovesFromAbove (m : System) (a c b : ℕ) : Type 0 where
-  pub above : IsAbove m.priorities a b
+  pub above : HasAbove m.priorities a b
   pub moved : moves m b c ≡ true
 
 -- an interaction touches a component with a row, through which it is reserved

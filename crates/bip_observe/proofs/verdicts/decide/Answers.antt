@@ -1,6 +1,6 @@
 use Rattle.std.proofs.Common.{◌≡◌, ◌∙◌, ap, inl, inr, length, sym}
 use Rattle.bip_model.specs.Parts.{IsSystem}
-use Rattle.bip_model.proofs.AboveLemmas.{IsAbove-high}
+use Rattle.bip_model.proofs.AboveLemmas.{HasAbove-high}
 use Rattle.bip_model.proofs.PartyLemmas.{above_declared}
 use Rattle.bip_partition.specs.Plans.{Planned}
 use Rattle.bip_observe.proofs.DecideLemmas.{missing_found, none_missing, none_off, off_found}
@@ -91,7 +91,7 @@ participants-requires c =
     let valid : IsSystem v.plan.model = rw same at c.above.ensures.valid in
     let open_ = open_found v a c.above.result.now b (rw same at c.above.ensures.above)
     (sym c.in-Some-first_open.is ∙ c.first_open.ensures) in
-    rw same (IsAbove-high (length v.plan.model.interactions) v.plan.model.priorities a b.0
+    rw same (HasAbove-high (length v.plan.model.interactions) v.plan.model.priorities a b.0
     valid.so_far.priorities open_.here.0)
 
 pub returns-in-Some-first_missing : goal.returns-in-Some-first_missing
