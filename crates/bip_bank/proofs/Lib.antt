@@ -1,4 +1,5 @@
 pub mod BankLemmas
 pub mod CentralLemmas
+pub mod IdlenessLemmas
 pub mod RepeatLemmas
 pub mod UsedLemmas

@@ -85,7 +85,7 @@ moves_once waits (forks f) y z step way one other = one.2
     ∙ (ap forks (forks_taken waits f step one.0 other.0 one.1 other.1) ∙ sym other.2)
 moves_once waits (otherwise lacking flying) y z step way one other = absurd way
 
-moves_or_not : (waits : ℕ → Type 0) (x y : Sharing) (step : BankStep) → MovesInOneWay x
+pub moves_or_not : (waits : ℕ → Type 0) (x y : Sharing) (step : BankStep) → MovesInOneWay x
     → MovesShared waits x step y → MovesNothingShared waits x step → ⊥
 moves_or_not waits alone y step way moves none = moves
 moves_or_not waits (ring count place) y step way moves none = none moves.0 moves.1

@@ -1,18 +1,21 @@
 -- What a bank's calls mean, in the subject's own words: laws that a reviewer reads. They stand on
 -- what any bank's calls make of its content, and on nothing else.
-use Rattle.std.specs.Prelude.{◌≡◌, ⊤, List, [], ◌++◌, All}
+use Rattle.std.specs.Prelude.{◌≡◌, ⊤, List, [], ◌++◌, All, length}
 use Rattle.bip_model.specs.Grants.{IsHistory, MovesOnceEach, used_by}
 use Rattle.bip_model.specs.Parties.{AreParties}
 use Rattle.bip_model.specs.declared.grants.Grant.{Grant}
 use Rattle.bip_model.specs.declared.messages.Request.{Request}
 use Rattle.bip_partition.specs.Plans.{IsFit, IsReserved, Planned}
+use Rattle.bip_table.specs.Reservations.{end_of_serials}
 use Rattle.bip_table.specs.declared.reservations.Decision.TheVariants.{Granted, Refused}
 use Rattle.bip_table.specs.declared.reservations.Decision.{Decision}
-use Rattle.bip_bank.specs.Banks.{BankContent, DoesStep, IsActed, with_request}
+use Rattle.bip_bank.specs.Banks.{BankContent, CanWantMemory, DoesStep, IsActed, with_request}
+use Rattle.bip_bank.specs.Idleness.{IsIdleBecause}
 use Rattle.bip_bank.specs.Sharing.{Sharing, alone, forks, otherwise, ring}
 use Rattle.bip_bank.specs.declared.banks.Acted.TheVariants.{Answered, Moved, Nothing}
 use Rattle.bip_bank.specs.declared.banks.Acted.{Acted}
 use Rattle.bip_bank.specs.declared.banks.BankStep.{BankStep}
+use Rattle.bip_bank.specs.declared.idleness.WhyIdle.{WhyIdle}
 
 -- calls of a bank lead from one content to another: none; a request that fits is taken; or a step
 -- is done; and more calls
@@ -86,3 +89,16 @@ OneAnswerToAStep =
     → DoesStep b step did later → IsActed did b later
     → DoesStep b step also other → IsActed also b other
     → (acted_but_serial did ≡ acted_but_serial also) × (later ≡ other) × MovesInOneWay later.sharing
+
+-- where there is a reason for a step to do nothing, it does nothing
+abbrev pub ReasonsAreTrue : Type 0
+ReasonsAreTrue =
+    (b later : BankContent) (step : BankStep) (why : WhyIdle) (did : Acted)
+    → MovesInOneWay b.sharing → IsIdleBecause b step why → DoesStep b step did later
+    → IsActed did b later → did ≡ Nothing
+
+-- where there is none, a step that did nothing lacked a serial: so many grants were made
+abbrev pub ReasonsAreAll : Type 0
+ReasonsAreAll =
+    (b later : BankContent) (step : BankStep) → MovesInOneWay b.sharing → CanWantMemory b step
+    → DoesStep b step Nothing later → length b.grants ≡ end_of_serials

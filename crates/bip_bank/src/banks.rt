@@ -1,6 +1,7 @@
 //! What the third layer is to those who ask it: a bank of requests and grants.
-ghost use Rattle.std.specs.Prelude.{◌≡◌, IfErr, IfOk, OnErr, OnOk, [], slice_get};
+ghost use Rattle.std.specs.Prelude.{◌≡◌, IfErr, IfNone, IfOk, IfSome, OnErr, OnOk, [], slice_get};
 
+use crate::WhyIdle;
 use bip_model::{Grant, InterId, Request};
 use bip_table::Decision;
 use std::alloc::AllocError;
@@ -44,6 +45,7 @@ pub trait Bank {
     ghost use Rattle.bip_partition.specs.Plans.{IsFit};
     ghost use Rattle.bip_bank.specs.Banks.{CanWantMemory, DoesStep, IsActed, KeptBank, content_of};
     ghost use Rattle.bip_bank.specs.Banks.{with_request};
+    ghost use Rattle.bip_bank.specs.Idleness.{IsIdleBecause};
     ghost use Rattle.bip_bank.specs.Sharing.{in_flight};
 
     ghost kept: { Self → KeptBank };
@@ -70,6 +72,12 @@ pub trait Bank {
             (content_of (kept self.new))) }
         ensures memory { IfErr result (λ e. CanWantMemory (content_of (kept self.old)) step) }
         ensures err { OnErr result (content_of (kept self.new) ≡ content_of (kept self.old)) };
+
+    /// Why a step does nothing: the first reason that applies. None where it does something, unless
+    /// memory or serials are out (docs/PROTOCOL.md, "Banks").
+    fn why_idle(&self, step: BankStep) -> Option<WhyIdle>
+        ensures some { IfSome result (IsIdleBecause (content_of (kept self.now)) step) }
+        ensures none { IfNone result (CanWantMemory (content_of (kept self.now)) step) };
 
     /// The grants, in order of decision. While there are none, all used numbers are the base.
     fn grants(&self) -> &[Grant]

@@ -1,14 +1,17 @@
 //! The central bank: one table decides all.
-ghost use Rattle.std.specs.Prelude.{◌≡◌, ◌<◌, [], IfErr, IfOk, OnErr, OnOk, length, slice_index_or};
+ghost use Rattle.std.specs.Prelude.{◌≡◌, ◌<◌, [], IfErr, IfNone, IfOk, IfSome, OnErr, OnOk, length};
+ghost use Rattle.std.specs.Prelude.{slice_index_or};
 ghost use Rattle.bip_model.specs.Numbering.{last_number};
 ghost use Rattle.bip_bank.specs.Banks.{CanWantMemory, DoesStep, HasNextSerial, IsActed};
 ghost use Rattle.bip_bank.specs.Banks.{WantsMemory, asked_nothing, content_of, with_request};
 ghost use Rattle.bip_bank.specs.Central.{CannotKeep, IsFirstDecided, kept_central};
+ghost use Rattle.bip_bank.specs.Idleness.{IsIdleBecause};
 ghost use Rattle.bip_bank.specs.Sharing.{alone};
 ghost use Rattle.bip_bank.specs.declared.banks.BankStep.TheVariants.{Serve};
 
 use crate::{
-    Acted, Bank, BankStep, Queue, StationId, first_table, interaction_at, no_requests, put_last,
+    Acted, Bank, BankStep, Queue, StationId, WhyIdle, first_table, interaction_at, is_asked_at,
+    no_requests, put_last,
 };
 use bip_model::{Grant, Number, Request};
 use bip_partition::Plan;
@@ -121,6 +124,20 @@ impl<'p> Bank for Central<'p> {
             BankStep::Serve(station) => self.serve(station),
             _ => Ok(Acted::Nothing),
         }
+    }
+
+    /// Why a step does nothing: it is none that serves, or nothing is open at the station.
+    fn why_idle(&self, step: BankStep) -> Option<WhyIdle>
+        ensures some { IfSome result (IsIdleBecause (content_of (kept_central self.now)) step) }
+        ensures none { IfNone result (CanWantMemory (content_of (kept_central self.now)) step) }
+    {
+        let BankStep::Serve(station) = step else {
+            return Some(WhyIdle::NoneOfIt);
+        };
+        if is_asked_at(self.plan, self.waiting.as_slice(), station) {
+            return None;
+        }
+        Some(WhyIdle::NothingOpen)
     }
 
     fn grants(&self) -> &[Grant] {

@@ -4,6 +4,7 @@
 mod banks;
 mod central;
 mod decisions;
+mod idleness;
 mod laws;
 mod opening;
 mod queues;
@@ -12,6 +13,7 @@ pub use banks::{Acted, Bank, BankStep, StationId, interaction_at};
 pub use bip_table::Decision;
 pub use central::{Central, decide_first};
 pub use decisions::reply_to;
+pub use idleness::{WhyIdle, is_asked_at};
 pub use laws::bank_laws;
 pub use opening::{first_table, no_requests, numbered};
 pub use queues::{Queue, put_last};

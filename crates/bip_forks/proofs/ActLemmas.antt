@@ -106,7 +106,7 @@ steps_serve k s q d x is within here listed =
 some_lies : (side : Side) (g : LyingFork) → lying side ≡ Some g → IsSome side.fork
 some_lies side g is = let f = lies side g is in rw f.1 refl
 
-all_lie : (k : KeptForks) (s : ℕ) → IsKeptForks k → HasAll (net_of k) (machine_of k).forks s
+pub all_lie : (k : KeptForks) (s : ℕ) → IsKeptForks k → HasAll (net_of k) (machine_of k).forks s
     → AllLie (station_at k.parts.stations s).sides
 all_lie k s is complete = All-from_get_or LiesHere
     (station_at k.parts.stations s).sides nothing_shared (λ t within shared.

@@ -2,6 +2,7 @@ pub mod ActLemmas
 pub mod CountLemmas
 pub mod FirstLemmas
 pub mod HoldLemmas
+pub mod IdlenessLemmas
 pub mod KeptLemmas
 pub mod NewLemmas
 pub mod OpeningLemmas

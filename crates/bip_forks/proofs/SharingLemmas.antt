@@ -70,7 +70,7 @@ is_dirty : (x : Option LyingFork) (f : LyingFork) → x ≡ Some f → f.clean �
 is_dirty x f same unclean = ap fork_state same
     ∙ ap {B = ForkState} (λ (b : Bool). cond b clean dirty) unclean
 
-not_away : (x : Option LyingFork) (f : LyingFork) → x ≡ Some f → fork_state x ≡ away → ⊥
+pub not_away : (x : Option LyingFork) (f : LyingFork) → x ≡ Some f → fork_state x ≡ away → ⊥
 not_away x f same is = let none = away_here x is in none_some (sym none ∙ same)
   where
     none_some : None ≡ Some f → ⊥
@@ -262,7 +262,7 @@ same_sharing a b x y sides' flight' = rw (sides', flight') refl
 abbrev between : Machine → ℕ → ℕ → Option ForkSide
 between m = side_between m.net.shares m.forks m.tokens
 
-side_is : (m : Machine) (s t : ℕ) (x : ForkState) (k : Bool) → ShareFork m.net s t
+pub side_is : (m : Machine) (s t : ℕ) (x : ForkState) (k : Bool) → ShareFork m.net s t
     → m.net.shares s t ≡ true → fork_state (m.forks s t) ≡ x → m.tokens s t ≡ k
     → side_of (sharing_of m).sides s t ≡ Some (record { fork = x; token = k })
 side_is m s t x k share is state token =
@@ -279,8 +279,17 @@ pub side_read : (m : Machine) (s t : ℕ) (side : ForkSide)
 side_read m s t side is = side_cases m.net.shares m.forks m.tokens s t side
     (table_has (between m) m.net.count s t side is)
 
+pub no_side : (m : Machine) (s t : ℕ) → m.net.shares s t ≡ false
+    → side_of (sharing_of m).sides s t ≡ None
+no_side m s t apart = by_side (side_of (sharing_of m).sides s t) refl
+  where
+    by_side : (o : Option ForkSide) → side_of (sharing_of m).sides s t ≡ o
+        → side_of (sharing_of m).sides s t ≡ None
+    by_side None is = is
+    by_side (Some side) is = let at = side_read m s t side is in cc
+
 -- a station has all its forks, whether numbers are looked at or not
-has_all_of : (m : Machine) (s : ℕ) → AreForks m → HasEachFork (sharing_of m) s
+pub has_all_of : (m : Machine) (s : ℕ) → AreForks m → HasEachFork (sharing_of m) s
     → HasAll m.net m.forks s
 has_all_of m s are each = λ t share. by_lying t (m.forks s t) refl share
   where
@@ -300,7 +309,7 @@ each_of m s are complete = λ t side is gone.
     not_away (m.forks s t) fork.0 fork.1 (sym at.1 ∙ gone)
 
 -- open requests of a station, as the bank has them
-oldest_of : (m : Machine) (s : ℕ) → AreForks m → HasOldest (content m) s → IsStationAsked m s
+pub oldest_of : (m : Machine) (s : ℕ) → AreForks m → HasOldest (content m) s → IsStationAsked m s
 oldest_of m s are has = let known = are.net.known s has.number has.station in
     (has.request, has.rest, ap m.waiting known.1 ∙ has.first)
 

@@ -1,6 +1,7 @@
 -- What forks keep, as a machine and as a bank; and what contracts of private functions say of steps
 -- on it.
-use Rattle.std.specs.Prelude.{◌≡◌, ◌↔◌, ℕ, ◌<◌, ◌≤◌, ◌==◌, List, [], ◌∷◌, ◌++◌, Option, None, Some}
+use Rattle.std.specs.Prelude.{◌≡◌, ◌↔◌, ◌⊎◌, ℕ, ◌<◌, ◌≤◌, ◌==◌, List, [], ◌∷◌, ◌++◌, Option, None}
+use Rattle.std.specs.Prelude.{Some}
 use Rattle.std.specs.Prelude.{Any, Contains, IsTrue, false, length, map, if◌then◌else◌, slice_get}
 use Rattle.std.specs.Prelude.{true}
 use Rattle.std.specs.Prelude.{slice_index_or, slice_set}
@@ -19,11 +20,13 @@ use Rattle.bip_bank.specs.declared.banks.Acted.{Acted}
 use Rattle.bip_bank.specs.declared.banks.Acted.TheVariants.{Answered, Moved, Nothing}
 use Rattle.bip_bank.specs.declared.banks.BankStep.{BankStep}
 use Rattle.bip_bank.specs.declared.banks.BankStep.TheVariants.{Ask, Deliver, Pass, Serve}
+use Rattle.bip_bank.specs.declared.idleness.WhyIdle.TheVariants.{NothingOpen, NothingThere}
+use Rattle.bip_bank.specs.declared.idleness.WhyIdle.{WhyIdle}
 use Rattle.bip_forks.specs.Laws.{sharing_of}
 use Rattle.bip_forks.specs.Machines.{AreForks, AtBoth, IsListed, LyingFork, Machine, Net, Sending}
 use Rattle.bip_forks.specs.Machines.{grants_after, sent_fork, sent_token, used_by_all}
-use Rattle.bip_forks.specs.Stations.{CanTakeFork, CanTakeToken, HasFirst, IsReadyToServe}
-use Rattle.bip_forks.specs.Stations.{IsServedHere}
+use Rattle.bip_forks.specs.Stations.{AsksNothing, CanTakeFork, CanTakeToken, HasFirst}
+use Rattle.bip_forks.specs.Stations.{IsReadyToServe, IsServedHere, IsUnserved, KeepsFork}
 use Rattle.bip_forks.specs.Stations.{KeptStation, MayAsk, MayPass, other_of, pair_of_stations}
 use Rattle.bip_forks.specs.Stations.{side_with}
 use Rattle.bip_forks.specs.Stations.{with_fork, with_side_to}
@@ -196,6 +199,18 @@ AppliesTo p (Serve s) = (s.0 < length p.stations) × IsReadyToServe (station_at 
 AppliesTo p (Pass s t) = MayPass (side_at p.stations s.0 t.0)
 AppliesTo p (Ask s t) =
     HasFirst (station_at p.stations s.0).waiting × MayAsk (side_at p.stations s.0 t.0)
+
+-- why a step doesn't apply; a station that there isn't has no request
+abbrev pub IsIdleHere : ForkParts → BankStep → WhyIdle → Type 0
+IsIdleHere p (Deliver k) NothingThere = length p.flight ≤ k
+IsIdleHere p (Deliver k) why = ⊥
+IsIdleHere p (Serve s) why =
+    (s.0 < length p.stations) × IsUnserved (station_at p.stations s.0) why
+    ⊎ (length p.stations ≤ s.0) × (why ≡ NothingOpen)
+IsIdleHere p (Pass s t) why = KeepsFork (side_at p.stations s.0 t.0) why
+IsIdleHere p (Ask s t) why =
+    (s.0 < length p.stations) × AsksNothing (station_at p.stations s.0) t.0 why
+    ⊎ (length p.stations ≤ s.0) × (why ≡ NothingOpen)
 
 -- memory is wanted only where a step applies; to deliver takes none
 abbrev pub CanLack : ForkParts → BankStep → Type 0

@@ -13,6 +13,10 @@ use Rattle.bip_table.specs.Rows.{has_row, raised_to, used_at}
 use Rattle.bip_table.specs.declared.reservations.Decision.{Decision}
 use Rattle.bip_table.specs.declared.rows.Row.{Row}
 use Rattle.bip_bank.specs.declared.banks.StationId.{StationId}
+use Rattle.bip_bank.specs.declared.idleness.WhyIdle.TheVariants.{ForkClean, ForkElsewhere, ForkHere}
+use Rattle.bip_bank.specs.declared.idleness.WhyIdle.TheVariants.{Lacking, NoFork, NoRequestToken}
+use Rattle.bip_bank.specs.declared.idleness.WhyIdle.TheVariants.{NotAskedFor, NothingOpen}
+use Rattle.bip_bank.specs.declared.idleness.WhyIdle.{WhyIdle}
 use Rattle.bip_forks.specs.Machines.{HasSerial, rows_after, serial_after}
 use Rattle.bip_forks.specs.declared.shares.Fork.{Fork}
 use Rattle.bip_forks.specs.declared.shares.Neighbours.{Neighbours}
@@ -56,6 +60,21 @@ MayAsk side = (side.asked ≡ true) × (side.fork ≡ None)
 -- it may send a fork: it has the request token, and the fork, dirty
 abbrev pub MayPass : Side → Type 0
 MayPass side = (side.asked ≡ true) × (side.clean ≡ false) × ((f : Fork) × (side.fork ≡ Some f))
+
+-- why it sends no fork, as far as what it shares tells; and why it doesn't ask for one
+abbrev pub KeepsFork : Side → WhyIdle → Type 0
+KeepsFork side NoFork = side.shared ≡ false
+KeepsFork side ForkElsewhere = (side.shared ≡ true) × (side.fork ≡ None)
+KeepsFork side ForkClean =
+    (side.shared ≡ true) × (side.clean ≡ true) × ((f : Fork) × (side.fork ≡ Some f))
+KeepsFork side NotAskedFor = (side.shared ≡ true) × (side.asked ≡ false)
+KeepsFork side why = ⊥
+
+abbrev pub KeepsRequestToken : Side → WhyIdle → Type 0
+KeepsRequestToken side NoFork = side.shared ≡ false
+KeepsRequestToken side ForkHere = (side.shared ≡ true) × ((f : Fork) × (side.fork ≡ Some f))
+KeepsRequestToken side NoRequestToken = (side.shared ≡ true) × (side.asked ≡ false)
+KeepsRequestToken side why = ⊥
 
 -- numbers raised to those of rows, one after another
 abbrev pub raised_by : List Row → (ℕ → Bool) → (ℕ → ℕ) → ℕ → ℕ
@@ -109,6 +128,16 @@ HasFirst waiting = (q : Request) × (rest : List Request) × (waiting ≡ q ∷ 
 
 abbrev pub IsReadyToServe : KeptStation → Type 0
 IsReadyToServe s = AllLie s.sides × HasFirst s.waiting
+
+-- why a station can't serve, and why it doesn't ask another one for a fork
+abbrev pub IsUnserved : KeptStation → WhyIdle → Type 0
+IsUnserved s NothingOpen = ¬ HasFirst s.waiting
+IsUnserved s Lacking = ¬ AllLie s.sides
+IsUnserved s why = ⊥
+
+abbrev pub AsksNothing : KeptStation → ℕ → WhyIdle → Type 0
+AsksNothing s t NothingOpen = ¬ HasFirst s.waiting
+AsksNothing s t why = KeepsRequestToken (side_with s t) why
 
 -- a station decided on its oldest open request, and wrote its used numbers into its forks
 pub record IsServedHere (s : KeptStation) (q : Request) (d : Decision)

@@ -2,16 +2,18 @@
 ghost use Rattle.std.specs.Prelude.{◌≡◌, ◌<◌, [], IfErr, IfNone, IfOk, IfSome, OnErr, OnOk, length};
 ghost use Rattle.std.specs.Prelude.{ℕ};
 ghost use Rattle.bip_bank.specs.Banks.{CanWantMemory, DoesStep, IsActed, content_of, with_request};
+ghost use Rattle.bip_bank.specs.Idleness.{IsIdleBecause};
 ghost use Rattle.bip_model.specs.Numbering.{last_number};
 ghost use Rattle.bip_forks.specs.Kept.{CanLack, kept_forks, machine_of, station_at};
 ghost use Rattle.bip_forks.specs.Laws.{AreNew};
 ghost use Rattle.bip_forks.specs.Machines.{AreForks, IsForkStep, waiting_for};
 ghost use Rattle.bip_forks.specs.Opening.{IsNewForks};
 
+use crate::idleness::why_idle;
 use crate::opening::first_stations;
 use crate::sending::{Sent, do_step};
 use crate::stations::Station;
-use bip_bank::{Acted, Bank, BankStep};
+use bip_bank::{Acted, Bank, BankStep, WhyIdle};
 use bip_model::{Grant, InterId, Number, Request};
 use bip_partition::Plan;
 use std::alloc::{AllocError, Global};
@@ -131,6 +133,13 @@ impl<'p> Bank for Forks<'p> {
         ensures same { OnErr result (self.new ≡ self.old) }
     {
         do_step(&mut self.stations, &mut self.flight, &mut self.grants, step)
+    }
+
+    fn why_idle(&self, step: BankStep) -> Option<WhyIdle>
+        ensures some { IfSome result (IsIdleBecause (content_of (kept_forks self.now)) step) }
+        ensures none { IfNone result (CanWantMemory (content_of (kept_forks self.now)) step) }
+    {
+        why_idle(&self.stations, self.flight.len(), step)
     }
 
     fn grants(&self) -> &[Grant] {

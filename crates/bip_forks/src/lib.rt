@@ -2,6 +2,7 @@
 #![tactic(auto)]
 
 mod forks;
+mod idleness;
 mod laws;
 mod opening;
 mod sending;

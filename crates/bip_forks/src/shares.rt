@@ -2,11 +2,13 @@
 ghost use Rattle.std.specs.Prelude.{◌≡◌, ◌↔◌, IfSome, IfNone, IsTrue, None, Some, map, true};
 ghost use Rattle.std.specs.Prelude.{false};
 ghost use Rattle.bip_table.specs.Rows.{used_at};
-ghost use Rattle.bip_forks.specs.Stations.{AllLie, LiesHere, MayAsk, MayPass, other_of};
+ghost use Rattle.bip_forks.specs.Stations.{AllLie, KeepsFork, KeepsRequestToken, LiesHere};
+ghost use Rattle.bip_forks.specs.Stations.{MayAsk, MayPass};
+ghost use Rattle.bip_forks.specs.Stations.{other_of};
 ghost use Rattle.bip_forks.specs.Stations.{pair_of_stations, renumbered};
 ghost use Rattle.bip_forks.specs.Stations.{rewritten};
 
-use bip_bank::StationId;
+use bip_bank::{StationId, WhyIdle};
 use bip_model::{Number, Seq};
 use bip_table::Row;
 
@@ -98,6 +100,43 @@ impl Side {
         ensures { IsTrue result ↔ MayPass self.now }
     {
         self.asked && !self.clean && self.fork.is_some()
+    }
+
+    /// Why the fork can't go, where it can't.
+    pub fn why_kept(&self) -> Option<WhyIdle>
+        ensures some { IfSome result (KeepsFork self.now) }
+        ensures none { IfNone result (MayPass self.now) }
+    {
+        if !self.shared {
+            return Some(WhyIdle::NoFork);
+        }
+        if self.fork.is_none() {
+            return Some(WhyIdle::ForkElsewhere);
+        }
+        if self.clean {
+            return Some(WhyIdle::ForkClean);
+        }
+        if !self.asked {
+            return Some(WhyIdle::NotAskedFor);
+        }
+        None
+    }
+
+    /// Why the request token can't go, where it can't.
+    pub fn why_unasked(&self) -> Option<WhyIdle>
+        ensures some { IfSome result (KeepsRequestToken self.now) }
+        ensures none { IfNone result (MayAsk self.now) }
+    {
+        if !self.shared {
+            return Some(WhyIdle::NoFork);
+        }
+        if self.fork.is_some() {
+            return Some(WhyIdle::ForkHere);
+        }
+        if !self.asked {
+            return Some(WhyIdle::NoRequestToken);
+        }
+        None
     }
 
     /// Lets the fork go, where it can.

@@ -4,14 +4,15 @@ ghost use Rattle.std.specs.Prelude.{IsTrue};
 ghost use Rattle.std.specs.Prelude.{None, OnErr, OnOk, Some, false, length, map, true};
 ghost use Rattle.bip_table.specs.Rows.{has_row, used_at};
 ghost use Rattle.bip_bank.specs.declared.banks.StationId.{StationId};
-ghost use Rattle.bip_forks.specs.Stations.{CanTakeFork, CanTakeToken, HasFirst, IsNotServed};
+ghost use Rattle.bip_forks.specs.Stations.{AsksNothing, CanTakeFork, CanTakeToken, HasFirst};
+ghost use Rattle.bip_forks.specs.Stations.{IsNotServed, IsUnserved, KeepsFork};
 ghost use Rattle.bip_forks.specs.Stations.{IsReadyToServe, IsServedHere, MayAsk};
 ghost use Rattle.bip_forks.specs.Stations.{MayPass, other_of, pair_of_stations, raised_by};
 ghost use Rattle.bip_forks.specs.Stations.{rewritten};
 ghost use Rattle.bip_forks.specs.Stations.{rows_here, rows_in, side_with, with_fork, with_side_to};
 
 use crate::shares::{AskToken, Fork, Side, has_all, other_of, pair_of_stations};
-use bip_bank::{Queue, StationId};
+use bip_bank::{Queue, StationId, WhyIdle};
 use bip_model::{InterId, Request};
 use bip_table::{Decision, Row, Table, TableFault};
 use std::alloc::{AllocError, Global};
@@ -118,6 +119,46 @@ impl Station {
             Some(side) => side.may_pass(),
             None => false,
         }
+    }
+
+    /// Why the station doesn't ask another one for the fork that they share, where it may not.
+    pub fn why_unasked(&self, other: StationId) -> Option<WhyIdle>
+        ensures some { IfSome result (AsksNothing self.now other.0) }
+        ensures none { IfNone result (HasFirst self.now.waiting
+            × MayAsk (side_with self.now other.0)) }
+    {
+        if !is_waiting(&self.waiting) {
+            return Some(WhyIdle::NothingOpen);
+        }
+        match self.sides.get(other.0 as usize) {
+            Some(side) => side.why_unasked(),
+            None => Some(WhyIdle::NoFork),
+        }
+    }
+
+    /// Why the station doesn't send the fork that it shares with another one, where it may not.
+    pub fn why_kept(&self, other: StationId) -> Option<WhyIdle>
+        ensures some { IfSome result (KeepsFork (side_with self.now other.0)) }
+        ensures none { IfNone result (MayPass (side_with self.now other.0)) }
+    {
+        match self.sides.get(other.0 as usize) {
+            Some(side) => side.why_kept(),
+            None => Some(WhyIdle::NoFork),
+        }
+    }
+
+    /// Why the station can't serve, where it can't.
+    pub fn why_unserved(&self) -> Option<WhyIdle>
+        ensures some { IfSome result (IsUnserved self.now) }
+        ensures none { IfNone result (IsReadyToServe self.now) }
+    {
+        if !is_waiting(&self.waiting) {
+            return Some(WhyIdle::NothingOpen);
+        }
+        if !has_all(&self.sides) {
+            return Some(WhyIdle::Lacking);
+        }
+        None
     }
 
     /// The request token of the fork shared with another station, where this one may ask for it.

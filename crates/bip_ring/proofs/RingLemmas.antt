@@ -1,7 +1,7 @@
 -- A ring: what serving a station and letting the token go leave of its content.
 use Rattle.std.proofs.Common.{◌≡◌, ℕ, ◌<◌, length, List, slice_get, Some, Result}
-use Rattle.std.proofs.Common.{Ok, Err, refl, ap, ◌∙◌}
-use Rattle.std.specs.Prelude.{IfErr, IfOk, OnErr}
+use Rattle.std.proofs.Common.{None, Option, Ok, Err, refl, ap, ◌∙◌, arith, inl, inr, subst, sym}
+use Rattle.std.specs.Prelude.{IfErr, IfNone, IfOk, OnErr}
 use Rattle.std.specs.declared.alloc.AllocError.{AllocError}
 use Rattle.bip_model.specs.Numbering.{put}
 use Rattle.bip_model.specs.declared.messages.Request.{Request}
@@ -12,17 +12,24 @@ use Rattle.bip_bank.specs.Decisions.Decision.TheVariants.{Granted, Refused}
 use Rattle.bip_bank.specs.Decisions.Decision.{Decision}
 use Rattle.bip_bank.proofs.CentralLemmas.{serves, served_steps}
 use Rattle.bip_bank.proofs.CentralLemmas.{with_parts}
-use Rattle.bip_bank.specs.Banks.{BankContent, CanDecide, DoesStep, HasNextSerial, IsActed}
+use Rattle.bip_bank.specs.Banks.{BankContent, CanDecide, CanWantMemory, DoesStep, HasNextSerial}
+use Rattle.bip_bank.specs.Banks.{HasOldest, IsActed}
 use Rattle.bip_bank.specs.Banks.{WantsMemory, asked_nothing, content_of, with_decision}
 use Rattle.bip_bank.specs.Banks.{with_request}
 use Rattle.bip_bank.specs.Central.{IsFirstDecided, KeptCentral, kept_central}
-use Rattle.bip_bank.specs.Sharing.{Sharing, TakesToken, TokenPlace, alone, ring, token_at}
+use Rattle.bip_bank.specs.Idleness.{IsAskedAt, IsIdleBecause}
+use Rattle.bip_bank.specs.Sharing.{Sharing, TakesToken, TokenPlace, alone, in_flight, ring, token_at}
+use Rattle.bip_bank.specs.Sharing.{token_to}
 use Rattle.bip_bank.specs.declared.banks.Acted.TheVariants.{Answered, Moved, Nothing}
 use Rattle.bip_bank.specs.declared.banks.Acted.{Acted}
 use Rattle.bip_bank.specs.declared.banks.BankStep.TheVariants.{Ask, Deliver, Pass, Serve}
 use Rattle.bip_bank.specs.declared.banks.BankStep.{BankStep}
 use Rattle.bip_bank.specs.declared.banks.StationId.{StationId}
-use Rattle.bip_ring.specs.Rings.{IsNewRing, IsRing, KeptRing, kept_ring, token_place}
+use Rattle.bip_bank.specs.declared.idleness.WhyIdle.TheVariants.{TokenElsewhere, TokenInFlight}
+use Rattle.bip_bank.specs.declared.idleness.WhyIdle.{WhyIdle}
+use Rattle.bip_ring.specs.Rings.{IsNewRing, IsRing, IsWithoutToken, KeepsToken, KeptRing, kept_ring}
+use Rattle.bip_ring.specs.Rings.{token_place}
+use Rattle.bip_ring.specs.declared.places.Place.TheVariants.{At, To}
 use Rattle.bip_ring.specs.declared.places.Place.{Place}
 
 abbrev pub shared_with : Sharing → BankContent → BankContent
@@ -197,3 +204,60 @@ first_ring p base c stations place at listed is = record {
   };
   content = ap (shared_with (ring (length stations) (token_place place))) is;
 }
+
+-- why steps do nothing, as a bank does them
+pub away_idle : (r : KeptRing) (s : StationId) (why : WhyIdle) → IsWithoutToken (ring r.count
+    (token_place r.place)) s.0 why → IsIdleBecause (content_of (kept_ring r)) (Serve s) why
+away_idle r s TokenInFlight is = is
+away_idle r s TokenElsewhere is = is
+away_idle r s why is = absurd is
+
+away_kept : (r : KeptRing) (s t : StationId) (why : WhyIdle) → IsWithoutToken (ring r.count
+    (token_place r.place)) s.0 why → IsIdleBecause (content_of (kept_ring r)) (Pass s t) why
+away_kept r s t TokenInFlight is = is
+away_kept r s t TokenElsewhere is = is
+away_kept r s t why is = absurd is
+
+pub kept_idle : (r : KeptRing) (s t : StationId) (why : WhyIdle) → KeepsToken (ring r.count
+    (token_place r.place)) s.0 t.0 why → IsIdleBecause (content_of (kept_ring r)) (Pass s t) why
+kept_idle r s t why (inl away') = away_kept r s t why away'
+kept_idle r s t why (inr (same, not)) =
+    subst (IsIdleBecause (content_of (kept_ring r)) (Pass s t)) (sym same) not
+
+-- open requests of a ring are those of its desk
+pub ring_asked : (r : KeptRing) (s : ℕ) → IsAskedAt r.desk.plan r.desk.waiting s → HasOldest
+    (content_of (kept_ring r)) s
+ring_asked r s is = record {
+  number = is.number;
+  request = is.request;
+  rest = is.rest;
+  station = is.station;
+  first = is.first;
+}
+
+pub ring_unasked : (r : KeptRing) (s : ℕ) → (IsAskedAt r.desk.plan r.desk.waiting s → ⊥) →
+    HasOldest (content_of (kept_ring r)) s → ⊥
+ring_unasked r s not has = not (record {
+  number = has.number;
+  request = has.request;
+  rest = has.rest;
+  station = has.station;
+  first = has.first;
+})
+
+-- where a step takes the token
+pub ring_passes : (r : KeptRing) (s t : StationId) (o : Option WhyIdle) → IfNone o (TakesToken
+    r.count (token_place r.place) (Pass s t) (token_to t.0)) → IfNone o (CanWantMemory (content_of
+    (kept_ring r)) (Pass s t))
+ring_passes r s t None takes = (ring r.count (token_to t.0), (token_to t.0, takes, refl))
+ring_passes r s t (Some why) takes = tt
+
+arrives_at : (n : ℕ) (place : Place) (k : ℕ) → k < in_flight (ring n (token_place place)) → (to :
+    TokenPlace) × TakesToken n (token_place place) (Deliver k) to
+arrives_at n (At s) k within = absurd (omega (arith, within))
+arrives_at n (To s) k within = (token_at s.0, (omega (arith, within), refl))
+
+pub ring_delivers : (r : KeptRing) (k : ℕ) → k < in_flight (ring r.count (token_place r.place)) →
+    CanWantMemory (content_of (kept_ring r)) (Deliver k)
+ring_delivers r k within = let to = arrives_at r.count r.place k within in
+    (ring r.count to.0, (to.0, to.1, refl))

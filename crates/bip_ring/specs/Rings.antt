@@ -1,10 +1,14 @@
 -- A token ring: the table travels in a token, and who has it decides.
-use Rattle.std.specs.Prelude.{◌≡◌, ℕ, List, None, Option, Some, length}
+use Rattle.std.specs.Prelude.{◌≡◌, ◌⊎◌, ℕ, List, None, Option, Some, length}
 use Rattle.bip_model.specs.declared.numbering.InterId.{InterId}
 use Rattle.bip_partition.specs.Plans.{AreStations, Planned}
 use Rattle.bip_bank.specs.Banks.{BankContent, KeptBank, asked_nothing}
 use Rattle.bip_bank.specs.Central.{IsCentral, KeptCentral, kept_central}
+use Rattle.bip_bank.specs.Idleness.{IsNotNext, IsTokenElsewhere, IsTokenFlying}
 use Rattle.bip_bank.specs.Sharing.{Sharing, TokenPlace, ring, token_at, token_to}
+use Rattle.bip_bank.specs.declared.idleness.WhyIdle.TheVariants.{NotNext, TokenElsewhere}
+use Rattle.bip_bank.specs.declared.idleness.WhyIdle.TheVariants.{TokenInFlight}
+use Rattle.bip_bank.specs.declared.idleness.WhyIdle.{WhyIdle}
 use Rattle.bip_ring.specs.declared.places.Place.{Place}
 use Rattle.bip_ring.specs.declared.places.Place.TheVariants.{At, To}
 
@@ -46,3 +50,14 @@ pub record IsRingAtFirst (p : Planned) (sharing : Sharing) : Type 0 where
 pub record IsNewRing (p : Planned) (base : ℕ) (b : BankContent) : Type 0 where
   pub first : IsRingAtFirst p b.sharing
   pub content : b ≡ asked_nothing p base b.sharing
+
+-- What contracts of private functions say.
+
+-- why a station doesn't have the token, and why it doesn't hand it on to another one
+abbrev pub IsWithoutToken : Sharing → ℕ → WhyIdle → Type 0
+IsWithoutToken x s TokenInFlight = IsTokenFlying x
+IsWithoutToken x s TokenElsewhere = IsTokenElsewhere x s
+IsWithoutToken x s why = ⊥
+
+abbrev pub KeepsToken : Sharing → ℕ → ℕ → WhyIdle → Type 0
+KeepsToken x s t why = IsWithoutToken x s why ⊎ (why ≡ NotNext) × IsNotNext x s t

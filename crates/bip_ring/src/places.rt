@@ -1,10 +1,11 @@
 //! Where a ring's token is, and where steps take it.
-ghost use Rattle.std.specs.Prelude.{◌≡◌, ◌↔◌, IfNone, IfSome, IsTrue};
-ghost use Rattle.bip_bank.specs.Sharing.{IsNextStation, TakesToken, TokenPlace, token_at};
+ghost use Rattle.std.specs.Prelude.{◌≡◌, ◌↔◌, ℕ, IfNone, IfSome, IsTrue};
+ghost use Rattle.bip_bank.specs.Sharing.{IsNextStation, TakesToken, TokenPlace, ring, token_at};
+ghost use Rattle.bip_bank.specs.Sharing.{token_to};
 ghost use Rattle.bip_bank.specs.declared.banks.BankStep.TheVariants.{Pass};
-ghost use Rattle.bip_ring.specs.Rings.{arrival_of, token_place};
+ghost use Rattle.bip_ring.specs.Rings.{IsWithoutToken, KeepsToken, arrival_of, token_place};
 
-use bip_bank::{BankStep, StationId};
+use bip_bank::{BankStep, StationId, WhyIdle};
 
 /// Where a token is: at a station, or in flight to one.
 #[derive(Clone, Copy, Debug, PartialEq, Eq)]
@@ -36,6 +37,39 @@ fn is_next(count: usize, station: StationId, next: StationId) -> bool
     } else {
         next == 0
     }
+}
+
+/// Why a station doesn't have the token, where it doesn't.
+pub(crate) fn why_away(place: Place, station: StationId) -> Option<WhyIdle>
+    ensures some { (count : ℕ) → IfSome result
+        (IsWithoutToken (ring count (token_place place)) station.0) }
+    ensures none { IfNone result (token_place place ≡ token_at station.0) }
+{
+    match place {
+        Place::At(at) if at.0 == station.0 => None,
+        Place::At(_) => Some(WhyIdle::TokenElsewhere),
+        Place::To(_) => Some(WhyIdle::TokenInFlight),
+    }
+}
+
+/// Why a station of a ring of so many doesn't hand the token on to another one, where it doesn't.
+pub(crate) fn why_kept(
+    place: Place,
+    count: usize,
+    from: StationId,
+    to: StationId,
+) -> Option<WhyIdle>
+    ensures some { IfSome result (KeepsToken (ring count (token_place place)) from.0 to.0) }
+    ensures none { IfNone result
+        (TakesToken count (token_place place) (Pass from to) (token_to to.0)) }
+{
+    if let Some(why) = why_away(place, from) {
+        return Some(why);
+    }
+    if is_next(count, from, to) {
+        return None;
+    }
+    Some(WhyIdle::NotNext)
 }
 
 /// Where a step takes the token of a ring of so many stations, if it takes it anywhere.

@@ -1,15 +1,17 @@
 //! The ring: a bank whose table travels in a token.
-ghost use Rattle.std.specs.Prelude.{◌≡◌, ◌<◌, IfErr, IfOk, OnErr, OnOk, length};
+ghost use Rattle.std.specs.Prelude.{◌≡◌, ◌<◌, IfErr, IfNone, IfOk, IfSome, OnErr, OnOk, length};
 ghost use Rattle.bip_model.specs.Numbering.{last_number};
 ghost use Rattle.bip_bank.specs.Banks.{CanWantMemory, DoesStep, HasNextSerial, IsActed};
 ghost use Rattle.bip_bank.specs.Banks.{WantsMemory, content_of, with_request};
+ghost use Rattle.bip_bank.specs.Idleness.{IsIdleBecause};
 ghost use Rattle.bip_bank.specs.declared.banks.BankStep.TheVariants.{Serve};
 ghost use Rattle.bip_ring.specs.Rings.{IsNewRing, kept_ring};
 
-use crate::places::{is_at, moved};
+use crate::places::{is_at, moved, why_away, why_kept};
 use crate::{Place, Token};
 use bip_bank::{
-    Acted, Bank, BankStep, Queue, StationId, decide_first, interaction_at, no_requests, put_last,
+    Acted, Bank, BankStep, Queue, StationId, WhyIdle, decide_first, interaction_at, is_asked_at,
+    no_requests, put_last,
 };
 use bip_model::{Grant, Number, Request};
 use bip_partition::Plan;
@@ -99,6 +101,23 @@ impl<'p> Ring<'p> {
         }
     }
 
+    /// Why a station that is served decides on nothing, where it doesn't: it lacks the token, or no
+    /// request is open there.
+    fn why_unserved(&self, station: StationId) -> Option<WhyIdle>
+        ensures some { IfSome result (IsIdleBecause (content_of (kept_ring self.now))
+            (Serve station)) }
+        ensures none { IfNone result (CanWantMemory (content_of (kept_ring self.now))
+            (Serve station)) }
+    {
+        if let Some(why) = why_away(self.place, station) {
+            return Some(why);
+        }
+        if is_asked_at(self.plan, self.waiting.as_slice(), station) {
+            return None;
+        }
+        Some(WhyIdle::NothingOpen)
+    }
+
     /// Lets the token go where a step takes it, if it takes it anywhere.
     #[inline(always)]
     fn let_go(&mut self, step: BankStep) -> Acted
@@ -151,6 +170,19 @@ impl<'p> Bank for Ring<'p> {
         match step {
             BankStep::Serve(station) => self.serve(station),
             _ => Ok(self.let_go(step)),
+        }
+    }
+
+    fn why_idle(&self, step: BankStep) -> Option<WhyIdle>
+        ensures some { IfSome result (IsIdleBecause (content_of (kept_ring self.now)) step) }
+        ensures none { IfNone result (CanWantMemory (content_of (kept_ring self.now)) step) }
+    {
+        match step {
+            BankStep::Serve(station) => self.why_unserved(station),
+            BankStep::Pass(from, to) => why_kept(self.place, self.count, from, to),
+            BankStep::Deliver(place) if place < self.in_flight() => None,
+            BankStep::Deliver(_) => Some(WhyIdle::NothingThere),
+            BankStep::Ask(_, _) => Some(WhyIdle::NoneOfIt),
         }
     }
 

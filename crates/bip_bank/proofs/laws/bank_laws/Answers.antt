@@ -1,4 +1,5 @@
 use Rattle.bip_bank.proofs.BankLemmas.{grants_allowed, grants_go_on, grants_histories, plan_stays}
+use Rattle.bip_bank.proofs.IdlenessLemmas.{reasons_are_all, reasons_are_true}
 use Rattle.bip_bank.proofs.RepeatLemmas.{one_answer_to_a_step}
 use Rattle.bip_bank.proofs.laws.bank_laws.Goals as goal
 
@@ -16,3 +17,9 @@ returns-clause-allowed c = grants_allowed
 
 pub returns-clause-one : goal.returns-clause-one
 returns-clause-one c = one_answer_to_a_step
+
+pub returns-clause-reasons : goal.returns-clause-reasons
+returns-clause-reasons c = reasons_are_true
+
+pub returns-clause-all : goal.returns-clause-all
+returns-clause-all c = reasons_are_all
