@@ -108,7 +108,7 @@ not_alone v a w (Sent r) tried also = absurd (tried.3
     (one_verdict v.offers a w Ready tried.2 also.0.ready))
 
 -- what can be asked for isn't refused
-asked_alone : (v : ClassNode) (a : ℕ) (x : Verdict) → CanBeAsked v a → ¬ IsTried v a (Not x)
+pub asked_alone : (v : ClassNode) (a : ℕ) (x : Verdict) → CanBeAsked v a → ¬ IsTried v a (Not x)
 asked_alone v a x can also = also.3 (one_verdict v.offers a x Ready also.2 can.ready)
 
 local_alone : (v : ClassNode) (a : ℕ) (g : Grant) (notifies : List Notify) (other : Tried)

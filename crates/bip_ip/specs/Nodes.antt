@@ -76,6 +76,12 @@ pub record CanBeAsked (v : ClassNode) (a : ℕ) : Type 0 where
   pub free : (b : ℕ) → ¬ StandsInTheWay v a b
   pub ready : IsVerdict v.offers a Ready
 
+-- a try of an interaction would do something: it can be asked for, and a request number is left for
+-- one that is reserved
+pub record CanBeTried (v : ClassNode) (a : ℕ) : Type 0 where
+  pub asked : CanBeAsked v a
+  pub numbered : IsReserved v.offers.plan a → v.next ≤ last_number
+
 -- the wants of an interaction by the offers that the node holds, with reasons, and what its
 -- components are told
 abbrev pub AreWanted : ClassNode → ℕ → List Why → List Want → Type 0

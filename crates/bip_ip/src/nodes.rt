@@ -10,7 +10,8 @@ ghost use Rattle.bip_partition.specs.Plans.{ClassTouches, InConflict};
 ghost use Rattle.bip_observe.specs.Offers.{IsReceipt, observed};
 ghost use Rattle.bip_observe.specs.Verdicts.{IsLackingAbove};
 ghost use Rattle.bip_frame.specs.Views.{offer_shown, reply_shown};
-ghost use Rattle.bip_ip.specs.Nodes.{Awaits, CanBeAsked, IsAnswered, IsItsRecord, IsLeftByReply};
+ghost use Rattle.bip_ip.specs.Nodes.{Awaits, CanBeAsked, CanBeTried, IsAnswered, IsItsRecord};
+ghost use Rattle.bip_ip.specs.Nodes.{IsLeftByReply};
 ghost use Rattle.bip_ip.specs.Nodes.{IsOwn, IsReplyTo, IsTried, StandsInTheWay, after_offer};
 ghost use Rattle.bip_ip.specs.Nodes.{after_try, first_node, inter_in, node_of, tried_of};
 ghost use Rattle.bip_ip.specs.Nodes.{with_learned, without};
@@ -188,6 +189,17 @@ impl<'p> IpNode<'p> {
             Verdict::Ready => None,
             verdict => Some(WhyNot::Not(verdict)),
         }
+    }
+
+    /// Whether a try of an interaction would do something: grant it at once, or ask for it
+    /// (docs/PROTOCOL.md, "Protocol nodes").
+    pub fn can_try(&self, inter: InterId) -> bool
+        ensures { IsTrue result ↔ CanBeTried (node_of self.now) inter.0 }
+    {
+        if self.why_not(inter).is_some() {
+            return false;
+        }
+        !self.offers.plan().reserved(inter) || self.next <= u128::from(u64::MAX)
     }
 
     /// The interaction above one of the class for whose sake that one isn't ready, by the offers
