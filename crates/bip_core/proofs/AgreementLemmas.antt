@@ -11,7 +11,9 @@ use Rattle.bip_partition.specs.Plans.{Planned}
 use Rattle.bip_component.specs.Components.{Node}
 use Rattle.bip_ip.specs.Nodes.{ClassNode}
 use Rattle.bip_bank.specs.Banks.{BankContent}
-use Rattle.bip_core.specs.Agreement.{Agree, Agrees}
+use Rattle.bip_model.specs.Steps.{start_of}
+use Rattle.bip_replay.specs.Runs.{state_after, used_after}
+use Rattle.bip_core.specs.Agreement.{Agree, AgreeAt, Agrees}
 use Rattle.bip_core.specs.Events.{IsCounted, IsStep}
 use Rattle.bip_core.specs.declared.events.What.{What}
 use Rattle.bip_core.specs.declared.outcomes.Outcome.{Outcome}
@@ -21,8 +23,39 @@ use Rattle.bip_core.specs.Worlds.{WorldContent}
 use Rattle.bip_core.specs.declared.events.Did.{Did}
 use Rattle.bip_core.specs.declared.events.Event.{Event}
 use Rattle.bip_core.proofs.BeginLemmas.{begins}
+use Rattle.bip_core.proofs.DeliveryLemmas.{asked, granted, moved_last, moved_on, offered, refused}
+use Rattle.bip_core.proofs.DeliveryLemmas.{was_wanted}
+use Rattle.bip_core.proofs.MailLemmas.{fewer}
+use Rattle.bip_core.proofs.ServeLemmas.{refuses, serves}
+use Rattle.bip_core.proofs.StepLemmas.{KeepsSteps}
+use Rattle.bip_core.proofs.TryLemmas.{asks, grants}
 use Rattle.bip_core.proofs.StayLemmas.{step_stays}
 use Rattle.bip_core.proofs.EventLemmas.{at_its_trace, step_keeps}
+
+-- the agreement keeps the small steps
+agreement_keeps : {p : Planned} (base : ℕ) → IsPlanned p → KeepsSteps p base (AgreeAt p base)
+agreement_keeps base planned = record {
+  used_is = λ u s w h. h.books.used_is;
+  end_is = λ u s w h. h.locals.end_is;
+  fewer = λ u s w h mail among less. fewer h among less;
+  offered = λ u s w h front back k o whole. offered h front back k o whole;
+  asked = λ u s w h front back q whole. asked h front back q whole;
+  moved_on = λ u s w h front back n whole unspent own ks o room comp number shows.
+      moved_on h front back n whole ks o room comp number shows;
+  moved_last = λ u s w h front back n whole unspent own last. moved_last h front back n whole last;
+  granted = λ u s w h front back k number a serial whole e at named.
+      granted h front back k number a serial whole e at;
+  was_wanted = λ u s w h front back k number a c used whole e at named.
+      was_wanted h front back k number a c used whole e at;
+  refused = λ u s w h front back k number a c used whole e learnt taught.
+      refused h front back k number a c used whole e taught.is learnt taught.more taught.taught;
+  grants = λ u s w h k o g takes counts by local. grants planned h takes counts by local;
+  asks = λ u s w h o q takes counts by so explained is_reserved number.
+      asks planned h q takes counts by so explained is_reserved number;
+  serves = λ u s w h q later oldest fresh serial. serves planned h oldest fresh serial;
+  refuses = λ u s w h q later oldest c used v among used_up is.
+      refuses planned h oldest c used v among used_up is;
+}
 
 first_component : {p : Planned} (base c : ℕ) (found : Option Node) (node : Node)
     → found ≡ Some node → IsFirstComponent p base c found → (node.plan ≡ p) × (node.comp ≡ c)
@@ -59,7 +92,8 @@ new_agrees p base w planned room new = record {
   };
   all =
       agree_at w new.plan (ap (λ (b : BankContent). b.base) new.bank)
-      (at_its_trace (begins p base w room new));
+      (at_its_trace (agreement_keeps base planned) (λ c. base) (start_of p.model) (view_of base w)
+      (begins p base w room new));
 }
 
 -- a world agrees after an event, if it did before
@@ -72,7 +106,9 @@ step_agrees w v event did agrees step =
       nodes = same.nodes agrees.nodes;
       all =
           agree_at v same.plan same.base
-          (step_keeps agrees.planned refl agrees.nodes agrees.all event did v step);
+          (step_keeps (agreement_keeps w.bank.base agrees.planned) refl agrees.nodes
+          (used_after w.bank.base w.trace) (state_after w.plan.model w.trace) agrees.all event did v
+          step);
     }
 
 -- and after each event that a call answers, or that want of memory leaves out

@@ -196,7 +196,7 @@ module _ (p : Planned) (base : ℕ) where
     first_locals = record {
       end_is = ap (state_after p.model) new.trace;
       run = subst (IsModelRun p.model base) (sym new.trace) tt;
-      settled = λ c _. state c;
+      at_rest = λ c _. state c;
       spent = λ c _. state c;
       mail = λ m at.
           subst (MailShows p.model (λ c. base) (start_of p.model) first_view.state)

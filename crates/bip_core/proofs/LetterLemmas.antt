@@ -20,7 +20,7 @@ use Rattle.bip_model.specs.declared.reasons.Cause.{Cause}
 use Rattle.bip_model.specs.declared.reasons.Cause.TheVariants.{Guard, Port}
 use Rattle.bip_model.specs.declared.reasons.Why.{Why}
 use Rattle.bip_model.specs.declared.wants.Want.{Want}
-use Rattle.bip_model.proofs.AboveLemmas.{IsAbove-high}
+use Rattle.bip_model.proofs.AboveLemmas.{HasAbove-high}
 use Rattle.bip_model.proofs.LookLemmas.{moves_known}
 use Rattle.bip_model.proofs.PartyLemmas.{party_known}
 use Rattle.bip_partition.proofs.ClassLemmas.{class_known}
@@ -177,7 +177,7 @@ reasons_known p a wants [] valid are = All-nil (HasReason p)
 reasons_known p a wants (y ∷ ys) valid are = λ k d within.
     let z = get_or (y ∷ ys) k d in
     let at = Contains-get_or (y ∷ ys) k d within in (
-      IsAbove-high (length p.model.interactions) p.model.priorities a z.inter.0
+      HasAbove-high (length p.model.interactions) p.model.priorities a z.inter.0
           valid.so_far.priorities ((are.each z.inter.0).0 (at.0, z, at.1, at.2, refl)),
       cause_known p z.inter.0 z.cause wants valid (are.borne k d within),
     )

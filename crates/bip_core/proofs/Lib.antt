@@ -3,6 +3,12 @@ pub mod AgreementLemmas
 pub mod BeginLemmas
 pub mod BookLemmas
 pub mod DeliveryLemmas
+pub mod DoubledAskLemmas
+pub mod DoubledGrantLemmas
+pub mod DoubledLemmas
+pub mod DoubledMoveLemmas
+pub mod DoubledReplyLemmas
+pub mod DoubledRunLemmas
 pub mod EventLemmas
 pub mod FirstLemmas
 pub mod FitLemmas
@@ -22,6 +28,7 @@ pub mod SentenceLemmas
 pub mod ServeLemmas
 pub mod StartLemmas
 pub mod StayLemmas
+pub mod StepLemmas
 pub mod TakeLemmas
 pub mod ToldLemmas
 pub mod TraceLemmas
@@ -29,4 +36,5 @@ pub mod TryLemmas
 pub mod UsedLemmas
 pub mod ViewLemmas
 pub mod WantLemmas
+pub mod WorkLemmas
 pub mod WorldLemmas

@@ -84,7 +84,7 @@ module _ {m : System} {base : ℕ} {u : ℕ → ℕ} {s : State} {w : View}
   fewer among = record {
     end_is = h.end_is;
     run = h.run;
-    settled = h.settled;
+    at_rest = h.at_rest;
     spent = h.spent;
     held = h.held;
     made = h.made;
@@ -98,7 +98,7 @@ module _ {m : System} {base : ℕ} {u : ℕ → ℕ} {s : State} {w : View}
   sent ms shows = record {
     end_is = h.end_is;
     run = h.run;
-    settled = h.settled;
+    at_rest = h.at_rest;
     spent = h.spent;
     held = h.held;
     made = h.made;
@@ -117,7 +117,7 @@ module _ {m : System} {base : ℕ} {u : ℕ → ℕ} {s : State} {w : View}
   elsewhere = record {
     end_is = h.end_is;
     run = h.run;
-    settled = h.settled;
+    at_rest = h.at_rest;
     spent = h.spent;
     held = h.held;
     made = h.made;
@@ -132,7 +132,7 @@ module _ {m : System} {base : ℕ} {u : ℕ → ℕ} {s : State} {w : View}
   heard shows = record {
     end_is = h.end_is;
     run = h.run;
-    settled = h.settled;
+    at_rest = h.at_rest;
     spent = h.spent;
     made = h.made;
     mail = h.mail;
@@ -147,7 +147,7 @@ module _ {m : System} {base : ℕ} {u : ℕ → ℕ} {s : State} {w : View}
   removed left = record {
     end_is = h.end_is;
     run = h.run;
-    settled = h.settled;
+    at_rest = h.at_rest;
     spent = h.spent;
     held = h.held;
     mail = h.mail;
@@ -165,7 +165,7 @@ module _ {m : System} {base : ℕ} {u : ℕ → ℕ} {s : State} {w : View}
   recorded f cases made not_granted = record {
     end_is = h.end_is;
     run = h.run;
-    settled = h.settled;
+    at_rest = h.at_rest;
     spent = h.spent;
     held = h.held;
     mail = h.mail;
@@ -222,10 +222,10 @@ module _ {m : System} {base : ℕ} {u : ℕ → ℕ} {s : State} {w : View}
       run = h.run;
       held = h.held;
       made = h.made;
-      settled =
+      at_rest =
           all_put (λ d local. number d ≡ u d + 1 → local ≡ s d) w.state n.comp.0
           (lead m n (w.state n.comp.0)) (λ _. leads)
-          (λ d other is. h.settled d (sym (same_number d other) ∙ is));
+          (λ d other is. h.at_rest d (sym (same_number d other) ∙ is));
       spent =
           all_put (λ d local. spent d ≡ true → local ≡ s d) w.state n.comp.0
           (lead m n (w.state n.comp.0)) (λ _. leads)
@@ -257,7 +257,7 @@ module _ {m : System} {base : ℕ} {u : ℕ → ℕ} {s : State} {w : View}
           next = next;
           leads =
               subst (λ (place : Option LocalState). TakesTo m n place (after m s a n.comp.0))
-              (sym (h.settled n.comp.0 next))
+              (sym (h.at_rest n.comp.0 next))
               (told_leads valid s made.ready (shown made fresh) n (made_told made n at));
         }
 
@@ -365,9 +365,9 @@ module _ {m : System} {base : ℕ} {u : ℕ → ℕ} {s : State} {w : View}
             IsRunFrom-push m (start_of m) (λ c. base) w.trace g h.run
             (subst (λ (t : State). IsNext m t (used_by (λ c. base) w.trace) g) (sym h.end_is)
             (subst (λ (v : ℕ → ℕ). IsNext m s v g) (sym used_is) next));
-        settled = λ c is. elim (grant_cases numbers its c) [
+        at_rest = λ c is. elim (grant_cases numbers its c) [
           | inl moves ↦ absurd (omega (arith, is, moves.used))
-          | inr rests ↦ h.settled c (omega (arith, is, rests.used)) ∙ sym (still c rests)
+          | inr rests ↦ h.at_rest c (omega (arith, is, rests.used)) ∙ sym (still c rests)
         ];
         spent = λ c is. elim (grant_cases numbers its c) [
           | inl moves ↦ absurd (omega (arith, moves.next, (numbers.spent c is).0))

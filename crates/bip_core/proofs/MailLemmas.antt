@@ -1,5 +1,4 @@
--- Messages of an agreeing world: taken out, lost, or put last. Loss is no more than that all is
--- sent, and then some of it is taken out.
+-- Messages of an agreeing world: taken out, lost, or put last.
 use Rattle.std.proofs.Common.{◌≡◌, ℕ, ◌+◌, ◌<◌, ◌≤◌, List, [], ◌∷◌, ◌++◌, length, Bool, true, false}
 use Rattle.std.proofs.Common.{cond, map, refl, sym, ap, ◌∙◌, subst, inl, inr, arith}
 use Rattle.std.proofs.lemmas.Bool.{cases_eq, eqb-true, ne_eqb}
@@ -13,7 +12,7 @@ use Rattle.bip_model.specs.declared.messages.Offer.{Offer}
 use Rattle.bip_model.specs.declared.numbering.ClassId.{ClassId}
 use Rattle.bip_partition.specs.Plans.{Planned}
 use Rattle.bip_ip.specs.declared.nodes.OpenRecord.{OpenRecord}
-use Rattle.bip_core.specs.Events.{AreKeptOf, all_done, are_notified, one_kept, one_lost}
+use Rattle.bip_core.specs.Events.{are_notified}
 use Rattle.bip_core.specs.declared.messages.Message.{Message}
 use Rattle.bip_core.specs.declared.messages.Message.TheVariants.{NotifyComponent, OfferTo}
 use Rattle.bip_core.specs.Agreement.{AgreeAt}
@@ -24,28 +23,11 @@ use Rattle.bip_core.specs.Locals.{MailShows}
 use Rattle.bip_core.specs.Views.{TakesTo, View}
 use Rattle.bip_core.proofs.BookLemmas as books
 use Rattle.bip_core.proofs.BookLemmas.{NothingAbout}
-use Rattle.bip_core.proofs.ListLemmas.{count-append, count-cases, count-none, count-one}
-use Rattle.bip_core.proofs.ListLemmas.{count-taken, count-wider, fails-none, in-back, in-front}
-use Rattle.bip_core.proofs.ListLemmas.{in-map, in-one}
-use Rattle.bip_core.proofs.ListLemmas.{in-split, in-wider}
+use Rattle.bip_core.proofs.ListLemmas.{count-cases, count-none, count-one, count-taken}
+use Rattle.bip_core.proofs.ListLemmas.{count-wider, fails-none, in-map, in-one, in-wider}
 use Rattle.bip_core.proofs.LocalLemmas as locals
 use Rattle.bip_core.proofs.NumberLemmas as numbers
 use Rattle.bip_core.proofs.ToldLemmas.{is_told}
-
--- what is kept of messages is some of them
-in-kept : {xs ys : List Message} (m : Message) → AreKeptOf xs ys → In m xs → In m ys
-in-kept m all_done at = absurd at
-in-kept m (one_kept rest) at = elim at [
-  | inl first ↦ inl first
-  | inr later ↦ inr (in-kept m rest later)
-]
-in-kept m (one_lost rest) at = inr (in-kept m rest at)
-
-count-kept : {xs ys : List Message} (test : Message → Bool) → AreKeptOf xs ys
-    → count test xs ≤ count test ys
-count-kept test all_done = omega arith
-count-kept test (one_kept rest) = omega (arith, count-kept test rest)
-count-kept test (one_lost rest) = omega (arith, count-kept test rest)
 
 -- notifications are about no interaction, and each for one component
 count-told_about : (a : ℕ) (ns : List Notify) → count (is_about a) (are_notified ns) ≡ 0
@@ -100,7 +82,7 @@ no_more test mail front back m whole =
 module _ {p : Planned} {base : ℕ} {u : ℕ → ℕ} {s : State} {w : View}
     (h : AgreeAt p base u s w) where
   -- there are fewer messages in flight
-  fewer : {mail : List Message} → ((m : Message) → In m mail → In m w.mail)
+  pub fewer : {mail : List Message} → ((m : Message) → In m mail → In m w.mail)
       → ((test : Message → Bool) → count test mail ≤ count test w.mail)
       → AgreeAt p base u s (record w { mail = mail })
   fewer among less = record {
@@ -116,16 +98,6 @@ module _ {p : Planned} {base : ℕ} {u : ℕ → ℕ} {s : State} {w : View}
       fewer
       (λ x at. subst (λ (xs : List Message). In x xs) (sym whole) (in-wider x m front back at))
       (λ test. no_more test w.mail front back m whole)
-
-  -- nothing is sent
-  pub unsent : AgreeAt p base u s (record w { mail = w.mail ++ [] })
-  unsent =
-      fewer
-      (λ m at. elim (in-split m w.mail [] at) [
-        | inl old ↦ old
-        | inr none ↦ absurd none
-      ])
-      (λ test. omega (arith, count-append test w.mail []))
 
   -- messages are sent that may be, at most one about an interaction or for a component
   pub sent : (ms : List Message) → ((m : Message) → In m ms → MaySend p u s w m)
@@ -209,18 +181,3 @@ module _ {p : Planned} {base : ℕ} {u : ℕ → ℕ} {s : State} {w : View}
             let same = ap (λ (d : ℕ). count (is_for d) w.mail) own in
             omega (arith, none, same, once c, count-told_for c ns)
       ]
-
--- what is lost of what was sent is taken out again
-pub loses : {p : Planned} {base : ℕ} {u : ℕ → ℕ} {s : State} (w : View) (sends put : List Message)
-    → AreKeptOf put sends → AgreeAt p base u s (record w { mail = w.mail ++ sends })
-    → AgreeAt p base u s (record w { mail = w.mail ++ put })
-loses w sends put kept h =
-    fewer h
-    (λ m at. elim (in-split m w.mail put at) [
-      | inl old ↦ in-front m w.mail sends old
-      | inr new ↦ in-back m w.mail sends (in-kept m kept new)
-    ])
-    (λ test.
-    let before = count-append test w.mail sends in
-    let after = count-append test w.mail put in
-    omega (arith, before, after, count-kept test kept))

@@ -36,7 +36,7 @@ use Rattle.bip_bank.specs.Laws.{MovesInOneWay, acted_but_serial}
 use Rattle.bip_bank.specs.declared.banks.Acted.{Acted}
 use Rattle.bip_bank.specs.declared.banks.Acted.TheVariants as acted
 use Rattle.bip_bank.specs.declared.banks.BankStep.{BankStep}
-use Rattle.bip_core.specs.Events.{AreKeptOf, ArePut, AreSent, IsDelivered, IsDone, IsHandedOn}
+use Rattle.bip_core.specs.Events.{AreKeptOf, ArePut, AreSent, IsMailHandedOn, IsDone, IsHandedOn}
 use Rattle.bip_core.specs.Events.{IsStep, IsTraced, TakesOut, all_done, are_notified, grant_in}
 use Rattle.bip_core.specs.Events.{one_kept, one_lost, trace_with, class_named}
 use Rattle.bip_core.specs.Repeats.{AreAlike, but_serials, message_but_serial}
@@ -325,8 +325,8 @@ taken_alike place m n mail left other rest one two same =
 abbrev with_mail : WorldContent → List Message → WorldContent
 with_mail w mail = record w { mail = mail }
 
-mail_done : (w v : WorldContent) (place : ℕ) (what : What) → IsDone w (Mail place) what v
-    → ((length w.mail ≤ place) × (what ≡ Nothing) × (v ≡ w)) ⊎ IsDelivered place w what v
+pub mail_done : (w v : WorldContent) (place : ℕ) (what : What) → IsDone w (Mail place) what v
+    → ((length w.mail ≤ place) × (what ≡ Nothing) × (v ≡ w)) ⊎ IsMailHandedOn place w what v
 mail_done w v place Nothing is = inl (is.0, refl, is.1)
 mail_done w v place (Hears receipt) is = inr is
 mail_done w v place Submits is = inr is
@@ -335,13 +335,13 @@ mail_done w v place (Moves did) is = inr is
 mail_done w v place (Tries did) is = inr is
 mail_done w v place (Acts did) is = inr is
 
-abbrev IsTriedIn : WorldContent → ℕ → ℕ → What → WorldContent → Type 0
+abbrev pub IsTriedIn : WorldContent → ℕ → ℕ → What → WorldContent → Type 0
 IsTriedIn w k a what v =
     ((w.classes k ≡ None) × (what ≡ Nothing) × (v ≡ w))
     ⊎ ((node : ClassNode) × (did : Tried) × (w.classes k ≡ Some node) × IsTried node a did
     × (what ≡ Tries did) × (v ≡ with_class_node k (after_try a did node) w))
 
-try_done : (w v : WorldContent) (k : ClassId) (a : InterId) (what : What)
+pub try_done : (w v : WorldContent) (k : ClassId) (a : InterId) (what : What)
     → IsDone w (Try k a) what v → IsTriedIn w k.0 a.0 what v
 try_done w v k a Nothing is = inl (is.0, refl, is.1)
 try_done w v k a (Hears receipt) is = absurd is
@@ -351,12 +351,12 @@ try_done w v k a (Moves did) is = absurd is
 try_done w v k a (Tries did) is = inr (is.0, did, is.1, is.2, refl, is.3)
 try_done w v k a (Acts did) is = absurd is
 
-abbrev IsActedIn : WorldContent → BankStep → What → WorldContent → Type 0
+abbrev pub IsActedIn : WorldContent → BankStep → What → WorldContent → Type 0
 IsActedIn w step what v =
     (did : Acted) × (later : BankContent) × DoesStep w.bank step did later
     × IsActed did w.bank later × (what ≡ Acts did) × (v ≡ record w { bank = later })
 
-bank_done : (w v : WorldContent) (step : BankStep) (what : What) → IsDone w (Bank step) what v
+pub bank_done : (w v : WorldContent) (step : BankStep) (what : What) → IsDone w (Bank step) what v
     → IsActedIn w step what v
 bank_done w v step Nothing is = absurd is
 bank_done w v step (Hears receipt) is = absurd is
@@ -389,7 +389,7 @@ same_lengths w x alike = by_lists w.mail x.mail (same_mails w x alike)
         ap suc (by_lists ms ns others)
 
 delivered_once : (w x v y : WorldContent) (place : ℕ) (what also : What) → AreAlike w x
-    → MovesInOneWay w.bank.sharing → IsDelivered place w what v → IsDelivered place x also y
+    → MovesInOneWay w.bank.sharing → IsMailHandedOn place w what v → IsMailHandedOn place x also y
     → AreOne what v also y
 delivered_once w x v y place what also alike way is other =
     let taken = taken_alike place is.message other.message w.mail is.rest x.mail other.rest is.taken
@@ -419,7 +419,7 @@ same_way : (w v : WorldContent) → v ≡ w → MovesInOneWay w.bank.sharing
     → MovesInOneWay v.bank.sharing
 same_way w v same way = subst (λ (u : WorldContent). MovesInOneWay u.bank.sharing) (sym same) way
 
-past_mail : (place : ℕ) (m : Message) (mail rest : List Message) → TakesOut place m mail rest
+pub past_mail : (place : ℕ) (m : Message) (mail rest : List Message) → TakesOut place m mail rest
     → length mail ≤ place → ⊥
 past_mail place m mail rest taken past =
     omega (arith, past, taken.before, ap length taken.whole, longer taken.front)
@@ -434,8 +434,9 @@ mail_once : (w x v y : WorldContent) (place : ℕ) (what also : What) → AreAli
 mail_once w x v y place what also alike way is other =
     by_views (mail_done w v place what is) (mail_done x y place also other)
   where
-    by_views : ((length w.mail ≤ place) × (what ≡ Nothing) × (v ≡ w)) ⊎ IsDelivered place w what v
-        → ((length x.mail ≤ place) × (also ≡ Nothing) × (y ≡ x)) ⊎ IsDelivered place x also y
+    by_views : ((length w.mail ≤ place) × (what ≡ Nothing) × (v ≡ w))
+        ⊎ IsMailHandedOn place w what v
+        → ((length x.mail ≤ place) × (also ≡ Nothing) × (y ≡ x)) ⊎ IsMailHandedOn place x also y
         → AreOne what v also y
     by_views (inl none) (inl nor) = (
       ap what_but_serial (none.1 ∙ sym nor.1),

@@ -9,7 +9,8 @@ use Rattle.std.specs.Option.{option_to_list}
 use Rattle.std.proofs.lemmas.List.Sums.{sum_by-append, sum_by-cons, sum_by_push}
 use Rattle.std.proofs.lemmas.Option.{slice_get_past}
 use Rattle.bip_model.specs.declared.grants.Grant.{Grant}
-use Rattle.bip_core.specs.Events.{AreKeptOf, AreSent, CanBeSkipped, IsDelivered, IsCounted, IsDone}
+use Rattle.bip_core.specs.Events.{AreKeptOf, AreSent, CanBeSkipped, IsMailHandedOn, IsCounted}
+use Rattle.bip_core.specs.Events.{IsDone}
 use Rattle.bip_core.specs.Events.{IsHandedOn, IsStep, TakesOut, all_done, grant_in, effect_of}
 use Rattle.bip_core.specs.Events.{one_kept, one_lost, trace_with}
 use Rattle.bip_core.specs.Laws.{handed_out}
@@ -228,7 +229,7 @@ count_append f xs ys = sum_by-append (λ y. cond (f y) 1 0) xs ys
 
 -- a delivery leaves all messages but the one that it hands on
 delivered_mail : (place : ℕ) (w : WorldContent) (what : What) (v : WorldContent)
-    (d : IsDelivered place w what v) (f : Message → Bool)
+    (d : IsMailHandedOn place w what v) (f : Message → Bool)
     → count_by f v.mail + count_by f (d.message ∷ []) ≡ count_by f w.mail
 delivered_mail place w what v d f =
     let same = handed_same (record w { mail = d.rest }) d.message what v d.on in
@@ -272,7 +273,7 @@ left_as w e v none same = record {
 }
 
 left_by : (place : ℕ) (w : WorldContent) (what : What) (v : WorldContent)
-    → IsDelivered place w what v → IsLeft w (Mail place) v
+    → IsMailHandedOn place w what v → IsLeft w (Mail place) v
 left_by place w what v d =
     let same = handed_same (record w { mail = d.rest }) d.message what v d.on in
     let here = ap option_to_list (read_taken place d.message w.mail d.rest d.taken) in
@@ -417,7 +418,7 @@ messages_sent w v e d step = (
 
 -- where there is a message it is handed on
 at_place : (w : WorldContent) (place : ℕ) (what : What) (v : WorldContent)
-    → IsDone w (Mail place) what v → place < length w.mail → IsDelivered place w what v
+    → IsDone w (Mail place) what v → place < length w.mail → IsMailHandedOn place w what v
 at_place w place Nothing v done within =
     let far = done.0 in
     let never : ⊥ = omega (arith, far, within) in

@@ -36,7 +36,7 @@ use Rattle.bip_core.specs.Lists.{In, count}
 use Rattle.bip_core.specs.Numbers.{IsAwaited, IsOwed, RecordNumbers, is_for}
 use Rattle.bip_core.specs.Sentences.{AgreementInSix, ComponentAgrees, IsMoving, IsOfferOut}
 use Rattle.bip_core.specs.Sentences.{NoneToldIsStale, OneOfferOut}
-use Rattle.bip_core.specs.Sentences.{IsSettled, IsSpent, LeadsOn, OfferAgrees, RequestAgrees}
+use Rattle.bip_core.specs.Sentences.{IsAtRest, IsSpent, LeadsOn, OfferAgrees, RequestAgrees}
 use Rattle.bip_core.specs.Locals.{Made}
 use Rattle.bip_core.specs.Views.{CanBeTaken, TakesTo, View, local_at, number_at, spent_of}
 use Rattle.bip_core.proofs.ListLemmas.{Any-one, count-none, count-same}
@@ -49,12 +49,12 @@ use Rattle.bip_core.proofs.UsedLemmas.{granted_once}
 
 module _ {p : Planned} {base : ℕ} {u : ℕ → ℕ} {s : State} {w : View}
     (h : AgreeAt p base u s w) where
-  -- A component is settled, moving or spent
+  -- A component is at rest, moving or spent
 
-  settled : (c : ℕ) → w.number c ≡ u c + 1 → IsSettled u s w c
-  settled c next = record {
+  at_rest : (c : ℕ) → w.number c ≡ u c + 1 → IsAtRest u s w c
+  at_rest c next = record {
     number = next;
-    there = h.locals.settled c next;
+    there = h.locals.at_rest c next;
     none = record {
       in_flight = quiet h.numbers c (omega arith);
       owed = λ k a e n o same.
@@ -111,7 +111,7 @@ module _ {p : Planned} {base : ℕ} {u : ℕ → ℕ} {s : State} {w : View}
     | inl spent ↦ inr (inr (ended c spent))
     | inr unspent ↦ elim (cases_eq (w.number c) (u c)) [
       | inl used ↦ inr (inl (moving c used unspent))
-      | inr unused ↦ inl (settled c (omega (arith, h.numbers.low c, h.numbers.high c, unused)))
+      | inr unused ↦ inl (at_rest c (omega (arith, h.numbers.low c, h.numbers.high c, unused)))
     ]
   ]
 

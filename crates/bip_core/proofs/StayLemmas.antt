@@ -8,7 +8,7 @@ use Rattle.bip_ip.specs.Nodes.{ClassNode, after_offer, after_try}
 use Rattle.bip_bank.specs.Banks.{BankContent, IsActed, with_request}
 use Rattle.bip_bank.specs.declared.banks.Acted.{Acted}
 use Rattle.bip_bank.specs.declared.banks.Acted.TheVariants as acted
-use Rattle.bip_core.specs.Events.{IsDelivered, IsDone, IsHandedOn, IsStep, class_named}
+use Rattle.bip_core.specs.Events.{IsMailHandedOn, IsDone, IsHandedOn, IsStep, class_named}
 use Rattle.bip_core.specs.Laws.{KeepsThePlan}
 use Rattle.bip_core.specs.Worlds.{WorldContent, with_class_node, with_component_node}
 use Rattle.bip_core.specs.declared.events.Did.{Did}
@@ -122,7 +122,7 @@ bank_same b later did is =
 
 module _ (w : WorldContent) where
   -- a message is delivered
-  delivered_stays : (place : ℕ) (what : What) (v : WorldContent) → IsDelivered place w what v
+  delivered_stays : (place : ℕ) (what : What) (v : WorldContent) → IsMailHandedOn place w what v
       → KeepsThePlan w v
   delivered_stays place what v d =
       let kept = handed_stays d.message what v d.on in

@@ -34,7 +34,7 @@ use Rattle.bip_core.specs.Numbers.{IsOwed, RecordNumbers}
 use Rattle.bip_core.specs.Locals.{Made}
 use Rattle.bip_core.specs.Views.{View}
 use Rattle.bip_core.proofs.BookLemmas as books
-use Rattle.bip_core.proofs.BookLemmas.{Joins, NothingAbout, local_joins, nothing_about}
+use Rattle.bip_core.proofs.BookLemmas.{Joins, local_joins, nothing_about}
 use Rattle.bip_core.proofs.ListLemmas.{each-All, in-back, in-one, in-split}
 use Rattle.bip_core.proofs.LocalLemmas as locals
 use Rattle.bip_core.proofs.LocalLemmas.{LeadsNext, fresh_leads}
@@ -47,17 +47,19 @@ use Rattle.bip_core.proofs.UsedLemmas.{learning, learns_more, learns_within}
 use Rattle.bip_core.proofs.WantLemmas.{has_want, moved_as_offered, offered_number}
 use Rattle.bip_core.proofs.WantLemmas.{touched, untouched_so}
 
--- a class takes an interaction up with wants: it has no record of it, and of what is wanted its
--- held
--- offers count, and make it ready
+-- a class takes an interaction up with wants: it has no record of it, and by the offers that it
+-- holds of what is wanted it is ready
 pub record Takes (p : Planned) (w : View) (k a : ℕ) (o : ℕ → Offer) (wants : List Want)
     : Type 0 where
   pub inter : a < length p.model.interactions
   pub home : class_in p.classes a ≡ k
   pub free : w.pending k a ≡ None
   pub ready : IsReady p.model o (HasWantOf wants) a
-  pub held : (c : ℕ) → HasWantOf wants c
-      → (w.held k c ≡ Some (o c)) × (w.known k c < (o c).number)
+  pub held : (c : ℕ) → HasWantOf wants c → w.held k c ≡ Some (o c)
+
+-- and these offers count, by what the class knows
+abbrev pub WantedCount : View → ℕ → (ℕ → Offer) → List Want → Type 0
+WantedCount w k o wants = (c : ℕ) → HasWantOf wants c → w.known k c < (o c).number
 
 -- what its grant leaves: what it moved is known, and its components are told
 abbrev pub granting_to : Planned → View → ℕ → ℕ → (ℕ → Offer) → Grant → View
@@ -86,7 +88,7 @@ module _ {p : Planned} (planned : IsPlanned p) {base : ℕ} {u : ℕ → ℕ} {s
     decided_within : (v : Want) → In v wants → v.number ≤ w.number v.comp.0
     decided_within v at =
         let c = v.comp.0 in
-        let held = (takes.held c (has_want wants v at)).0 in
+        let held = takes.held c (has_want wants v at) in
         omega (arith, offered_number by v at, (h.numbers.held k c (o c) held).1)
 
     decided_made : Made p.model u s a reasons wants (told_by p.model o a)
@@ -98,12 +100,13 @@ module _ {p : Planned} (planned : IsPlanned p) {base : ℕ} {u : ℕ → ℕ} {s
       tells_are = refl;
       fit = λ c has unused.
           let own = ap u (takes.ready.own c has) in
-          h.locals.held k c (o c) (takes.held c has).0 (omega arith);
+          h.locals.held k c (o c) (takes.held c has) (omega arith);
     }
 
   -- a class grants a local interaction
   module _ {k : ℕ} {o : ℕ → Offer} {g : Grant} (takes : Takes p w k g.inter.0 o g.wants)
-      (by : AreWantsBy p.model o g.inter.0 [] g.wants) (local : ¬ IsReserved p g.inter.0) where
+      (counts : WantedCount w k o g.wants) (by : AreWantsBy p.model o g.inter.0 [] g.wants)
+      (local : ¬ IsReserved p g.inter.0) where
     none_so : All (λ (y : Why). IsTrueOf p.model o y.inter.0 y.cause) []
     none_so = All-nil (λ (y : Why). IsTrueOf p.model o y.inter.0 y.cause)
 
@@ -123,9 +126,9 @@ module _ {p : Planned} (planned : IsPlanned p) {base : ℕ} {u : ℕ → ℕ} {s
         let touches = touched by.parties v at in
         let untabled = local_none p g.inter.0 c local touches in
         let used = known_alone g.inter.0 c touches untabled takes.home in
-        omega (arith, used, (takes.held c (has_want g.wants v at)).1, offered_number by v at)
+        omega (arith, used, counts c (has_want g.wants v at), offered_number by v at)
 
-    its : IsFreshGrant p.model u w.number g
+    pub its : IsFreshGrant p.model u w.number g
     its = record {
       fresh = each-All (λ (v : Want). u v.comp.0 < v.number) g.wants fresh_each;
       parties = by.parties;
@@ -226,28 +229,20 @@ module _ {p : Planned} (planned : IsPlanned p) {base : ℕ} {u : ℕ → ℕ} {s
               local (subst (IsReserved p) (sym kept.number ∙ this) kept.reserved)
         ]
 
-    grants_its_own : AgreeAt p base (raised u g.wants) (after p.model s g.inter.0)
-        (record granting { mail = w.mail ++ are_notified (told_by p.model o g.inter.0) })
-    grants_its_own =
+    -- and its components are told
+    pub grants : AgreeAt p base (raised u g.wants) (after p.model s g.inter.0)
+        (granting_to p w k g.inter.0 o g)
+    grants =
         sends_told granted (told_by p.model o g.inter.0) may_tell
         (told_once p.model planned.valid o g.inter.0) no_other
-
-  -- and its components are told; the grant names the interaction
-  pub grants : {k a : ℕ} {o : ℕ → Offer} {g : Grant} → Takes p w k a o g.wants
-      → AreWantsBy p.model o a [] g.wants → ¬ IsReserved p a → g.inter.0 ≡ a
-      → AgreeAt p base (raised u g.wants) (after p.model s g.inter.0) (granting_to p w k a o g)
-  grants {k} {a} {o} {g} takes by local names =
-      subst
-      (λ (b : ℕ). Takes p w k b o g.wants → AreWantsBy p.model o b [] g.wants → ¬ IsReserved p b
-      → AgreeAt p base (raised u g.wants) (after p.model s g.inter.0) (granting_to p w k b o g))
-      names grants_its_own takes by local
 
   -- a class asks for a reserved interaction
   module _ {o : ℕ → Offer} {q : Request} (takes : Takes p w q.class.0 q.inter.0 o q.wants)
       (by : AreWantsBy p.model o q.inter.0 q.reasons q.wants)
       (so : All (λ (y : Why). IsTrueOf p.model o y.inter.0 y.cause) q.reasons)
       (explained : AreExplained p.model q.inter.0 q.wants q.reasons)
-      (is_reserved : IsReserved p q.inter.0) (number : q.request ≡ w.next q.class.0) where
+      (is_reserved : IsReserved p q.inter.0) (number : q.request ≡ w.next q.class.0)
+      (not_granted : ¬ In (grant_of q) w.trace) where
     abbrev pub entry : OpenRecord
     entry = record { request = q; notifies = told_by p.model o q.inter.0 }
 
@@ -256,20 +251,6 @@ module _ {p : Planned} (planned : IsPlanned p) {base : ℕ} {u : ℕ → ℕ} {s
       pending = put_at w.pending q.class.0 q.inter.0 (Some entry);
       next = put w.next q.class.0 (w.next q.class.0 + 1);
     }
-
-    -- had it been granted, the class would know what it moved
-    not_granted : ¬ In (grant_of q) w.trace
-    not_granted at =
-        let (c, on) = each_moves p.model planned.valid q.inter.0 takes.inter in
-        elim (h.books.own (grant_of q) at) [
-          | inl waits ↦
-              let there = ap (λ (j : ℕ). w.pending j q.inter.0) takes.home in
-              none-some waits.0 (sym takes.free ∙ (sym there ∙ waits.1))
-          | inr knows ↦
-              let there = ap (λ (j : ℕ). w.known j c) takes.home in
-              let counts = (takes.held c (takes.ready.moved c on)).1 in
-              omega (arith, knows c, there, counts, moved_as_offered by c on)
-        ]
 
     -- no class has a record of it
     unrecorded : (j : ℕ) (e : OpenRecord) → ¬ (w.pending j q.inter.0 ≡ Some e)
@@ -327,24 +308,30 @@ module _ {p : Planned} (planned : IsPlanned p) {base : ℕ} {u : ℕ → ℕ} {s
       not_granted = not_granted;
     }
 
-    asks_its_own : AgreeAt p base u s (record recording { mail = w.mail ++ RequestToBank q ∷ [] })
-    asks_its_own =
+    pub asks_ungranted : AgreeAt p base u s (asking_for p w q.class.0 q.inter.0 o q)
+    asks_ungranted =
         sends_about recorded q.inter.0 (RequestToBank q) (λ b. refl) (λ c. refl)
         (nothing_about h.books q.inter.0 unrecorded) (has, tt, tt)
 
-  -- the request names the class and the interaction
-  pub asks : {k a : ℕ} {o : ℕ → Offer} {q : Request} → Takes p w k a o q.wants
-      → AreWantsBy p.model o a q.reasons q.wants
-      → All (λ (y : Why). IsTrueOf p.model o y.inter.0 y.cause) q.reasons
-      → AreExplained p.model a q.wants q.reasons → IsReserved p a → q.request ≡ w.next k
-      → q.class.0 ≡ k → q.inter.0 ≡ a → AgreeAt p base u s (asking_for p w k a o q)
-  asks {k} {a} {o} {q} takes by so explained is_reserved number class inter =
-      subst (asks_at k) inter (subst (λ (j : ℕ). asks_at j q.inter.0) class asks_its_own) takes by
-      so explained is_reserved number
-    where
-      asks_at : ℕ → ℕ → Type 0
-      asks_at j b =
-          Takes p w j b o q.wants → AreWantsBy p.model o b q.reasons q.wants
-          → All (λ (y : Why). IsTrueOf p.model o y.inter.0 y.cause) q.reasons
-          → AreExplained p.model b q.wants q.reasons → IsReserved p b
-          → q.request ≡ w.next j → AgreeAt p base u s (asking_for p w j b o q)
+  -- and had its request been granted, the class would know what it moved
+  module _ {o : ℕ → Offer} (q : Request) (takes : Takes p w q.class.0 q.inter.0 o q.wants)
+      (counts : WantedCount w q.class.0 o q.wants)
+      (by : AreWantsBy p.model o q.inter.0 q.reasons q.wants) where
+    not_granted : ¬ In (grant_of q) w.trace
+    not_granted at =
+        let (c, on) = each_moves p.model planned.valid q.inter.0 takes.inter in
+        elim (h.books.own (grant_of q) at) [
+          | inl waits ↦
+              let there = ap (λ (j : ℕ). w.pending j q.inter.0) takes.home in
+              none-some waits.0 (sym takes.free ∙ (sym there ∙ waits.1))
+          | inr knows ↦
+              let there = ap (λ (j : ℕ). w.known j c) takes.home in
+              let new = counts c (takes.ready.moved c on) in
+              omega (arith, knows c, there, new, moved_as_offered by c on)
+        ]
+
+    pub asks : All (λ (y : Why). IsTrueOf p.model o y.inter.0 y.cause) q.reasons
+        → AreExplained p.model q.inter.0 q.wants q.reasons → IsReserved p q.inter.0
+        → q.request ≡ w.next q.class.0 → AgreeAt p base u s (asking_for p w q.class.0 q.inter.0 o q)
+    asks so explained is_reserved number =
+        asks_ungranted takes by so explained is_reserved number not_granted

@@ -26,7 +26,7 @@ use Rattle.bip_core.specs.Lists.{put_at}
 use Rattle.bip_core.specs.Views.{View, held_of, known_of, lead, next_of, number_at, pending_of}
 use Rattle.bip_core.specs.Views.{local_at, spent_of, view_of}
 use Rattle.bip_core.proofs.PutLemmas.{put_back, read_put}
-use Rattle.bip_core.proofs.TryLemmas.{Takes}
+use Rattle.bip_core.proofs.TryLemmas.{WantedCount, Takes}
 use Rattle.bip_core.proofs.UsedLemmas.{learning}
 
 -- a view with other nodes of classes
@@ -168,16 +168,21 @@ module _ (base : ℕ) (w : WorldContent) (k : ℕ) (node : ClassNode)
         ∙ none (node.pending a) (λ some. can.free a (some, inl refl));
     ready = enough.ready;
     held = λ c has.
-        let held = (counted_is_held node.offers c).0 (enough.counted c has) in
-        let number = (offers_of node.offers c).number in (
-          ap (λ (f : ℕ → Option Offer). f c) held_is ∙ held.0,
-          subst (λ (f : ℕ → ℕ). f c < number) (sym known_is) held.1,
-        );
+        ap (λ (f : ℕ → Option Offer). f c) held_is
+        ∙ ((counted_is_held node.offers c).0 (enough.counted c has)).0;
   }
     where
       none : {X : Type 0} (x : Option X) → ¬ IsSome x → x ≡ None
       none None absent = refl
       none (Some y) absent = absurd (absent refl)
+
+  -- by offers that count
+  pub wanted_count : (a : ℕ) (reasons : List Why) (wants : List Want)
+      → Suffice node a reasons wants → WantedCount old k (offers_of node.offers) wants
+  wanted_count a reasons wants enough c has =
+      let number = (offers_of node.offers c).number in
+      subst (λ (f : ℕ → ℕ). f c < number) (sym known_is)
+      ((counted_is_held node.offers c).0 (enough.counted c has)).1
 
 -- a view with other nodes of components
 abbrev of_components : View → State → (ℕ → ℕ) → (ℕ → Bool) → View

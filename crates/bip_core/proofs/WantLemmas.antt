@@ -2,7 +2,7 @@
 -- request and a decision on offers all speak by such wants.
 use Rattle.std.proofs.Common.{◌≡◌, ℕ, List, [], ◌∷◌, Bool, true, false, refl, sym, ap, ◌∙◌, inl}
 use Rattle.std.proofs.Common.{inr, arith}
-use Rattle.std.proofs.lemmas.Bool.{false_from_ne_true}
+use Rattle.std.proofs.lemmas.Bool.{cases_eq, false_from_ne_true}
 use Rattle.bip_model.specs.Parties.{AreParties, AreWantsBy, HasWantOf}
 use Rattle.bip_model.specs.Steps.{moves}
 use Rattle.bip_model.specs.Wants.{is_moved, moved_in}
@@ -52,6 +52,25 @@ moved_with (x ∷ ws) c n w at comp numbers roles = elim at [
       (moved_with ws c n w later comp (λ v i. numbers v (inr i)) (λ v i. roles v (inr i)))
 ]
 
+-- where wants that name a component all move it, it moves with the number of one of them
+moved_as_one : (ws : List Want) (c : ℕ) (w : Want) → In w ws → w.comp.0 ≡ c
+    → ((v : Want) → In v ws → v.comp.0 ≡ c → is_moved v.role ≡ true)
+    → (x : Want) × In x ws × (x.comp.0 ≡ c) × (moved_in ws c ≡ x.number)
+moved_as_one [] c w at comp roles = absurd at
+moved_as_one (x ∷ xs) c w at comp roles = elim (cases_eq x.comp.0 c) [
+  | inl same ↦ (x, inl refl, same, moved-first x xs c x.number same refl (roles x (inl refl) same))
+  | inr other ↦ elim at [
+    | inl first ↦ absurd (other (ap (λ (v : Want). v.comp.0) (sym first) ∙ comp))
+    | inr later ↦
+        let one = moved_as_one xs c w later comp (λ v i. roles v (inr i)) in (
+          one.0,
+          inr one.1,
+          one.2,
+          moved-later x xs c one.0.number (λ same. absurd (other same)) one.3,
+        )
+  ]
+]
+
 -- a component that no want moves
 unmoved-first : (w : Want) (ws : List Want) (c : ℕ) → (w.comp.0 ≡ c → is_moved w.role ≡ false)
     → moved_in ws c ≡ 0 → moved_in (w ∷ ws) c ≡ 0
@@ -85,6 +104,12 @@ module _ {m : System} {a : ℕ} {wants : List Want} (parties : AreParties m a wa
   moved_so c n on numbers =
       let (w, at, comp) = wanted c on in
       moved_with wants c n w at comp numbers (role c true on)
+
+  -- which is that of one of them
+  pub moved_with_one : (c : ℕ) → moves m a c ≡ true
+      → (w : Want) × In w wants × (w.comp.0 ≡ c) × (moved_in wants c ≡ w.number)
+  moved_with_one c on =
+      let (w, at, comp) = wanted c on in moved_as_one wants c w at comp (role c true on)
 
   -- and nothing else is moved
   pub unmoved_so : (c : ℕ) → moves m a c ≡ false → moved_in wants c ≡ 0

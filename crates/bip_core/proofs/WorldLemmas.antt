@@ -57,7 +57,8 @@ use Rattle.bip_core.specs.Traces.{trace_by}
 use Rattle.bip_partition.specs.Laws.{IsPlanned}
 use Rattle.bip_model.specs.declared.numbering.ClassId.{ClassId}
 use Rattle.bip_observe.specs.Offers.{IsReceipt, observed}
-use Rattle.bip_core.specs.Events.{AreSent, CanBeSkipped, IsCounted, IsFullFor, IsDelivered, IsDone}
+use Rattle.bip_core.specs.Events.{AreSent, CanBeSkipped, IsCounted, IsFullFor, IsMailHandedOn}
+use Rattle.bip_core.specs.Events.{IsDone}
 use Rattle.bip_core.specs.Events.{IsHandedOn, IsSending, IsTakenIn, IsTraced, SendsWhatFits}
 use Rattle.bip_core.specs.Events.{StepCanBeSkipped, TakesOut, grant_acted, grant_in, grant_tried}
 use Rattle.bip_core.specs.Events.{is_serving, effect_of, trace_with, class_named}
@@ -587,7 +588,7 @@ is_answered w (NotifyComponent n) v on = on
 
 -- a delivery is what an event does
 done_mail : (w : WorldContent) (place : ℕ) (what : What) (v : WorldContent)
-    → IsDelivered place w what v → IsDone w (Mail place) what v
+    → IsMailHandedOn place w what v → IsDone w (Mail place) what v
 done_mail w place Nothing v d = absurd (is_answered (record w { mail = d.rest }) d.message v d.on)
 done_mail w place (Hears r) v d = d
 done_mail w place Submits v d = d

@@ -13,7 +13,8 @@ use Rattle.bip_bank.specs.Decisions.Decision.TheVariants as decision
 use Rattle.bip_partition.specs.Plans.{IsReserved, Planned}
 use Rattle.bip_component.specs.Components.{IsNodeAfter, IsNotified, Node}
 use Rattle.bip_component.specs.declared.components.Notified.TheVariants as notified
-use Rattle.bip_ip.specs.Nodes.{CanBeAsked, ClassNode, IsAnswered, IsLeftByReply, IsTried}
+use Rattle.bip_ip.specs.Nodes.{CanBeAsked, CanBeTried, ClassNode, IsAnswered, IsLeftByReply}
+use Rattle.bip_ip.specs.Nodes.{IsTried}
 use Rattle.bip_ip.specs.Nodes.{after_offer}
 use Rattle.bip_ip.specs.Nodes.{after_try}
 use Rattle.bip_ip.specs.declared.nodes.Answered.TheVariants as answered
@@ -22,10 +23,12 @@ use Rattle.bip_ip.specs.declared.nodes.Tried.TheVariants as tried
 use Rattle.bip_observe.specs.Offers.{IsReceipt}
 use Rattle.bip_bank.specs.Banks.{BankContent, CanWantMemory, DoesStep, IsActed, content_of}
 use Rattle.bip_bank.specs.Banks.{with_request}
+use Rattle.bip_bank.specs.Idleness.{IsIdleBecause}
 use Rattle.bip_bank.specs.declared.banks.Acted.{Acted}
 use Rattle.bip_bank.specs.declared.banks.Acted.TheVariants as acted
 use Rattle.bip_bank.specs.declared.banks.BankStep.TheVariants.{Serve}
 use Rattle.bip_bank.specs.declared.banks.BankStep.{BankStep}
+use Rattle.bip_bank.specs.declared.idleness.WhyIdle.{WhyIdle}
 use Rattle.bip_core.specs.Letters.{CanBeOffered, CanBeReplied, CanBeSubmitted, CanBeTold}
 use Rattle.bip_core.specs.Worlds.{AreOffersOf, KeptWorld, WorldContent, with_class_node}
 use Rattle.bip_core.specs.Worlds.{with_component_node}
@@ -73,7 +76,7 @@ pub record TakesOut (place : ℕ) (message : Message) (mail left : List Message)
   pub others : left ≡ front ++ back
 
 -- the message at a place is taken out and handed on
-pub record IsDelivered (place : ℕ) (w : WorldContent) (what : What) (v : WorldContent)
+pub record IsMailHandedOn (place : ℕ) (w : WorldContent) (what : What) (v : WorldContent)
     : Type 0 where
   pub message : Message
   pub rest : List Message
@@ -83,7 +86,7 @@ pub record IsDelivered (place : ℕ) (w : WorldContent) (what : What) (v : World
 -- what an event does, by the contract of the node that it addresses, and what that leaves
 abbrev pub IsDone : WorldContent → Event → What → WorldContent → Type 0
 IsDone w (Mail place) Nothing v = (length w.mail ≤ place) × (v ≡ w)
-IsDone w (Mail place) what v = IsDelivered place w what v
+IsDone w (Mail place) what v = IsMailHandedOn place w what v
 IsDone w (Try k a) (Tries did) v =
     (node : ClassNode) × (w.classes k.0 ≡ Some node) × IsTried node a.0 did
     × (v ≡ with_class_node k.0 (after_try a.0 did node) w)
@@ -180,6 +183,20 @@ IsFullFor w (Try k a) = w.room ≤ length w.trace
 IsFullFor w (Bank (Serve s)) =
     CanWantMemory (content_of w.bank) (Serve s) ⊎ (w.room ≤ length w.trace)
 IsFullFor w event = ⊤
+
+-- an event has something to do: its message is in flight; its try would be granted at once, or ask
+-- for the interaction; its step of the bank decides or moves something, but for want of memory or
+-- of a serial
+abbrev pub HasWork : WorldContent → Event → Type 0
+HasWork w (Mail place) = place < length w.mail
+HasWork w (Try k a) = (node : ClassNode) × (w.classes k.0 ≡ Some node) × CanBeTried node a.0
+HasWork w (Bank step) = CanWantMemory w.bank step
+
+-- it has nothing to do; of a step of the bank a reason says so
+abbrev pub HasNoWork : WorldContent → Event → Type 0
+HasNoWork w (Mail place) = length w.mail ≤ place
+HasNoWork w (Try k a) = (node : ClassNode) → w.classes k.0 ≡ Some node → ¬ CanBeTried node a.0
+HasNoWork w (Bank step) = (why : WhyIdle) × IsIdleBecause w.bank step why
 
 -- What contracts of private functions say.
 

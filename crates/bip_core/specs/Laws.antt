@@ -1,22 +1,24 @@
 -- What events mean for traces and messages, in the subject's own words: laws that a reviewer reads.
 -- They stand on what a step is, and on nothing else.
 use Rattle.std.specs.Prelude.{◌≡◌, ◌↔◌, ◌+◌, ◌≤◌, ◌<◌, ◌==◌, ◌&&◌, ℕ, Bool, false, List, [], ◌∷◌}
-use Rattle.std.specs.Prelude.{◌++◌, Contains, Option, Some, count_by, length, slice_get}
+use Rattle.std.specs.Prelude.{◌++◌, Contains, Option, Some, count_by, length, slice_get, true}
 use Rattle.std.specs.Option.{option_to_list}
+use Rattle.bip_model.specs.Numbering.{last_number}
 use Rattle.bip_model.specs.States.{State}
 use Rattle.bip_model.specs.declared.grants.Grant.{Grant}
 use Rattle.bip_model.specs.declared.messages.Notify.{Notify}
 use Rattle.bip_model.specs.declared.messages.Offer.{Offer}
 use Rattle.bip_model.specs.declared.numbering.ClassId.{ClassId}
 use Rattle.bip_partition.specs.Plans.{ClassTouches, Planned}
+use Rattle.bip_bank.specs.Laws.{MovesInOneWay}
 use Rattle.bip_observe.specs.Laws.{AllShow, IsInSet}
 use Rattle.bip_observe.specs.Verdicts.{IsReady}
 use Rattle.bip_component.specs.Components.{CanMoveBy, IsNode, IsOffered, Node}
 use Rattle.bip_ip.specs.Asking.{told_by}
 use Rattle.bip_core.specs.Starting.{IsNewWorld}
 use Rattle.bip_core.specs.Agreement.{AreOfPlan}
-use Rattle.bip_core.specs.Events.{AreSent, IsStep, grant_in, trace_with}
-use Rattle.bip_core.specs.Runs.{AreSteps, did_so, is_grant}
+use Rattle.bip_core.specs.Events.{AreSent, HasNoWork, HasWork, IsStep, grant_in, trace_with}
+use Rattle.bip_core.specs.Runs.{AreSteps, did_so, is_grant, is_idle}
 use Rattle.bip_core.specs.Worlds.{WorldContent}
 use Rattle.bip_core.specs.declared.events.Did.{Did}
 use Rattle.bip_core.specs.declared.events.Event.{Event}
@@ -130,3 +132,17 @@ FirstOffersAreSent =
     (p : Planned) (base : ℕ) (w : WorldContent) → IsNewWorld p base w
     → ((m : Message) → Contains w.mail m ↔ IsFirstMail w m)
     × ((k c : ℕ) → count_by (is_offer_to k c) w.mail ≤ 1)
+
+-- an event that has something to do isn't idle, where a serial is left, and what stations share
+-- moves in one way
+abbrev pub WorkIsDone : Type 0
+WorkIsDone =
+    (w v : WorldContent) (event : Event) (did : Did) → MovesInOneWay w.bank.sharing
+    → length w.bank.grants < last_number → HasWork w event → IsStep w event did v
+    → is_idle did.what ≡ false
+
+-- and one that has nothing to do is idle
+abbrev pub NoWorkIsIdle : Type 0
+NoWorkIsIdle =
+    (w v : WorldContent) (event : Event) (did : Did) → MovesInOneWay w.bank.sharing
+    → HasNoWork w event → IsStep w event did v → is_idle did.what ≡ true

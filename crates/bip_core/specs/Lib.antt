@@ -1,6 +1,7 @@
 pub mod Accepting
 pub mod Agreement
 pub mod Books
+pub mod Doubled
 pub mod Events
 pub mod Laws
 pub mod Letters

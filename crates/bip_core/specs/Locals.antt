@@ -45,7 +45,7 @@ MailShows m u s state (ReplyToClass r) = ⊤
 pub record LocalsAgree (m : System) (base : ℕ) (u : ℕ → ℕ) (s : State) (w : View) : Type 0 where
   pub end_is : state_after m w.trace ≡ s
   pub run : IsModelRun m base w.trace
-  pub settled : (c : ℕ) → w.number c ≡ u c + 1 → w.state c ≡ s c
+  pub at_rest : (c : ℕ) → w.number c ≡ u c + 1 → w.state c ≡ s c
   pub spent : (c : ℕ) → w.spent c ≡ true → w.state c ≡ s c
   pub mail : (x : Message) → In x w.mail → MailShows m u s w.state x
   pub held : (k c : ℕ) (o : Offer) → w.held k c ≡ Some o → u o.comp.0 < o.number

@@ -41,16 +41,16 @@ pub record TraceAgrees (p : Planned) (base : ℕ) (w : View) : Type 0 where
   pub once : MovesOnceEach w.trace
   pub bank : AreReserved p w.trace w.grants
 
--- 2. each component is settled, moving or spent
+-- 2. each component is at rest, moving or spent
 
 -- nobody is to tell a component to move: no notification for it is in flight, and none is owed
 pub record NobodyTells (w : View) (c : ℕ) : Type 0 where
   pub in_flight : count (is_for c) w.mail ≡ 0
   pub owed : (k a : ℕ) (e : OpenRecord) (n : Notify) → IsOwed w k a e n → ¬ (n.comp.0 ≡ c)
 
--- a settled component made all its granted moves: its number is the next one after the used one,
+-- a component at rest made all its granted moves: its number is the next one after the used one,
 -- and it is where the trace leads
-pub record IsSettled (u : ℕ → ℕ) (s : State) (w : View) (c : ℕ) : Type 0 where
+pub record IsAtRest (u : ℕ → ℕ) (s : State) (w : View) (c : ℕ) : Type 0 where
   pub number : w.number c ≡ u c + 1
   pub there : w.state c ≡ s c
   pub none : NobodyTells w c
@@ -84,7 +84,7 @@ pub record IsSpent (u : ℕ → ℕ) (s : State) (w : View) (c : ℕ) : Type 0 w
   pub none : NobodyTells w c
 
 abbrev pub ComponentAgrees : System → (ℕ → ℕ) → State → View → ℕ → Type 0
-ComponentAgrees m u s w c = IsSettled u s w c ⊎ (IsMoving m u s w c ⊎ IsSpent u s w c)
+ComponentAgrees m u s w c = IsAtRest u s w c ⊎ (IsMoving m u s w c ⊎ IsSpent u s w c)
 
 -- 3. an offer, held or in flight, has at most its component's number; one above the used number has
 -- the next one, and shows the state to which the trace leads

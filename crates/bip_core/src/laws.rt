@@ -1,10 +1,14 @@
 //! The laws above the definitions: what a reviewer reads to know what events do. The call does
 //! nothing, and has the laws for its contract.
+ghost use Rattle.bip_core.specs.Doubled.{AgreementAllowsCopies, CopiesAreRefused, DoublingKeeps};
+ghost use Rattle.bip_core.specs.Doubled.{EachMayBeDoubled, EventsKeepWithCopies, NoneNeedBeDoubled};
+ghost use Rattle.bip_core.specs.Doubled.{RunsWithCopiesAreRuns};
 ghost use Rattle.bip_core.specs.Repeats.{OneNewWorld, OneRun};
 ghost use Rattle.bip_core.specs.Sentences.{AgreementInSix, NoneToldIsStale, OneOfferOut};
 ghost use Rattle.bip_core.specs.Laws.{FirstOffersAreSent, GrantsJoinTheTrace, MessagesAreCounted};
-ghost use Rattle.bip_core.specs.Laws.{MessagesAreSent, MessagesGoOnce, ToldCanBeTaken, TracesGoOn};
-ghost use Rattle.bip_core.specs.Laws.{WorldsKeepTheirPlan};
+ghost use Rattle.bip_core.specs.Laws.{MessagesAreSent, MessagesGoOnce, NoWorkIsIdle};
+ghost use Rattle.bip_core.specs.Laws.{ToldCanBeTaken};
+ghost use Rattle.bip_core.specs.Laws.{TracesGoOn, WorkIsDone, WorldsKeepTheirPlan};
 
 /// An event's grant joins the trace, and nothing else does; so traces go on, by as many grants as
 /// were given. Messages are neither made up nor doubled, and one that is handed on is in flight no
@@ -21,6 +25,24 @@ pub fn world_laws()
     ensures counted { MessagesAreCounted }
     ensures first { FirstOffersAreSent }
     ensures taken { ToldCanBeTaken }
+    ensures work { WorkIsDone }
+    ensures idle { NoWorkIsIdle }
+{}
+
+/// Messages may be doubled. Whatever events a world that agrees with its trace does, and whatever
+/// messages in flight are put once more between them, behind all others, as often as one likes:
+/// the trace is a run of the model with its priorities, and no component is moved twice with one
+/// number. It is so for any bank, any plan, and for messages of any kind. A world agrees with its
+/// trace all the same, in a weaker form, which each doubling keeps and each event; in it a copy of
+/// a request that was granted is refused (docs/PROTOCOL.md, "Copies").
+pub fn doubled_laws()
+    ensures each { EachMayBeDoubled }
+    ensures none { NoneNeedBeDoubled }
+    ensures allows { AgreementAllowsCopies }
+    ensures doubles { DoublingKeeps }
+    ensures events { EventsKeepWithCopies }
+    ensures refused { CopiesAreRefused }
+    ensures run { RunsWithCopiesAreRuns }
 {}
 
 /// What it means that a world agrees with its trace, in six parts: of the trace, of each component,

@@ -1,16 +1,18 @@
 //! The world: a machine of nodes, messages and a bank.
 ghost use Rattle.std.specs.Prelude.{◌≡◌, ◌<◌, ◌≤◌, All, IfErr, IfNone, IfOk, IfSome, None};
-ghost use Rattle.std.specs.Prelude.{OnErr, Some, length, slice_get};
+ghost use Rattle.std.specs.Prelude.{IsFalse, IsTrue, OnErr, Some, length, slice_get};
 ghost use Rattle.bip_model.specs.Numbering.{last_number};
 ghost use Rattle.bip_model.specs.Grants.{MovesOnceEach};
 ghost use Rattle.bip_replay.specs.Runs.{IsModelRun};
 ghost use Rattle.bip_bank.specs.Banks.{content_of};
 ghost use Rattle.bip_core.specs.Agreement.{Agrees};
-ghost use Rattle.bip_core.specs.Events.{CanBeSkipped, IsCounted, IsFullFor, IsStep};
+ghost use Rattle.bip_core.specs.Events.{CanBeSkipped, HasNoWork, HasWork, IsCounted, IsFullFor};
+ghost use Rattle.bip_core.specs.Events.{IsStep};
 ghost use Rattle.bip_core.specs.Letters.{CanBeHandedOn, IsLetterOf};
 ghost use Rattle.bip_core.specs.Starting.{IsNewWorld, IsUnasked};
 ghost use Rattle.bip_core.specs.Worlds.{IsKeptWorld, IsKnownGrant, IsLackingIn, IsNoneOf};
 ghost use Rattle.bip_core.specs.Worlds.{world_of};
+ghost use Rattle.bip_core.specs.declared.events.Event.TheVariants.{Try};
 
 use crate::machines::Machine;
 use crate::outcomes::{Outcome, Witness};
@@ -167,6 +169,32 @@ impl<'p, B: bip_bank::Bank> World<'p, B> {
             return None;
         }
         Some(self.machine.mail.get(place).message())
+    }
+
+    /// Whether an event has something to do here: its message is in flight, its try would be
+    /// granted at once or ask for the interaction, or its step of the bank would decide or move
+    /// something. Only want of memory, or of a serial, can leave such an event with nothing done
+    /// (docs/PROTOCOL.md, "The world and its events").
+    pub fn has_work(&self, event: Event) -> bool
+        ensures work { IsTrue result → HasWork (world_of self.now) event }
+        ensures none { IsFalse result → HasNoWork (world_of self.now) event }
+    {
+        match event {
+            Event::Mail(place) => place < self.mails(),
+            Event::Try(class, inter) => self.can_try(class, inter),
+            Event::Bank(step) => self.machine.bank.why_idle(step).is_none(),
+        }
+    }
+
+    /// Whether a class that there is could do something with a try of an interaction.
+    fn can_try(&self, class: ClassId, inter: InterId) -> bool
+        ensures work { IsTrue result → HasWork (world_of self.now) (Try class inter) }
+        ensures none { IsFalse result → HasNoWork (world_of self.now) (Try class inter) }
+    {
+        match self.machine.classes.get(class.0 as usize) {
+            Some(node) => node.can_try(inter),
+            None => false,
+        }
     }
 
     /// The interaction above another for whose sake that one isn't ready in its class, by the

@@ -3,6 +3,7 @@ use Rattle.bip_core.proofs.TakeLemmas.{told_can_be_taken}
 use Rattle.bip_core.proofs.KeepLemmas.{worlds_keep_their_plan}
 use Rattle.bip_core.proofs.RunLemmas.{messages_counted, messages_once, messages_sent, step_trace}
 use Rattle.bip_core.proofs.RunLemmas.{steps_grow}
+use Rattle.bip_core.proofs.WorkLemmas.{no_work_is_idle, work_is_done}
 use Rattle.bip_core.proofs.laws.world_laws.Goals as goal
 
 pub returns-clause-join : goal.returns-clause-join
@@ -28,3 +29,9 @@ returns-clause-first c = first_offers_are_sent
 
 pub returns-clause-taken : goal.returns-clause-taken
 returns-clause-taken c = told_can_be_taken
+
+pub returns-clause-work : goal.returns-clause-work
+returns-clause-work c = work_is_done
+
+pub returns-clause-idle : goal.returns-clause-idle
+returns-clause-idle c = no_work_is_idle
