@@ -154,7 +154,7 @@ impl Reading {
     {
         match statement {
             Statement::Header => {
-                self.builder = Some(Builder::new(alloc)?);
+                drop(self.builder.replace(Builder::new(alloc)?));
                 Ok(())
             }
             Statement::Class { name, interactions } => { self.class(alloc, name, &interactions) }

@@ -55,8 +55,13 @@ fn declared_by(alloc: Global, reading: Reading) -> Result<(Model, Classes), Why>
         → IsWholeReading reading × ¬ IsCyclic (system_of reading).priorities }
 {
     let (model, listed) = reading.finish()?;
-    let classes = classes_of(alloc, &model, listed)?;
-    Ok((model, classes))
+    match classes_of(alloc, &model, listed) {
+        Ok(classes) => Ok((model, classes)),
+        Err(why) => {
+            drop(model);
+            Err(why)
+        }
+    }
 }
 
 /// The classes that lists of a model's interactions are. Memory comes only where they part them.
@@ -85,6 +90,7 @@ fn read_lines(alloc: Global, text: &[u8]) -> Result<(Reading, u64), ReadFault>
     let mut last = 1;
     for (line, bytes) in NumberedLines::of(text) {
         if let Err(why) = reading.read_line(alloc, bytes) {
+            drop(reading);
             return Err(ReadFault { line, why });
         }
         last = line;
