@@ -145,7 +145,7 @@ impl ForkActor {
             Ok(Served::Answered(decided, request)) => {
                 let (step, deciding) = on_decided(request, decided);
                 self.turn = Turn::Done;
-                self.stage = ForkStage::Deciding(deciding);
+                drop(mem::replace(&mut self.stage, ForkStage::Deciding(deciding)));
                 step
             }
             Err(_) => {
@@ -165,11 +165,13 @@ impl ForkActor {
             + rank_fork (length self.old.neighbours.items) self.old.stage }
     {
         let Some((place, other)) = self.next_shared(&station, from) else {
-            self.station = Some(station);
+            // By calls: what is let go without takes the prover long (CONTRIBUTING, "Proving").
+            drop(self.station.replace(station));
             return Step::Over(self.turn);
         };
         let message = station.share(other);
-        self.stage = ForkStage::Sharing(station, place, shared_by(&message));
+        let stage = ForkStage::Sharing(station, place, shared_by(&message));
+        drop(mem::replace(&mut self.stage, stage));
         Step::Act(StationAct::Share(other, message))
     }
 
@@ -278,16 +280,21 @@ impl Actor for ForkActor {
                 ForkStage::Deciding(Deciding::Appending(unsettled, request, serial)),
                 StationAnswer::Appended(Some(entry)),
             ) => {
-                let settled = unsettled.settle(&entry);
-                self.stage = ForkStage::Deciding(Deciding::Answering(settled));
+                let stage = ForkStage::Deciding(Deciding::Answering(unsettled.settle(&entry)));
+                drop(mem::replace(&mut self.stage, stage));
                 Step::Act(StationAct::Answer(ToClass::Granted {
                     entry,
                     request,
                     serial,
                 }))
             }
-            (ForkStage::Deciding(Deciding::Appending(..)), StationAnswer::Appended(None)) =>
-                Step::Over(Turn::Ends),
+            (
+                ForkStage::Deciding(Deciding::Appending(unsettled, ..)),
+                StationAnswer::Appended(None),
+            ) => {
+                drop(unsettled);
+                Step::Over(Turn::Ends)
+            }
             (ForkStage::Deciding(Deciding::Answering(station)), StationAnswer::Answered(posted)) =>
                 {
                     self.counts.post(posted);

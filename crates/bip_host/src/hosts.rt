@@ -16,6 +16,7 @@ use crate::aims::{Aim, Watch};
 use crate::books::{SharedBook, as_run};
 use crate::faults::HostFault;
 use crate::gates::Gate;
+use crate::inboxes::Inbox;
 use crate::joining::{join_all, part_all};
 use crate::keepers::BookLock;
 use crate::layers::StationLayers;
@@ -242,39 +243,128 @@ fn run_kind<L: Ledger + Send + Sync, G: Gate + Sync, R: Threads + Wait + Sync>(
         asked.limits.turns done.1) }
     ensures ended { IfOk result (λ done. IsEndedBy asked.limits done.0.grants.items done.1) }
 {
-    let Asked {
-        kind,
-        tables,
-        limits,
-        ..
-    } = asked;
+    let (commons, ends) = open_commons::<L>(alloc, plan, asked, blank)?;
+    match run_nodes(rt, alloc, plan, asked, &commons, ends, gate) {
+        Ok(totals) => {
+            let (book, entered) = commons.into_book().close();
+            report(alloc, plan, book, entered, totals, asked.limits)
+        }
+        Err(refused) => {
+            // By calls: what is let go without takes the prover long (CONTRIBUTING, "Proving").
+            drop(commons);
+            Err(HostFault::from(refused))
+        }
+    }
+}
+
+/// Makes what the nodes of a host share, and the ends of its inboxes.
+fn open_commons<L: Ledger>(
+    alloc: Global,
+    plan: &Plan,
+    asked: Asked,
+    blank: Blank,
+) -> Result<(Commons<'_, L>, HostEnds<L>), AllocError>
+    requires tables { CanHave plan.now asked.kind asked.tables }
+    requires name { blank.name ≡ L.name }
+    requires parts { (blank.parts ≡ L.parts)
+        × (blank.parts ≡ max 1 (length plan.now.classes.members)) }
+    ensures offers { IfOk result (λ made. AreEndsOfEach made.0.offers.items made.1.offers.items) }
+    ensures notices { IfOk result (λ made.
+        AreEndsOfEach made.0.notices.items made.1.notices.items) }
+    ensures shares { IfOk result (λ made. AreEndsOfEach made.0.shares.items made.1.shares.items) }
+    ensures access { IfOk result (λ made. IsAccessTo made.0.table made.1.access) }
+    ensures form { IfOk result (λ made.
+        form_of_table made.0.table ≡ form_asked asked.kind asked.tables) }
+{
     let passes = plan.classes().len().max(1);
-    let (table, access) = open_table::<L>(alloc, plan, kind, tables, blank, passes)?;
+    let (table, access) = open_table::<L>(alloc, plan, asked.kind, asked.tables, blank, passes)?;
+    let book = match open_book(alloc, plan, asked.limits) {
+        Ok(book) => book,
+        Err(refused) => {
+            drop(table);
+            drop(access);
+            return Err(refused);
+        }
+    };
+    match open_inboxes(alloc, plan, asked.kind) {
+        Ok(inboxes) => {
+            let (offers, offer_ends) = inboxes.offers;
+            let (notices, notice_ends) = inboxes.notices;
+            let (shares, share_ends) = inboxes.shares;
+            let commons = Commons {
+                table,
+                book,
+                offers,
+                notices,
+                shares,
+            };
+            let ends = HostEnds {
+                offers: offer_ends,
+                notices: notice_ends,
+                shares: share_ends,
+                access,
+            };
+            Ok((commons, ends))
+        }
+        Err(refused) => {
+            drop(table);
+            drop(access);
+            drop(book);
+            Err(refused)
+        }
+    }
+}
+
+/// The locked book without a grant, beside which each class has a place.
+fn open_book(alloc: Global, plan: &Plan, limits: Limits) -> Result<BookLock<'_>, AllocError> {
     let book = SharedBook::of(Book::start(alloc, plan.model(), 0)?);
     let book = WaitingBook::of(alloc, book, plan.classes().len())?;
-    let book = BookLock::of(book, limits.grants.map(Aim::of));
-    let has_stations = kind != Kind::Central;
-    let (offers, offer_ends) = part_all(alloc, class_mailboxes(alloc, plan, has_stations)?)?;
-    let (notices, notice_ends) = part_all(alloc, component_mailboxes(alloc, plan)?)?;
-    let (shares, share_ends) = part_all(alloc, station_mailboxes(alloc, plan, kind)?)?;
-    let commons = Commons {
-        table,
-        book,
+    Ok(BookLock::of(book, limits.grants.map(Aim::of)))
+}
+
+/// All inboxes of a host, apart from their ends.
+#[derive(Drop)]
+struct PartedInboxes {
+    offers: (Vec<Inbox<ToClass>>, Vec<LooseEnds<ToClass>>),
+    notices: (Vec<Inbox<Notify>>, Vec<LooseEnds<Notify>>),
+    shares: (Vec<Inbox<ToStation>>, Vec<LooseEnds<ToStation>>),
+}
+
+/// Makes the inboxes of a host of a kind.
+fn open_inboxes(alloc: Global, plan: &Plan, kind: Kind) -> Result<PartedInboxes, AllocError>
+    ensures offers { IfOk result (λ all. AreEndsOfEach all.offers.0.items all.offers.1.items) }
+    ensures notices { IfOk result (λ all. AreEndsOfEach all.notices.0.items all.notices.1.items) }
+    ensures shares { IfOk result (λ all. AreEndsOfEach all.shares.0.items all.shares.1.items) }
+{
+    let offers = part_all(alloc, class_mailboxes(alloc, plan, kind != Kind::Central)?)?;
+    let notices = part_all(alloc, component_mailboxes(alloc, plan)?)?;
+    let shares = part_all(alloc, station_mailboxes(alloc, plan, kind)?)?;
+    Ok(PartedInboxes {
         offers,
         notices,
         shares,
-    };
-    let ends = HostEnds {
-        offers: offer_ends,
-        notices: notice_ends,
-        shares: share_ends,
-        access,
-    };
-    let nodes = start_nodes(alloc, plan, kind, &commons, ends, gate)?;
-    let totals = run_threads(rt, alloc, nodes, asked, commons.book.aim())?;
-    let Commons { book, .. } = commons;
-    let (book, entered) = book.into_book().close();
-    report(alloc, plan, book, entered, totals, limits)
+    })
+}
+
+/// Makes the nodes of a host, and runs them.
+fn run_nodes<L: Ledger + Send + Sync, G: Gate + Sync, R: Threads + Wait + Sync>(
+    rt: &R,
+    alloc: Global,
+    plan: &Plan,
+    asked: Asked,
+    commons: &Commons<'_, L>,
+    ends: HostEnds<L>,
+    gate: &G,
+) -> Result<Totals, AllocError>
+    requires offers { AreEndsOfEach commons.now.offers.items ends.offers.items }
+    requires notices { AreEndsOfEach commons.now.notices.items ends.notices.items }
+    requires shares { AreEndsOfEach commons.now.shares.items ends.shares.items }
+    requires access { IsAccessTo commons.now.table ends.access }
+    requires form { form_of_table commons.now.table ≡ form_asked asked.kind asked.tables }
+    ensures { IfOk result (AreTotalsOf asked) }
+{
+    let nodes = start_nodes(alloc, plan, asked.kind, commons, ends, gate)?;
+    run_threads(rt, alloc, nodes, asked, commons.book.aim())
 }
 
 /// The ends of all inboxes of a host, which aren't handed out yet, and by what its table is asked.
@@ -382,12 +472,22 @@ fn run_threads<'h, 'p, 'm, 'g, L: Ledger + Send + Sync, G: Gate + Sync, R: Threa
             let turns = asked.limits.turns;
             // Who starts them counts too, until all are started.
             let starting = Watch::counted(aim);
-            let mut running = Vec::with_capacity(alloc, nodes.len())?;
+            let mut running = match Vec::with_capacity(alloc, nodes.len()) {
+                Ok(running) => running,
+                Err(refused) => {
+                    drop(nodes);
+                    drop(starting);
+                    return Err(refused);
+                }
+            };
             for node in nodes {
                 let watch = node.watch(aim);
                 match scope.spawn_with(AtMost { turns }, move || node.run(rt, turns, watch)) {
                     Ok(handle) => running.push(handle)?,
-                    Err(_) => break,
+                    Err(refused) => {
+                        drop(refused);
+                        break;
+                    }
                 }
             }
             drop(starting);

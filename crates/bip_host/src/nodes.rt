@@ -93,11 +93,34 @@ impl<'h, 'p, 'm, 'g, L: Ledger, G: Gate> Nodes<'h, 'p, 'm, 'g, L, G> {
             classes,
             stations,
         } = self;
-        let mut nodes = Vec::with_capacity(alloc, components.len())?;
-        add_components(&mut nodes, components)?;
-        add_classes(&mut nodes, classes)?;
-        add_stations(&mut nodes, stations)?;
-        Ok(nodes)
+        // By calls: what is let go without takes the prover long (CONTRIBUTING, "Proving").
+        let mut nodes = match Vec::with_capacity(alloc, components.len()) {
+            Ok(nodes) => nodes,
+            Err(refused) => {
+                drop(components);
+                drop(classes);
+                drop(stations);
+                return Err(refused);
+            }
+        };
+        if let Err(refused) = add_components(&mut nodes, components) {
+            drop(classes);
+            drop(stations);
+            drop(nodes);
+            return Err(refused);
+        }
+        if let Err(refused) = add_classes(&mut nodes, classes) {
+            drop(stations);
+            drop(nodes);
+            return Err(refused);
+        }
+        match add_stations(&mut nodes, stations) {
+            Ok(()) => Ok(nodes),
+            Err(refused) => {
+                drop(nodes);
+                Err(refused)
+            }
+        }
     }
 }
 
@@ -110,7 +133,10 @@ fn add_components<'h, 'p, 'm, 'g, L: Ledger, G: Gate>(
         ≡ length nodes.old.items + length components.entry.items) }
 {
     for (actor, hands) in components {
-        nodes.push(Node::Component(actor, hands))?;
+        if let Err(refused) = nodes.push(Node::Component(actor, hands)) {
+            drop(refused);
+            return Err(AllocError);
+        }
     }
     Ok(())
 }
@@ -124,7 +150,10 @@ fn add_classes<'h, 'p, 'm, 'g, L: Ledger, G: Gate>(
         ≡ length nodes.old.items + length classes.entry.items) }
 {
     for (actor, hands) in classes {
-        nodes.push(Node::Class(actor, hands))?;
+        if let Err(refused) = nodes.push(Node::Class(actor, hands)) {
+            drop(refused);
+            return Err(AllocError);
+        }
     }
     Ok(())
 }
@@ -153,7 +182,10 @@ fn add_ring<'h, 'p, 'm, 'g, L: Ledger, G: Gate>(
         ≡ length nodes.old.items + length stations.entry.items) }
 {
     for (actor, hands) in stations {
-        nodes.push(Node::Ring(actor, hands))?;
+        if let Err(refused) = nodes.push(Node::Ring(actor, hands)) {
+            drop(refused);
+            return Err(AllocError);
+        }
     }
     Ok(())
 }
@@ -167,7 +199,10 @@ fn add_forks<'h, 'p, 'm, 'g, L: Ledger, G: Gate>(
         ≡ length nodes.old.items + length stations.entry.items) }
 {
     for (actor, hands) in stations {
-        nodes.push(Node::Forks(actor, hands))?;
+        if let Err(refused) = nodes.push(Node::Forks(actor, hands)) {
+            drop(refused);
+            return Err(AllocError);
+        }
     }
     Ok(())
 }

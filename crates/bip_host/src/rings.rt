@@ -168,16 +168,22 @@ impl Actor for RingActor {
                 RingStage::Deciding(Deciding::Appending(unsettled, request, serial)),
                 StationAnswer::Appended(Some(entry)),
             ) => {
-                let settled = unsettled.settle(&entry);
-                self.stage = RingStage::Deciding(Deciding::Answering(settled));
+                let stage = RingStage::Deciding(Deciding::Answering(unsettled.settle(&entry)));
+                // By calls: what is let go without takes the prover long (CONTRIBUTING, "Proving").
+                drop(mem::replace(&mut self.stage, stage));
                 Step::Act(StationAct::Answer(ToClass::Granted {
                     entry,
                     request,
                     serial,
                 }))
             }
-            (RingStage::Deciding(Deciding::Appending(..)), StationAnswer::Appended(None)) =>
-                Step::Over(Turn::Ends),
+            (
+                RingStage::Deciding(Deciding::Appending(unsettled, ..)),
+                StationAnswer::Appended(None),
+            ) => {
+                drop(unsettled);
+                Step::Over(Turn::Ends)
+            }
             (RingStage::Deciding(Deciding::Answering(token)), StationAnswer::Answered(posted)) => {
                 self.counts.post(posted);
                 self.hand_on(token)
@@ -187,7 +193,7 @@ impl Actor for RingActor {
                 Step::Over(Turn::Done)
             }
             (RingStage::Passing, StationAnswer::Shared(Some(ToStation::Token(token)))) => {
-                self.token = Some(token);
+                drop(self.token.replace(token));
                 Step::Over(Turn::Nothing)
             }
             _ => unreachable!(),

@@ -1,7 +1,8 @@
 //! How the nodes of a host begin: the inboxes, and each node with its ends.
 ghost use Rattle.std.specs.Prelude.{◌≡◌, ◌≤◌, IfOk, IfSome, length};
+ghost use Rattle.bip_host.specs.Classes.{IsFirstClassActor};
 ghost use Rattle.bip_host.specs.Starting.{AreClassNodes, AreComponentNodes, IsStationAt};
-ghost use Rattle.bip_host.specs.Tables.{form_of_layers};
+ghost use Rattle.bip_host.specs.Tables.{form_of, form_of_layers, most_of};
 ghost use Rattle.bip_model.specs.Partitions.{class_in};
 
 use crate::addressed::Addressed;
@@ -12,10 +13,11 @@ use crate::gates::Gate;
 use crate::hands::{ClassHands, ComponentHands};
 use crate::inboxes::Inbox;
 use crate::keepers::{BookKeeper, BookLock};
-use crate::layers::Layers;
+use crate::layers::{Layers, ThirdLayer};
 use crate::mailboxes::Mailbox;
 use crate::messages::{ToClass, ToStation};
 use crate::tables::CommonTable;
+use crate::waiting::WaitingBook;
 use bip_model::{ClassId, CompId, InterId, Notify};
 use bip_partition::Plan;
 use std::alloc::{AllocError, Global};
@@ -33,6 +35,25 @@ pub(crate) struct Commons<'m, L: Ledger> {
     pub(crate) notices: Vec<Inbox<Notify>>,
     /// By station: what its class asks it, and stations hand on to it.
     pub(crate) shares: Vec<Inbox<ToStation>>,
+}
+
+impl<'m, L: Ledger> Commons<'m, L> {
+    /// The book, once nobody shares them.
+    pub(crate) fn into_book(self) -> WaitingBook<'m> {
+        let Commons {
+            table,
+            book,
+            offers,
+            notices,
+            shares,
+        } = self;
+        // By calls: what is let go without takes the prover long (CONTRIBUTING, "Proving").
+        drop(table);
+        drop(offers);
+        drop(notices);
+        drop(shares);
+        book.into_book()
+    }
 }
 
 /// The inboxes of all classes: each has a writer for each component that the class touches, and for
@@ -156,27 +177,80 @@ pub(crate) fn start_classes<'h, 'p, 'm, 'g, L: Ledger, G: Gate>(
     ensures { IfOk result (λ nodes.
         AreClassNodes plan.now (form_of_layers layers.entry) nodes.items) }
 {
-    let most = layers.most();
-    let mut nodes = Vec::with_capacity(alloc, intakes.len())?;
-    for intake in intakes {
-        let number = nodes.len();
-        if number >= plan.classes().len() {
-            return Ok(nodes);
+    let mut nodes = match Vec::with_capacity(alloc, intakes.len()) {
+        Ok(nodes) => nodes,
+        Err(refused) => {
+            drop(intakes);
+            drop(layers);
+            return Err(refused);
         }
-        let class = ClassId(number as u16);
-        let Some(layer) = layers.of_class(alloc, plan, class)? else {
-            return Ok(nodes);
-        };
-        let hands = ClassHands {
-            intake,
-            components: component_outlets(alloc, plan, class, notices)?,
-            layer,
-            keeper: BookKeeper::of(book),
-            gate,
-        };
-        nodes.push((ClassActor::new(alloc, plan, class, most)?, hands))?;
+    };
+    for intake in intakes {
+        match class_parts(alloc, plan, nodes.len(), notices, &mut layers) {
+            Ok(Some((actor, components, layer))) => {
+                let hands = ClassHands {
+                    intake,
+                    components,
+                    layer,
+                    keeper: BookKeeper::of(book),
+                    gate,
+                };
+                nodes.push((actor, hands))?;
+            }
+            Ok(None) => {
+                drop(intake);
+                break;
+            }
+            Err(refused) => {
+                drop(intake);
+                drop(layers);
+                drop(nodes);
+                return Err(refused);
+            }
+        }
     }
+    drop(layers);
     Ok(nodes)
+}
+
+/// The actor of the class with a number, an outlet to each component that it touches, and its third
+/// layer, if there is such a class and what it takes.
+fn class_parts<'h, 'p, L: Ledger>(
+    alloc: Global,
+    plan: &'p Plan,
+    number: usize,
+    notices: &mut Outlets<'h, Notify>,
+    layers: &mut Layers<'h, 'p, L>,
+) -> Result<Option<(ClassActor<'p>, Addressed<'h, Notify>, ThirdLayer<'h, 'p, L>)>, AllocError>
+    ensures actor { IfOk result (λ made. IfSome made (λ parts.
+        IsFirstClassActor plan.now number (most_of (form_of_layers layers.old)) parts.0)) }
+    ensures form { IfOk result (λ made. IfSome made (λ parts.
+        form_of parts.2 ≡ form_of_layers layers.old)) }
+    ensures layers { form_of_layers layers.new ≡ form_of_layers layers.old }
+{
+    if number >= plan.classes().len() {
+        return Ok(None);
+    }
+    let class = ClassId(number as u16);
+    let most = layers.most();
+    let Some(layer) = layers.of_class(alloc, plan, class)? else {
+        return Ok(None);
+    };
+    let components = match component_outlets(alloc, plan, class, notices) {
+        Ok(components) => components,
+        Err(refused) => {
+            drop(layer);
+            return Err(refused);
+        }
+    };
+    match ClassActor::new(alloc, plan, class, most) {
+        Ok(actor) => Ok(Some((actor, components, layer))),
+        Err(refused) => {
+            drop(layer);
+            drop(components);
+            Err(refused)
+        }
+    }
 }
 
 /// An outlet to each component that a class touches, by component.

@@ -94,23 +94,44 @@ fn start_ring<'h, 'm>(
     ensures { IfOk result (λ nodes. AreRingNodes (length intakes.entry.items) nodes.items) }
 {
     let count = intakes.len();
-    let mut token = Some(Settled::<Token>::first(alloc, plan)?);
     let mut nodes = Vec::with_capacity(alloc, count)?;
+    let mut token = match Settled::<Token>::first(alloc, plan) {
+        Ok(token) => Some(token),
+        Err(refused) => {
+            drop(intakes);
+            drop(nodes);
+            return Err(refused);
+        }
+    };
     for intake in intakes {
-        let Some(class) = class_outlet(plan, nodes.len(), classes) else {
-            return Ok(nodes);
-        };
         let Some(next) = next_in_ring(count, nodes.len()) else {
-            return Ok(nodes);
+            drop(intake);
+            break;
         };
-        let hands = StationHands {
-            intake,
-            class,
-            stations: one_outlet(alloc, next.0 as usize, stations)?,
-            keeper: BookKeeper::of(book),
+        let Some(class) = class_outlet(plan, nodes.len(), classes) else {
+            drop(intake);
+            break;
         };
-        nodes.push((RingActor::new(alloc, next, token.take()), hands))?;
+        match one_outlet(alloc, next.0 as usize, stations) {
+            Ok(own) => {
+                let hands = StationHands {
+                    intake,
+                    class,
+                    stations: own,
+                    keeper: BookKeeper::of(book),
+                };
+                nodes.push((RingActor::new(alloc, next, token.take()), hands))?;
+            }
+            Err(refused) => {
+                drop(class);
+                drop(intake);
+                drop(token);
+                drop(nodes);
+                return Err(refused);
+            }
+        }
     }
+    drop(token);
     Ok(nodes)
 }
 
@@ -198,15 +219,37 @@ fn start_forks<'h, 'm>(
     for intake in intakes {
         let place = nodes.len();
         let Some(class) = class_outlet(plan, place, classes) else {
+            // By calls: what is let go without takes the prover long (CONTRIBUTING, "Proving").
+            drop(intake);
             return Ok(nodes);
         };
-        let hands = StationHands {
-            intake,
-            class,
-            stations: fork_outlets(alloc, plan, place, stations)?,
-            keeper: BookKeeper::of(book),
+        let own = match fork_outlets(alloc, plan, place, stations) {
+            Ok(own) => own,
+            Err(refused) => {
+                drop(class);
+                drop(intake);
+                drop(nodes);
+                return Err(refused);
+            }
         };
-        nodes.push((fork_actor(alloc, plan, place)?, hands))?;
+        match fork_actor(alloc, plan, place) {
+            Ok(actor) => {
+                let hands = StationHands {
+                    intake,
+                    class,
+                    stations: own,
+                    keeper: BookKeeper::of(book),
+                };
+                nodes.push((actor, hands))?;
+            }
+            Err(refused) => {
+                drop(own);
+                drop(class);
+                drop(intake);
+                drop(nodes);
+                return Err(refused);
+            }
+        }
     }
     Ok(nodes)
 }
