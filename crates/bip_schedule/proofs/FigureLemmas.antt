@@ -10,24 +10,25 @@ use Rattle.bip_bank.specs.Sharing.{Sharing}
 use Rattle.bip_core.specs.declared.runs.Report.{Report}
 use Rattle.bip_partition.specs.Plans.{Planned}
 use Rattle.bip_schedule.specs.Exploring.{AreSeedFigures, IsSeedRun}
+use Rattle.bip_schedule.specs.declared.drawing.Draws.{Draws}
 use Rattle.bip_schedule.specs.Exploring.{JoinsSeedFigures, SeedFigures, SeedRun, joined_report}
 use Rattle.bip_schedule.specs.Exploring.{report_of_runs, seed_figures}
 use Rattle.bip_walk.proofs.SeedLemmas.{each_front, each_on, each_weaker}
 use Rattle.bip_walk.specs.Tallies.{JoinsTallies, Tallied, count_in, tally_of}
 
-module _ (shares : Sharing → Type 0) (p : Planned) (base count : ℕ) where
+module _ (shares : Sharing → Type 0) (p : Planned) (base : ℕ) (draws : Draws) where
   abbrev Came : ℕ → SeedRun → Type 0
-  Came seed run = IsSeedRun shares p base count seed run
+  Came seed run = IsSeedRun shares p base draws seed run
 
   pub figures_none : (first : ℕ) (x : SeedFigures)
       → x ≡ seed_figures (length p.model.interactions) []
-      → AreSeedFigures shares p base count first 0 x
+      → AreSeedFigures shares p base draws first 0 x
   figures_none first x is = record { runs = []; each = refl; explored = tt; are = is }
 
   pub figures_on : (first s next t : ℕ) (x y z : SeedFigures)
-      → AreSeedFigures shares p base count first s x
-      → AreSeedFigures shares p base count next t y → next ≡ first + s → JoinsSeedFigures x y z
-      → AreSeedFigures shares p base count first (s + t) z
+      → AreSeedFigures shares p base draws first s x
+      → AreSeedFigures shares p base draws next t y → next ≡ first + s → JoinsSeedFigures x y z
+      → AreSeedFigures shares p base draws first (s + t) z
   figures_on first s next t x y z one other behind joins = record {
     runs = one.runs ++ other.runs;
     each = omega (arith, length-append one.runs other.runs, one.each, other.each);
@@ -37,8 +38,8 @@ module _ (shares : Sharing → Type 0) (p : Planned) (base count : ℕ) where
   }
 
   pub figures_front : (first s k : ℕ) (x : SeedFigures)
-      → AreSeedFigures shares p base count first s x
-      → k ≤ s → (y : SeedFigures) × AreSeedFigures shares p base count first k y
+      → AreSeedFigures shares p base draws first s x
+      → k ≤ s → (y : SeedFigures) × AreSeedFigures shares p base draws first k y
   figures_front first s k x is few = (
     seed_figures (length p.model.interactions) (take k is.runs),
     record {
@@ -51,14 +52,14 @@ module _ (shares : Sharing → Type 0) (p : Planned) (base count : ℕ) where
 
   -- they are of as many seeds, and of all interactions
   pub figures_seeds : (first s : ℕ) (x : SeedFigures)
-      → AreSeedFigures shares p base count first s x
+      → AreSeedFigures shares p base draws first s x
       → x.tally.traces ≡ s
   figures_seeds first s x is =
       ap (λ (f : SeedFigures). f.tally.traces) is.are
       ∙ length-map is.runs (λ (run : SeedRun). run.traced) ∙ is.each
 
   pub figures_counts : (first s : ℕ) (x : SeedFigures)
-      → AreSeedFigures shares p base count first s x
+      → AreSeedFigures shares p base draws first s x
       → length x.tally.counts ≡ length p.model.interactions
   figures_counts first s x is =
       ap (λ (f : SeedFigures). length f.tally.counts) is.are
@@ -66,10 +67,10 @@ module _ (shares : Sharing → Type 0) (p : Planned) (base count : ℕ) where
       (length p.model.interactions)
 
 -- seeds whose stations share this are seeds whose stations share what is implied
-module _ (shares others : Sharing → Type 0) (p : Planned) (base count : ℕ)
+module _ (shares others : Sharing → Type 0) (p : Planned) (base : ℕ) (draws : Draws)
     (weaker : (x : Sharing) → shares x → others x) where
-  pub run_shared : (seed : ℕ) (run : SeedRun) → IsSeedRun shares p base count seed run
-      → IsSeedRun others p base count seed run
+  pub run_shared : (seed : ℕ) (run : SeedRun) → IsSeedRun shares p base draws seed run
+      → IsSeedRun others p base draws seed run
   run_shared seed run is = record {
     named = is.named;
     of_seed = record {
@@ -89,12 +90,12 @@ module _ (shares others : Sharing → Type 0) (p : Planned) (base count : ℕ)
   }
 
   pub figures_shared : (first s : ℕ) (x : SeedFigures)
-      → AreSeedFigures shares p base count first s x
-      → AreSeedFigures others p base count first s x
+      → AreSeedFigures shares p base draws first s x
+      → AreSeedFigures others p base draws first s x
   figures_shared first s x is = record {
     runs = is.runs;
     each = is.each;
-    explored = each_weaker (IsSeedRun shares p base count) (IsSeedRun others p base count)
+    explored = each_weaker (IsSeedRun shares p base draws) (IsSeedRun others p base draws)
         run_shared first is.runs is.explored;
     are = is.are;
   }

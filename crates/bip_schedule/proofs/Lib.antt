@@ -1,7 +1,10 @@
+pub mod BusyLemmas
+pub mod BusyRepeatLemmas
 pub mod DrawLemmas
 pub mod DrawnSpellingLemmas
 pub mod FigureLemmas
 pub mod FollowLemmas
+pub mod IdleLemmas
 pub mod LawLemmas
 pub mod LineLemmas
 pub mod SpellingLemmas

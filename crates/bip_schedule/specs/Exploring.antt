@@ -17,6 +17,7 @@ use Rattle.bip_replay.specs.Faults.{IsFaultAt, text_of_step}
 use Rattle.bip_replay.specs.Runs.{IsModelRun, standing_after}
 use Rattle.bip_replay.specs.declared.faults.StepFault.{StepFault}
 use Rattle.bip_schedule.specs.Seeding.{AreSeeded}
+use Rattle.bip_schedule.specs.declared.drawing.Draws.{Draws}
 use Rattle.bip_schedule.specs.declared.exploring.ExploreFault.TheVariants.{Memory, NotARun}
 use Rattle.bip_schedule.specs.declared.exploring.ExploreFault.{ExploreFault}
 use Rattle.bip_walk.specs.Tallies.{EachSeed, IsStuckAfter, Tallied, Traced, tally_of}
@@ -25,17 +26,17 @@ use Rattle.bip_walk.specs.Tallies.{EachSeed, IsStuckAfter, Tallied, Traced, tall
 abbrev pub IsSharedBy : {B E : Type 0} → (B → KeptBank) → (Result B E → Type 0) → Sharing → Type 0
 IsSharedBy {B} kept made sharing = (bank : B) × made (Ok bank) × ((kept bank).sharing ≡ sharing)
 
--- the trace of a seed: that of a world to which so many events drawn from it lead from the new one,
+-- the trace of a seed: that of a world to which the events drawn from it lead from the new one,
 -- whose stations share this
-pub record IsSeedTrace (shares : Sharing → Type 0) (p : Planned) (base count seed : ℕ)
-    (trace : List Grant) : Type 0 where
+pub record IsSeedTrace (shares : Sharing → Type 0) (p : Planned) (base : ℕ) (draws : Draws)
+    (seed : ℕ) (trace : List Grant) : Type 0 where
   pub first : WorldContent
   pub last : WorldContent
   pub events : List Event
   pub report : Report
   pub new : IsNewWorld p base first
   pub shared : shares first.bank.sharing
-  pub seeded : AreSeeded seed count events first last report
+  pub seeded : AreSeeded seed draws events first last report
   pub is : trace ≡ last.trace
 
 -- what came of a seed: its trace with its end, and the report of its events
@@ -44,10 +45,10 @@ pub record SeedRun : Type 0 where
   pub report : Report
 
 -- a seed came to this, all of its events were done, and its trace is a run of the model
-pub record IsSeedRun (shares : Sharing → Type 0) (p : Planned) (base count seed : ℕ) (run : SeedRun)
-    : Type 0 where
+pub record IsSeedRun (shares : Sharing → Type 0) (p : Planned) (base : ℕ) (draws : Draws) (seed : ℕ)
+    (run : SeedRun) : Type 0 where
   pub named : run.traced.seed ≡ seed
-  pub of_seed : IsSeedTrace shares p base count seed run.traced.grants
+  pub of_seed : IsSeedTrace shares p base draws seed run.traced.grants
   pub reported : run.report ≡ of_seed.report
   pub whole : IsLossless run.report
   pub is_run : IsModelRun p.model base run.traced.grants
@@ -85,11 +86,11 @@ JoinsSeedFigures old more new =
     → new ≡ seed_figures n (xs ++ ys)
 
 -- these are the figures of so many seeds, from the first one on
-pub record AreSeedFigures (shares : Sharing → Type 0) (p : Planned) (base count first seeds : ℕ)
-    (figures : SeedFigures) : Type 0 where
+pub record AreSeedFigures (shares : Sharing → Type 0) (p : Planned) (base : ℕ) (draws : Draws)
+    (first seeds : ℕ) (figures : SeedFigures) : Type 0 where
   pub runs : List SeedRun
   pub each : length runs ≡ seeds
-  pub explored : EachSeed (IsSeedRun shares p base count) first runs
+  pub explored : EachSeed (IsSeedRun shares p base draws) first runs
   pub are : figures ≡ seed_figures (length p.model.interactions) runs
 
 -- why a trace is no run: the grants before one of its grants are, and that has this fault then

@@ -1,6 +1,6 @@
 -- What schedules and seeds mean, in the subject's own words: laws that a reviewer reads.
 use Rattle.std.specs.Prelude.{List, [], ◌∷◌, ◌≡◌, ◌≢◌, ◌⊎◌, ◌↔◌, ◌==◌, ℕ, true, None, Ok, Some, Err}
-use Rattle.std.specs.Prelude.{codes, position}
+use Rattle.std.specs.Prelude.{codes, position, ◌<◌, ◌^◌}
 use Rattle.bip_bank.specs.Laws.{MovesInOneWay}
 use Rattle.bip_bank.specs.Sharing.{Sharing}
 use Rattle.bip_bank.specs.declared.banks.BankStep.TheVariants.{Ask, Deliver, Pass, Serve}
@@ -18,6 +18,8 @@ use Rattle.bip_replay.specs.declared.faults.TraceFault.TheVariants.{Memory}
 use Rattle.bip_schedule.specs.Exploring.{IsSeedRun, SeedRun}
 use Rattle.bip_schedule.specs.Lines.{event_on}
 use Rattle.bip_schedule.specs.Schedules.{IsEventText, IsScheduleFault}
+use Rattle.bip_schedule.specs.declared.drawing.Draw.TheVariants.{Busy}
+use Rattle.bip_schedule.specs.declared.drawing.Draws.{Draws}
 
 -- a plan has one list of stations
 abbrev pub OneStations : Type 0
@@ -115,13 +117,22 @@ LinesAreUnknown =
     ↔ ((ws : List (List ℕ)) × (words_said line ≡ Some ws) × IsEventForm ws
     × ((e : Event) → ¬ IsEventLine p stations ws e))
 
--- a seed draws the same each time: two runs of so many events that are drawn from it, each in the
--- new world of one plan and base, whose stations share this and move it in one way, did the
--- same events and came to the same: one trace with its end, and one report, where no event was
--- skipped and no message lost
+-- a seed draws the same each time: two runs of what is drawn from it in one way, each in the new
+-- world of one plan and base, whose stations share this and move it in one way, did the same events
+-- and came to the same: one trace with its end, and one report, where no event was skipped and no
+-- message lost
 abbrev pub OneSeedTrace : Type 0
 OneSeedTrace =
-    (sharing : Sharing) (p : Planned) (base count seed : ℕ) (m n : SeedRun) → MovesInOneWay sharing
-    → (one : IsSeedRun (λ x. x ≡ sharing) p base count seed m)
-    → (other : IsSeedRun (λ x. x ≡ sharing) p base count seed n)
+    (sharing : Sharing) (p : Planned) (base : ℕ) (draws : Draws) (seed : ℕ) (m n : SeedRun)
+    → MovesInOneWay sharing
+    → (one : IsSeedRun (λ x. x ≡ sharing) p base draws seed m)
+    → (other : IsSeedRun (λ x. x ≡ sharing) p base draws seed n)
     → (one.of_seed.events ≡ other.of_seed.events) × (m ≡ n)
+
+-- each event that is drawn among those that have something to do does something
+abbrev pub BusySeedsAreNeverIdle : Type 0
+BusySeedsAreNeverIdle =
+    (sharing : Sharing) (p : Planned) (base count seed : ℕ) (run : SeedRun)
+    → MovesInOneWay sharing → count < 2 ^ 32
+    → IsSeedRun (λ x. x ≡ sharing) p base (record { count = count; by = Busy }) seed run
+    → run.report.idle ≡ 0

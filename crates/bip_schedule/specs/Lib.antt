@@ -1,3 +1,4 @@
+pub mod Busy
 pub mod Drawing
 pub mod Exploring
 pub mod Following

@@ -8,6 +8,23 @@ use bip_core::Event;
 use bip_model::InterId;
 use bip_partition::Plan;
 
+/// How the event of a word is chosen (docs/ANSWERS.md, "Events by chance").
+#[derive(Clone, Copy, Debug, PartialEq, Eq)]
+pub enum Draw {
+    /// By a table, whether or not it has something to do.
+    Table,
+    /// Among the events that have something to do.
+    Busy,
+}
+
+/// What is drawn from a seed: so many events, or with busy ones fewer where none has anything to
+/// do, each in this way.
+#[derive(Clone, Copy, Debug, PartialEq, Eq)]
+pub struct Draws {
+    pub count: u32,
+    pub by: Draw,
+}
+
 /// The event of a word, in a world of a plan with so many messages in flight, whose bank has so
 /// many things in flight (docs/ANSWERS.md, "Events by chance").
 pub fn event_of(word: u32, mail: usize, plan: &Plan, bank_mail: usize) -> Event

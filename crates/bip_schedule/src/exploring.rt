@@ -9,6 +9,7 @@ ghost use Rattle.bip_schedule.specs.Exploring.{AreSeedFigures, IsSharedBy};
 ghost use Rattle.bip_schedule.specs.Exploring.{number_of_explore, text_of_explore};
 ghost use Rattle.bip_schedule.specs.declared.exploring.ExploreFault.TheVariants.{Memory};
 
+use crate::Draws;
 use crate::checking::Checked;
 use crate::seeding::run_seed;
 use bip_bank::Bank;
@@ -61,7 +62,7 @@ impl From<AllocError> for ExploreFault {
     }
 }
 
-/// Explores the seeds from 1 on, so many of them: each draws so many events in the new world of the
+/// Explores the seeds from 1 on, so many of them: each draws its events in the new world of the
 /// plan above the base, and its trace is checked to be a run of the model. Ends at the first seed
 /// whose trace is none, or where memory is out: also where an event was skipped or a message lost
 /// for want of it, so that a seed's trace is always the same. No seeds want no memory. `make`
@@ -73,19 +74,19 @@ pub fn explore<'p, B: Bank + Drop, F: Fn() -> Result<B, AllocError>>(
     make: F,
     base: Number,
     seeds: u32,
-    count: u32,
+    draws: Draws,
 ) -> Result<Checked, ExploreFault>
     requires base { base < last_number }
     requires callable { F.IsAlwaysCallable make }
     requires unasked { (bank : B) → F.post make (Ok bank)
         → IsUnasked plan.now base (content_of (B.kept bank)) }
     ensures explored { IfOk result (AreSeedFigures (IsSharedBy B.kept (F.post make)) plan.now base
-        count 1 seeds) }
+        draws 1 seeds) }
     ensures fault { IfErr result (λ fault. (fault ≡ Memory) × (0 < seeds)) }
 {
     let mut all = Checked::none(plan.model());
     for done in 0..seeds {
-        let checked = explore_seed(alloc, plan, &make, base, done + 1, count)?;
+        let checked = explore_seed(alloc, plan, &make, base, done + 1, draws)?;
         all.join(&checked);
     }
     Ok(all)
@@ -98,19 +99,19 @@ pub fn explore_seed<'p, B: Bank + Drop, F: Fn() -> Result<B, AllocError>>(
     make: &F,
     base: Number,
     seed: u32,
-    count: u32,
+    draws: Draws,
 ) -> Result<Checked, ExploreFault>
     requires base { base < last_number }
     requires callable { F.IsAlwaysCallable make.now }
     requires unasked { (bank : B) → F.post make.now (Ok bank)
         → IsUnasked plan.now base (content_of (B.kept bank)) }
     ensures explored { IfOk result (AreSeedFigures (IsSharedBy B.kept (F.post make.now)) plan.now
-        base count seed 1) }
-    ensures few { IfOk result (λ figures. figures.tally.grants ≤ count) }
+        base draws seed 1) }
+    ensures few { IfOk result (λ figures. figures.tally.grants ≤ draws.count) }
     ensures fault { IfErr result (λ fault. fault ≡ Memory) }
 {
     let mut world = new_world(alloc, plan, make, base)?;
-    let report = run_seed(&mut world, u64::from(seed), count);
+    let report = run_seed(&mut world, u64::from(seed), draws);
     let checked = Checked::of(alloc, plan.model(), base, seed, world.trace(), report)?;
     if !is_whole(&report) {
         return Err(ExploreFault::Memory);

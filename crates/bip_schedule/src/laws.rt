@@ -1,6 +1,7 @@
 //! The laws above the definitions: what a reviewer reads to know what schedules and seeds are. The
 //! call does nothing, and has the laws for its contract.
-ghost use Rattle.bip_schedule.specs.Laws.{EventsHaveNoFault, EventsOrFault, LinesAreEvents};
+ghost use Rattle.bip_schedule.specs.Laws.{BusySeedsAreNeverIdle, EventsHaveNoFault, EventsOrFault};
+ghost use Rattle.bip_schedule.specs.Laws.{LinesAreEvents};
 ghost use Rattle.bip_schedule.specs.Laws.{LinesAreUnknown, LinesSayNothing, OneSchedule};
 ghost use Rattle.bip_schedule.specs.Laws.{OneScheduleFault, OneSeedTrace, OneStations};
 
@@ -9,7 +10,8 @@ ghost use Rattle.bip_schedule.specs.Laws.{OneScheduleFault, OneSeedTrace, OneSta
 /// event's and are none, else no form. A text is one list of events of a plan, or has one first
 /// fault, never both. A seed draws the same each time: two runs of it did the same events and have
 /// one trace, where stations share nothing, a token or forks, no event was skipped and no message
-/// lost (docs/ANSWERS.md, "Exploring").
+/// lost; and of busy events none is idle then (docs/ANSWERS.md, "Exploring", "Busy events by
+/// chance").
 pub fn schedule_laws()
     ensures stations { OneStations }
     ensures lines { LinesAreEvents }
@@ -20,4 +22,5 @@ pub fn schedule_laws()
     ensures apart { EventsHaveNoFault }
     ensures either { EventsOrFault }
     ensures seed { OneSeedTrace }
+    ensures busy { BusySeedsAreNeverIdle }
 {}

@@ -1,6 +1,7 @@
 //! Schedules: events as texts, and events drawn by chance.
 #![tactic(auto)]
 
+mod busy;
 mod checking;
 mod drawing;
 mod exploring;
@@ -11,8 +12,9 @@ mod schedules;
 mod seeding;
 mod writing;
 
+pub use busy::{EventKind, busy_event};
 pub use checking::Checked;
-pub use drawing::event_of;
+pub use drawing::{Draw, Draws, event_of};
 pub use exploring::{ExploreFault, explore, explore_seed};
 pub use following::Schedule;
 pub use laws::schedule_laws;

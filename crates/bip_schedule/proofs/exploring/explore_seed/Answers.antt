@@ -13,19 +13,19 @@ use Rattle.bip_schedule.proofs.exploring.explore_seed.Goals as goal
 
 pub of-requires-clause-few : goal.of-requires-clause-few
 of-requires-clause-few g c =
-    let few : length (world_of c.run_seed-report.new.world).trace ≤ c.args.count =
-    seeded_few c.from.result c.args.count _ (world_of c.in_ok-world.world)
+    let few : length (world_of c.run_seed-report.new.world).trace ≤ c.args.draws.count =
+    seeded_few c.from.result c.args.draws _ (world_of c.in_ok-world.world)
     (world_of c.run_seed-report.new.world) _ c.run_seed-report.ensures.drawn.1
     c.in_ok-world.ensures.new.trace in
-    let small : c.args.count < 2 ^ 32 = search rules in
+    let small : c.args.draws.count < 2 ^ 32 = search rules in
     let each = ap length c.trace.ensures.trace in
     omega (arith, each, few, small)
 
 -- the tally of one trace has its grants
 pub returns-clause-few : goal.returns-clause-few
 returns-clause-few g c =
-    let few : length (world_of c.run_seed-report.new.world).trace ≤ c.args.count =
-    seeded_few c.from.result c.args.count _ (world_of c.in_ok-world.world)
+    let few : length (world_of c.run_seed-report.new.world).trace ≤ c.args.draws.count =
+    seeded_few c.from.result c.args.draws _ (world_of c.in_ok-world.world)
     (world_of c.run_seed-report.new.world) _ c.run_seed-report.ensures.drawn.1
     c.in_ok-world.ensures.new.trace in
     let each = ap length c.trace.ensures.trace in
@@ -70,7 +70,7 @@ pub returns-in_err-checked-clause-fault : goal.returns-in_err-checked-clause-fau
 returns-in_err-checked-clause-fault g c =
     let first = world_of c.in_ok-world.world in
     let last = world_of c.run_seed-report.new.world in
-    let keeps = seeded_keeps c.from.result c.args.count c.run_seed-report.ensures.drawn.0 first last
+    let keeps = seeded_keeps c.from.result c.args.draws c.run_seed-report.ensures.drawn.0 first last
     _
     c.run_seed-report.ensures.drawn.1 in
     let new = c.in_ok-world.ensures.new in

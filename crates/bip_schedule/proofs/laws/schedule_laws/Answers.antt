@@ -2,6 +2,7 @@ use Rattle.bip_schedule.proofs.LawLemmas.{events_or_fault, not_both, one_schedul
 use Rattle.bip_schedule.proofs.LawLemmas.{one_schedule_fault, one_seed_trace}
 use Rattle.bip_schedule.proofs.LineLemmas.{lines_are_events, lines_are_unknown, lines_say_nothing}
 use Rattle.bip_schedule.proofs.StationLemmas.{one_stations}
+use Rattle.bip_schedule.proofs.IdleLemmas.{busy_never_idle}
 use Rattle.bip_schedule.proofs.laws.schedule_laws.Goals as goal
 
 pub returns-clause-stations : goal.returns-clause-stations
@@ -30,3 +31,6 @@ returns-clause-nothing c = lines_say_nothing
 
 pub returns-clause-unknown : goal.returns-clause-unknown
 returns-clause-unknown c = lines_are_unknown
+
+pub returns-clause-busy : goal.returns-clause-busy
+returns-clause-busy c = busy_never_idle

@@ -7,5 +7,5 @@ use Rattle.bip_schedule.proofs.seeding.run_seed.Given as goal
 
 abbrev pub invariant-loop : goal.invariant-loop
 invariant-loop g l =
-    (events : List Event) × IsDrawing (generator_of l.seed) (world_of l.initial.world) events
-    (world_of l.world) l.words l.report l.counter
+    (events : List Event) × IsDrawing l.draws.by (generator_of l.seed) (world_of l.initial.world)
+    events (world_of l.world) l.words l.report l.counter

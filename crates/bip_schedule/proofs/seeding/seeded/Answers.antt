@@ -10,7 +10,7 @@ use Rattle.bip_schedule.proofs.seeding.seeded.Goals as goal
 
 pub loop-init : goal.loop-init
 loop-init g c = (
-  rw c.in_ok-events.ensures.items (drawing_none (generator_of c.args.seed)
+  rw c.in_ok-events.ensures.items (drawing_none c.args.draws.by (generator_of c.args.seed)
       (world_of c.args.world.now) _ _ c.generator_of-words.ensures c.empty-report.ensures.sums
       c.empty-report.ensures.adds_up),
   c.in_ok-events.ensures.len,
@@ -18,26 +18,28 @@ loop-init g c = (
   rw c.in_ok-events.ensures.items (none_spelled _),
 )
 
-pub draw-event-requires-clause-room : goal.draw-event-requires-clause-room
-draw-event-requires-clause-room g c =
-    let counted = drawing_counted _ _ _ _ _ _ _ c.loop.invariant.0 in
-    let small : c.args.count < 2 ^ 32 = search rules in
+pub draw_one-requires-clause-room : goal.draw_one-requires-clause-room
+draw_one-requires-clause-room g c =
+    let counted = drawing_counted _ _ _ _ _ _ _ _ c.loop.invariant.0 in
+    let small : c.args.draws.count < 2 ^ 32 = search rules in
     omega (arith, counted, small, c.loop-test.true)
+
+pub returns-clause-run : goal.returns-clause-run
+returns-clause-run g c = drawing_run _ _ _ _ _ _ _ _ c.loop.invariant.0
+
+pub returns-in-None-clause-run : goal.returns-in-None-clause-run
+returns-in-None-clause-run g c =
+    rw (c.in-None.ensures.same, c.in-None.ensures.report)
+    (drawing_run _ _ _ _ _ _ _ _ c.loop.invariant.0)
 
 pub loop-preserved : goal.loop-preserved
 loop-preserved g c = (
-  rw c.push_reserved.ensures.items (drawing_more _ _ _
-      (world_of c.loop.world) _ _ _ _ _ _ _ c.loop.invariant.0 c.draw-event.ensures.drawn
-      c.draw-event.ensures.word c.draw-event.ensures.done c.draw-event.ensures.adds_up),
+  rw c.push_reserved.ensures.items (drawing_more _ _ _ _
+      (world_of c.loop.world) _ _ _ _ _ _ _ c.loop.invariant.0 c.in-Some.ensures.drawn
+      c.in-Some.ensures.word c.in-Some.ensures.done c.draw_one.ensures.adds_up),
   (let more = c.push_reserved.ensures.len in omega (arith, more, c.loop.invariant.1)),
   (let same = c.push_reserved.ensures.capacity in omega (arith, same, c.loop.invariant.2)),
   rw c.push_reserved.ensures.items (one_more_spelled _ _ _ c.loop.invariant.3
-      (subst (λ (p : Planned). HaveSpelling p (c.draw-event.result ∷ []))
-      (drawing_keeps _ _ _ _ _ _ _ c.loop.invariant.0) c.draw-event.ensures.spelled)),
+      (subst (λ (p : Planned). HaveSpelling p (c.in-Some.event ∷ []))
+      (drawing_keeps _ _ _ _ _ _ _ _ c.loop.invariant.0) c.in-Some.ensures.spelled)),
 )
-
-pub returns-clause-run : goal.returns-clause-run
-returns-clause-run g c = drawing_run _ _ _ _ _ _ _ c.loop.invariant.0
-
-pub returns-clause-spelled : goal.returns-clause-spelled
-returns-clause-spelled g c = c.loop.invariant.3

@@ -7,8 +7,8 @@ use Rattle.bip_schedule.proofs.seeding.seeded.Given as goal
 
 abbrev pub invariant-loop : goal.invariant-loop
 invariant-loop g l =
-    IsDrawing (generator_of l.seed) (world_of l.initial.world) l.events.items
+    IsDrawing l.draws.by (generator_of l.seed) (world_of l.initial.world) l.events.items
     (world_of l.world) l.words l.report l.counter
     × (vec_len l.events ≡ l.counter)
-    × (l.count ≤ vec_capacity l.events)
+    × (l.draws.count ≤ vec_capacity l.events)
     × HaveSpelling (world_of l.initial.world).plan l.events.items

@@ -1,0 +1,11 @@
+use Rattle.std.proofs.Common.{ℕ, ◌≡◌, ◌+◌}
+use Rattle.bip_core.specs.Worlds.{world_of}
+use Rattle.bip_schedule.specs.Busy.{HaveWork, asked_at}
+use Rattle.bip_schedule.proofs.busy.find_asked.Given as goal
+
+abbrev pub invariant-loop-number : goal.invariant-loop-number
+invariant-loop-number g l =
+    (found : ℕ)
+    × HaveWork (world_of l.world) (asked_at (world_of l.world).plan l.stations l.kind) l.number
+    found
+    × (found + l.left ≡ l.before)
