@@ -5,6 +5,8 @@ use Rattle.bip_bank.specs.Decisions.Decision.TheVariants as decision
 use Rattle.bip_bank.specs.Decisions.Decision.{Decision}
 use Rattle.bip_bank.specs.declared.banks.Acted.TheVariants as acted
 use Rattle.bip_bank.specs.declared.banks.Acted.{Acted}
+use Rattle.bip_bank.specs.declared.idleness.WhyIdle.TheVariants as why_idle
+use Rattle.bip_bank.specs.declared.idleness.WhyIdle.{WhyIdle}
 use Rattle.bip_component.specs.declared.components.Notified.TheVariants as notified
 use Rattle.bip_component.specs.declared.components.Notified.{Notified}
 use Rattle.bip_core.specs.declared.events.What.TheVariants.{Acts, Hears, Learns, Moves, Nothing}
@@ -22,6 +24,7 @@ use Rattle.bip_observe.specs.declared.offers.Receipt.{Receipt}
 use Rattle.bip_observe.specs.declared.verdicts.Verdict.TheVariants as verdict
 use Rattle.bip_observe.specs.declared.verdicts.Verdict.{Verdict}
 use Rattle.bip_tell.specs.Reasons.{told_reason}
+use Rattle.bip_tell.specs.declared.hints.Hint.{Hint}
 use Rattle.bip_tell.specs.Words.{counted, named, each_want_text}
 
 -- a class's to an offer
@@ -78,18 +81,35 @@ decision_text m wants (decision.Refused c used) =
     codes " refused" ++ (each_want_text m wants ++ (codes " since" ++ (named m.component_names c.0
     ++ (codes " used" ++ counted used))))
 
--- the bank's to a step
-abbrev pub acted_text : System → Acted → List ℕ
-acted_text m acted.Nothing = codes " nothing to do"
-acted_text m acted.Moved = codes " moved"
-acted_text m (acted.Answered q d) = decision_text m q.wants d
+-- why a step of the bank does nothing; where there is no reason no serial is left
+abbrev pub idle_words : Option WhyIdle → List ℕ
+idle_words None = codes "no serial left"
+idle_words (Some why_idle.NoneOfIt) = codes "this resolver has none of it"
+idle_words (Some why_idle.NothingThere) = codes "nothing in flight there"
+idle_words (Some why_idle.NothingOpen) = codes "nothing open"
+idle_words (Some why_idle.Lacking) = codes "a fork isn't here"
+idle_words (Some why_idle.TokenInFlight) = codes "the token is in flight"
+idle_words (Some why_idle.TokenElsewhere) = codes "the token isn't here"
+idle_words (Some why_idle.NotNext) = codes "that station isn't next"
+idle_words (Some why_idle.NoFork) = codes "no such fork"
+idle_words (Some why_idle.ForkElsewhere) = codes "the fork isn't here"
+idle_words (Some why_idle.ForkClean) = codes "the fork is clean"
+idle_words (Some why_idle.NotAskedFor) = codes "the fork wasn't asked for"
+idle_words (Some why_idle.ForkHere) = codes "the fork is here"
+idle_words (Some why_idle.NoRequestToken) = codes "the request token isn't here"
+
+-- the bank's to a step, which does nothing for this reason where it does nothing
+abbrev pub acted_text : System → Option WhyIdle → Acted → List ℕ
+acted_text m idle acted.Nothing = codes " nothing to do: " ++ idle_words idle
+acted_text m idle acted.Moved = codes " moved"
+acted_text m idle (acted.Answered q d) = decision_text m q.wants d
 
 -- an answer; where there is no such message or node, there is none
-abbrev pub what_text : System → Option InterId → What → List ℕ
-what_text m above Nothing = codes " nothing there"
-what_text m above (Hears receipt) = receipt_text receipt
-what_text m above Submits = codes " submitted"
-what_text m above (Learns answer) = learned_text answer
-what_text m above (Moves answer) = notified_text answer
-what_text m above (Tries answer) = tried_text m above answer
-what_text m above (Acts answer) = acted_text m answer
+abbrev pub what_text : System → Hint → What → List ℕ
+what_text m hint Nothing = codes " nothing there"
+what_text m hint (Hears receipt) = receipt_text receipt
+what_text m hint Submits = codes " submitted"
+what_text m hint (Learns answer) = learned_text answer
+what_text m hint (Moves answer) = notified_text answer
+what_text m hint (Tries answer) = tried_text m hint.above answer
+what_text m hint (Acts answer) = acted_text m hint.idle answer

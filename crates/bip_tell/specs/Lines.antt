@@ -4,10 +4,13 @@ use Rattle.std.specs.Fmt.{decimal}
 use Rattle.std.specs.Option.{option_map_or}
 use Rattle.std.specs.Prelude.{List, None, Option, Some, [], codes, drop, length}
 use Rattle.std.specs.Prelude.{slice_get, zero, suc, ℕ, ◌+◌, ◌++◌, ◌-◌, ◌∷◌, ◌≡◌}
+use Rattle.bip_bank.specs.Banks.{CanWantMemory}
+use Rattle.bip_bank.specs.Idleness.{IsIdleBecause}
+use Rattle.bip_bank.specs.declared.idleness.WhyIdle.{WhyIdle}
 use Rattle.bip_core.specs.Runs.{AreSteps, report_with}
 use Rattle.bip_core.specs.Worlds.{IsLackingIn, WorldContent}
 use Rattle.bip_core.specs.declared.events.Did.{Did}
-use Rattle.bip_core.specs.declared.events.Event.TheVariants.{Mail, Try}
+use Rattle.bip_core.specs.declared.events.Event.TheVariants.{Bank, Mail, Try}
 use Rattle.bip_core.specs.declared.events.Event.{Event}
 use Rattle.bip_core.specs.declared.messages.Message.{Message}
 use Rattle.bip_core.specs.declared.runs.Report.{Report}
@@ -18,6 +21,7 @@ use Rattle.bip_schedule.specs.Writing.{event_line}
 use Rattle.bip_tell.specs.Answers.{what_text}
 use Rattle.bip_tell.specs.Messages.{message_text}
 use Rattle.bip_tell.specs.Words.{counted}
+use Rattle.bip_tell.specs.declared.hints.Hint.{Hint}
 
 -- the message that an event hands on, where there is one at its place
 abbrev pub handed_on : Event → List Message → Option Message
@@ -62,12 +66,24 @@ abbrev pub IsLackedBy : WorldContent → Event → Option InterId → Type 0
 IsLackedBy w (Try k a) above = IsLackingIn w k.0 a.0 above
 IsLackedBy w event above = above ≡ None
 
+-- why a step of the bank does nothing, if that is so and not for want of memory or of a serial; no
+-- other event has such a reason
+abbrev pub IsIdleIn : WorldContent → Event → Option WhyIdle → Type 0
+IsIdleIn w (Bank step) None = CanWantMemory w.bank step
+IsIdleIn w (Bank step) (Some why) = IsIdleBecause w.bank step why
+IsIdleIn w event why = why ≡ None
+
+-- what is known in a world of why an event does nothing
+pub record IsHintOf (w : WorldContent) (event : Event) (hint : Hint) : Type 0 where
+  pub lacks : IsLackedBy w event hint.above
+  pub idles : IsIdleIn w event hint.idle
+
 -- what an event did, behind which so many messages were left in flight: the answer, what was put
 -- behind these, and how many were lost; or that it was skipped for want of memory
-abbrev pub done_text : Planned → Option InterId → ℕ → Option Did → List Message → List ℕ
-done_text p above left None mail = codes " skipped"
-done_text p above left (Some did) mail =
-    what_text p.model above did.what ++ (put_text p left (drop left mail) ++ lost_text did.lost)
+abbrev pub done_text : Planned → Hint → ℕ → Option Did → List Message → List ℕ
+done_text p hint left None mail = codes " skipped"
+done_text p hint left (Some did) mail =
+    what_text p.model hint did.what ++ (put_text p left (drop left mail) ++ lost_text did.lost)
 
 -- the number of an event, its words, and the message that it hands on
 abbrev pub line_head : Planned → List InterId → ℕ → Event → Option Message → List ℕ
@@ -75,15 +91,14 @@ line_head p stations number event handed =
     decimal number ++ (codes " " ++ (event_line p stations event
     ++ (codes ":" ++ handed_text p handed)))
 
--- the line of an event, by what lacks an offer above what it tries, and what was in flight before
+-- the line of an event, by what was known of why it does nothing, and what was in flight before
 -- and after
 abbrev pub told_line :
-    Planned → List InterId → ℕ → Event → Option InterId → Option Did → List Message → List Message
-    → List ℕ
-told_line p stations number event above did before after =
+    Planned → List InterId → ℕ → Event → Hint → Option Did → List Message → List Message → List ℕ
+told_line p stations number event hint did before after =
     let handed = handed_on event before in
     line_head p stations number event handed
-    ++ (done_text p above (count_left handed (length before)) did after ++ line_feed ∷ [])
+    ++ (done_text p hint (count_left handed (length before)) did after ++ line_feed ∷ [])
 
 -- an event leads from one world to another or is skipped, and this is its line
 pub record IsToldEvent (number : ℕ) (event : Event) (did : Option Did) (w v : WorldContent)
@@ -91,9 +106,9 @@ pub record IsToldEvent (number : ℕ) (event : Event) (did : Option Did) (w v : 
   pub steps : AreSteps (event ∷ []) (did ∷ []) w v
   pub stations : List InterId
   pub are : AreStations w.plan stations
-  pub above : Option InterId
-  pub lacks : IsLackedBy w event above
-  pub told : line ≡ told_line w.plan stations number event above did w.mail v.mail
+  pub hint : Hint
+  pub known : IsHintOf w event hint
+  pub told : line ≡ told_line w.plan stations number event hint did w.mail v.mail
 
 -- an event isn't told for want of memory: nothing was done yet, or it is done or skipped, and is
 -- counted

@@ -1,12 +1,14 @@
 //! Answers of nodes to events, told.
 ghost use Rattle.std.specs.Prelude.{◌≡◌, ◌++◌, OnOk};
-ghost use Rattle.bip_tell.specs.Answers.{above_text, acted_text, decision_text, learned_text};
-ghost use Rattle.bip_tell.specs.Answers.{notified_text, receipt_text, tried_text, what_text};
+ghost use Rattle.bip_tell.specs.Answers.{above_text, acted_text, decision_text, idle_words};
+ghost use Rattle.bip_tell.specs.Answers.{learned_text, notified_text, receipt_text, tried_text};
+ghost use Rattle.bip_tell.specs.Answers.{what_text};
 ghost use Rattle.bip_tell.specs.Answers.{why_not_text};
 
+use crate::hints::Hint;
 use crate::reasons::write_reasons;
 use crate::words::{write_comp, write_count, write_inter, write_wants};
-use bip_bank::{Acted, Decision};
+use bip_bank::{Acted, Decision, WhyIdle};
 use bip_component::Notified;
 use bip_core::What;
 use bip_ip::{Answered, Tried};
@@ -14,15 +16,15 @@ use bip_model::{InterId, Model, Want};
 use bip_observe::{Receipt, Verdict};
 use std::alloc::AllocError;
 
-/// Writes the answer of the node that an event addressed. What it tried isn't ready for the sake of
-/// this interaction above it, if of one.
+/// Writes the answer of the node that an event addressed, with what was known before it of why it
+/// does nothing.
 pub(crate) fn write_what(
     text: &mut Vec<u8>,
     model: &Model,
-    above: Option<InterId>,
+    hint: Hint,
     what: &What,
 ) -> Result<(), AllocError>
-    ensures { OnOk result (text.new.items ≡ text.old.items ++ what_text model.now above what.now) }
+    ensures { OnOk result (text.new.items ≡ text.old.items ++ what_text model.now hint what.now) }
 {
     match what {
         What::Nothing => text.extend_from_slice(b" nothing there"),
@@ -30,8 +32,8 @@ pub(crate) fn write_what(
         What::Submits => text.extend_from_slice(b" submitted"),
         What::Learns(answer) => text.extend_from_slice(learned_text(answer)),
         What::Moves(answer) => text.extend_from_slice(notified_text(answer)),
-        What::Tries(answer) => write_tried(text, model, above, answer),
-        What::Acts(answer) => write_acted(text, model, answer),
+        What::Tries(answer) => write_tried(text, model, hint.above, answer),
+        What::Acts(answer) => write_acted(text, model, hint.idle, answer),
     }
 }
 
@@ -125,15 +127,48 @@ fn write_above(text: &mut Vec<u8>, model: &Model, above: Option<InterId>) -> Res
     text.extend_from_slice(b" above")
 }
 
-fn write_acted(text: &mut Vec<u8>, model: &Model, answer: &Acted) -> Result<(), AllocError>
-    ensures { OnOk result (text.new.items ≡ text.old.items ++ acted_text model.now answer.now) }
+fn write_acted(
+    text: &mut Vec<u8>,
+    model: &Model,
+    idle: Option<WhyIdle>,
+    answer: &Acted,
+) -> Result<(), AllocError>
+    ensures { OnOk result
+        (text.new.items ≡ text.old.items ++ acted_text model.now idle answer.now) }
 {
     match answer {
-        Acted::Nothing => text.extend_from_slice(b" nothing to do"),
+        Acted::Nothing => {
+            text.extend_from_slice(b" nothing to do: ")?;
+            text.extend_from_slice(idle_words(idle))
+        }
         Acted::Moved => text.extend_from_slice(b" moved"),
         Acted::Answered { request, decision } => {
             write_decision(text, model, request.wants.as_slice(), decision)
         }
+    }
+}
+
+/// Why a step of the bank does nothing; where there is no reason no serial is left.
+fn idle_words(idle: Option<WhyIdle>) -> &'static [u8]
+    ensures { result.now ≡ idle_words idle }
+{
+    let Some(why) = idle else {
+        return b"no serial left";
+    };
+    match why {
+        WhyIdle::NoneOfIt => b"this resolver has none of it",
+        WhyIdle::NothingThere => b"nothing in flight there",
+        WhyIdle::NothingOpen => b"nothing open",
+        WhyIdle::Lacking => b"a fork isn't here",
+        WhyIdle::TokenInFlight => b"the token is in flight",
+        WhyIdle::TokenElsewhere => b"the token isn't here",
+        WhyIdle::NotNext => b"that station isn't next",
+        WhyIdle::NoFork => b"no such fork",
+        WhyIdle::ForkElsewhere => b"the fork isn't here",
+        WhyIdle::ForkClean => b"the fork is clean",
+        WhyIdle::NotAskedFor => b"the fork wasn't asked for",
+        WhyIdle::ForkHere => b"the fork is here",
+        WhyIdle::NoRequestToken => b"the request token isn't here",
     }
 }
 

@@ -3,6 +3,7 @@
 #![tactic(auto)]
 
 mod answers;
+mod hints;
 mod lines;
 mod messages;
 mod reasons;

@@ -8,11 +8,12 @@ ghost use Rattle.bip_core.specs.Runs.{AddsUp, report_with};
 ghost use Rattle.bip_core.specs.Worlds.{world_of};
 ghost use Rattle.bip_core.specs.declared.events.Did.{Did};
 ghost use Rattle.bip_schedule.specs.Writing.{HasSpelling, HaveSpelling, event_line};
-ghost use Rattle.bip_tell.specs.Lines.{IsLackedBy, IsLeftUntold, IsToldEvent, count_left};
+ghost use Rattle.bip_tell.specs.Lines.{IsLeftUntold, IsToldEvent, count_left};
 ghost use Rattle.bip_tell.specs.Lines.{done_text, first_line, first_lines, handed_on, handed_text};
 ghost use Rattle.bip_tell.specs.Lines.{line_head, lost_text, one_put, put_text};
 
 use crate::answers::write_what;
+use crate::hints::{Hint, hint_of};
 use crate::messages::write_message;
 use crate::words::write_count;
 use bip_bank::Bank;
@@ -60,10 +61,11 @@ fn write_first(
 /// Does one event, counts it, and tells it in a line, which is put last in a text: its number in
 /// the run, as the report counts it; the event as schedules spell it; the message that it hands on;
 /// what the node answered that it addresses, with the interaction above for whose sake a try isn't
-/// ready, and the reasons of a request; and each message that this put into flight, at its place
-/// from then on (docs/TELL.md). The only error is want of memory for the text, which may have
-/// a part of the line then: the event wasn't begun, or it is done or skipped, and counted. It asks
-/// an event that has a spelling, and the report of fewer than 2^64 - 1 events.
+/// ready, the reasons of a request, and why a step of the bank does nothing; and each message that
+/// this put into flight, at its place from then on (docs/TELL.md). The only error is want of memory
+/// for the text, which may have a part of the line then: the event wasn't begun, or it is done or
+/// skipped, and counted. It asks an event that has a spelling, and the report of fewer than
+/// 2^64 - 1 events.
 pub fn tell_event<'p, B: Bank>(
     text: &mut Vec<u8>,
     world: &mut World<'p, B>,
@@ -85,9 +87,9 @@ pub fn tell_event<'p, B: Bank>(
     world_laws();
     let plan = world.plan();
     let left = begin_line(text, plan, world, event, report.events + 1)?;
-    let above = lacking_above(world, event);
+    let hint = hint_of(world, event);
     let did = watch_event(world, event, report);
-    write_done(text, plan, world, above, left, &did)?;
+    write_done(text, plan, world, hint, left, &did)?;
     text.push(b'\n')?;
     Ok(())
 }
@@ -157,16 +159,6 @@ fn handed_on<'p, B: Bank>(world: &World<'p, B>, event: Event) -> Option<Message>
     }
 }
 
-/// The interaction above the one that an event tries, for whose sake that one isn't ready.
-fn lacking_above<'p, B: Bank>(world: &World<'p, B>, event: Event) -> Option<InterId>
-    ensures { IsLackedBy (world_of world.now) event result }
-{
-    match event {
-        Event::Try(class, inter) => world.lacking_above(class, inter),
-        _ => None,
-    }
-}
-
 /// How many messages stay in flight when the one that is handed on is taken out.
 fn count_left(handed: &Option<Message>, count: usize) -> usize
     ensures { result ≡ count_left handed.now count }
@@ -182,17 +174,17 @@ fn write_done<'p, B: Bank>(
     text: &mut Vec<u8>,
     plan: &Plan,
     world: &World<'p, B>,
-    above: Option<InterId>,
+    hint: Hint,
     left: usize,
     did: &Option<Did>,
 ) -> Result<(), AllocError>
     ensures { OnOk result (text.new.items
-        ≡ text.old.items ++ done_text plan.now above left did.now world.now.mail) }
+        ≡ text.old.items ++ done_text plan.now hint left did.now world.now.mail) }
 {
     match did {
         None => text.extend_from_slice(b" skipped"),
         Some(did) => {
-            write_what(text, plan.model(), above, &did.what)?;
+            write_what(text, plan.model(), hint, &did.what)?;
             write_put(text, plan, world, left)?;
             write_lost(text, did.lost)
         }

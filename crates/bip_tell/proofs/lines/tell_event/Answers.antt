@@ -12,10 +12,10 @@ returns-clause-told g c =
     let told =
     event_told c.plan-plan.result.now (world_of c.args.world.now)
     (world_of c.watch_event-did.new.world) _ c.in_ok-left.left c.args.event
-    c.lacking_above-above.result c.watch_event-did.result begun.0
+    c.hint_of-hint.result c.watch_event-did.result begun.0
     c.args.text.now.items c.begin_line.new.text.items c.write_done.new.text.items
     c.push.new.self.items
-    c.plan-plan.ensures c.watch_event-did.ensures.done begun.1 c.lacking_above-above.ensures begun.2
+    c.plan-plan.ensures c.watch_event-did.ensures.done begun.1 c.hint_of-hint.ensures begun.2
     c.in_ok-left.ensures.left c.in_ok-write_done.ensures c.in_ok-push.ensures.items in
     (c.watch_event-did.result, told.0, told.1, told.2, c.watch_event-did.ensures.counted)
 
