@@ -1,14 +1,22 @@
 -- What a central bank does, as the second bank does it; and which stations lack a request.
 use Rattle.std.proofs.Common.{◌≡◌, ℕ, suc, ◌+◌, List, [], ◌∷◌, Bool, true, false, Contains}
-use Rattle.std.proofs.Common.{slice_index_or, refl, sym, ap, ◌∙◌, subst, inl, inr, zero, arith}
+use Rattle.std.proofs.Common.{None, Option, Some, slice_index_or, refl, sym, ap, ◌∙◌, subst, inl, inr, zero, arith}
+use Rattle.std.specs.Prelude.{IfNone, IfSome}
 use Rattle.std.proofs.lemmas.Bool.{true≢false}
 use Rattle.bip_model.proofs.ListLemmas.{Contains-cases, Contains-head, Contains-none, Contains-tail}
 use Rattle.bip_bank.specs.Banks.{BankContent, CanWantMemory, DoesStep, HasOldest, IsActed}
+use Rattle.bip_bank.specs.Banks.{content_of}
+use Rattle.bip_bank.specs.Central.{KeptCentral, kept_central}
+use Rattle.bip_bank.specs.Idleness.{IsIdleBecause}
 use Rattle.bip_bank.specs.Sharing.{LacksNothing, Sharing, alone, otherwise}
 use Rattle.bip_bank.specs.declared.banks.Acted.{Acted}
 use Rattle.bip_bank.specs.declared.banks.Acted.TheVariants.{Answered, Moved, Nothing}
-use Rattle.bip_bank.specs.declared.banks.BankStep.TheVariants.{Serve}
+use Rattle.bip_bank.specs.declared.banks.BankStep.TheVariants.{Ask, Deliver, Pass, Serve}
+use Rattle.bip_bank.specs.declared.banks.BankStep.{BankStep}
 use Rattle.bip_bank.specs.declared.banks.StationId.{StationId}
+use Rattle.bip_bank.specs.declared.idleness.WhyIdle.TheVariants.{Lacking, NoneOfIt, NothingOpen}
+use Rattle.bip_bank.specs.declared.idleness.WhyIdle.TheVariants.{TokenElsewhere, TokenInFlight}
+use Rattle.bip_bank.specs.declared.idleness.WhyIdle.{WhyIdle}
 use Rattle.bip_table.specs.declared.reservations.Decision.TheVariants.{Granted, Refused}
 use Rattle.bip_tests.specs.Second.{lacking_from}
 
@@ -118,3 +126,39 @@ wants_so b lacks s e wants = (
   complete lacks s.0 e,
   oldest_so b b.sharing (otherwise (lacking_from 0 lacks) 0) s.0 wants.1,
 )
+
+-- why a station decides on nothing
+pub lacking_idle : (b : BankContent) (lacks : List Bool) (s : StationId)
+    → slice_index_or lacks s.0 false ≡ true → IsIdleBecause (lacking_as lacks b) (Serve s) Lacking
+lacking_idle b lacks s e not = not (listed 0 lacks s.0 s.0 (omega arith) e)
+
+idle_so : (k : KeptCentral) (lacks : List Bool) (s : StationId) (why : WhyIdle)
+    → IsIdleBecause (content_of (kept_central k)) (Serve s) why
+    → IsIdleBecause (lacking_as lacks (content_of (kept_central k))) (Serve s) why
+idle_so k lacks s NothingOpen not = λ old. not (oldest_so (content_of (kept_central k))
+    (otherwise (lacking_from 0 lacks) 0) alone s.0 old)
+idle_so k lacks s Lacking not = absurd (not tt)
+idle_so k lacks s NoneOfIt is = absurd is
+idle_so k lacks s TokenInFlight is = absurd is
+idle_so k lacks s TokenElsewhere is = absurd is
+idle_so k lacks s why is = absurd is
+
+pub idles_as_central : (k : KeptCentral) (lacks : List Bool) (s : StationId) (r : Option WhyIdle)
+    → IfSome r (IsIdleBecause (content_of (kept_central k)) (Serve s))
+    → IfSome r (IsIdleBecause (lacking_as lacks (content_of (kept_central k))) (Serve s))
+idles_as_central k lacks s None is = tt
+idles_as_central k lacks s (Some why) is = idle_so k lacks s why is
+
+pub acts_as_central : (b : BankContent) (lacks : List Bool) (s : StationId) (r : Option WhyIdle)
+    → slice_index_or lacks s.0 false ≡ false → IfNone r (CanWantMemory b (Serve s))
+    → IfNone r (CanWantMemory (lacking_as lacks b) (Serve s))
+acts_as_central b lacks s None e wants = wants_so b lacks s e wants
+acts_as_central b lacks s (Some why) e wants = tt
+
+-- any other step may move what stations share
+pub may_move : (b : BankContent) (lacks : List Bool) (step : BankStep)
+    → ((s : StationId) → step ≡ Serve s → ⊥) → CanWantMemory (lacking_as lacks b) step
+may_move b lacks (Serve s) other = absurd (other s refl)
+may_move b lacks (Deliver k) other = (otherwise [] 0, ([], 0, refl))
+may_move b lacks (Pass s t) other = (otherwise [] 0, ([], 0, refl))
+may_move b lacks (Ask s t) other = (otherwise [] 0, ([], 0, refl))

@@ -1,14 +1,15 @@
 //! A second bank: it serves only requests that were handed on before.
-ghost use Rattle.std.specs.Prelude.{◌≡◌, ◌<◌, [], All, IfErr, IfOk, OnErr, length, true};
-ghost use Rattle.std.specs.Prelude.{slice_index_or, false};
+ghost use Rattle.std.specs.Prelude.{◌≡◌, ◌<◌, [], All, IfErr, IfNone, IfOk, IfSome, OnErr, length};
+ghost use Rattle.std.specs.Prelude.{slice_index_or, false, true};
 ghost use Rattle.bip_model.specs.Numbering.{last_number};
 ghost use Rattle.bip_bank.specs.Banks.{CanWantMemory, DoesStep, IsActed, asked_nothing};
 ghost use Rattle.bip_bank.specs.Banks.{content_of};
+ghost use Rattle.bip_bank.specs.Idleness.{IsIdleBecause};
 ghost use Rattle.bip_bank.specs.declared.banks.Acted.TheVariants.{Nothing};
 ghost use Rattle.bip_bank.specs.declared.banks.BankStep.TheVariants.{Deliver, Serve};
 ghost use Rattle.bip_tests.specs.Second.{kept_second};
 
-use bip_bank::{Acted, Bank, BankStep, Central, StationId};
+use bip_bank::{Acted, Bank, BankStep, Central, StationId, WhyIdle};
 use bip_model::{Grant, InterId, Number, Request};
 use bip_partition::Plan;
 use std::alloc::{AllocError, Global};
@@ -96,6 +97,20 @@ impl<'p> Second<'p> {
         lack_again(&mut self.lacks, station.0 as usize, &did);
         Ok(did)
     }
+
+    /// Why a station that is served decides on nothing, where it doesn't.
+    fn why_unserved(&self, station: StationId) -> Option<WhyIdle>
+        ensures some { IfSome result (IsIdleBecause (content_of (kept_second self.now))
+            (Serve station)) }
+        ensures none { IfNone result (CanWantMemory (content_of (kept_second self.now))
+            (Serve station)) }
+    {
+        let place = station.0 as usize;
+        if lacks(&self.lacks, place) {
+            return Some(WhyIdle::Lacking);
+        }
+        self.central.why_idle(BankStep::Serve(station))
+    }
 }
 
 /// Whether a station lacks a request.
@@ -149,6 +164,16 @@ impl<'p> Bank for Second<'p> {
             BankStep::Deliver(place) => Ok(self.deliver(place)),
             BankStep::Serve(station) => self.serve(station),
             _ => Ok(Acted::Nothing),
+        }
+    }
+
+    fn why_idle(&self, step: BankStep) -> Option<WhyIdle>
+        ensures some { IfSome result (IsIdleBecause (content_of (kept_second self.now)) step) }
+        ensures none { IfNone result (CanWantMemory (content_of (kept_second self.now)) step) }
+    {
+        match step {
+            BankStep::Serve(station) => self.why_unserved(station),
+            _ => None,
         }
     }
 

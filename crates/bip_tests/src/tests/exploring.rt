@@ -8,7 +8,7 @@ use bip_core::{Event, Report};
 use bip_forks::Forks;
 use bip_model::{ClassId, InterId};
 use bip_partition::Plan;
-use bip_schedule::{explore, seeded};
+use bip_schedule::{Draw, Draws, explore, seeded};
 use std::alloc::Global;
 use std::process::Abort;
 
@@ -18,20 +18,20 @@ const Y: StationId = StationId(1);
 
 const TRY_Y: Event = Event::Try(ClassId(1), InterId(1));
 
-/// What is drawn of a seed: so many events, perhaps these, with this report.
+/// What is drawn of a seed: so many events by the table, perhaps these, with this report.
 #[derive(Drop)]
 struct Drawn {
     seed: u64,
-    count: u32,
+    draws: Draws,
     events: Option<&'static [Event]>,
     report: Report,
 }
 
 fn draws(rt: &impl Abort, alloc: Global, plan: &Plan, drawn: &Drawn) {
     let mut world = world(rt, alloc, plan, 0);
-    let (events, report) = seeded(alloc, &mut world, drawn.seed, drawn.count).expect(rt, "memory");
+    let (events, report) = seeded(alloc, &mut world, drawn.seed, drawn.draws).expect(rt, "memory");
     assert!(rt; report == drawn.report);
-    assert!(rt; events.len() == drawn.count as usize);
+    assert!(rt; events.len() == drawn.draws.count as usize);
     assert!(rt; world.trace().len() as u64 == report.grants);
     if let Some(expected) = drawn.events {
         assert!(rt; events.as_slice() == expected);
@@ -42,7 +42,10 @@ fn draws(rt: &impl Abort, alloc: Global, plan: &Plan, drawn: &Drawn) {
 fn the_words_of_a_seed_are_its_events(rt: HostRuntime) {
     const DRAWN: Drawn = Drawn {
         seed: 1,
-        count: 10,
+        draws: Draws {
+            count: 10,
+            by: Draw::Table,
+        },
         events: Some(&[
             Event::Mail(0),
             Event::Mail(2),
@@ -67,20 +70,26 @@ fn the_words_of_a_seed_are_its_events(rt: HostRuntime) {
     over_plan(&rt, rt.alloc(), COMPETE, &DRAWN, draws);
 }
 
+/// So many events by the table.
+const MANY: Draws = Draws {
+    count: 200,
+    by: Draw::Table,
+};
+
 /// Explores as many seeds, from 1 on, with 200 events each: they have these reports, and as many
 /// grants in all.
 fn explores(rt: &impl Abort, alloc: Global, plan: &Plan, (seeds, reports): (u32, &[Report])) {
     for (place, report) in reports.iter().enumerate() {
         let drawn = Drawn {
             seed: place as u64 + 1,
-            count: 200,
+            draws: MANY,
             events: None,
             report: *report,
         };
         draws(rt, alloc, plan, &drawn);
     }
     let make = || Central::new(alloc, plan, 0);
-    let explored = explore(alloc, plan, make, 0, seeds, 200).expect(rt, "runs");
+    let explored = explore(alloc, plan, make, 0, seeds, MANY).expect(rt, "runs");
     let grants = reports
         .iter()
         .fold(0u64, |sum, report| sum.saturating_add(report.grants));
@@ -125,20 +134,25 @@ const REACTOR: &str =
     interaction shut_down Reactor.shut_down\npriority shut_down < cool1\n\
     priority shut_down < cool2\nclass control tick cool1 cool2 end1 end2 shut_down\n";
 
-/// So many events of each of so many seeds.
-const SEEDS: (u32, u32) = (20, 2000);
+/// So many seeds, and what is drawn of each.
+const SEEDS: u32 = 20;
+
+const MANY_MORE: Draws = Draws {
+    count: 2000,
+    by: Draw::Table,
+};
 
 /// The mean number of grants of a seed stands in docs/ANSWERS.md, "Exploring": with the table of
 /// one bank the least of all examples, 2, and with forks the greatest, 4.
 fn grants_with_central(rt: &impl Abort, alloc: Global, plan: &Plan, grants: u64) {
     let make = || Central::new(alloc, plan, 0);
-    let explored = explore(alloc, plan, make, 0, SEEDS.0, SEEDS.1).expect(rt, "runs");
+    let explored = explore(alloc, plan, make, 0, SEEDS, MANY_MORE).expect(rt, "runs");
     assert!(rt; explored.report().grants == grants);
 }
 
 fn grants_with_forks(rt: &impl Abort, alloc: Global, plan: &Plan, grants: u64) {
     let make = || Forks::new(alloc, plan, 0);
-    let explored = explore(alloc, plan, make, 0, SEEDS.0, SEEDS.1).expect(rt, "runs");
+    let explored = explore(alloc, plan, make, 0, SEEDS, MANY_MORE).expect(rt, "runs");
     assert!(rt; explored.report().grants == grants);
 }
 

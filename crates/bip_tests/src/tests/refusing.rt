@@ -21,7 +21,7 @@ use bip_partition::{Plan, PlanFault};
 use bip_reader::{Why, read_model, write_model};
 use bip_replay::{Book, BookFault, replay, write_trace};
 use bip_ring::Ring;
-use bip_schedule::{ExploreFault, explore, read_schedule};
+use bip_schedule::{Draw, Draws, ExploreFault, explore, read_schedule};
 use bip_table::{Decision, Table, TableFault, TableLock};
 use std::alloc::{AllocError, Global};
 use std::marker::Brand;
@@ -385,16 +385,20 @@ fn worlds_go_on_where_memory_is_refused(rt: HostRuntime) {
 
 /// Explores three seeds, each of which has one grant where no memory is refused.
 fn explores_counted(rt: &(impl Abort + Print), alloc: Global, plan: &Plan, seeds: u32) {
+    let draws = Draws {
+        count: 200,
+        by: Draw::Table,
+    };
     let make = || Central::new(alloc, plan, 0);
     call(rt);
-    let first = explore(alloc, plan, make, 0, seeds, 200);
+    let first = explore(alloc, plan, make, 0, seeds, draws);
     called(rt);
     match first {
         Ok(done) => assert!(rt; done.seeds() == seeds && done.report().grants <= u64::from(seeds)),
         Err(fault) => assert!(rt; matches!(fault, ExploreFault::Memory)),
     }
     let make = || Central::new(alloc, plan, 0);
-    let again = explore(alloc, plan, make, 0, seeds, 200).expect(rt, "memory");
+    let again = explore(alloc, plan, make, 0, seeds, draws).expect(rt, "memory");
     assert!(rt; again.seeds() == seeds && again.report().grants == u64::from(seeds));
 }
 
