@@ -61,17 +61,17 @@ module _ (p : Planned) (asked : ExploreArguments) where
       → AreExploredBehind p asked from x × (x.tally.traces ≡ 0)
   none_explored from x is =
       let none : x.tally.traces ≡ 0 = ap (λ (f : SeedFigures). f.tally.traces) is in (
-        subst (λ n. AreSeedFigures Shares p 0 asked.events (from + 1) n x) (sym none)
-            (figures_none Shares p 0 asked.events (from + 1) x is),
+        subst (λ n. AreSeedFigures Shares p 0 asked.draws (from + 1) n x) (sym none)
+            (figures_none Shares p 0 asked.draws (from + 1) x is),
         none,
       )
 
   -- the first of those that are
   pub explored_until : (done : ℕ) (all : SeedFigures) → AreExploredBehind p asked 0 all
       → done ≤ all.tally.traces
-      → (figures : SeedFigures) × AreSeedFigures Shares p 0 asked.events 1 done figures
+      → (figures : SeedFigures) × AreSeedFigures Shares p 0 asked.draws 1 done figures
   explored_until done all are few =
-      figures_front Shares p 0 asked.events 1 all.tally.traces done all are few
+      figures_front Shares p 0 asked.draws 1 all.tally.traces done all are few
 
   -- seeds that join those that were explored so far
   pub more_explored : (from next : ℕ) (all more new : SeedFigures)
@@ -80,27 +80,27 @@ module _ (p : Planned) (asked : ExploreArguments) where
       → JoinsSeedFigures all more new → AreExploredBehind p asked from new
       × (new.tally.traces ≡ all.tally.traces + more.tally.traces)
   more_explored from next all more new one other at joins =
-      let both = figures_on Shares p 0 asked.events (from + 1) all.tally.traces (next + 1)
+      let both = figures_on Shares p 0 asked.draws (from + 1) all.tally.traces (next + 1)
       more.tally.traces all more new one other (omega (arith, at)) joins in
-      let count = figures_seeds Shares p 0 asked.events (from + 1)
+      let count = figures_seeds Shares p 0 asked.draws (from + 1)
       (all.tally.traces + more.tally.traces) new both in (
-        subst (λ (n : ℕ). AreSeedFigures Shares p 0 asked.events (from + 1) n new) (sym count) both,
+        subst (λ (n : ℕ). AreSeedFigures Shares p 0 asked.draws (from + 1) n new) (sym count) both,
         count,
       )
 
   -- one seed alone
   pub one_explored : (done : ℕ) (x : SeedFigures)
-      → AreSeedFigures Shares p 0 asked.events (done + 1) 1 x
+      → AreSeedFigures Shares p 0 asked.draws (done + 1) 1 x
       → AreExploredBehind p asked done x × (x.tally.traces ≡ 1)
   one_explored done x is =
-      let one = figures_seeds Shares p 0 asked.events (done + 1) 1 x is in
-      (subst (λ n. AreSeedFigures Shares p 0 asked.events (done + 1) n x) (sym one) is, one)
+      let one = figures_seeds Shares p 0 asked.draws (done + 1) 1 x is in
+      (subst (λ n. AreSeedFigures Shares p 0 asked.draws (done + 1) n x) (sym one) is, one)
 
   -- seeds that are explored are of all interactions
   pub explored_counts : (from : ℕ) (x : SeedFigures) → AreExploredBehind p asked from x
       → length x.tally.counts ≡ length p.model.interactions
   explored_counts from x is =
-      figures_counts Shares p 0 asked.events (from + 1) x.tally.traces x is
+      figures_counts Shares p 0 asked.draws (from + 1) x.tally.traces x is
 
   -- a block that is explored ends with the last seed at most
   pub block_explored : (ahead : Ahead) (done : ℕ) (block : SeedFigures) → AreAhead p asked ahead

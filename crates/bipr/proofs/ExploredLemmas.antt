@@ -5,6 +5,7 @@ use Rattle.std.specs.Prelude.{IfOk}
 use Rattle.bip_partition.specs.Plans.{Planned}
 use Rattle.bip_bank.specs.Sharing.{Sharing}
 use Rattle.bip_schedule.proofs.FigureLemmas.{figures_shared}
+use Rattle.bip_schedule.specs.declared.drawing.Draws.{Draws}
 use Rattle.bip_schedule.specs.Exploring.{AreSeedFigures, SeedFigures}
 use Rattle.bip_schedule.specs.declared.exploring.ExploreFault.{ExploreFault}
 use Rattle.bipr.specs.Explored.{IsExploreAnswer, IsProgressAt, IsProgressUntil, by_count}
@@ -56,7 +57,7 @@ told_more asked done told more so here =
 -- that all are runs is said, with what they come to
 pub explored_said : (p : Planned) (asked : ExploreArguments) (figures : SeedFigures)
     (told : List Put) (answer : Answer)
-    → AreSeedFigures (IsSharedAtFirst asked.resolver p) p 0 asked.events 1 asked.seeds figures
+    → AreSeedFigures (IsSharedAtFirst asked.resolver p) p 0 asked.draws 1 asked.seeds figures
     → IsProgressUntil asked asked.seeds (texts told)
     → answer ≡ reporting (seeds_text asked.seeds)
     (exploring_stats p.model asked.with_stats figures)
@@ -65,10 +66,10 @@ explored_said p asked figures told answer so lines said =
     subst (IsExploreAnswer p asked told) (sym said) (explored figures told so lines)
 
 -- seeds that are explored with a bank that may be made are, with what its stations share
-pub shared_figures : (shares others : Sharing → Type 0) (p : Planned) (count seed : ℕ)
+pub shared_figures : (shares others : Sharing → Type 0) (p : Planned) (draws : Draws) (seed : ℕ)
     (result : Result SeedFigures ExploreFault) → ((x : Sharing) → shares x → others x)
-    → IfOk result (AreSeedFigures shares p 0 count seed 1)
-    → IfOk result (AreSeedFigures others p 0 count seed 1)
-shared_figures shares others p count seed (Ok figures) is so =
-    figures_shared shares others p 0 count is seed 1 figures so
-shared_figures shares others p count seed (Err fault) is so = tt
+    → IfOk result (AreSeedFigures shares p 0 draws seed 1)
+    → IfOk result (AreSeedFigures others p 0 draws seed 1)
+shared_figures shares others p draws seed (Ok figures) is so =
+    figures_shared shares others p 0 draws is seed 1 figures so
+shared_figures shares others p draws seed (Err fault) is so = tt

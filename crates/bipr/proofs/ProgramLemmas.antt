@@ -1,8 +1,10 @@
 -- The program as the library takes it, and what is read of words that it parsed.
 use Rattle.std.proofs.Common.{◌≡◌, ◌∷◌, ◌++◌, ◌||◌, ◌∙◌, List, [], Option, Some, None, true, ap}
-use Rattle.std.proofs.Common.{ap₂, option_map, refl, subst}
+use Rattle.std.proofs.Common.{ap₂, false, option_map, refl, rules, subst}
+use Rattle.std.specs.Borrow.{Bor}
 use Rattle.std.specs.Box.{box_value}
 use Rattle.std.specs.Prelude.{Box}
+use Rattle.clap.specs.Simple.{new_app, new_shape}
 use Rattle.clap.specs.Words.{AddsArg, AddsSubcommand, App, HasKind, HasMatchesOf, Row, Rule, Shape}
 use Rattle.clap.specs.Words.{Text, app_of, fault_of, first_of, first_value, found_of, is_simple}
 use Rattle.clap.specs.Words.{is_simple_and_free, matches_of, one_of, one_text, rows_of}
@@ -10,6 +12,7 @@ use Rattle.clap.specs.Words.{subcommand_name_of, subcommand_of, subcommand_rows,
 use Rattle.clap.specs.Words.{with_rule, with_subcommand}
 use Rattle.clap.specs.declared.builder.arg.Arg.{Arg}
 use Rattle.clap.specs.declared.builder.command.Command.{Command}
+use Rattle.clap.specs.declared.builder.command.Command.TheViews.{out-Command}
 use Rattle.clap.specs.declared.error.Error.{Error}
 use Rattle.clap.specs.declared.parser.matches.ArgMatches.{ArgMatches}
 use Rattle.clap.specs.declared.parser.matches.ArgMatches.TheViews.{out-ArgMatches, out-SubCommand}
@@ -19,6 +22,14 @@ use Rattle.clap.proofs.WalkLemmas.{first_value-rows, one_text-rows}
 use Rattle.bipr.specs.Program.{HasRule, HasShape, AreChoices, IsNoParse, IsParse, parsed_of}
 use Rattle.bipr.specs.Program.{program}
 use Rattle.bipr.specs.declared.program.Choices.{Choices}
+
+-- a command with texts alone
+pub bare_shape : (name : Text) (new about last : Command) (a b : Option (Bor Text))
+    → app_of new ≡ new_app name → (out-Command new).has_globals ≡ false
+    → out-Command about ≡ record (out-Command new) { about = a }
+    → out-Command last ≡ record (out-Command about) { after_help = b }
+    → HasShape (new_shape name) last
+bare_shape name new about last a b app local told ended = search rules
 
 -- a command with one more argument
 pub has_shape : (old new : Command) (argument : Arg) (shape : Shape) (rule : Rule)

@@ -17,6 +17,7 @@ use Rattle.bip_replay.specs.Writing.{text_of}
 use Rattle.bip_schedule.proofs.DrawLemmas.{seeded_run}
 use Rattle.bip_schedule.proofs.LawLemmas.{one_schedule, one_seed_trace}
 use Rattle.bip_schedule.specs.Exploring.{IsSeedRun, SeedRun}
+use Rattle.bip_schedule.specs.declared.drawing.Draws.{Draws}
 use Rattle.bip_schedule.specs.Schedules.{IsEventText}
 use Rattle.bipr.specs.Laws.{OneStepsAnswer, OneTraceOfASeed, SeedsAreSteps, ToldOrNot}
 use Rattle.bipr.specs.Resolvers.{IsSharedAtFirst}
@@ -75,7 +76,7 @@ seeds_are_steps p asked schedule report answer seed two so =
     (sym of.is)
     (answered_so p 0 asked.resolver schedule of.events of.first of.last of.report report answer
     seed.reads of.new of.shared
-    (seeded_run asked.seed asked.events of.events of.first of.last of.report of.seeded) two
+    (seeded_run asked.seed asked.draws of.events of.first of.last of.report of.seeded) two
     seed.whole so)
 
 pub told_or_not : ToldOrNot
@@ -83,10 +84,11 @@ told_or_not p base resolver schedule report other told a b one two whole so =
     one_steps_answer p base resolver schedule report other a b one.stepped two whole so
 
 -- a run of a seed by what its stations share
-shared_as : (resolver : Resolver) (p : Planned) (count seed : ℕ) (n : SeedRun) (x : Sharing)
-    → IsSharedAtFirst resolver p x → IsSeedRun (IsSharedAtFirst resolver p) p 0 count seed n
-    → IsSeedRun (λ y. y ≡ x) p 0 count seed n
-shared_as resolver p count seed n x first run = record {
+shared_as : (resolver : Resolver) (p : Planned) (draws : Draws) (seed : ℕ) (n : SeedRun)
+    (x : Sharing)
+    → IsSharedAtFirst resolver p x → IsSeedRun (IsSharedAtFirst resolver p) p 0 draws seed n
+    → IsSeedRun (λ y. y ≡ x) p 0 draws seed n
+shared_as resolver p draws seed n x first run = record {
   named = run.named;
   of_seed = record {
     first = run.of_seed.first;
@@ -106,9 +108,9 @@ shared_as resolver p count seed n x first run = record {
 
 pub one_trace_of_a_seed : OneTraceOfASeed
 unfolding shared_as
-one_trace_of_a_seed p resolver count seed m n one other =
+one_trace_of_a_seed p resolver draws seed m n one other =
     let x = one.of_seed.first.bank.sharing in
     let first = one.of_seed.shared in
-    one_seed_trace x p 0 count seed m n (moved_one_way resolver p x first)
-    (shared_as resolver p count seed m x first one)
-    (shared_as resolver p count seed n x first other)
+    one_seed_trace x p 0 draws seed m n (moved_one_way resolver p x first)
+    (shared_as resolver p draws seed m x first one)
+    (shared_as resolver p draws seed n x first other)

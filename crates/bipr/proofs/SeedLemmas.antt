@@ -17,7 +17,7 @@ use Rattle.bipr.specs.declared.commands.seed.SeedArguments.{SeedArguments}
 pub is_seed_schedule : (p : Planned) (asked : SeedArguments) (schedule : List ℕ)
     (events : List Event) (w v : WorldContent) (report : Report) (sharing : Sharing)
     → IsNewWorld p 0 w → w.bank.sharing ≡ sharing → IsSharedAtFirst asked.resolver p sharing
-    → AreSeeded asked.seed asked.events events w v report → IsLossless report
+    → AreSeeded asked.seed asked.draws events w v report → IsLossless report
     → IsWritten p events schedule → IsEventText p schedule events
     → IsSeedSchedule p asked schedule
 is_seed_schedule p asked schedule events w v report sharing new shares first seeded whole written

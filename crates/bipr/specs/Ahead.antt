@@ -11,7 +11,7 @@ use Rattle.bipr.specs.declared.commands.explore.ExploreArguments.{ExploreArgumen
 -- them as they count
 abbrev pub AreExploredBehind : Planned → ExploreArguments → ℕ → SeedFigures → Type 0
 AreExploredBehind p asked from figures =
-    AreSeedFigures (IsSharedAtFirst asked.resolver p) p 0 asked.events (from + 1)
+    AreSeedFigures (IsSharedAtFirst asked.resolver p) p 0 asked.draws (from + 1)
     figures.tally.traces figures
 
 -- how many seeds of so many events a block has, of those that are left for so many blocks: an
@@ -25,7 +25,7 @@ abbrev pub round_end : ExploreArguments → ℕ → ℕ → ℕ
 round_end asked jobs done =
     let left = asked.seeds - done in
     let blocks = min jobs left in
-    done + blocks * block_size left blocks asked.events
+    done + blocks * block_size left blocks asked.draws.count
 
 -- blocks stand one behind the other, up to the round's last seed at most, and of each the first
 -- seeds are explored, with these figures

@@ -4,6 +4,9 @@ use Rattle.std.specs.Prelude.{IfNone, IfSome, Option, codes}
 use Rattle.std.specs.Str.Parse.{IsNumeral, digits_value, without_leading_plus}
 use Rattle.clap.specs.Words.{Row, Text, first_of, one_of}
 use Rattle.bip_host.specs.declared.hosts.Tables.{Tables}
+use Rattle.bip_schedule.specs.declared.drawing.Draw.{Draw}
+use Rattle.bip_schedule.specs.declared.drawing.Draws.{Draws}
+use Rattle.bipr.specs.Draws.{draw_name}
 use Rattle.bipr.specs.Program.{Parsed}
 use Rattle.bipr.specs.Resolvers.{resolver_name, tables_name}
 use Rattle.bipr.specs.declared.commands.chart.ChartArguments.{ChartArguments}
@@ -54,6 +57,15 @@ IsResolverAsked values resolver =
 -- values name how tables are shared
 abbrev pub AreTablesAsked : List Row → Tables → Type 0
 AreTablesAsked values tables = first_of (codes "table") values ≡ Some (tables_name tables)
+
+-- values name how events are drawn
+abbrev pub IsDrawAsked : List Row → Draw → Type 0
+IsDrawAsked values draw = first_of (codes "draw") values ≡ Some (draw_name draw)
+
+-- values say what is drawn of a seed: how many events, and how
+pub record AreDrawsAsked (values : List Row) (draws : Draws) : Type 0 where
+  pub count : IsNumberAsked values (codes "events") 32 draws.count
+  pub by : IsDrawAsked values draws.by
 
 -- values set an option that takes none, or don't
 pub record IsFlagAsked (values : List Row) (option : Text) (is_set : Bool) : Type 0 where
@@ -115,7 +127,7 @@ pub record IsExploreAsked (values : List Row) (arguments : ExploreArguments) : T
   pub model : first_of (codes "model") values ≡ Some arguments.model.now
   pub resolver : IsResolverAsked values arguments.resolver
   pub seeds : IsNumberAsked values (codes "seeds") 32 arguments.seeds
-  pub events : IsNumberAsked values (codes "events") 32 arguments.events
+  pub draws : AreDrawsAsked values arguments.draws
   pub progress : IsFlagAsked values (codes "progress") arguments.is_told
   pub jobs : MayAskNumber values (codes "jobs") 32 arguments.jobs
   pub stats : IsFlagAsked values (codes "stats") arguments.with_stats
@@ -134,7 +146,7 @@ pub record IsSeedAsked (values : List Row) (arguments : SeedArguments) : Type 0 
   pub model : first_of (codes "model") values ≡ Some arguments.model.now
   pub resolver : IsResolverAsked values arguments.resolver
   pub seed : IsNumberAsked values (codes "seed") 32 arguments.seed
-  pub events : IsNumberAsked values (codes "events") 32 arguments.events
+  pub draws : AreDrawsAsked values arguments.draws
 
 -- the values behind `run` ask
 pub record IsRunAsked (values : List Row) (arguments : RunArguments) : Type 0 where

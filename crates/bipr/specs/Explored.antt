@@ -34,7 +34,7 @@ pub data IsProgressAt (asked : ExploreArguments) (seed : ℕ) : List (List ℕ) 
   -- between such lines one with the time: how many seeds are done, and how many events they did
   by_time : (rate left : ℕ) → asked.is_told ≡ true → ends_hundredth asked.seeds seed ≡ false
       → IsProgressAt asked seed
-      (timed_text seed asked.seeds (seed * asked.events) rate left ∷ [])
+      (timed_text seed asked.seeds (seed * asked.draws.count) rate left ∷ [])
 
 -- what may be told until so many seeds are done
 pub data IsProgressUntil (asked : ExploreArguments) : ℕ → List (List ℕ) → Type 0 where
@@ -54,13 +54,13 @@ pub data IsExploreAnswer (p : Planned) (asked : ExploreArguments) :
   -- the trace of each seed is a run of the model: that one is none can't be; and these are the
   -- figures of all
   explored : (figures : SeedFigures) (told : List Put)
-      → AreSeedFigures (IsSharedAtFirst asked.resolver p) p 0 asked.events 1 asked.seeds figures
+      → AreSeedFigures (IsSharedAtFirst asked.resolver p) p 0 asked.draws 1 asked.seeds figures
       → IsProgressUntil asked asked.seeds (texts told)
       → IsExploreAnswer p asked told
       (reporting (seeds_text asked.seeds) (exploring_stats p.model asked.with_stats figures))
   -- so many seeds are explored, and memory is out
   ends_without_memory : (done : ℕ) (figures : SeedFigures) (told : List Put) → done ≤ asked.seeds
-      → AreSeedFigures (IsSharedAtFirst asked.resolver p) p 0 asked.events 1 done figures
+      → AreSeedFigures (IsSharedAtFirst asked.resolver p) p 0 asked.draws 1 done figures
       → IsProgressUntil asked done (texts told)
       → IsExploreAnswer p asked told out_of_memory
 

@@ -15,6 +15,7 @@ use Rattle.bip_replay.specs.declared.faults.BookFault.{BookFault}
 use Rattle.bip_replay.specs.declared.faults.ReplayFault.TheVariants as replay_fault
 use Rattle.bip_replay.specs.declared.faults.TraceFault.{TraceFault}
 use Rattle.bip_schedule.specs.Exploring.{IsSeedRun, SeedRun}
+use Rattle.bip_schedule.specs.declared.drawing.Draws.{Draws}
 use Rattle.bip_schedule.specs.Laws.{IsFault}
 use Rattle.bip_schedule.specs.Schedules.{IsEventText}
 use Rattle.bipr.specs.Answers.{HasPlan, IsAnswer, IsCheckAnswer, IsRefusedModel, complaining}
@@ -105,9 +106,9 @@ ToldOrNot =
 -- one trace with its end, and one report
 abbrev pub OneTraceOfASeed : Type 0
 OneTraceOfASeed =
-    (p : Planned) (resolver : Resolver) (count seed : ℕ) (m n : SeedRun)
-    → (one : IsSeedRun (IsSharedAtFirst resolver p) p 0 count seed m)
-    → (other : IsSeedRun (IsSharedAtFirst resolver p) p 0 count seed n)
+    (p : Planned) (resolver : Resolver) (draws : Draws) (seed : ℕ) (m n : SeedRun)
+    → (one : IsSeedRun (IsSharedAtFirst resolver p) p 0 draws seed m)
+    → (other : IsSeedRun (IsSharedAtFirst resolver p) p 0 draws seed n)
     → (one.of_seed.events ≡ other.of_seed.events) × (m ≡ n)
 
 -- the steps of a seed's schedule are the seed's: with its resolver they have its trace and its

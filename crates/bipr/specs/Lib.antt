@@ -6,6 +6,7 @@ pub mod Commands
 pub mod Dividing
 pub mod Ended
 pub mod Endings
+pub mod Draws
 pub mod Explored
 pub mod Hosted
 pub mod Inputs

@@ -62,6 +62,12 @@ table_option tables = record (option (codes "table") (Names tables)) {
   defaults = codes "locked" ∷ [];
 }
 
+-- one of these ways to draw events, the first where none is given
+abbrev pub draw_option : Bor (List (Bor Text)) → Rule
+draw_option draws = record (option (codes "draw") (Names draws)) {
+  defaults = codes "table" ∷ [];
+}
+
 -- ---- commands
 
 -- a command with these arguments
@@ -98,11 +104,12 @@ steps_command resolvers = with_arguments (codes "steps")
     (path (codes "model") ∷ path (codes "schedule") ∷ resolver_option resolvers ∷ base_option
     ∷ flag (codes "tell") ∷ flag (codes "explain") ∷ [])
 
-abbrev pub explore_command : Bor (List (Bor Text)) → Shape
-explore_command resolvers = with_arguments (codes "explore")
+abbrev pub explore_command : Bor (List (Bor Text)) → Bor (List (Bor Text)) → Shape
+explore_command resolvers draws = with_arguments (codes "explore")
     (path (codes "model") ∷ resolver_option resolvers
     ∷ needed (codes "seeds") (numbers 1 1000000) ∷ needed (codes "events") (numbers 0 1000000)
-    ∷ flag (codes "progress") ∷ option (codes "jobs") (numbers 1 256) ∷ flag (codes "stats")
+    ∷ draw_option draws ∷ flag (codes "progress") ∷ option (codes "jobs") (numbers 1 256) ∷ flag
+    (codes "stats")
     ∷ flag (codes "explain") ∷ [])
 
 abbrev pub run_command : Bor (List (Bor Text)) → Bor (List (Bor Text)) → Shape
@@ -111,10 +118,10 @@ run_command resolvers tables = with_arguments (codes "run")
     ∷ option (codes "turns") (numbers 1 1000000) ∷ option (codes "grants") (numbers 1 1000000)
     ∷ table_option tables ∷ flag (codes "stats") ∷ flag (codes "explain") ∷ [])
 
-abbrev pub seed_command : Bor (List (Bor Text)) → Shape
-seed_command resolvers = with_arguments (codes "seed")
+abbrev pub seed_command : Bor (List (Bor Text)) → Bor (List (Bor Text)) → Shape
+seed_command resolvers draws = with_arguments (codes "seed")
     (path (codes "model") ∷ resolver_option resolvers ∷ needed (codes "seed") (numbers 1 1000000)
-    ∷ needed (codes "events") (numbers 0 1000000) ∷ flag (codes "explain") ∷ [])
+    ∷ needed (codes "events") (numbers 0 1000000) ∷ draw_option draws ∷ flag (codes "explain") ∷ [])
 
 abbrev pub walk_command : Shape
 walk_command = with_arguments (codes "walk")
@@ -134,8 +141,10 @@ abbrev pub program : Choices → App
 program choices = record {
   top = record bare_program { is_leaf = false };
   subs = canon_command ∷ chart_command ∷ check_command ∷ draw_command ∷ replay_command
-      ∷ walk_command ∷ steps_command choices.resolvers ∷ explore_command choices.resolvers
-      ∷ seed_command choices.resolvers ∷ run_command choices.resolvers choices.tables ∷ [];
+      ∷ walk_command ∷ steps_command choices.resolvers
+      ∷ explore_command choices.resolvers choices.draws
+      ∷ seed_command choices.resolvers choices.draws
+      ∷ run_command choices.resolvers choices.tables ∷ [];
 }
 
 -- an argument, and a command without commands of its own, as the library has them
@@ -157,6 +166,7 @@ pub record AreChoices (choices : Choices) : Type 0 where
   pub resolvers : names_in choices.resolvers
       ≡ codes "central" ∷ codes "ring" ∷ codes "forks" ∷ []
   pub tables : names_in choices.tables ≡ codes "locked" ∷ codes "words" ∷ []
+  pub draws : names_in choices.draws ≡ codes "table" ∷ codes "busy" ∷ []
 
 -- what words are parsed to: the values of the program's own options, and the command that is
 -- named, with the values that each of its arguments has

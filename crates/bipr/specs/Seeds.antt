@@ -19,7 +19,7 @@ use Rattle.bipr.specs.declared.commands.seed.SeedArguments.{SeedArguments}
 -- to which they led
 pub record IsSeedSchedule (p : Planned) (asked : SeedArguments) (schedule : List ℕ) : Type 0 where
   pub trace : List Grant
-  pub of_seed : IsSeedTrace (IsSharedAtFirst asked.resolver p) p 0 asked.events asked.seed trace
+  pub of_seed : IsSeedTrace (IsSharedAtFirst asked.resolver p) p 0 asked.draws asked.seed trace
   pub whole : IsLossless of_seed.report
   pub written : IsWritten p of_seed.events schedule
   pub reads : IsEventText p schedule of_seed.events

@@ -142,7 +142,7 @@ fn explore_ahead<R: Threads + Sync>(
 {
     let left = asked.seeds - done;
     let blocks = jobs.min(left);
-    let size = block_size(left, blocks, asked.events);
+    let size = block_size(left, blocks, asked.draws.count);
     let last = done + blocks * size;
     let explore = |block: usize| explore_block_of(alloc, plan, asked, done, size, block as u32);
     match thread::map_indices(rt, alloc, blocks as usize, &explore) {
@@ -247,21 +247,21 @@ fn explore_one(
     seed: u32,
 ) -> Result<Checked, ExploreFault>
     ensures explored { IfOk result (AreSeedFigures (IsSharedAtFirst asked.now.resolver plan.now)
-        plan.now 0 asked.now.events seed 1) }
+        plan.now 0 asked.now.draws seed 1) }
     ensures fault { IfErr result (λ fault. fault ≡ Memory) }
 {
     match asked.resolver {
         Resolver::Central => {
             let make = || Central::new(alloc, plan, 0);
-            explore_seed(alloc, plan, &make, 0, seed, asked.events)
+            explore_seed(alloc, plan, &make, 0, seed, asked.draws)
         }
         Resolver::Ring => {
             let make = || Ring::new(alloc, plan, 0);
-            explore_seed(alloc, plan, &make, 0, seed, asked.events)
+            explore_seed(alloc, plan, &make, 0, seed, asked.draws)
         }
         Resolver::Forks => {
             let make = || Forks::new(alloc, plan, 0);
-            explore_seed(alloc, plan, &make, 0, seed, asked.events)
+            explore_seed(alloc, plan, &make, 0, seed, asked.draws)
         }
     }
 }

@@ -119,16 +119,16 @@ fn plan_model(
     ensures { IfOk result (λ given. (text : List ℕ)
         → Means text model classes → IsPlanOrRefusal text given) }
 {
-    match first_touching_too_many(&model) {
-        Some(inter) => {
-            let answer = refuse_plan(alloc, explanation, &model, inter)?;
-            Ok(PlanOrRefusal::Refusal(answer))
-        }
-        None => match Plan::of(alloc, model, classes) {
-            Ok(plan) => Ok(PlanOrRefusal::Plan(plan)),
-            Err(PlanFault::TooManyTouched(_)) => unreachable!(),
-            Err(PlanFault::Memory) => Err(AllocError),
-        },
+    if let Some(inter) = first_touching_too_many(&model) {
+        let refused = refuse_plan(alloc, explanation, &model, inter);
+        drop(model);
+        drop(classes);
+        return Ok(PlanOrRefusal::Refusal(refused?));
+    }
+    match Plan::of(alloc, model, classes) {
+        Ok(plan) => Ok(PlanOrRefusal::Plan(plan)),
+        Err(PlanFault::TooManyTouched(_)) => unreachable!(),
+        Err(PlanFault::Memory) => Err(AllocError),
     }
 }
 

@@ -2,13 +2,16 @@
 ghost use Rattle.std.specs.Prelude.{◌≡◌};
 ghost use Rattle.std.specs.Option.{option_map};
 ghost use Rattle.clap.specs.Words.{first_of, found_of, rows_of, subcommand_rows_of};
-ghost use Rattle.bipr.specs.CommandLine.{AreTablesAsked, IsBaseAsked, IsExplainAsked, IsFlagAsked};
-ghost use Rattle.bipr.specs.CommandLine.{IsFlagBehind, IsReadAs, IsResolverAsked, MayAskNumber};
+ghost use Rattle.bipr.specs.CommandLine.{AreDrawsAsked, AreTablesAsked, IsBaseAsked, IsDrawAsked};
+ghost use Rattle.bipr.specs.CommandLine.{IsExplainAsked, IsFlagAsked, IsFlagBehind, IsReadAs};
+ghost use Rattle.bipr.specs.CommandLine.{IsResolverAsked, MayAskNumber};
 ghost use Rattle.bipr.specs.Program.{parsed_of};
 
+use crate::draws::draw_named;
 use crate::resolvers::{Resolver, resolver_named, tables_named};
 use bip_host::Tables;
 use bip_model::Number;
+use bip_schedule::{Draw, Draws};
 use clap::ArgMatches;
 
 /// The greatest base: one number at least is left above it.
@@ -55,6 +58,23 @@ pub fn tables_asked(matches: &ArgMatches<'_>) -> Option<Tables>
     ensures { IsReadAs (AreTablesAsked (rows_of (found_of matches.now))) result }
 {
     tables_named(text_asked(matches, "table")?)
+}
+
+/// How events are drawn; none where no such way is named.
+fn draw_asked(matches: &ArgMatches<'_>) -> Option<Draw>
+    ensures { IsReadAs (IsDrawAsked (rows_of (found_of matches.now))) result }
+{
+    draw_named(text_asked(matches, "draw")?)
+}
+
+/// What is drawn of a seed; none where that isn't said.
+pub fn draws_asked(matches: &ArgMatches<'_>) -> Option<Draws>
+    ensures { IsReadAs (AreDrawsAsked (rows_of (found_of matches.now))) result }
+{
+    Some(Draws {
+        count: number_asked(matches, "events")?,
+        by: draw_asked(matches)?,
+    })
 }
 
 /// The base; none where it is out of range.

@@ -20,6 +20,7 @@ pub mod walk;
 
 use crate::answers::{Answer, Status};
 use crate::command_line::is_explained;
+use crate::draws::DRAWS;
 use crate::hosting::Hosting;
 use crate::inputs::Inputs;
 use crate::invocations::Invocation;
@@ -48,6 +49,7 @@ use walk::WalkArguments;
 const CHOICES: Choices<'static> = Choices {
     resolvers: RESOLVERS,
     tables: HOSTED_TABLES,
+    draws: DRAWS,
 };
 
 /// What the program can be asked to do.

@@ -7,6 +7,7 @@ mod charted;
 mod command_line;
 mod commands;
 mod dividing;
+mod draws;
 mod ended;
 mod endings;
 mod explored;

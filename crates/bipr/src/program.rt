@@ -1,8 +1,8 @@
 //! The program's commands, their arguments and their help, as the library takes them.
 ghost use Rattle.std.specs.Prelude.{◌≡◌, IfOk, codes};
 ghost use Rattle.clap.specs.Words.{app_of};
-ghost use Rattle.bipr.specs.Program.{HasRule, HasShape, bare_program, base_option};
-ghost use Rattle.bipr.specs.Program.{canon_command, chart_command, check_command, draw_command};
+ghost use Rattle.bipr.specs.Program.{HasRule, HasShape, bare_program, base_option, canon_command};
+ghost use Rattle.bipr.specs.Program.{chart_command, check_command, draw_command, draw_option};
 ghost use Rattle.bipr.specs.Program.{explore_command, flag, from_option, needed, numbers, option};
 ghost use Rattle.bipr.specs.Program.{path, program, replay_command, resolver_option, rows};
 ghost use Rattle.bipr.specs.Program.{run_command, seed_command, steps_command, table_option};
@@ -202,10 +202,11 @@ none, the answer would be `seed S: not a run`, of the lowest such seed. A seed d
 same steps each time. Where there is memory for all threads, the answer is the same however
 many explore. The steps of one seed are written by `bipr seed`. Most steps that are drawn
 do nothing: with a ring or forks, and with many components, seeds of fewer than 100,000
-steps may grant little or nothing, of which the answer doesn't tell. With --stats, standard
-error does: the sums of the reports of all seeds, as `bipr steps` has them; how often each
-interaction is granted, and in how many seeds; and behind how many traces nothing may run,
-with the first of these seeds and how many grants it has:
+steps may grant little or nothing, of which the answer doesn't tell. With `--draw busy` only
+such steps are drawn as have something to do, and a seed ends where there are none. With
+--stats, standard error tells: the sums of the reports of all seeds, as `bipr steps` has
+them; how often each interaction is granted, and in how many seeds; and behind how many
+traces nothing may run, with the first of these seeds and how many grants it has:
 
     events 600 grants 3 refusals 0 idle 588 skipped 0 lost 0
     granted x 3 seeds 3
@@ -214,8 +215,9 @@ with the first of these seeds and how many grants it has:
 const SEED_ABOUT: &str = "Writes the steps of a seed of `explore` as a schedule";
 
 const SEED_HELP: &str = "\
-The steps are those that `bipr explore` draws from seed S with the same resolver and as many
-events. So `bipr steps` of what is written leads to that seed's trace, told with `--tell`:
+The steps are those that `bipr explore` draws from seed S with the same resolver, as many
+events and the same --draw. So `bipr steps` of what is written leads to that seed's trace,
+told with `--tell`:
 
     bipr seed MODEL --resolver ring --seed 7 --events 500 > seven.schedule
     bipr steps MODEL seven.schedule --resolver ring --tell
@@ -276,11 +278,13 @@ How often an interaction comes is chance's alone: no fairness is meant.";
 
 const WALK_BASE: &str = "the number that each component has used before the walk";
 
-/// What names an option may have: the resolvers, and how threads share a table.
+/// What names an option may have: the resolvers, how threads share a table, and how events are
+/// drawn.
 #[derive(Clone, Copy)]
 pub struct Choices<'a> {
     pub resolvers: &'a [&'a str],
     pub tables: &'a [&'a str],
+    pub draws: &'a [&'a str],
 }
 
 /// The program, whose options have these names to choose from, as the library takes it
@@ -296,8 +300,8 @@ pub fn program<'a>(alloc: Global, choices: Choices<'a>) -> Result<Command<'a>, A
         .subcommand(replay(alloc)?)?
         .subcommand(walk(alloc)?)?
         .subcommand(steps(alloc, choices.resolvers)?)?
-        .subcommand(explore(alloc, choices.resolvers)?)?
-        .subcommand(seed(alloc, choices.resolvers)?)?
+        .subcommand(explore(alloc, choices.resolvers, choices.draws)?)?
+        .subcommand(seed(alloc, choices.resolvers, choices.draws)?)?
         .subcommand(run(alloc, choices.resolvers, choices.tables)?)
 }
 
@@ -389,8 +393,12 @@ fn steps<'a>(alloc: Global, resolvers: &'a [&'a str]) -> Result<Command<'a>, All
         .arg(explain(alloc))
 }
 
-fn explore<'a>(alloc: Global, resolvers: &'a [&'a str]) -> Result<Command<'a>, AllocError>
-    ensures { IfOk result (HasShape (explore_command resolvers.entry)) }
+fn explore<'a>(
+    alloc: Global,
+    resolvers: &'a [&'a str],
+    draws: &'a [&'a str],
+) -> Result<Command<'a>, AllocError>
+    ensures { IfOk result (HasShape (explore_command resolvers.entry draws.entry)) }
 {
     Command::new(alloc, "explore")
         .about(EXPLORE_ABOUT)
@@ -399,14 +407,19 @@ fn explore<'a>(alloc: Global, resolvers: &'a [&'a str]) -> Result<Command<'a>, A
         .arg(resolver(alloc, resolvers))?
         .arg(seeds(alloc))?
         .arg(events(alloc))?
+        .arg(draw_by(alloc, draws))?
         .arg(progress(alloc))?
         .arg(jobs(alloc))?
         .arg(stats(alloc))?
         .arg(explain(alloc))
 }
 
-fn seed<'a>(alloc: Global, resolvers: &'a [&'a str]) -> Result<Command<'a>, AllocError>
-    ensures { IfOk result (HasShape (seed_command resolvers.entry)) }
+fn seed<'a>(
+    alloc: Global,
+    resolvers: &'a [&'a str],
+    draws: &'a [&'a str],
+) -> Result<Command<'a>, AllocError>
+    ensures { IfOk result (HasShape (seed_command resolvers.entry draws.entry)) }
 {
     Command::new(alloc, "seed")
         .about(SEED_ABOUT)
@@ -415,6 +428,7 @@ fn seed<'a>(alloc: Global, resolvers: &'a [&'a str]) -> Result<Command<'a>, Allo
         .arg(resolver(alloc, resolvers))?
         .arg(which_seed(alloc))?
         .arg(events(alloc))?
+        .arg(draw_by(alloc, draws))?
         .arg(explain(alloc))
 }
 
@@ -534,6 +548,18 @@ fn events<'a>(alloc: Global) -> Arg<'a>
     number(alloc, "events", "N", 0, 1_000_000)
         .required(true)
         .help("how many steps of each seed: 0 to 1000000")
+}
+
+// The option that names how events are drawn.
+fn draw_by<'a>(alloc: Global, draws: &'a [&'a str]) -> Arg<'a>
+    ensures { HasRule (draw_option draws.entry) result }
+{
+    Arg::new(alloc, "draw")
+        .long("draw")
+        .value_name("D")
+        .value_parser(draws)
+        .default_value("table")
+        .help("how steps are drawn: by a table, or busy: only those that have something to do")
 }
 
 // The option of how many turns.

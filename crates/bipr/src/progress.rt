@@ -86,7 +86,7 @@ impl Progress {
             return;
         }
         self.last = now;
-        let events = u64::from(done) * u64::from(asked.events);
+        let events = u64::from(done) * u64::from(asked.draws.count);
         let pace = pace_of(done, asked.seeds, now);
         if let Ok(text) = timed_text(alloc, done, asked.seeds, events, &pace) {
             put(errors, text.as_slice());

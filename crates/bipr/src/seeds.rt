@@ -77,7 +77,7 @@ fn schedule_of<B: Bank + Drop>(
     ensures { IfOk result (λ schedule. IsSeedSchedule plan.now asked.now schedule.items) }
 {
     let mut world = World::new(alloc, plan, bank, 0)?;
-    let (events, report) = seeded(alloc, &mut world, u64::from(asked.seed), asked.events)?;
+    let (events, report) = seeded(alloc, &mut world, u64::from(asked.seed), asked.draws)?;
     if report.skipped != 0 || report.lost != 0 {
         return Err(AllocError);
     }

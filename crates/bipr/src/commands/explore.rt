@@ -6,7 +6,7 @@ ghost use Rattle.bipr.specs.Commands.{IsExplore};
 ghost use Rattle.bipr.specs.Endings.{AllOutcomesTelling};
 
 use crate::answers::{Answer, PlanOrRefusal, plan_text};
-use crate::command_line::{is_set, number_asked, resolver_asked, text_asked};
+use crate::command_line::{draws_asked, is_set, number_asked, resolver_asked, text_asked};
 use crate::explored::answer_explore;
 use crate::inputs::Inputs;
 use crate::invocations::Invocation;
@@ -14,19 +14,20 @@ use crate::loading::load;
 use crate::resolvers::Resolver;
 use crate::stops::Stop;
 use crate::streams::Stream;
+use bip_schedule::Draws;
 use clap::ArgMatches;
 use std::thread::Threads;
 use std::time::Clock;
 
 /// The exploring of the model that a path names, with a resolver's bank, by the seeds from 1 on,
-/// with so many events each, in so many threads if that is said; whether progress is told, and
+/// with what is drawn of each, in so many threads if that is said; whether progress is told, and
 /// whether what they come to is.
 #[derive(Drop)]
 pub struct ExploreArguments<'p> {
     pub model: &'p str,
     pub resolver: Resolver,
     pub seeds: u32,
-    pub events: u32,
+    pub draws: Draws,
     pub is_told: bool,
     pub jobs: Option<u32>,
     pub with_stats: bool,
@@ -41,7 +42,7 @@ impl<'p> ExploreArguments<'p> {
             model: text_asked(matches, "model")?,
             resolver: resolver_asked(matches)?,
             seeds: number_asked(matches, "seeds")?,
-            events: number_asked(matches, "events")?,
+            draws: draws_asked(matches)?,
             is_told: is_set(matches, "progress"),
             jobs: number_asked(matches, "jobs"),
             with_stats: is_set(matches, "stats"),

@@ -6,7 +6,7 @@ ghost use Rattle.bipr.specs.Commands.{IsSeedWritten};
 ghost use Rattle.bipr.specs.Endings.{AllOutcomesTelling};
 
 use crate::answers::{Answer, PlanOrRefusal, plan_text};
-use crate::command_line::{number_asked, resolver_asked, text_asked};
+use crate::command_line::{draws_asked, number_asked, resolver_asked, text_asked};
 use crate::inputs::Inputs;
 use crate::invocations::Invocation;
 use crate::loading::load;
@@ -14,16 +14,17 @@ use crate::resolvers::Resolver;
 use crate::seeds::answer_seed;
 use crate::stops::Stop;
 use crate::streams::Stream;
+use bip_schedule::Draws;
 use clap::ArgMatches;
 
-/// The schedule of a seed of the model that a path names: of so many events, with a resolver's
+/// The schedule of a seed of the model that a path names: of what is drawn of it, with a resolver's
 /// bank.
 #[derive(Drop)]
 pub struct SeedArguments<'p> {
     pub model: &'p str,
     pub resolver: Resolver,
     pub seed: u32,
-    pub events: u32,
+    pub draws: Draws,
 }
 
 impl<'p> SeedArguments<'p> {
@@ -35,7 +36,7 @@ impl<'p> SeedArguments<'p> {
             model: text_asked(matches, "model")?,
             resolver: resolver_asked(matches)?,
             seed: number_asked(matches, "seed")?,
-            events: number_asked(matches, "events")?,
+            draws: draws_asked(matches)?,
         })
     }
 }

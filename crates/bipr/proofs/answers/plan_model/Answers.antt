@@ -4,15 +4,15 @@ use Rattle.bipr.specs.Answers.{HasPlan}
 use Rattle.bipr.proofs.AnswerLemmas.{is_refused-no_plan}
 use Rattle.bipr.proofs.answers.plan_model.Goals as goal
 
-pub returns-in_ok-answer-in-Some : goal.returns-in_ok-answer-in-Some
-returns-in_ok-answer-in-Some c = λ text means.
+pub returns-in-Some : goal.returns-in-Some
+returns-in-Some c = λ text means.
     is_refused-no_plan text _ c.args.model c.args.classes c.in-Some.inter.0
-    c.in_ok-answer-in-Some.ensures means c.in-Some.ensures.some
+    c.in_ok-refused.ensures means c.in-Some.ensures.some
 
 pub unreachable-requires : goal.unreachable-requires
 unreachable-requires c =
     let lowest = rw c.in-Err-TooManyTouched.field-0-is at c.in-Err-TooManyTouched.ensures.fault in
-    c.in-None.ensures.none _ lowest.many
+    c.in_default.ensures.none _ lowest.many
 
 pub returns-in-Ok : goal.returns-in-Ok
 returns-in-Ok c = λ text means.

@@ -109,7 +109,7 @@ returns g c =
       outcomes =
           outcome_answered (IsExploreAnswer p asked so.1.0) _
           (explored_said p asked c.loop-done.all so.1.0 _
-          (subst (λ (n : ℕ). AreSeedFigures (IsSharedAtFirst asked.resolver p) p 0 asked.events 1 n
+          (subst (λ (n : ℕ). AreSeedFigures (IsSharedAtFirst asked.resolver p) p 0 asked.draws 1 n
           c.loop-done.all) all so.0)
           (subst (λ (n : ℕ). IsProgressUntil asked n (texts so.1.0)) done so.1.2)
           c.in_ok-answer_checked.ensures);

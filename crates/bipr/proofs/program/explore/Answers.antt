@@ -1,13 +1,15 @@
-use Rattle.std.proofs.Common.{codes, rules}
+use Rattle.std.proofs.Common.{codes}
 use Rattle.std.proofs.lemmas.Result.{IfOk-weaker}
-use Rattle.clap.specs.Simple.{new_shape}
-use Rattle.bipr.specs.Program.{HasShape, flag, needed, numbers, option, path, resolver_option}
-use Rattle.bipr.proofs.ProgramLemmas.{has_shape}
+use Rattle.bipr.specs.Program.{draw_option, flag, needed, numbers, option, path}
+use Rattle.bipr.specs.Program.{resolver_option}
+use Rattle.bipr.proofs.ProgramLemmas.{bare_shape, has_shape}
 use Rattle.bipr.proofs.program.explore.Goals as goal
 
 pub returns : goal.returns
 returns c =
-    let none : HasShape (new_shape (codes "explore")) c.after_help.result = search rules in
+    let none =
+    bare_shape (codes "explore") c.new.result c.about.result c.after_help.result _ _ c.new.ensures.app
+    c.new.ensures.local c.about.ensures c.after_help.ensures in
     let one =
     has_shape _ _ c.model.result _ (path (codes "model")) none c.model.ensures
     c.in_ok-arg.ensures in
@@ -21,15 +23,18 @@ returns c =
     has_shape _ _ c.events.result _ (needed (codes "events") (numbers 0 1000000)) three
     c.events.ensures c.in_ok-arg-4.ensures in
     let five =
-    has_shape _ _ c.progress.result _ (flag (codes "progress")) four c.progress.ensures
+    has_shape _ _ c.draw_by.result _ (draw_option c.args.draws) four c.draw_by.ensures
     c.in_ok-arg-5.ensures in
     let six =
-    has_shape _ _ c.jobs.result _ (option (codes "jobs") (numbers 1 256)) five c.jobs.ensures
+    has_shape _ _ c.progress.result _ (flag (codes "progress")) five c.progress.ensures
     c.in_ok-arg-6.ensures in
     let seven =
-    has_shape _ _ c.stats.result _ (flag (codes "stats")) six c.stats.ensures
+    has_shape _ _ c.jobs.result _ (option (codes "jobs") (numbers 1 256)) six c.jobs.ensures
     c.in_ok-arg-7.ensures in
-    IfOk-weaker c.arg-8.result _ _
+    let eight =
+    has_shape _ _ c.stats.result _ (flag (codes "stats")) seven c.stats.ensures
+    c.in_ok-arg-8.ensures in
+    IfOk-weaker c.arg-9.result _ _
     (λ command adds.
-    has_shape _ command c.explain.result _ (flag (codes "explain")) seven c.explain.ensures adds)
-    c.arg-8.ensures
+    has_shape _ command c.explain.result _ (flag (codes "explain")) eight c.explain.ensures adds)
+    c.arg-9.ensures

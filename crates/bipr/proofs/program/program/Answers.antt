@@ -26,10 +26,11 @@ returns c =
     has_command _ _ _ _ (steps_command choices.resolvers) six c.in_ok-steps.ensures
     c.in_ok-subcommand-7.ensures in
     let eight =
-    has_command _ _ _ _ (explore_command choices.resolvers) seven c.in_ok-explore.ensures
+    has_command _ _ _ _
+    (explore_command choices.resolvers choices.draws) seven c.in_ok-explore.ensures
     c.in_ok-subcommand-8.ensures in
     let nine =
-    has_command _ _ _ _ (seed_command choices.resolvers) eight c.in_ok-seed.ensures
+    has_command _ _ _ _ (seed_command choices.resolvers choices.draws) eight c.in_ok-seed.ensures
     c.in_ok-subcommand-9.ensures in
     IfOk-weaker c.subcommand-10.result _ _
     (λ command adds.

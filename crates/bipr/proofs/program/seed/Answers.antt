@@ -1,7 +1,8 @@
 use Rattle.std.proofs.Common.{codes, rules}
 use Rattle.std.proofs.lemmas.Result.{IfOk-weaker}
 use Rattle.clap.specs.Simple.{new_shape}
-use Rattle.bipr.specs.Program.{HasShape, flag, needed, numbers, path, resolver_option}
+use Rattle.bipr.specs.Program.{HasShape, draw_option, flag, needed, numbers, path}
+use Rattle.bipr.specs.Program.{resolver_option}
 use Rattle.bipr.proofs.ProgramLemmas.{has_shape}
 use Rattle.bipr.proofs.program.seed.Goals as goal
 
@@ -20,7 +21,10 @@ returns c =
     let four =
     has_shape _ _ c.events.result _ (needed (codes "events") (numbers 0 1000000)) three
     c.events.ensures c.in_ok-arg-4.ensures in
-    IfOk-weaker c.arg-5.result _ _
+    let five =
+    has_shape _ _ c.draw_by.result _ (draw_option c.args.draws) four c.draw_by.ensures
+    c.in_ok-arg-5.ensures in
+    IfOk-weaker c.arg-6.result _ _
     (λ command adds.
-    has_shape _ command c.explain.result _ (flag (codes "explain")) four c.explain.ensures adds)
-    c.arg-5.ensures
+    has_shape _ command c.explain.result _ (flag (codes "explain")) five c.explain.ensures adds)
+    c.arg-6.ensures

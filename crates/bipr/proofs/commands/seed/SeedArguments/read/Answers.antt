@@ -7,8 +7,8 @@ returns-in_err-number_asked c =
     c.from_residual-in_err-number_asked.ensures
     (λ asked is. c.in_err-number_asked.ensures.none asked.seed is.seed)
 
-pub returns-in_err-number_asked-2 : goal.returns-in_err-number_asked-2
-returns-in_err-number_asked-2 c =
-    read_none c.from_residual-in_err-number_asked-2.result _
-    c.from_residual-in_err-number_asked-2.ensures
-    (λ asked is. c.in_err-number_asked-2.ensures.none asked.events is.events)
+pub returns-in_err-draws_asked : goal.returns-in_err-draws_asked
+returns-in_err-draws_asked c =
+    read_none c.from_residual-in_err-draws_asked.result _
+    c.from_residual-in_err-draws_asked.ensures
+    (λ asked is. c.in_err-draws_asked.ensures asked.draws is.draws)

@@ -1,0 +1,15 @@
+use Rattle.std.proofs.Common.{sym}
+use Rattle.bipr.specs.Draws.{draw_name}
+use Rattle.bipr.proofs.CommandLineLemmas.{name_read, none_given, read_none}
+use Rattle.bipr.proofs.command_line.draw_asked.Goals as goal
+
+pub returns-in_err-text_asked : goal.returns-in_err-text_asked
+returns-in_err-text_asked c =
+    read_none c.from_residual.result _ c.from_residual.ensures
+    (λ x asked. none_given _ _ c.in_err-text_asked.ensures asked)
+
+pub returns : goal.returns
+returns c =
+    name_read draw_name _ c.in_ok-text_asked.field-0.now c.draw_named.result
+    (sym c.in_ok-text_asked.ensures)
+    c.draw_named.ensures.some c.draw_named.ensures.none
