@@ -48,7 +48,9 @@ fn over_plan<R: Abort, T, F: FnOnce(&R, Global, &Plan, T)>(
 )
     requires { F.IsAlwaysCallable then }
 {
-    then(rt, alloc, &plan(rt, alloc, text), given);
+    let plan = plan(rt, alloc, text);
+    then(rt, alloc, &plan, given);
+    drop(plan);
 }
 
 fn moved(comp: u16, number: Number) -> Want {

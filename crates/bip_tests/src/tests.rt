@@ -71,7 +71,8 @@ fn read(rt: &impl Abort, alloc: Global, text: &str) -> (Model, Classes)
 }
 
 fn model(rt: &impl Abort, alloc: Global, text: &str) -> Model {
-    let (model, _classes) = read(rt, alloc, text);
+    let (model, classes) = read(rt, alloc, text);
+    drop(classes);
     model
 }
 
@@ -85,7 +86,9 @@ fn over<R: Abort, T, F: FnOnce(&R, Global, &Model, T)>(
 )
     requires { F.IsAlwaysCallable then }
 {
-    then(rt, alloc, &model(rt, alloc, text), given);
+    let model = model(rt, alloc, text);
+    then(rt, alloc, &model, given);
+    drop(model);
 }
 
 fn plan(rt: &impl Abort, alloc: Global, text: &str) -> Plan {
@@ -103,7 +106,9 @@ fn over_plan<R: Abort, T, F: FnOnce(&R, Global, &Plan, T)>(
 )
     requires { F.IsAlwaysCallable then }
 {
-    then(rt, alloc, &plan(rt, alloc, text), given);
+    let plan = plan(rt, alloc, text);
+    then(rt, alloc, &plan, given);
+    drop(plan);
 }
 
 /// The grants of a text.

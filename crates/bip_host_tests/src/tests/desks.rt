@@ -424,10 +424,20 @@ fn are_of(grants: &[Grant], inters: &[InterId]) -> bool {
 }
 
 pub(super) fn comes_to(rt: &impl Abort, end: &NodeEnd, desk: Desk<'_>, outcome: &Outcome) {
-    let Desk { book, did, .. } = desk;
+    let Desk {
+        book,
+        third,
+        did,
+        sent,
+        ..
+    } = desk;
+    drop(third);
+    drop(sent);
     assert!(rt; are_so(&did, outcome.did));
+    drop(did);
     assert_eq!(rt; end.turns, outcome.turns);
     assert_eq!(rt; end.counts, outcome.counts);
     let grants = book.into_grants().expect(rt, "a run");
     assert!(rt; are_of(&grants, outcome.grants));
+    drop(grants);
 }

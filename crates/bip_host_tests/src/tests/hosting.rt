@@ -105,7 +105,9 @@ fn host<G: Gate + Sync, R: Threads + Wait + Abort + Sync>(
 ) -> HostReport {
     let plan = plan(rt, alloc, text);
     assert!(rt; can_have(&plan, kind, tables));
-    run_host(rt, alloc, &plan, kind, tables, limits, gate).expect(rt, "a report")
+    let report = run_host(rt, alloc, &plan, kind, tables, limits, gate).expect(rt, "a report");
+    drop(plan);
+    report
 }
 
 /// Lets both classes of a model make their one grant, in a form, and says whether they met: where
@@ -287,9 +289,11 @@ fn end_by_grants<R: Threads + Wait + Abort + Sync>(
         turns: 1_000_000_000,
         grants: Some(5),
     };
-    let (_report, figures) = run_host_counted(rt, alloc, &plan, kind, tables, limits, &Open).expect(
+    let (report, figures) = run_host_counted(rt, alloc, &plan, kind, tables, limits, &Open).expect(
         rt, "a report",
     );
+    drop(report);
+    drop(plan);
     figures.ended
 }
 

@@ -51,6 +51,7 @@ fn is_run(rt: &impl Abort, alloc: Global, plan: &Plan, report: &HostReport) -> b
     for grant in report.grants.iter() {
         is_run = is_run && book.append(grant.copy()).is_ok();
     }
+    drop(book);
     is_run
 }
 
@@ -74,6 +75,8 @@ fn hosts<R: Threads + Wait + Abort + Print + Sync>(
         }
     };
     assert!(rt; is_run(rt, alloc, &plan, &report));
+    drop(report);
+    drop(plan);
 }
 
 #[test]

@@ -50,6 +50,7 @@ fn keep(rt: &impl Abort, alloc: Global, model: &Model, (named, what): (&Model, &
     let mut book = Book::start(alloc, model, what.base).expect(rt, "memory");
     append_all(rt, alloc, &mut book, named, what.lines);
     are_written(rt, alloc, model, book.grants(), what.held);
+    drop(book);
 }
 
 fn keep_named(rt: &impl Abort, alloc: Global, named: &Model, what: &Appended) {

@@ -194,6 +194,7 @@ fn takes(rt: &impl Abort, alloc: Global, plan: &Plan, (first, steps): (u64, &[St
     let class = ClassId(0);
     let mut node = IpNode::new(alloc, plan, class, 0, first).expect(rt, "memory");
     take_steps(rt, class, &mut node, steps);
+    drop(node);
 }
 
 #[test]

@@ -170,24 +170,28 @@ fn central_takes(rt: &(impl Abort + Print), alloc: Global, plan: &Plan, steps: &
     let mut bank = Central::new(alloc, plan, 0).expect(rt, "memory");
     take_steps(rt, alloc, plan, &mut bank, steps);
     assert!(rt; bank.in_flight() == 0);
+    drop(bank);
 }
 
 fn second_takes(rt: &(impl Abort + Print), alloc: Global, plan: &Plan, steps: &[Step]) {
     let mut bank = Second::new(alloc, plan, 0).expect(rt, "memory");
     take_steps(rt, alloc, plan, &mut bank, steps);
     assert!(rt; bank.in_flight() == 0);
+    drop(bank);
 }
 
 fn ring_takes(rt: &(impl Abort + Print), alloc: Global, plan: &Plan, steps: &[Step]) {
     let mut bank = Ring::new(alloc, plan, 0).expect(rt, "memory");
     take_steps(rt, alloc, plan, &mut bank, steps);
     assert!(rt; bank.in_flight() == 0);
+    drop(bank);
 }
 
 fn forks_take(rt: &(impl Abort + Print), alloc: Global, plan: &Plan, steps: &[Step]) {
     let mut bank = Forks::new(alloc, plan, 0).expect(rt, "memory");
     take_steps(rt, alloc, plan, &mut bank, steps);
     assert!(rt; bank.in_flight() == 0);
+    drop(bank);
 }
 
 #[test]

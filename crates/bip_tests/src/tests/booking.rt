@@ -105,4 +105,6 @@ fn a_book_refuses_under_the_lock(rt: HostRuntime) {
     let unkept = ask_for_low(&rt, rt.alloc(), &model).expect(&rt, "it closes");
     is_told(&rt, &unkept);
     is_closed(&rt, &unkept.table);
+    drop(unkept);
+    drop(model);
 }

@@ -56,5 +56,7 @@ fn a_refused_line_changes_nothing(rt: HostRuntime) {
         ("trans", "k", 2),
         ("end", "", 0),
     ];
-    has_parts(&rt, &build(&rt, rt.alloc(), LINES), [1, 1, 0]);
+    let model = build(&rt, rt.alloc(), LINES);
+    has_parts(&rt, &model, [1, 1, 0]);
+    drop(model);
 }

@@ -92,7 +92,9 @@ fn draw<'m>(rt: &impl Abort, alloc: Global, model: &'m Model, classes: &'m Class
         foot: Foot::Fault(REASON.as_bytes()),
         values: true,
     };
-    draw_chart(alloc, &chart).expect(rt, "a chart")
+    let drawn = draw_chart(alloc, &chart).expect(rt, "a chart");
+    drop(book);
+    drawn
 }
 
 #[test]
@@ -103,6 +105,8 @@ fn a_run_draws_itself(rt: HostRuntime) -> Result<(), Fail> {
     }
     let (model, classes) = read(&rt, rt.alloc(), COUNTING);
     let drawn = draw(&rt, rt.alloc(), &model, &classes);
+    drop(model);
+    drop(classes);
     assert_eq!(rt; drawn.as_slice(), wanted.as_slice());
     Ok(())
 }

@@ -29,7 +29,10 @@ const DRAWN: &str = "subgraph cluster_c0 {\nlabel=\"A\\nn = 3\";\n\
 
 fn draw(rt: &impl Abort, alloc: Global, text: &str) -> Vec<u8> {
     let (model, classes) = read(rt, alloc, text);
-    draw_model(alloc, &model, &classes).expect(rt, "a drawing")
+    let drawn = draw_model(alloc, &model, &classes).expect(rt, "a drawing");
+    drop(model);
+    drop(classes);
+    drawn
 }
 
 #[test]

@@ -36,6 +36,8 @@ fn draws(rt: &impl Abort, alloc: Global, plan: &Plan, drawn: &Drawn) {
     if let Some(expected) = drawn.events {
         assert!(rt; events.as_slice() == expected);
     }
+    drop(events);
+    drop(world);
 }
 
 #[test]

@@ -53,7 +53,9 @@ fn is_one_class(rt: &impl Abort, classes: &Classes) {
 }
 
 fn part_into_one(rt: &impl Abort, alloc: Global, model: &Model, classes: &[(&str, &[InterId])]) {
-    is_one_class(rt, &part(rt, alloc, model, classes).expect(rt, "classes"));
+    let classes = part(rt, alloc, model, classes).expect(rt, "classes");
+    is_one_class(rt, &classes);
+    drop(classes);
 }
 
 #[test]

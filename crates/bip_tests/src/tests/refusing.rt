@@ -65,6 +65,8 @@ fn a_model_is_read_and_written_where_memory_is_refused(rt: HostRuntime) {
         Err(AllocError) => write_model(rt.alloc(), &model, &classes).expect(&rt, "memory"),
     };
     assert!(&rt; written.as_slice() == COMPETE_TWICE.as_bytes());
+    drop(model);
+    drop(classes);
 }
 
 #[test]
@@ -81,6 +83,7 @@ fn a_plan_is_made_where_memory_is_refused(rt: HostRuntime) {
         }
     };
     assert!(&rt; (plan.stations().len(), plan.classes().len()) == (2, 2));
+    drop(plan);
 }
 
 /// Appends a grant to a book that holds so many.
@@ -111,6 +114,8 @@ fn keeps_counted(rt: &(impl Abort + Print), alloc: Global, plan: &Plan, text: &s
         append_counted(rt, &mut book, grant, held);
     }
     assert!(rt; written(rt, alloc, plan, book.grants()).as_slice() == text.as_bytes());
+    drop(grants);
+    drop(book);
 }
 
 #[test]
@@ -314,6 +319,7 @@ fn goes_counted<B: Bank + Drop>(
         lost = lost.saturating_add(step_counted(rt, &mut world, *event));
     }
     is_run(rt, alloc, plan, world.trace(), lost == 0);
+    drop(world);
     true
 }
 
@@ -336,6 +342,7 @@ fn runs_counted<B: Bank + Drop>(
     assert!(rt; report.events == events.len() as u64);
     let whole = (report.lost, report.skipped) == (0, 0);
     is_run(rt, alloc, plan, world.trace(), whole);
+    drop(world);
     true
 }
 

@@ -106,6 +106,8 @@ fn lead<B: Bank + Drop>(
     assert!(rt; run_steps(&mut world, run.0) == run.1);
     let expected = grants(rt, alloc, plan.model(), trace);
     assert!(rt; are_grants(world.trace(), expected.as_slice()));
+    drop(expected);
+    drop(world);
 }
 
 fn run_alike(rt: &impl Abort, alloc: Global, plan: &Plan, runs: &Alike) {
@@ -146,6 +148,7 @@ fn a_step(rt: &impl Abort, alloc: Global, plan: &Plan, _: ()) {
     assert!(rt; matches!(&did.what, What::Nothing) && did.lost == 0);
     assert!(rt; is_offered(&world, 1, 0, &frame) && is_offered(&world, 2, 1, &frame));
     assert!(rt; world.mails() == 3 && world.message(3).is_none());
+    drop(world);
 }
 
 #[test]
