@@ -6,7 +6,7 @@ use Rattle.clap.specs.Words.{Row, Text}
 use Rattle.bip_host.specs.declared.faults.HostFault.{HostFault}
 use Rattle.bip_host.specs.declared.hosts.Limits.{Limits}
 use Rattle.bip_partition.specs.Plans.{Planned}
-use Rattle.bipr.specs.CommandLine.{IsReadAs}
+use Rattle.bip_program.specs.Asked.{IsReadAs}
 use Rattle.bipr.specs.Commands.{IsAnsweredTo, IsCarriedOutBy, IsSaidTo, asked, named, spelled}
 use Rattle.bipr.specs.Commands.{unasked}
 use Rattle.bipr.specs.Endings.{AllOutcomesTelling}

@@ -2,7 +2,6 @@ pub mod AheadLemmas
 pub mod AnswerLemmas
 pub mod ChartLemmas
 pub mod CommandLemmas
-pub mod CommandLineLemmas
 pub mod EndingLemmas
 pub mod ExploredLemmas
 pub mod HostedLemmas
@@ -11,7 +10,6 @@ pub mod LoadingLemmas
 pub mod MarkLemmas
 pub mod OneAnswerLemmas
 pub mod OneCheckLemmas
-pub mod ProgramLemmas
 pub mod RenderingLemmas
 pub mod RepeatLemmas
 pub mod ScheduledLemmas

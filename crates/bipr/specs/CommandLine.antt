@@ -1,13 +1,11 @@
 -- What a command line asks.
-use Rattle.std.specs.Prelude.{◌≡◌, ℕ, ◌<◌, ◌≤◌, ◌^◌, ◌||◌, Bool, false, true, List, None, Some}
-use Rattle.std.specs.Prelude.{IfNone, IfSome, Option, codes}
-use Rattle.std.specs.Str.Parse.{IsNumeral, digits_value, without_leading_plus}
-use Rattle.clap.specs.Words.{Row, Text, first_of, one_of}
+use Rattle.std.specs.Prelude.{◌≡◌, ℕ, ◌≤◌, List, Some, codes}
+use Rattle.clap.specs.Words.{Row, first_of}
 use Rattle.bip_host.specs.declared.hosts.Tables.{Tables}
 use Rattle.bip_schedule.specs.declared.drawing.Draw.{Draw}
 use Rattle.bip_schedule.specs.declared.drawing.Draws.{Draws}
 use Rattle.bipr.specs.Draws.{draw_name}
-use Rattle.bipr.specs.Program.{Parsed}
+use Rattle.bip_program.specs.Asked.{IsFlagAsked, IsNumberAsked, MayAskNumber}
 use Rattle.bipr.specs.Resolvers.{resolver_name, tables_name}
 use Rattle.bipr.specs.declared.commands.chart.ChartArguments.{ChartArguments}
 use Rattle.bipr.specs.declared.commands.check.CheckArguments.{CheckArguments}
@@ -21,28 +19,9 @@ use Rattle.bipr.specs.declared.commands.steps.StepsArguments.{StepsArguments}
 use Rattle.bipr.specs.declared.commands.walk.WalkArguments.{WalkArguments}
 use Rattle.bipr.specs.declared.resolvers.Resolver.{Resolver}
 
--- what is read is asked, and nothing is where nothing is read
-abbrev pub IsReadAs : {A : Type 0} → (A → Type 0) → Option A → Type 0
-IsReadAs asks None = (asked : _) → ¬ asks asked
-IsReadAs asks (Some asked) = asks asked
-
 -- the greatest base: one number at least is left above it
 abbrev pub greatest_base : ℕ
 greatest_base = 18446744073709551614
-
--- values give a number of so many bits: it is the one that the text of an option spells
-pub record IsNumberAsked (values : List Row) (option : Text) (bits number : ℕ) : Type 0 where
-  pub spelt : Text
-  pub given : one_of option values ≡ Some spelt
-  pub numeral : IsNumeral 10 (without_leading_plus spelt)
-  pub is : number ≡ digits_value 10 (without_leading_plus spelt)
-  pub fits : number < 2 ^ bits
-
--- values give such a number, which is this one, or none
-pub record MayAskNumber (values : List Row) (option : Text) (bits : ℕ) (asked : Option ℕ)
-    : Type 0 where
-  pub some : IfSome asked (IsNumberAsked values option bits)
-  pub none : IfNone asked ((number : ℕ) → ¬ IsNumberAsked values option bits number)
 
 -- values give a base: there is a number above it
 pub record IsBaseAsked (values : List Row) (base : ℕ) : Type 0 where
@@ -66,25 +45,6 @@ IsDrawAsked values draw = first_of (codes "draw") values ≡ Some (draw_name dra
 pub record AreDrawsAsked (values : List Row) (draws : Draws) : Type 0 where
   pub count : IsNumberAsked values (codes "events") 32 draws.count
   pub by : IsDrawAsked values draws.by
-
--- values set an option that takes none, or don't
-pub record IsFlagAsked (values : List Row) (option : Text) (is_set : Bool) : Type 0 where
-  pub on : one_of option values ≡ Some (codes "true") → is_set ≡ true
-  pub off : one_of option values ≡ Some (codes "false") → is_set ≡ false
-  pub absent : one_of option values ≡ None → is_set ≡ false
-
--- the values behind a command, if there is one, set such an option, or don't
-abbrev pub IsFlagBehind : Option (Text × List Row) → Text → Bool → Type 0
-IsFlagBehind None option is_set = is_set ≡ false
-IsFlagBehind (Some command) option is_set = IsFlagAsked command.1 option is_set
-
--- words ask to explain what is refused, before the command or behind it, or don't
-pub record IsExplainAsked (parsed : Parsed) (is_asked : Bool) : Type 0 where
-  pub above : Bool
-  pub behind : Bool
-  pub before : IsFlagAsked parsed.above (codes "explain") above
-  pub after : IsFlagBehind parsed.command (codes "explain") behind
-  pub either : is_asked ≡ (above || behind)
 
 -- the values behind `check` ask
 pub record IsCheckAsked (values : List Row) (arguments : CheckArguments) : Type 0 where

@@ -9,7 +9,8 @@ use Rattle.bip_host.specs.declared.hosts.Limits.{Limits}
 use Rattle.bip_partition.specs.Plans.{Planned}
 use Rattle.bipr.specs.Answers.{IsAnswer, IsCheckShowing, IsRefusedModel, code_of}
 use Rattle.bipr.specs.Charted.{AreRowsDisordered, AreRowsInOrder, IsChartAnswer}
-use Rattle.bipr.specs.CommandLine.{AreStepsAsked, IsChartAsked, IsCheckAsked, IsExplainAsked}
+use Rattle.bip_program.specs.Asked.{IsExplainAsked}
+use Rattle.bipr.specs.CommandLine.{AreStepsAsked, IsChartAsked, IsCheckAsked}
 use Rattle.bipr.specs.CommandLine.{IsExploreAsked, IsRenderAsked, IsRunAsked, IsSeedAsked}
 use Rattle.bipr.specs.CommandLine.{IsVerdictAsked, IsWalkAsked}
 use Rattle.bipr.specs.Endings.{Ends, EndsExplaining}
@@ -17,7 +18,7 @@ use Rattle.bipr.specs.Explored.{IsExploreAnswer}
 use Rattle.bipr.specs.Hosted.{IsPlanHosted, limits_of}
 use Rattle.bipr.specs.Loading.{IsModelText, IsNoModel, IsPlannedText, OfPlan, OfText, OfTexts}
 use Rattle.bipr.specs.Loading.{Silently}
-use Rattle.bipr.specs.Program.{IsNoParse, IsParse, Parsed}
+use Rattle.bip_program.specs.Programs.{IsNoParse, IsParse, Parsed}
 use Rattle.bipr.specs.Refusals.{IsErrorAnswer, IsWordsAnswer}
 use Rattle.bipr.specs.Renderings.{IsRenderingAnswer}
 use Rattle.bipr.specs.Resolvers.{NeedsCentral}

@@ -12,7 +12,6 @@ pub mod Hosted
 pub mod Inputs
 pub mod Laws
 pub mod Loading
-pub mod Program
 pub mod Refusals
 pub mod Renderings
 pub mod Resolvers

@@ -4,7 +4,7 @@ ghost use Rattle.std.specs.String.{string_bytes};
 ghost use Rattle.clap.specs.Words.{found_of, rows_of, subcommand_rows_of};
 ghost use Rattle.bipr.specs.Commands.{IsCarriedOut, IsCarriedOutBy, spelled};
 ghost use Rattle.bipr.specs.Endings.{AllOutcomesTelling, EndsExplaining};
-ghost use Rattle.bipr.specs.Program.{IsParse, parsed_of};
+ghost use Rattle.bip_program.specs.Programs.{IsParse, parsed_of};
 ghost use Rattle.bipr.specs.Streams.{Puts};
 ghost use Rattle.bipr.specs.declared.stops.Stop.TheVariants.{BaseOutOfRange};
 
@@ -19,18 +19,17 @@ pub mod steps;
 pub mod walk;
 
 use crate::answers::{Answer, Status};
-use crate::command_line::is_explained;
 use crate::draws::DRAWS;
 use crate::hosting::Hosting;
 use crate::inputs::Inputs;
 use crate::invocations::Invocation;
-use crate::program::{Choices, program};
 use crate::refusals::answer_error;
 use crate::renderings::Rendering;
 use crate::resolvers::{HOSTED_TABLES, RESOLVERS};
 use crate::stops::{NO_MEMORY, Stop};
 use crate::streams::Stream;
 use bip_explain::Explanation;
+use bip_program::{Choices, is_explained, program};
 use chart::ChartArguments;
 use check::CheckArguments;
 use clap::ArgMatches;

@@ -17,7 +17,6 @@ mod inputs;
 mod invocations;
 mod laws;
 mod loading;
-mod program;
 mod progress;
 mod refusals;
 mod renderings;

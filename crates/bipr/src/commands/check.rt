@@ -1,17 +1,18 @@
 //! The command `check`.
 ghost use Rattle.std.specs.Prelude.{◌≡◌};
 ghost use Rattle.clap.specs.Words.{found_of, rows_of};
-ghost use Rattle.bipr.specs.CommandLine.{IsCheckAsked, IsReadAs};
+ghost use Rattle.bip_program.specs.Asked.{IsReadAs};
+ghost use Rattle.bipr.specs.CommandLine.{IsCheckAsked};
 ghost use Rattle.bipr.specs.Commands.{IsCheck};
 ghost use Rattle.bipr.specs.Endings.{AllOutcomesTelling};
 
 use crate::answers::{Answer, answer_check};
-use crate::command_line::{is_set, text_asked};
 use crate::inputs::Inputs;
 use crate::invocations::Invocation;
 use crate::loading::load;
 use crate::stops::Stop;
 use crate::streams::Stream;
+use bip_program::{is_set, text_asked};
 use clap::ArgMatches;
 
 /// The check of the model that a path names, and whether its plan is shown.

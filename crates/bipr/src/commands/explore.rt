@@ -1,12 +1,13 @@
 //! The command `explore`.
 ghost use Rattle.std.specs.Prelude.{◌≡◌};
 ghost use Rattle.clap.specs.Words.{found_of, rows_of};
-ghost use Rattle.bipr.specs.CommandLine.{IsExploreAsked, IsReadAs};
+ghost use Rattle.bip_program.specs.Asked.{IsReadAs};
+ghost use Rattle.bipr.specs.CommandLine.{IsExploreAsked};
 ghost use Rattle.bipr.specs.Commands.{IsExplore};
 ghost use Rattle.bipr.specs.Endings.{AllOutcomesTelling};
 
 use crate::answers::{Answer, PlanOrRefusal, plan_text};
-use crate::command_line::{draws_asked, is_set, number_asked, resolver_asked, text_asked};
+use crate::command_line::{draws_asked, resolver_asked};
 use crate::explored::answer_explore;
 use crate::inputs::Inputs;
 use crate::invocations::Invocation;
@@ -14,6 +15,7 @@ use crate::loading::load;
 use crate::resolvers::Resolver;
 use crate::stops::Stop;
 use crate::streams::Stream;
+use bip_program::{is_set, number_asked, text_asked};
 use bip_schedule::Draws;
 use clap::ArgMatches;
 use std::thread::Threads;

@@ -1,18 +1,19 @@
 //! The commands `draw` and `canon`: a model that is rendered.
 ghost use Rattle.std.specs.Prelude.{◌≡◌};
 ghost use Rattle.clap.specs.Words.{found_of, rows_of};
-ghost use Rattle.bipr.specs.CommandLine.{IsReadAs, IsRenderAsked};
+ghost use Rattle.bip_program.specs.Asked.{IsReadAs};
+ghost use Rattle.bipr.specs.CommandLine.{IsRenderAsked};
 ghost use Rattle.bipr.specs.Commands.{IsRender};
 ghost use Rattle.bipr.specs.Endings.{AllOutcomesTelling};
 
 use crate::answers::Answer;
-use crate::command_line::text_asked;
 use crate::inputs::Inputs;
 use crate::invocations::Invocation;
 use crate::loading::load;
 use crate::renderings::{Rendering, answer_rendering};
 use crate::stops::Stop;
 use crate::streams::Stream;
+use bip_program::text_asked;
 use clap::ArgMatches;
 
 /// A rendering of the model that a path names.

@@ -1,13 +1,14 @@
 //! The command `run`.
 ghost use Rattle.std.specs.Prelude.{◌≡◌, Some};
 ghost use Rattle.clap.specs.Words.{found_of, rows_of};
-ghost use Rattle.bipr.specs.CommandLine.{IsReadAs, IsRunAsked};
+ghost use Rattle.bip_program.specs.Asked.{IsReadAs};
+ghost use Rattle.bipr.specs.CommandLine.{IsRunAsked};
 ghost use Rattle.bipr.specs.Commands.{IsThreadedRun};
 ghost use Rattle.bipr.specs.Endings.{AllOutcomes, AllOutcomesTelling};
 ghost use Rattle.bipr.specs.Hosted.{IsPlanHosted, limits_of};
 
 use crate::answers::{Answer, PlanOrRefusal, plan_text};
-use crate::command_line::{is_set, number_asked, resolver_asked, tables_asked, text_asked};
+use crate::command_line::{resolver_asked, tables_asked};
 use crate::hosted::{answer_host, limits_of};
 use crate::hosting::Hosting;
 use crate::inputs::Inputs;
@@ -18,6 +19,7 @@ use crate::stops::Stop;
 use crate::streams::Stream;
 use bip_host::{Limits, can_have};
 use bip_partition::Plan;
+use bip_program::{is_set, number_asked, text_asked};
 use clap::ArgMatches;
 use std::sync::Wait;
 use std::thread::Threads;

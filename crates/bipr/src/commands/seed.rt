@@ -1,12 +1,13 @@
 //! The command `seed`.
 ghost use Rattle.std.specs.Prelude.{◌≡◌};
 ghost use Rattle.clap.specs.Words.{found_of, rows_of};
-ghost use Rattle.bipr.specs.CommandLine.{IsReadAs, IsSeedAsked};
+ghost use Rattle.bip_program.specs.Asked.{IsReadAs};
+ghost use Rattle.bipr.specs.CommandLine.{IsSeedAsked};
 ghost use Rattle.bipr.specs.Commands.{IsSeedWritten};
 ghost use Rattle.bipr.specs.Endings.{AllOutcomesTelling};
 
 use crate::answers::{Answer, PlanOrRefusal, plan_text};
-use crate::command_line::{draws_asked, number_asked, resolver_asked, text_asked};
+use crate::command_line::{draws_asked, resolver_asked};
 use crate::inputs::Inputs;
 use crate::invocations::Invocation;
 use crate::loading::load;
@@ -14,6 +15,7 @@ use crate::resolvers::Resolver;
 use crate::seeds::answer_seed;
 use crate::stops::Stop;
 use crate::streams::Stream;
+use bip_program::{number_asked, text_asked};
 use bip_schedule::Draws;
 use clap::ArgMatches;
 

@@ -1,12 +1,13 @@
 //! The command `steps`.
 ghost use Rattle.std.specs.Prelude.{◌≡◌, ◌≤◌};
 ghost use Rattle.clap.specs.Words.{found_of, rows_of};
-ghost use Rattle.bipr.specs.CommandLine.{AreStepsAsked, IsReadAs, greatest_base};
+ghost use Rattle.bip_program.specs.Asked.{IsReadAs};
+ghost use Rattle.bipr.specs.CommandLine.{AreStepsAsked, greatest_base};
 ghost use Rattle.bipr.specs.Commands.{IsSteps};
 ghost use Rattle.bipr.specs.Endings.{AllOutcomesTelling};
 
 use crate::answers::{Answer, PlanOrRefusal, plan_text};
-use crate::command_line::{base_asked, is_set, resolver_asked, text_asked};
+use crate::command_line::{base_asked, resolver_asked};
 use crate::inputs::Inputs;
 use crate::invocations::Invocation;
 use crate::loading::{load, parts};
@@ -15,6 +16,7 @@ use crate::scheduled::answer_schedule;
 use crate::stops::Stop;
 use crate::streams::Stream;
 use bip_model::Number;
+use bip_program::{is_set, text_asked};
 use clap::ArgMatches;
 
 /// The steps of a schedule from the new world of a model above a base, with a resolver's bank, each

@@ -1,7 +1,7 @@
 use Rattle.std.proofs.Common.{◌<◌, arith, rules}
 use Rattle.clap.specs.Words.{found_of, rows_of}
 use Rattle.std.proofs.Common.{codes}
-use Rattle.bipr.proofs.CommandLineLemmas.{read_none, same_number}
+use Rattle.bip_program.proofs.AskedLemmas.{read_none, same_number}
 use Rattle.bipr.proofs.command_line.base_asked.Goals as goal
 
 pub returns-in_err-base : goal.returns-in_err-base

@@ -1,6 +1,6 @@
 use Rattle.std.proofs.Common.{sym}
 use Rattle.bipr.specs.Resolvers.{resolver_name}
-use Rattle.bipr.proofs.CommandLineLemmas.{name_read, none_given, read_none}
+use Rattle.bip_program.proofs.AskedLemmas.{name_read, none_given, read_none}
 use Rattle.bipr.proofs.command_line.resolver_asked.Goals as goal
 
 pub returns-in_err-text_asked : goal.returns-in_err-text_asked

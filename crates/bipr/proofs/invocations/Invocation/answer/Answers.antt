@@ -1,7 +1,7 @@
 use Rattle.std.proofs.Common.{[], refl, sym}
 use Rattle.bipr.specs.Commands.{IsCarriedOutBy, unnamed}
 use Rattle.bipr.proofs.EndingLemmas.{outcome_answered, outcomes_quiet}
-use Rattle.bipr.proofs.ProgramLemmas.{names_command, names_none}
+use Rattle.bip_program.proofs.ProgramLemmas.{names_command, names_none}
 use Rattle.bipr.proofs.invocations.Invocation.answer.Goals as goal
 
 pub returns-in-Some-clause-says : goal.returns-in-Some-clause-says

@@ -4,7 +4,7 @@ use Rattle.bipr.specs.Commands.{IsCarriedOut, lacking, unparsed}
 use Rattle.bipr.specs.Refusals.{IsErrorAnswer}
 use Rattle.bipr.specs.Streams.{none_put}
 use Rattle.bipr.proofs.EndingLemmas.{ends_quietly, ends_unexplained}
-use Rattle.bipr.proofs.ProgramLemmas.{does_not_parse, parses}
+use Rattle.bip_program.proofs.ProgramLemmas.{does_not_parse, parses}
 use Rattle.bipr.proofs.invocations.Invocation.carry_out.Goals as goal
 
 pub returns-in_default : goal.returns-in_default

@@ -1,7 +1,7 @@
 use Rattle.std.proofs.Common.{false, true}
-use Rattle.bipr.specs.CommandLine.{IsExplainAsked}
+use Rattle.bip_program.specs.Asked.{IsExplainAsked}
 use Rattle.bipr.specs.Commands.{IsCarriedOut, parsed}
-use Rattle.bipr.specs.Program.{parsed_of}
+use Rattle.bip_program.specs.Programs.{parsed_of}
 use Rattle.bipr.proofs.EndingLemmas.{ends_telling, ends_unexplained, outcomes_weaker}
 use Rattle.bipr.proofs.invocations.Invocation.carry_out_parsed.Goals as goal
 

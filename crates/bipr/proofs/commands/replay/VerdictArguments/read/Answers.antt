@@ -1,4 +1,4 @@
-use Rattle.bipr.proofs.CommandLineLemmas.{read_none}
+use Rattle.bip_program.proofs.AskedLemmas.{read_none}
 use Rattle.bipr.proofs.commands.replay.VerdictArguments.read.Goals as goal
 
 pub returns-in_err-read : goal.returns-in_err-read

@@ -1,5 +1,0 @@
-use Rattle.bipr.proofs.ProgramLemmas.{first_read}
-use Rattle.bipr.proofs.command_line.text_asked.Goals as goal
-
-pub returns : goal.returns
-returns c = first_read c.args.matches.now c.args.name.now _ c.get_str.ensures
