@@ -7,9 +7,9 @@ use Rattle.std.specs.Borrow.{Bor}
 use Rattle.std.specs.Box.{box_value}
 use Rattle.std.specs.Prelude.{Box}
 use Rattle.clap.specs.Simple.{new_app, new_shape}
-use Rattle.clap.specs.Words.{AddsArg, AddsInTurn, AddsSubcommand, App, HasKind, HasMatchesOf, Row, Rule, Shape}
-use Rattle.clap.specs.Words.{Text, app_of, fault_of, first_of, first_value, found_of, is_simple}
-use Rattle.clap.specs.Words.{is_simple_and_free, matches_of, one_of, one_text, rows_of}
+use Rattle.clap.specs.Words.{AddsArg, AddsInTurn, AddsSubcommand, App, HasKind, HasMatchesOf, Row}
+use Rattle.clap.specs.Words.{Rule, Shape, Text, app_of, fault_of, first_of, first_value, found_of}
+use Rattle.clap.specs.Words.{is_simple, is_simple_and_free, matches_of, one_of, one_text, rows_of}
 use Rattle.clap.specs.Words.{subcommand_name_of, subcommand_of, subcommand_rows, subcommand_rows_of}
 use Rattle.clap.specs.Words.{with_rule, with_subcommand}
 use Rattle.clap.specs.declared.builder.arg.Arg.{Arg}
@@ -21,8 +21,8 @@ use Rattle.clap.specs.declared.parser.matches.ArgMatches.TheViews.{out-ArgMatche
 use Rattle.clap.specs.declared.parser.matches.SubCommand.{SubCommand}
 use Rattle.clap.proofs.OnLiterals.{clap_on_literals}
 use Rattle.clap.proofs.WalkLemmas.{first_value-rows, one_text-rows}
-use Rattle.bip_program.specs.Programs.{HasRule, HasShape, HaveRules, AreChoices, IsNoParse, IsParse, parsed_of}
-use Rattle.bip_program.specs.Programs.{program}
+use Rattle.bip_program.specs.Programs.{HasRule, HasShape, HaveRules, AreChoices, IsNoParse, IsParse}
+use Rattle.bip_program.specs.Programs.{parsed_of, program}
 use Rattle.bip_program.specs.declared.programs.Choices.{Choices}
 
 -- a command with texts alone

@@ -3,10 +3,11 @@ ghost use Rattle.std.specs.Prelude.{◌≡◌, IfOk, List, codes};
 ghost use Rattle.clap.specs.Words.{App, Rule, Shape, app_of, with_subcommand};
 ghost use Rattle.bip_program.specs.Programs.{HasRule, HasShape, HaveRules, bare_program};
 ghost use Rattle.bip_program.specs.Programs.{base_option, canon_command, with_arguments};
-ghost use Rattle.bip_program.specs.Programs.{chart_command, check_command, draw_command, draw_option};
-ghost use Rattle.bip_program.specs.Programs.{explore_command, flag, from_option, needed, numbers, option};
-ghost use Rattle.bip_program.specs.Programs.{path, program, replay_command, resolver_option, rows};
-ghost use Rattle.bip_program.specs.Programs.{run_command, seed_command, steps_command, table_option};
+ghost use Rattle.bip_program.specs.Programs.{chart_command, check_command, draw_command};
+ghost use Rattle.bip_program.specs.Programs.{draw_option, explore_command, flag, from_option};
+ghost use Rattle.bip_program.specs.Programs.{needed, numbers, option, path, program};
+ghost use Rattle.bip_program.specs.Programs.{replay_command, resolver_option, rows, run_command};
+ghost use Rattle.bip_program.specs.Programs.{seed_command, steps_command, table_option};
 ghost use Rattle.bip_program.specs.Programs.{walk_command};
 
 use clap::{Arg, ArgAction, Command, value_parser};

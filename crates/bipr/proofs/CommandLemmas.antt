@@ -11,7 +11,7 @@ use Rattle.bipr.specs.Commands.{IsAnsweredTo, IsCarriedOutBy, IsSaidTo, asked, n
 use Rattle.bipr.specs.Commands.{unasked}
 use Rattle.bipr.specs.Endings.{AllOutcomesTelling}
 use Rattle.bipr.specs.Streams.{Put}
-use Rattle.bipr.specs.declared.answers.Answer.{Answer}
+use Rattle.bip_answers.specs.declared.answers.Answer.{Answer}
 use Rattle.bipr.specs.declared.commands.Command.{Command}
 use Rattle.bipr.specs.declared.hosted.Hosted.{Hosted}
 use Rattle.bipr.specs.declared.inputs.InputFault.{InputFault}

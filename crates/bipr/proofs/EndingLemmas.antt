@@ -5,11 +5,11 @@ use Rattle.std.specs.Result.{IsErrAnd}
 use Rattle.bipr.specs.Endings.{AllOutcomes, AllOutcomesTelling, Ends, EndsExplaining, EndsTelling}
 use Rattle.bipr.specs.Endings.{IsOutcome, explaining}
 use Rattle.bipr.specs.Streams.{Put, Puts, none_put, nothing}
-use Rattle.bipr.specs.declared.answers.Status.{Status}
-use Rattle.bipr.specs.declared.answers.Status.TheVariants.{Done, Refused, BadCommandLine, NoMemory}
-use Rattle.bipr.specs.declared.answers.Status.TheVariants.{NoThread, NotARun}
+use Rattle.bip_answers.specs.declared.answers.Status.{Status}
+use Rattle.bip_answers.specs.declared.answers.Status.TheVariants.{Done, Refused, BadCommandLine}
+use Rattle.bip_answers.specs.declared.answers.Status.TheVariants.{NoMemory, NoThread, NotARun}
 use Rattle.bipr.specs.Stops.{answer_of_stop, bad_base, out_of_memory}
-use Rattle.bipr.specs.declared.answers.Answer.{Answer}
+use Rattle.bip_answers.specs.declared.answers.Answer.{Answer}
 use Rattle.bipr.specs.declared.stops.Stop.{Stop}
 use Rattle.bipr.specs.declared.stops.Stop.TheVariants.{BaseOutOfRange, CannotRead, CannotWrite}
 use Rattle.bipr.specs.declared.stops.Stop.TheVariants.{GrantRefused, OutOfMemory, RowsOutOfOrder}

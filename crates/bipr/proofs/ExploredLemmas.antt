@@ -14,7 +14,7 @@ use Rattle.bipr.specs.Resolvers.{IsSharedAtFirst}
 use Rattle.bipr.specs.Scheduled.{reporting}
 use Rattle.bipr.specs.Streams.{Put, texts}
 use Rattle.bipr.specs.Wording.{progress_text, seeds_text}
-use Rattle.bipr.specs.declared.answers.Answer.{Answer}
+use Rattle.bip_answers.specs.declared.answers.Answer.{Answer}
 use Rattle.bipr.specs.declared.commands.explore.ExploreArguments.{ExploreArguments}
 
 -- the line of a hundredth, or none

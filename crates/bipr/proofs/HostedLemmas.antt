@@ -6,15 +6,15 @@ use Rattle.bip_host.specs.declared.faults.HostFault.{HostFault}
 use Rattle.bip_partition.specs.Plans.{Planned}
 use Rattle.bip_replay.specs.Replays.{IsRunOf}
 use Rattle.bip_replay.specs.Writing.{text_of}
-use Rattle.bipr.specs.Answers.{IsAnswer, run, saying}
+use Rattle.bip_answers.specs.Answers.{IsAnswer, run, saying}
 use Rattle.bipr.specs.Hosted.{IsHostAnswer, host_lacking, hosted, no_thread, refused_grant}
 use Rattle.bipr.specs.Hosted.{stats_told, text_lacking}
 use Rattle.bipr.specs.Laws.{HostsReplay}
 use Rattle.bipr.specs.Resolvers.{NeedsCentral}
 use Rattle.bipr.specs.Scheduled.{reporting}
-use Rattle.bipr.specs.Wording.{run_text}
-use Rattle.bipr.specs.declared.answers.Answer.{Answer}
-use Rattle.bipr.specs.declared.answers.Status.TheVariants.{Done}
+use Rattle.bip_answers.specs.Wording.{run_text}
+use Rattle.bip_answers.specs.declared.answers.Answer.{Answer}
+use Rattle.bip_answers.specs.declared.answers.Status.TheVariants.{Done}
 use Rattle.bipr.specs.declared.hosted.Hosted.{Hosted}
 use Rattle.bipr.specs.declared.resolvers.HostForm.{HostForm}
 

@@ -3,7 +3,7 @@ use Rattle.std.proofs.Common.{◌≡◌, ◌≤◌, ℕ, List, [], length, Ok, s
 use Rattle.std.specs.Prelude.{Some}
 use Rattle.bip_reader.specs.Laws.{NoFault}
 use Rattle.bip_reader.specs.Texts.{HasFault}
-use Rattle.bipr.specs.Answers.{IsAnswer, no_model as answers_no_model}
+use Rattle.bip_answers.specs.Answers.{IsAnswer, no_model as answers_no_model}
 use Rattle.bipr.specs.Dividing.{after_mark, before_mark}
 use Rattle.bipr.specs.Inputs.{IsAll, IsReading, Named, bytes, most_bytes}
 use Rattle.bipr.specs.Laws as laws

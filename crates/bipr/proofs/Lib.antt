@@ -1,6 +1,4 @@
 pub mod AheadLemmas
-pub mod AnswerLemmas
-pub mod ChartLemmas
 pub mod CommandLemmas
 pub mod EndingLemmas
 pub mod ExploredLemmas
@@ -8,9 +6,6 @@ pub mod HostedLemmas
 pub mod KnownLemmas
 pub mod LoadingLemmas
 pub mod MarkLemmas
-pub mod OneAnswerLemmas
-pub mod OneCheckLemmas
-pub mod RenderingLemmas
 pub mod RepeatLemmas
 pub mod ScheduledLemmas
 pub mod SeedLemmas
@@ -18,4 +13,3 @@ pub mod SomeAnswerLemmas
 pub mod StatusLemmas
 pub mod StreamLemmas
 pub mod TellingLemmas
-pub mod ViewLemmas

@@ -5,7 +5,7 @@ use Rattle.std.proofs.Common.{Bool}
 use Rattle.std.specs.Borrow.{Bor}
 use Rattle.std.specs.Result.{IsErrAnd}
 use Rattle.bip_partition.specs.Plans.{Planned}
-use Rattle.bipr.specs.Answers.{HasPlan, IsRefusedModel}
+use Rattle.bip_answers.specs.Answers.{HasPlan, IsRefusedModel}
 use Rattle.bipr.specs.Dividing.{after_mark, before_mark}
 use Rattle.bipr.specs.Loading.{AreTextsAt, GivesOther, OfText, OfTexts, apart, first_unread, joined}
 use Rattle.bipr.specs.Loading.{OfPlan, Silently, no_memory, of_first, of_no_plan, of_no_text}
@@ -14,7 +14,7 @@ use Rattle.bipr.specs.Loading.{of_text, of_two, second_unread, silent}
 use Rattle.bipr.specs.Endings.{AllOutcomes, AllOutcomesTelling}
 use Rattle.bipr.specs.Stops.{answer_of_stop, unread}
 use Rattle.bipr.specs.Streams.{Put}
-use Rattle.bipr.specs.declared.answers.Answer.{Answer}
+use Rattle.bip_answers.specs.declared.answers.Answer.{Answer}
 use Rattle.bipr.specs.declared.inputs.InputFault.{InputFault}
 use Rattle.bipr.specs.declared.loading.Other.{Other}
 use Rattle.bipr.specs.declared.loading.Other.TheVariants.{At}

@@ -23,7 +23,7 @@ use Rattle.bipr.specs.Laws.{OneStepsAnswer, OneTraceOfASeed, SeedsAreSteps, Told
 use Rattle.bipr.specs.Resolvers.{IsSharedAtFirst}
 use Rattle.bipr.specs.Scheduled.{IsStepped, reporting}
 use Rattle.bipr.specs.Wording.{report_text}
-use Rattle.bipr.specs.declared.answers.Answer.{Answer}
+use Rattle.bip_answers.specs.declared.answers.Answer.{Answer}
 use Rattle.bipr.specs.declared.resolvers.Resolver.{Resolver}
 use Rattle.bipr.specs.declared.resolvers.Resolver.TheVariants.{Central, Forks, Ring}
 

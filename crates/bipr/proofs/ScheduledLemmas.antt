@@ -19,16 +19,17 @@ use Rattle.bip_replay.specs.Writing.{text_of}
 use Rattle.bip_replay.specs.declared.faults.TraceFault.TheVariants.{Memory}
 use Rattle.bip_replay.specs.declared.faults.TraceFault.{TraceFault}
 use Rattle.bip_schedule.specs.Schedules.{IsEventText, IsScheduleFault}
-use Rattle.bipr.specs.Answers.{HasPlan, IsAnswer, complaining, run, saying}
+use Rattle.bip_answers.specs.Answers.{HasPlan, IsAnswer, complaining, run, saying}
 use Rattle.bipr.specs.Laws.{StepsReplay}
 use Rattle.bipr.specs.Resolvers.{IsSharedAtFirst}
 use Rattle.bipr.specs.Scheduled.{IsScheduleAnswer, IsScheduleAnswered, IsScheduleRefused, IsStepped}
 use Rattle.bipr.specs.Scheduled.{IsToldAnswer, aloud, lacking, no_schedule, quietly, reporting}
 use Rattle.bipr.specs.Scheduled.{stepped, told_lacking, told_stepped, unheard, untold}
 use Rattle.bipr.specs.Streams.{Put}
-use Rattle.bipr.specs.Wording.{report_text, run_text, schedule_refusal}
-use Rattle.bipr.specs.declared.answers.Answer.{Answer}
-use Rattle.bipr.specs.declared.answers.Status.TheVariants.{Done, Refused}
+use Rattle.bip_answers.specs.Wording.{run_text}
+use Rattle.bipr.specs.Wording.{report_text, schedule_refusal}
+use Rattle.bip_answers.specs.declared.answers.Answer.{Answer}
+use Rattle.bip_answers.specs.declared.answers.Status.TheVariants.{Done, Refused}
 use Rattle.bipr.specs.declared.resolvers.Resolver.{Resolver}
 
 pub has_refused : (p : Planned) (schedule complaint : List ℕ) (answer : Answer) (number : ℕ)

@@ -9,11 +9,13 @@ use Rattle.bip_replay.specs.Replays.{IsFirstFault}
 use Rattle.bip_replay.specs.declared.faults.ReplayFault.{ReplayFault}
 use Rattle.bip_replay.specs.declared.faults.ReplayFault.TheVariants.{Syntax, Unknown, NotARun}
 use Rattle.bip_replay.specs.declared.faults.ReplayFault.TheVariants.{Memory}
-use Rattle.bipr.specs.Answers.{IsAnswer, complaining, no_model, no_trace, not_a_run, run, saying}
+use Rattle.bip_answers.specs.Answers.{IsAnswer, complaining, no_model, no_trace, not_a_run, run}
+use Rattle.bip_answers.specs.Answers.{saying}
 use Rattle.bipr.specs.Laws.{SomeAnswer}
-use Rattle.bipr.specs.Wording.{model_refusal, run_text, trace_refusal, verdict_text}
-use Rattle.bipr.specs.declared.answers.Answer.{Answer}
-use Rattle.bipr.specs.declared.answers.Status.TheVariants.{Done, Refused, NotARun as EndsAsNoRun}
+use Rattle.bip_answers.specs.Wording.{model_refusal, run_text, trace_refusal, verdict_text}
+use Rattle.bip_answers.specs.declared.answers.Answer.{Answer}
+use Rattle.bip_answers.specs.declared.answers.Status.TheVariants.{Done, Refused}
+use Rattle.bip_answers.specs.declared.answers.Status.TheVariants.{NotARun as EndsAsNoRun}
 
 -- the answer to a trace with a first fault
 of_fault : (base : ℕ) (model trace : List ℕ) (m : System) (c : Partition) (number : ℕ)

@@ -6,8 +6,9 @@ use Rattle.bip_partition.specs.Plans.{Planned}
 use Rattle.bip_replay.specs.declared.faults.TraceFault.{TraceFault}
 use Rattle.bip_schedule.specs.Laws.{EventsHaveNoFault, IsFault}
 use Rattle.bip_schedule.specs.Schedules.{IsEventText}
-use Rattle.bipr.specs.Answers.{HasPlan, IsAnswer, IsCheckAnswer, IsRefusedModel, no_model, no_plan}
-use Rattle.bipr.specs.Answers.{no_text, no_trace, not_a_run, planned, run, unchecked}
+use Rattle.bip_answers.specs.Answers.{HasPlan, IsAnswer, IsCheckAnswer, IsRefusedModel, no_model}
+use Rattle.bip_answers.specs.Answers.{no_plan, no_text, no_trace, not_a_run, planned, run}
+use Rattle.bip_answers.specs.Answers.{unchecked}
 use Rattle.bipr.specs.Laws.{CheckStatusesTell, IsRunText, IsStoppedText, StatusTells, StatusesTell}
 use Rattle.bipr.specs.Laws.{StepsStatusesTell}
 use Rattle.bipr.specs.Scheduled.{IsScheduleAnswer, IsScheduleAnswered, IsScheduleRefused}
@@ -15,11 +16,11 @@ use Rattle.bipr.specs.Scheduled.{IsToldAnswer, aloud, lacking, no_schedule, quie
 use Rattle.bipr.specs.Scheduled.{told_lacking, told_stepped, unheard, untold}
 use Rattle.bipr.specs.Stops.{out_of_memory}
 use Rattle.bipr.specs.Streams.{AreOut, Put}
-use Rattle.bipr.specs.declared.answers.Answer.{Answer}
-use Rattle.bipr.specs.declared.answers.Status.{Status}
-use Rattle.bipr.specs.declared.answers.Status.TheVariants.{Done, NotARun, Refused}
-use Rattle.bipr.proofs.OneAnswerLemmas.{AreExact, has_one_answer}
-use Rattle.bipr.proofs.OneCheckLemmas.{planned_or_refused}
+use Rattle.bip_answers.specs.declared.answers.Answer.{Answer}
+use Rattle.bip_answers.specs.declared.answers.Status.{Status}
+use Rattle.bip_answers.specs.declared.answers.Status.TheVariants.{Done, NotARun, Refused}
+use Rattle.bip_answers.proofs.OneAnswerLemmas.{AreExact, has_one_answer}
+use Rattle.bip_answers.proofs.OneCheckLemmas.{planned_or_refused}
 
 done_of_run : AreExact → (base : ℕ) (model trace : List ℕ) (answer : Answer)
     → IsAnswer base model trace answer → IsRunText base model trace → answer.status ≡ Done

@@ -22,7 +22,7 @@ use Rattle.bip_schedule.specs.Schedules.{IsEventText}
 use Rattle.bip_schedule.specs.Writing.{HasSpelling, HaveSpelling}
 use Rattle.bip_tell.specs.Lines.{AreTold, AreToldFrom, IsLeftUntold, IsToldEvent, done_untold}
 use Rattle.bip_tell.specs.Lines.{none_told, not_done, one_told}
-use Rattle.bipr.specs.Answers.{complaining}
+use Rattle.bip_answers.specs.Answers.{complaining}
 use Rattle.bipr.specs.Resolvers.{IsSharedAtFirst}
 use Rattle.bipr.specs.Scheduled.{IsAtMostOneDone, IsScheduleAnswered, IsTelling, IsToldUntil, aloud}
 use Rattle.bipr.specs.Scheduled.{all_told, lacking, none_more, nothing_told, one_more, one_unheard}
@@ -30,8 +30,8 @@ use Rattle.bipr.specs.Scheduled.{reporting, some_told, told_lacking, told_steppe
 use Rattle.bipr.specs.Stops.{out_of_memory, unwritten_text}
 use Rattle.bipr.specs.Streams.{AreOut, Put, texts}
 use Rattle.bipr.specs.Wording.{report_text}
-use Rattle.bipr.specs.declared.answers.Answer.{Answer}
-use Rattle.bipr.specs.declared.answers.Status.TheVariants.{Refused}
+use Rattle.bip_answers.specs.declared.answers.Answer.{Answer}
+use Rattle.bip_answers.specs.declared.answers.Status.TheVariants.{Refused}
 use Rattle.bipr.specs.declared.resolvers.Resolver.{Resolver}
 use Rattle.bipr.proofs.ScheduledLemmas.{has_stepped, is_run}
 use Rattle.bipr.proofs.StreamLemmas.{texts_append}

@@ -19,10 +19,6 @@ use Rattle.bipr.specs.declared.commands.steps.StepsArguments.{StepsArguments}
 use Rattle.bipr.specs.declared.commands.walk.WalkArguments.{WalkArguments}
 use Rattle.bipr.specs.declared.resolvers.Resolver.{Resolver}
 
--- the greatest base: one number at least is left above it
-abbrev pub greatest_base : ℕ
-greatest_base = 18446744073709551614
-
 -- values give a base: there is a number above it
 pub record IsBaseAsked (values : List Row) (base : ℕ) : Type 0 where
   pub number : IsNumberAsked values (codes "base") 64 base

@@ -7,8 +7,8 @@ use Rattle.clap.specs.declared.error.Error.{Error}
 use Rattle.bip_host.specs.declared.faults.HostFault.{HostFault}
 use Rattle.bip_host.specs.declared.hosts.Limits.{Limits}
 use Rattle.bip_partition.specs.Plans.{Planned}
-use Rattle.bipr.specs.Answers.{IsAnswer, IsCheckShowing, IsRefusedModel, code_of}
-use Rattle.bipr.specs.Charted.{AreRowsDisordered, AreRowsInOrder, IsChartAnswer}
+use Rattle.bip_answers.specs.Answers.{IsAnswer, IsCheckShowing, IsRefusedModel, code_of}
+use Rattle.bip_answers.specs.Charted.{AreRowsDisordered, AreRowsInOrder, IsChartAnswer}
 use Rattle.bip_program.specs.Asked.{IsExplainAsked}
 use Rattle.bipr.specs.CommandLine.{AreStepsAsked, IsChartAsked, IsCheckAsked}
 use Rattle.bipr.specs.CommandLine.{IsExploreAsked, IsRenderAsked, IsRunAsked, IsSeedAsked}
@@ -20,17 +20,17 @@ use Rattle.bipr.specs.Loading.{IsModelText, IsNoModel, IsPlannedText, OfPlan, Of
 use Rattle.bipr.specs.Loading.{Silently}
 use Rattle.bip_program.specs.Programs.{IsNoParse, IsParse, Parsed}
 use Rattle.bipr.specs.Refusals.{IsErrorAnswer, IsWordsAnswer}
-use Rattle.bipr.specs.Renderings.{IsRenderingAnswer}
+use Rattle.bip_answers.specs.Renderings.{IsRenderingAnswer}
 use Rattle.bipr.specs.Resolvers.{NeedsCentral}
 use Rattle.bipr.specs.Scheduled.{IsScheduleAnswered}
 use Rattle.bipr.specs.Seeds.{IsSeedAnswer}
 use Rattle.bipr.specs.Stops.{bad_base, bad_limits, bad_range, bad_seeds, out_of_memory}
 use Rattle.bipr.specs.Stops.{words_need_central}
 use Rattle.bipr.specs.Streams.{Put, Puts}
-use Rattle.bipr.specs.Views.{IsViewed, verdict_view}
+use Rattle.bip_answers.specs.Views.{IsViewed, verdict_view}
 use Rattle.bipr.specs.Walked.{IsWalkAnswer, walks_of}
-use Rattle.bipr.specs.declared.answers.Answer.{Answer}
-use Rattle.bipr.specs.declared.answers.Status.{Status}
+use Rattle.bip_answers.specs.declared.answers.Answer.{Answer}
+use Rattle.bip_answers.specs.declared.answers.Status.{Status}
 use Rattle.bipr.specs.declared.commands.Command.{Command}
 use Rattle.bipr.specs.declared.commands.Command.TheVariants as command
 use Rattle.bipr.specs.declared.commands.chart.ChartArguments.{ChartArguments}
@@ -45,8 +45,8 @@ use Rattle.bipr.specs.declared.commands.steps.StepsArguments.{StepsArguments}
 use Rattle.bipr.specs.declared.commands.walk.WalkArguments.{WalkArguments}
 use Rattle.bipr.specs.declared.hosted.Hosted.{Hosted}
 use Rattle.bipr.specs.declared.inputs.InputFault.{InputFault}
-use Rattle.bipr.specs.declared.renderings.Rendering.{Rendering}
-use Rattle.bipr.specs.declared.renderings.Rendering.TheVariants.{Canonical, Drawing}
+use Rattle.bip_answers.specs.declared.renderings.Rendering.{Rendering}
+use Rattle.bip_answers.specs.declared.renderings.Rendering.TheVariants.{Canonical, Drawing}
 use Rattle.bipr.specs.declared.resolvers.HostForm.{HostForm}
 use Rattle.bipr.specs.declared.walked.Walks.{Walks}
 

@@ -3,13 +3,13 @@ use Rattle.std.specs.Prelude.{◌≡◌, ◌⊎◌, ℕ, Bool, false, true, List
 use Rattle.std.specs.Prelude.{◌≤◌, length}
 use Rattle.std.specs.List.{list_all}
 use Rattle.bip_explain.specs.Explanations.{is_shown}
-use Rattle.bipr.specs.Answers.{complaining}
+use Rattle.bip_answers.specs.Answers.{complaining}
 use Rattle.bipr.specs.Stops.{answer_of_stop, out_of_memory, unread_text, unwritten_text}
 use Rattle.bipr.specs.Streams.{Put, Puts, PutsEach}
-use Rattle.bipr.specs.Wording.{complaint_text}
-use Rattle.bipr.specs.declared.answers.Answer.{Answer}
-use Rattle.bipr.specs.declared.answers.Status.{Status}
-use Rattle.bipr.specs.declared.answers.Status.TheVariants.{Done, Refused}
+use Rattle.bip_answers.specs.Wording.{complaint_text}
+use Rattle.bip_answers.specs.declared.answers.Answer.{Answer}
+use Rattle.bip_answers.specs.declared.answers.Status.{Status}
+use Rattle.bip_answers.specs.declared.answers.Status.TheVariants.{Done, Refused}
 use Rattle.bipr.specs.declared.stops.Stop.TheVariants as stop
 use Rattle.bipr.specs.declared.stops.Stop.{Stop}
 

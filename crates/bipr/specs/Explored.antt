@@ -12,7 +12,7 @@ use Rattle.bipr.specs.Scheduled.{reporting}
 use Rattle.bipr.specs.Stops.{out_of_memory}
 use Rattle.bipr.specs.Streams.{Put, texts}
 use Rattle.bipr.specs.Wording.{progress_text, report_text, seeds_text, timed_text}
-use Rattle.bipr.specs.declared.answers.Answer.{Answer}
+use Rattle.bip_answers.specs.declared.answers.Answer.{Answer}
 use Rattle.bipr.specs.declared.commands.explore.ExploreArguments.{ExploreArguments}
 use Rattle.bipr.specs.declared.stops.Stop.TheVariants as stop
 use Rattle.bipr.specs.declared.stops.Stop.{Stop}

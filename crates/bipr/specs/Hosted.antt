@@ -11,13 +11,13 @@ use Rattle.bip_replay.specs.Replays.{IsRunOf}
 use Rattle.bip_replay.specs.Runs.{IsModelRun}
 use Rattle.bip_replay.specs.Writing.{text_of}
 use Rattle.bip_replay.specs.declared.faults.BookFault.{BookFault}
-use Rattle.bipr.specs.Answers.{complaining}
+use Rattle.bip_answers.specs.Answers.{complaining}
 use Rattle.bipr.specs.Resolvers.{kind_named}
 use Rattle.bipr.specs.Scheduled.{reporting}
 use Rattle.bipr.specs.Stops.{out_of_memory, too_many_rows}
 use Rattle.bipr.specs.Wording.{host_refusal, no_thread_text, stats_text}
-use Rattle.bipr.specs.declared.answers.Answer.{Answer}
-use Rattle.bipr.specs.declared.answers.Status.TheVariants.{NoThread, NotARun}
+use Rattle.bip_answers.specs.declared.answers.Answer.{Answer}
+use Rattle.bip_answers.specs.declared.answers.Status.TheVariants.{NoThread, NotARun}
 use Rattle.bipr.specs.declared.commands.run.RunArguments.{RunArguments}
 use Rattle.bipr.specs.declared.hosted.Hosted.{Hosted}
 use Rattle.bipr.specs.declared.resolvers.HostForm.{HostForm}

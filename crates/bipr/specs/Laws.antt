@@ -18,27 +18,28 @@ use Rattle.bip_schedule.specs.Exploring.{IsSeedRun, SeedRun}
 use Rattle.bip_schedule.specs.declared.drawing.Draws.{Draws}
 use Rattle.bip_schedule.specs.Laws.{IsFault}
 use Rattle.bip_schedule.specs.Schedules.{IsEventText}
-use Rattle.bipr.specs.Answers.{HasPlan, IsAnswer, IsCheckAnswer, IsRefusedModel, complaining}
-use Rattle.bipr.specs.Answers.{saying}
+use Rattle.bip_answers.specs.Answers.{HasPlan, IsAnswer, IsCheckAnswer, IsRefusedModel, complaining}
+use Rattle.bip_answers.specs.Answers.{saying}
 use Rattle.bipr.specs.Commands.{IsReplay}
 use Rattle.bipr.specs.Dividing.{AreParts, after_mark, before_mark}
 use Rattle.bipr.specs.Hosted.{IsHostAnswer}
 use Rattle.bipr.specs.Inputs.{IsReading, Named, bytes, most_bytes}
 use Rattle.bipr.specs.Loading.{IsModelText, are_joined}
-use Rattle.bipr.specs.Renderings.{IsRenderingAnswer}
+use Rattle.bip_answers.specs.Renderings.{IsRenderingAnswer}
 use Rattle.bipr.specs.Resolvers.{IsSharedAtFirst}
 use Rattle.bipr.specs.Scheduled.{IsScheduleAnswered, IsStepped, IsToldStepped, reporting}
 use Rattle.bipr.specs.Seeds.{IsSeedSchedule}
 use Rattle.bipr.specs.Stops.{out_of_memory, unread_text}
 use Rattle.bipr.specs.Streams.{AreOut, Put}
-use Rattle.bipr.specs.Wording.{report_text, run_text}
-use Rattle.bipr.specs.declared.answers.Answer.{Answer}
-use Rattle.bipr.specs.declared.answers.Status.{Status}
-use Rattle.bipr.specs.declared.answers.Status.TheVariants.{Done, NotARun, Refused}
+use Rattle.bip_answers.specs.Wording.{run_text}
+use Rattle.bipr.specs.Wording.{report_text}
+use Rattle.bip_answers.specs.declared.answers.Answer.{Answer}
+use Rattle.bip_answers.specs.declared.answers.Status.{Status}
+use Rattle.bip_answers.specs.declared.answers.Status.TheVariants.{Done, NotARun, Refused}
 use Rattle.bipr.specs.declared.commands.replay.ReplayArguments.{ReplayArguments}
 use Rattle.bipr.specs.declared.commands.seed.SeedArguments.{SeedArguments}
 use Rattle.bipr.specs.declared.hosted.Hosted.{Hosted}
-use Rattle.bipr.specs.declared.renderings.Rendering.{Rendering}
+use Rattle.bip_answers.specs.declared.renderings.Rendering.{Rendering}
 use Rattle.bipr.specs.declared.resolvers.Resolver.{Resolver}
 
 -- two texts in one are parted by lines

@@ -1,10 +1,7 @@
 pub mod Ahead
-pub mod Answers
-pub mod Charted
 pub mod CommandLine
 pub mod Commands
 pub mod Dividing
-pub mod Ended
 pub mod Endings
 pub mod Draws
 pub mod Explored
@@ -13,13 +10,11 @@ pub mod Inputs
 pub mod Laws
 pub mod Loading
 pub mod Refusals
-pub mod Renderings
 pub mod Resolvers
 pub mod Scheduled
 pub mod Seeds
 pub mod Sources
 pub mod Stops
 pub mod Streams
-pub mod Views
 pub mod Walked
 pub mod Wording

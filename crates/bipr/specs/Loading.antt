@@ -7,14 +7,14 @@ use Rattle.bip_partition.specs.Plans.{Planned}
 use Rattle.bip_reader.specs.Texts.{HasFault, Means}
 use Rattle.bip_reader.specs.declared.faults.ReadFault.{ReadFault}
 use Rattle.bip_reader.specs.declared.faults.Why.TheVariants.{Memory}
-use Rattle.bipr.specs.Answers.{HasPlan, IsRefusedModel, complaining}
+use Rattle.bip_answers.specs.Answers.{HasPlan, IsRefusedModel, complaining}
 use Rattle.bipr.specs.Dividing.{after_mark, before_mark}
 use Rattle.bipr.specs.Sources.{is_standard_input}
 use Rattle.bipr.specs.Stops.{out_of_memory, unread}
 use Rattle.bipr.specs.Streams.{Put}
-use Rattle.bipr.specs.Wording.{model_refusal}
-use Rattle.bipr.specs.declared.answers.Answer.{Answer}
-use Rattle.bipr.specs.declared.answers.Status.TheVariants.{Refused}
+use Rattle.bip_answers.specs.Wording.{model_refusal}
+use Rattle.bip_answers.specs.declared.answers.Answer.{Answer}
+use Rattle.bip_answers.specs.declared.answers.Status.TheVariants.{Refused}
 use Rattle.bipr.specs.declared.inputs.InputFault.{InputFault}
 use Rattle.bipr.specs.declared.loading.Loaded.{Loaded}
 use Rattle.bipr.specs.declared.loading.Loaded.TheVariants.{Lent, Read}

@@ -7,10 +7,10 @@ use Rattle.std.specs.IoError.{error_kind}
 use Rattle.std.specs.declared.io.Error as io_error
 use Rattle.std.specs.declared.io.ErrorKind.TheVariants as io
 use Rattle.bip_model.specs.Texts.{line_feed}
-use Rattle.bipr.specs.Answers.{saying}
+use Rattle.bip_answers.specs.Answers.{saying}
 use Rattle.bipr.specs.Stops.{bad_command_line, out_of_memory}
-use Rattle.bipr.specs.declared.answers.Answer.{Answer}
-use Rattle.bipr.specs.declared.answers.Status.TheVariants.{Done}
+use Rattle.bip_answers.specs.declared.answers.Answer.{Answer}
+use Rattle.bip_answers.specs.declared.answers.Status.TheVariants.{Done}
 
 -- what is said of an argument that is no text
 abbrev pub not_text : Answer

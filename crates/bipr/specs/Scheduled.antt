@@ -15,13 +15,13 @@ use Rattle.bip_replay.specs.declared.faults.TraceFault.TheVariants.{Memory}
 use Rattle.bip_replay.specs.declared.faults.TraceFault.{TraceFault}
 use Rattle.bip_schedule.specs.Schedules.{IsEventText, IsScheduleFault}
 use Rattle.bip_tell.specs.Lines.{AreToldFrom}
-use Rattle.bipr.specs.Answers.{complaining}
+use Rattle.bip_answers.specs.Answers.{complaining}
 use Rattle.bipr.specs.Resolvers.{IsSharedAtFirst}
 use Rattle.bipr.specs.Stops.{out_of_memory, unwritten_text}
 use Rattle.bipr.specs.Streams.{AreOut, IsLastUnheard, Put, texts}
 use Rattle.bipr.specs.Wording.{report_text, schedule_refusal}
-use Rattle.bipr.specs.declared.answers.Answer.{Answer}
-use Rattle.bipr.specs.declared.answers.Status.TheVariants.{Done, Refused}
+use Rattle.bip_answers.specs.declared.answers.Answer.{Answer}
+use Rattle.bip_answers.specs.declared.answers.Status.TheVariants.{Done, Refused}
 use Rattle.bipr.specs.declared.commands.steps.StepsArguments.{StepsArguments}
 use Rattle.bipr.specs.declared.resolvers.Resolver.{Resolver}
 

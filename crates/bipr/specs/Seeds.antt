@@ -6,12 +6,12 @@ use Rattle.bip_partition.specs.Plans.{Planned}
 use Rattle.bip_schedule.specs.Exploring.{IsSeedTrace}
 use Rattle.bip_schedule.specs.Schedules.{IsEventText}
 use Rattle.bip_schedule.specs.Writing.{IsWritten}
-use Rattle.bipr.specs.Answers.{saying}
+use Rattle.bip_answers.specs.Answers.{saying}
 use Rattle.bipr.specs.Inputs.{most_bytes}
 use Rattle.bipr.specs.Resolvers.{IsSharedAtFirst}
 use Rattle.bipr.specs.Stops.{long_schedule, out_of_memory}
-use Rattle.bipr.specs.declared.answers.Answer.{Answer}
-use Rattle.bipr.specs.declared.answers.Status.TheVariants.{Done}
+use Rattle.bip_answers.specs.declared.answers.Answer.{Answer}
+use Rattle.bip_answers.specs.declared.answers.Status.TheVariants.{Done}
 use Rattle.bipr.specs.declared.commands.seed.SeedArguments.{SeedArguments}
 
 -- a text is the schedule of the events that are drawn from a seed in the new world of a plan, with

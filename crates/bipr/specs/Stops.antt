@@ -2,12 +2,13 @@
 use Rattle.std.specs.Prelude.{ℕ, Bool, List, [], ◌∷◌, ◌++◌, ◌&&◌, ◌||◌, codes, if◌then◌else◌, map}
 use Rattle.std.specs.Prelude.{nat_le, chars, encode_utf8_all}
 use Rattle.bip_model.specs.Texts.{line_feed}
-use Rattle.bipr.specs.Answers.{complaining, saying}
-use Rattle.bipr.specs.Wording.{complaint_text, host_refusal, no_thread_text, seed_verdict}
+use Rattle.bip_answers.specs.Answers.{complaining, saying}
+use Rattle.bip_answers.specs.Wording.{complaint_text}
+use Rattle.bipr.specs.Wording.{host_refusal, no_thread_text, seed_verdict}
 use Rattle.bipr.specs.Wording.{too_many_rows_text, words_need_central_text}
-use Rattle.bipr.specs.declared.answers.Answer.{Answer}
-use Rattle.bipr.specs.declared.answers.Status.TheVariants.{BadCommandLine, NoMemory, NoThread}
-use Rattle.bipr.specs.declared.answers.Status.TheVariants.{NotARun, Refused}
+use Rattle.bip_answers.specs.declared.answers.Answer.{Answer}
+use Rattle.bip_answers.specs.declared.answers.Status.TheVariants.{BadCommandLine, NoMemory}
+use Rattle.bip_answers.specs.declared.answers.Status.TheVariants.{NoThread, NotARun, Refused}
 use Rattle.bipr.specs.declared.inputs.InputFault.{InputFault}
 use Rattle.bipr.specs.declared.inputs.InputFault.TheVariants as input_fault
 use Rattle.bipr.specs.declared.stops.Stop.{Stop}

@@ -11,12 +11,12 @@ use Rattle.bip_replay.specs.Writing.{text_of}
 use Rattle.bip_walk.specs.Surveys.{IsSurvey}
 use Rattle.bip_walk.specs.Tallies.{IsStuckAfter, Tallied, Traced, tally_of}
 use Rattle.bip_walk.specs.Walking.{IsWalk}
-use Rattle.bipr.specs.Answers.{saying}
+use Rattle.bip_answers.specs.Answers.{saying}
 use Rattle.bipr.specs.Scheduled.{reporting}
 use Rattle.bipr.specs.Stops.{out_of_memory}
 use Rattle.bipr.specs.Wording.{stuck_text, walks_text}
-use Rattle.bipr.specs.declared.answers.Answer.{Answer}
-use Rattle.bipr.specs.declared.answers.Status.TheVariants.{Done}
+use Rattle.bip_answers.specs.declared.answers.Answer.{Answer}
+use Rattle.bip_answers.specs.declared.answers.Status.TheVariants.{Done}
 use Rattle.bipr.specs.declared.commands.walk.WalkArguments.{WalkArguments}
 use Rattle.bipr.specs.declared.walked.Walks.{Walks}
 use Rattle.bipr.specs.declared.walked.Walks.TheVariants.{Many, One}

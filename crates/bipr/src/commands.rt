@@ -18,16 +18,15 @@ pub mod seed;
 pub mod steps;
 pub mod walk;
 
-use crate::answers::{Answer, Status};
 use crate::draws::DRAWS;
 use crate::hosting::Hosting;
 use crate::inputs::Inputs;
 use crate::invocations::Invocation;
 use crate::refusals::answer_error;
-use crate::renderings::Rendering;
 use crate::resolvers::{HOSTED_TABLES, RESOLVERS};
 use crate::stops::{NO_MEMORY, Stop};
 use crate::streams::Stream;
+use bip_answers::{Answer, Rendering, Status};
 use bip_explain::Explanation;
 use bip_program::{Choices, is_explained, program};
 use chart::ChartArguments;

@@ -5,10 +5,9 @@ ghost use Rattle.bip_explain.specs.Explanations.{is_shown};
 ghost use Rattle.bipr.specs.Endings.{Ends, Explains, IsEnd, IsOutcome, IsUnread, told_status};
 ghost use Rattle.bipr.specs.Endings.{explaining, why_line};
 ghost use Rattle.bip_explain.specs.declared.explanations.TheConstants.{MOST_BYTES};
-ghost use Rattle.bipr.specs.Answers.{complaining};
+ghost use Rattle.bip_answers.specs.Answers.{complaining};
 ghost use Rattle.bipr.specs.Streams.{Puts};
 
-use crate::answers::{Answer, Status};
 use crate::invocations::Invocation;
 use crate::stops::{
     BAD_BASE, BAD_LIMITS, BAD_RANGE, BAD_SEEDS, CANNOT_WRITE, NO_MEMORY, NO_THREAD, NOT_A_RUN,
@@ -17,6 +16,7 @@ use crate::stops::{
 use crate::streams::{Stream, put};
 use crate::wording::seed_verdict;
 use arrayvec::ArrayVec;
+use bip_answers::{Answer, Status};
 use bip_explain::MOST_BYTES;
 
 /// How many bytes the line has at most that explains a fault.

@@ -6,13 +6,13 @@ ghost use Rattle.bipr.specs.Scheduled.{reporting};
 ghost use Rattle.bipr.specs.Wording.{seeds_text};
 
 use crate::ahead::{Ahead, go_on, jobs_of, keep_ahead};
-use crate::answers::Answer;
 use crate::commands::explore::ExploreArguments;
 use crate::progress::Progress;
 use crate::scheduled::reported;
 use crate::stops::Stop;
 use crate::streams::Stream;
 use crate::wording::{report_text, seeds_text};
+use bip_answers::Answer;
 use bip_draw::write_tally;
 use bip_explain::{Explanation, explain_seed};
 use bip_model::Model;

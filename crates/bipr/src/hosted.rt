@@ -9,12 +9,12 @@ ghost use Rattle.bipr.specs.Hosted.{IsHostAnswer, limits_of, stats_told};
 ghost use Rattle.bipr.specs.Resolvers.{kind_named};
 ghost use Rattle.bipr.specs.Scheduled.{reporting};
 
-use crate::answers::Answer;
 use crate::commands::run::RunArguments;
 use crate::hosting::Hosting;
 use crate::scheduled::reported;
 use crate::stops::Stop;
 use crate::wording::stats_text;
+use bip_answers::Answer;
 use bip_explain::Explanation;
 use bip_host::{HostFault, HostFigures, HostReport, Limits};
 use bip_partition::Plan;

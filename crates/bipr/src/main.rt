@@ -2,13 +2,10 @@
 #![tactic(auto)]
 
 mod ahead;
-mod answers;
-mod charted;
 mod command_line;
 mod commands;
 mod dividing;
 mod draws;
-mod ended;
 mod endings;
 mod explored;
 mod hosted;
@@ -19,14 +16,12 @@ mod laws;
 mod loading;
 mod progress;
 mod refusals;
-mod renderings;
 mod resolvers;
 mod scheduled;
 mod seeds;
 mod sources;
 mod stops;
 mod streams;
-mod views;
 mod walked;
 mod wording;
 mod words;
@@ -34,7 +29,7 @@ mod words;
 ghost use Rattle.bipr.specs.Commands.{IsExit, IsProgramEnd};
 ghost use Rattle.bipr.specs.Streams.{Puts};
 
-use answers::Status;
+use bip_answers::Status;
 use bip_explain::Explanation;
 use hosting::{Hosting, Threaded};
 use inputs::Inputs;

@@ -3,10 +3,10 @@ ghost use Rattle.bipr.specs.Endings.{AllOutcomes, Ends};
 ghost use Rattle.bipr.specs.Refusals.{IsErrorAnswer, IsWordsAnswer};
 ghost use Rattle.bipr.specs.Streams.{Puts};
 
-use crate::answers::{Answer, Status, complained, said};
 use crate::invocations::Invocation;
 use crate::stops::{NO_MEMORY, Stop};
 use crate::streams::Stream;
+use bip_answers::{Answer, Status, complained, said};
 use clap::Error;
 use clap::error::ErrorKind;
 use std::alloc::Global;

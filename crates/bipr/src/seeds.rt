@@ -6,11 +6,11 @@ ghost use Rattle.bipr.specs.Endings.{AllOutcomes};
 ghost use Rattle.bipr.specs.Resolvers.{IsSharedAtFirst};
 ghost use Rattle.bipr.specs.Seeds.{IsSeedAnswer, IsSeedSchedule};
 
-use crate::answers::{Answer, Status, said};
 use crate::commands::seed::SeedArguments;
 use crate::inputs::MOST_BYTES;
 use crate::resolvers::Resolver;
 use crate::stops::Stop;
+use bip_answers::{Answer, Status, said};
 use bip_bank::{Bank, Central};
 use bip_core::World;
 use bip_forks::Forks;

@@ -1,16 +1,16 @@
 //! Answers to walks: runs of a model itself, by chance.
 ghost use Rattle.std.specs.Prelude.{◌≡◌, ◌≤◌, IfOk, length};
-ghost use Rattle.bipr.specs.CommandLine.{greatest_base};
+ghost use Rattle.bip_answers.specs.Answers.{greatest_base};
 ghost use Rattle.bipr.specs.Endings.{AllOutcomes};
 ghost use Rattle.bipr.specs.Walked.{IsBesideWalk, IsWalkAnswer, survey_text, tally_stats};
 ghost use Rattle.bipr.specs.Walked.{walk_end, walks_of};
 ghost use Rattle.bipr.specs.declared.walked.Walks.TheVariants.{Many, One};
 
-use crate::answers::{Answer, Status, said};
 use crate::commands::walk::WalkArguments;
 use crate::scheduled::reported;
 use crate::stops::Stop;
 use crate::wording::{stuck_text, walks_text};
+use bip_answers::{Answer, Status, said};
 use bip_draw::write_tally;
 use bip_model::{Grant, Model};
 use bip_partition::Plan;

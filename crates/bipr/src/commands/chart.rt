@@ -1,20 +1,19 @@
 //! The command `chart`.
 ghost use Rattle.std.specs.Prelude.{◌≡◌, ◌≤◌, false, true};
 ghost use Rattle.clap.specs.Words.{found_of, rows_of};
-ghost use Rattle.bipr.specs.Charted.{AreRowsDisordered, AreRowsInOrder};
+ghost use Rattle.bip_answers.specs.Charted.{AreRowsDisordered, AreRowsInOrder};
 ghost use Rattle.bip_program.specs.Asked.{IsReadAs};
-ghost use Rattle.bipr.specs.CommandLine.{IsChartAsked, greatest_base};
+ghost use Rattle.bip_answers.specs.Answers.{greatest_base};
+ghost use Rattle.bipr.specs.CommandLine.{IsChartAsked};
 ghost use Rattle.bipr.specs.Commands.{IsChart};
 ghost use Rattle.bipr.specs.Endings.{AllOutcomesTelling};
 
-use crate::answers::Answer;
-use crate::charted::Shown;
 use crate::commands::replay::{ReplayArguments, answer_viewed};
 use crate::inputs::Inputs;
 use crate::invocations::Invocation;
 use crate::stops::Stop;
 use crate::streams::Stream;
-use crate::views::View;
+use bip_answers::{Answer, Shown, View};
 use bip_program::{is_set, wide_number_asked};
 use clap::ArgMatches;
 

@@ -6,12 +6,12 @@ ghost use Rattle.bipr.specs.CommandLine.{IsCheckAsked};
 ghost use Rattle.bipr.specs.Commands.{IsCheck};
 ghost use Rattle.bipr.specs.Endings.{AllOutcomesTelling};
 
-use crate::answers::{Answer, answer_check};
 use crate::inputs::Inputs;
 use crate::invocations::Invocation;
 use crate::loading::load;
 use crate::stops::Stop;
 use crate::streams::Stream;
+use bip_answers::{Answer, answer_check};
 use bip_program::{is_set, text_asked};
 use clap::ArgMatches;
 

@@ -6,7 +6,6 @@ ghost use Rattle.bipr.specs.CommandLine.{IsExploreAsked};
 ghost use Rattle.bipr.specs.Commands.{IsExplore};
 ghost use Rattle.bipr.specs.Endings.{AllOutcomesTelling};
 
-use crate::answers::{Answer, PlanOrRefusal, plan_text};
 use crate::command_line::{draws_asked, resolver_asked};
 use crate::explored::answer_explore;
 use crate::inputs::Inputs;
@@ -15,6 +14,7 @@ use crate::loading::load;
 use crate::resolvers::Resolver;
 use crate::stops::Stop;
 use crate::streams::Stream;
+use bip_answers::{Answer, PlanOrRefusal, plan_text};
 use bip_program::{is_set, number_asked, text_asked};
 use bip_schedule::Draws;
 use clap::ArgMatches;

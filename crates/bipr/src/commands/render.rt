@@ -6,13 +6,12 @@ ghost use Rattle.bipr.specs.CommandLine.{IsRenderAsked};
 ghost use Rattle.bipr.specs.Commands.{IsRender};
 ghost use Rattle.bipr.specs.Endings.{AllOutcomesTelling};
 
-use crate::answers::Answer;
 use crate::inputs::Inputs;
 use crate::invocations::Invocation;
 use crate::loading::load;
-use crate::renderings::{Rendering, answer_rendering};
 use crate::stops::Stop;
 use crate::streams::Stream;
+use bip_answers::{Answer, Rendering, answer_rendering};
 use bip_program::text_asked;
 use clap::ArgMatches;
 

@@ -2,19 +2,19 @@
 ghost use Rattle.std.specs.Prelude.{◌≡◌, ◌≤◌, []};
 ghost use Rattle.clap.specs.Words.{found_of, rows_of};
 ghost use Rattle.bip_program.specs.Asked.{IsReadAs};
-ghost use Rattle.bipr.specs.CommandLine.{IsReplayAsked, IsVerdictAsked, greatest_base};
+ghost use Rattle.bip_answers.specs.Answers.{greatest_base};
+ghost use Rattle.bipr.specs.CommandLine.{IsReplayAsked, IsVerdictAsked};
 ghost use Rattle.bipr.specs.Commands.{IsReplayBy, IsReplayShowing};
 ghost use Rattle.bipr.specs.Endings.{AllOutcomes, AllOutcomesTelling};
-ghost use Rattle.bipr.specs.Views.{IsViewed, verdict_view};
+ghost use Rattle.bip_answers.specs.Views.{IsViewed, verdict_view};
 
-use crate::answers::{Answer, answer_fault};
 use crate::command_line::base_asked;
 use crate::inputs::Inputs;
 use crate::invocations::Invocation;
 use crate::loading::{load, parts};
 use crate::stops::Stop;
 use crate::streams::Stream;
-use crate::views::View;
+use bip_answers::{Answer, View, answer_fault};
 use bip_explain::Explanation;
 use bip_model::Number;
 use bip_program::{is_set, text_asked};

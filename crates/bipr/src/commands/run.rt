@@ -7,7 +7,6 @@ ghost use Rattle.bipr.specs.Commands.{IsThreadedRun};
 ghost use Rattle.bipr.specs.Endings.{AllOutcomes, AllOutcomesTelling};
 ghost use Rattle.bipr.specs.Hosted.{IsPlanHosted, limits_of};
 
-use crate::answers::{Answer, PlanOrRefusal, plan_text};
 use crate::command_line::{resolver_asked, tables_asked};
 use crate::hosted::{answer_host, limits_of};
 use crate::hosting::Hosting;
@@ -17,6 +16,7 @@ use crate::loading::load;
 use crate::resolvers::HostForm;
 use crate::stops::Stop;
 use crate::streams::Stream;
+use bip_answers::{Answer, PlanOrRefusal, plan_text};
 use bip_host::{Limits, can_have};
 use bip_partition::Plan;
 use bip_program::{is_set, number_asked, text_asked};

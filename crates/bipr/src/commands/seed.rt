@@ -6,7 +6,6 @@ ghost use Rattle.bipr.specs.CommandLine.{IsSeedAsked};
 ghost use Rattle.bipr.specs.Commands.{IsSeedWritten};
 ghost use Rattle.bipr.specs.Endings.{AllOutcomesTelling};
 
-use crate::answers::{Answer, PlanOrRefusal, plan_text};
 use crate::command_line::{draws_asked, resolver_asked};
 use crate::inputs::Inputs;
 use crate::invocations::Invocation;
@@ -15,6 +14,7 @@ use crate::resolvers::Resolver;
 use crate::seeds::answer_seed;
 use crate::stops::Stop;
 use crate::streams::Stream;
+use bip_answers::{Answer, PlanOrRefusal, plan_text};
 use bip_program::{number_asked, text_asked};
 use bip_schedule::Draws;
 use clap::ArgMatches;

@@ -2,11 +2,11 @@
 ghost use Rattle.std.specs.Prelude.{◌≡◌, ◌≤◌};
 ghost use Rattle.clap.specs.Words.{found_of, rows_of};
 ghost use Rattle.bip_program.specs.Asked.{IsReadAs};
-ghost use Rattle.bipr.specs.CommandLine.{AreStepsAsked, greatest_base};
+ghost use Rattle.bip_answers.specs.Answers.{greatest_base};
+ghost use Rattle.bipr.specs.CommandLine.{AreStepsAsked};
 ghost use Rattle.bipr.specs.Commands.{IsSteps};
 ghost use Rattle.bipr.specs.Endings.{AllOutcomesTelling};
 
-use crate::answers::{Answer, PlanOrRefusal, plan_text};
 use crate::command_line::{base_asked, resolver_asked};
 use crate::inputs::Inputs;
 use crate::invocations::Invocation;
@@ -15,6 +15,7 @@ use crate::resolvers::Resolver;
 use crate::scheduled::answer_schedule;
 use crate::stops::Stop;
 use crate::streams::Stream;
+use bip_answers::{Answer, PlanOrRefusal, plan_text};
 use bip_model::Number;
 use bip_program::{is_set, text_asked};
 use clap::ArgMatches;

@@ -2,13 +2,13 @@
 ghost use Rattle.std.specs.Prelude.{◌≡◌, ◌≤◌};
 ghost use Rattle.clap.specs.Words.{found_of, rows_of};
 ghost use Rattle.bip_program.specs.Asked.{IsReadAs};
-ghost use Rattle.bipr.specs.CommandLine.{IsWalkAsked, greatest_base};
+ghost use Rattle.bip_answers.specs.Answers.{greatest_base};
+ghost use Rattle.bipr.specs.CommandLine.{IsWalkAsked};
 ghost use Rattle.bipr.specs.Commands.{AreWalksWritten};
 ghost use Rattle.bipr.specs.Endings.{AllOutcomesTelling};
 ghost use Rattle.bipr.specs.Loading.{OfPlan, OfText, Silently};
 ghost use Rattle.bipr.specs.Walked.{IsWalkAnswer};
 
-use crate::answers::{Answer, PlanOrRefusal, plan_text};
 use crate::command_line::base_asked;
 use crate::inputs::Inputs;
 use crate::invocations::Invocation;
@@ -16,6 +16,7 @@ use crate::loading::load;
 use crate::stops::Stop;
 use crate::streams::Stream;
 use crate::walked::{Walks, answer_walk, walks_of};
+use bip_answers::{Answer, PlanOrRefusal, plan_text};
 use bip_model::Number;
 use bip_program::{is_set, number_asked, text_asked};
 use clap::ArgMatches;

@@ -6,7 +6,7 @@ use Rattle.bipr.specs.Explored.{IsExploreAnswer, IsProgressUntil, ends_without_m
 use Rattle.bipr.specs.Explored.{stop_of_fault}
 use Rattle.bipr.specs.Resolvers.{IsSharedAtFirst}
 use Rattle.bipr.specs.Streams.{none_put, texts}
-use Rattle.bipr.specs.declared.answers.Answer.{Answer}
+use Rattle.bip_answers.specs.declared.answers.Answer.{Answer}
 use Rattle.bipr.specs.declared.stops.Stop.{Stop}
 use Rattle.bipr.proofs.AheadLemmas.{explored_until, none_ahead, none_explored}
 use Rattle.bipr.proofs.EndingLemmas.{outcome_answered, outcome_lacking}

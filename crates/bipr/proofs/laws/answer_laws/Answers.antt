@@ -1,8 +1,8 @@
 use Rattle.bipr.proofs.HostedLemmas.{hosts_replay}
 use Rattle.bipr.proofs.MarkLemmas.{are_parts}
-use Rattle.bipr.proofs.OneAnswerLemmas.{AreExact, has_one_answer}
-use Rattle.bipr.proofs.OneCheckLemmas.{has_one_check}
-use Rattle.bipr.proofs.RenderingLemmas.{has_one_rendering}
+use Rattle.bip_answers.proofs.OneAnswerLemmas.{AreExact, has_one_answer}
+use Rattle.bip_answers.proofs.OneCheckLemmas.{has_one_check}
+use Rattle.bip_answers.proofs.RenderingLemmas.{has_one_rendering}
 use Rattle.bipr.proofs.ScheduledLemmas.{steps_replay}
 use Rattle.bipr.proofs.SomeAnswerLemmas.{some_answer}
 use Rattle.bipr.proofs.laws.answer_laws.Goals as goal

@@ -1,4 +1,4 @@
-use Rattle.bipr.proofs.OneAnswerLemmas.{AreExact}
+use Rattle.bip_answers.proofs.OneAnswerLemmas.{AreExact}
 use Rattle.bipr.proofs.StatusLemmas.{check_statuses_tell, statuses_tell, steps_statuses_tell}
 use Rattle.bipr.proofs.laws.status_laws.Goals as goal
 

@@ -1,10 +1,10 @@
 use Rattle.std.proofs.Common.{[]}
 use Rattle.bipr.specs.Commands.{IsReplayBy}
 use Rattle.bipr.specs.Loading.{IsModelText, IsNoModel, Silently, lacking, silent}
-use Rattle.bipr.specs.Views.{IsViewed}
+use Rattle.bip_answers.specs.Views.{IsViewed}
 use Rattle.bipr.proofs.EndingLemmas.{outcome_answered, outcome_lacking, outcome_stopped}
 use Rattle.bipr.proofs.LoadingLemmas.{both_said, first_refused, first_stopped, other_stopped}
-use Rattle.bipr.proofs.ViewLemmas.{refused_view}
+use Rattle.bip_answers.proofs.ViewLemmas.{refused_view}
 use Rattle.bipr.proofs.commands.replay.answer_viewed.Goals as goal
 
 pub returns-in_err-text : goal.returns-in_err-text

@@ -1,5 +1,5 @@
 use Rattle.std.proofs.Common.{refl}
-use Rattle.bipr.specs.Answers.{IsCheckShowing}
+use Rattle.bip_answers.specs.Answers.{IsCheckShowing}
 use Rattle.bipr.specs.Loading.{Silently}
 use Rattle.bipr.proofs.EndingLemmas.{outcome_answered}
 use Rattle.bipr.proofs.LoadingLemmas.{quietly_said, text_lacking, text_said, text_stopped}

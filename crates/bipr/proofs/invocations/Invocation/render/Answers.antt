@@ -1,6 +1,6 @@
 use Rattle.std.proofs.Common.{refl}
 use Rattle.bipr.specs.Loading.{Silently}
-use Rattle.bipr.specs.Renderings.{IsRenderingAnswer}
+use Rattle.bip_answers.specs.Renderings.{IsRenderingAnswer}
 use Rattle.bipr.proofs.EndingLemmas.{outcome_answered}
 use Rattle.bipr.proofs.LoadingLemmas.{quietly_said, text_lacking, text_said, text_stopped}
 use Rattle.bipr.proofs.invocations.Invocation.render.Goals as goal

@@ -1,6 +1,6 @@
 use Rattle.std.proofs.Common.{[], refl}
 use Rattle.bipr.specs.Commands.{IsSteps}
-use Rattle.bipr.specs.Answers.{IsRefusedModel}
+use Rattle.bip_answers.specs.Answers.{IsRefusedModel}
 use Rattle.bipr.specs.Loading.{IsPlannedText, OfPlan, bytes_in, lacking, of_no_plan, of_plan}
 use Rattle.bipr.specs.Scheduled.{IsScheduleOf}
 use Rattle.bipr.proofs.EndingLemmas.{lacks_quietly, outcome_answered, outcome_stopped}

@@ -1,0 +1,6 @@
+pub mod AnswerLemmas
+pub mod ChartLemmas
+pub mod OneAnswerLemmas
+pub mod OneCheckLemmas
+pub mod RenderingLemmas
+pub mod ViewLemmas

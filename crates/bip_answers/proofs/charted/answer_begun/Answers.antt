@@ -1,0 +1,67 @@
+use Rattle.std.proofs.Common.{◌≡◌, ◌<◌, ◌≤◌, ◌-◌, ◌∙◌, ℕ, List, [], ap, arith, length, subst, sym}
+use Rattle.bip_draw.specs.Ends.{AddsRunnable}
+use Rattle.bip_model.specs.declared.grants.Grant.{Grant}
+use Rattle.bip_model.specs.declared.parts.System.{System}
+use Rattle.bip_replay.specs.Runs.{IsModelRun, Standing, state_after}
+use Rattle.bip_answers.specs.Answers.{complaining}
+use Rattle.bip_answers.specs.Charted.{IsChartOf, IsFootOf, IsPictured, count_shown, fitting}
+use Rattle.bip_answers.specs.Charted.{most_rows, too_long, until_last}
+use Rattle.bip_answers.specs.declared.answers.Status.TheVariants.{Refused}
+use Rattle.bip_answers.proofs.ChartLemmas.{run_until_last}
+use Rattle.bip_answers.proofs.charted.answer_begun.Goals as goal
+
+pub book_of-requires-clause-run : goal.book_of-requires-clause-run
+book_of-requires-clause-run c =
+    subst (IsModelRun c.args.model.now c.args.base) (sym c.until_last-drawn.ensures)
+    (run_until_last c.args.model.now c.args.base c.args.shown.now c.args.grants.items
+    c.requires.run)
+
+pub returns-then-count_rows-gt-MOST_ROWS : goal.returns-then-count_rows-gt-MOST_ROWS
+returns-then-count_rows-gt-MOST_ROWS c =
+    let shown = c.args.shown.now in
+    let counted : c.count_rows.result ≡ count_shown shown c.args.grants.items =
+    c.count_rows.ensures
+    ∙ ap (λ (gs : List Grant). length gs - (shown.from - 1))
+    (c.as_slice.ensures.value ∙ c.until_last-drawn.ensures) in
+    subst (IsPictured c.args.model.now c.args.classes.now shown c.args.grants.items c.args.verdict)
+    (sym (c.complained.ensures ∙ ap (complaining Refused) c.in_ok-complaint.ensures))
+    (too_long (subst (λ (n : ℕ). most_rows < n) counted c.if-count_rows-gt-MOST_ROWS.true))
+
+pub returns : goal.returns
+returns c =
+    let m = c.args.model.now in
+    let classes = c.args.classes.now in
+    let shown = c.args.shown.now in
+    let grants = c.args.grants.items in
+    let verdict = c.args.verdict in
+    let counted : c.count_rows.result ≡ count_shown shown grants =
+    c.count_rows.ensures
+    ∙ ap (λ (gs : List Grant). length gs - (shown.from - 1))
+    (c.as_slice.ensures.value ∙ c.until_last-drawn.ensures) in
+    let fits : count_shown shown grants ≤ most_rows =
+    omega (arith, c.if-count_rows-gt-MOST_ROWS.false, counted) in
+    let (chart, drawn, same) = c.in_ok-picture.ensures in
+    let book = c.in_ok-book.book in
+    let rows : c.in_ok-book.book.grants ≡ until_last shown grants =
+    c.in_ok-book.ensures.1 ∙ c.until_last-drawn.ensures in
+    let is : IsChartOf m classes shown grants verdict chart = record {
+      foot = c.foot_of-foot.result;
+      runnable = c.write_runnable.new.text.items;
+      drawn = rw (← rows) drawn;
+      behind = subst (λ (n : ℕ).
+          IsFootOf shown n verdict c.write_runnable.new.text.items c.foot_of-foot.result)
+          (ap length c.as_slice-count.ensures.value)
+          (rw c.as_slice-2.ensures.value at c.foot_of-foot.ensures);
+      runs = subst (λ (gs : List Grant).
+          AddsRunnable m (state_after m gs) [] c.write_runnable.new.text.items) rows
+          (subst (λ (x : System).
+          AddsRunnable x (state_after x book.grants) [] c.write_runnable.new.text.items)
+          c.in_ok-book.ensures.0
+          (subst (λ (s : Standing).
+          AddsRunnable s.model s.state [] c.write_runnable.new.text.items) c.position.ensures.there
+          (rw c.new-runnable.ensures.items at c.in_ok-write_runnable.ensures)));
+    } in
+    subst (λ (output : List ℕ).
+    IsPictured m classes shown grants verdict
+    (record { status = verdict.status; output = output; complaint = verdict.output }))
+    (sym (c.of.ensures ∙ same)) (fitting chart fits is)

@@ -1,0 +1,123 @@
+-- The answer to a chart: the picture of the run with which a trace begins, beside its verdict.
+use Rattle.std.specs.Prelude.{◌≡◌, ◌<◌, ◌≤◌, ◌-◌, ◌&&◌, ℕ, Bool, true, List, length, nat_le, nat_lt}
+use Rattle.std.specs.Prelude.{Option, None, Some, [], false, take, ⊤}
+use Rattle.std.specs.Option.{option_map_or}
+use Rattle.bip_draw.specs.Charts.{chart_of}
+use Rattle.bip_draw.specs.Ends.{AddsRunnable}
+use Rattle.bip_draw.specs.declared.charts.Chart.{Chart}
+use Rattle.bip_draw.specs.declared.feet.Foot.TheVariants.{Fault, Nothing, Runnable}
+use Rattle.bip_draw.specs.declared.feet.Foot.{Foot}
+use Rattle.bip_model.specs.declared.grants.Grant.{Grant}
+use Rattle.bip_model.specs.declared.parts.System.{System}
+use Rattle.bip_model.specs.declared.partitions.Partition.{Partition}
+use Rattle.bip_reader.specs.Texts.{Means}
+use Rattle.bip_replay.specs.Replays.{IsFirstFault, IsRunOf}
+use Rattle.bip_replay.specs.Runs.{state_after}
+use Rattle.bip_replay.specs.declared.faults.BookFault.{BookFault}
+use Rattle.bip_replay.specs.declared.faults.ReplayFault.TheVariants as replay_fault
+use Rattle.bip_answers.specs.Answers.{IsAnswer, complaining, saying}
+use Rattle.bip_answers.specs.Wording.{chart_refusal, run_text, verdict_text}
+use Rattle.bip_answers.specs.declared.answers.Answer.{Answer}
+use Rattle.bip_answers.specs.declared.answers.Status.{Status}
+use Rattle.bip_answers.specs.declared.answers.Status.TheVariants.{Done, NotARun, Refused}
+use Rattle.bip_answers.specs.declared.charted.Shown.{Shown}
+
+-- the rows that are shown end where they begin, or later; or before that
+abbrev pub AreRowsInOrder : Shown → Type 0
+AreRowsInOrder shown = in_order shown.to
+  where
+    in_order : Option ℕ → Type 0
+    in_order None = ⊤
+    in_order (Some last) = shown.from ≤ last
+
+abbrev pub AreRowsDisordered : Shown → Type 0
+AreRowsDisordered shown = out_of_order shown.to
+  where
+    out_of_order : Option ℕ → Type 0
+    out_of_order None = ⊥
+    out_of_order (Some last) = last < shown.from
+
+-- how many rows a chart has at most
+abbrev pub most_rows : ℕ
+most_rows = 2000
+
+-- the grants up to the last row that is shown
+abbrev pub until_last : Shown → List Grant → List Grant
+until_last shown grants = option_map_or (λ last. take last grants) shown.to grants
+
+-- how many rows are shown
+abbrev pub count_shown : Shown → List Grant → ℕ
+count_shown shown grants = length (until_last shown grants) - (shown.from - 1)
+
+-- whether the row behind so many is shown
+abbrev pub shows_behind : Shown → ℕ → Bool
+shows_behind shown count =
+    nat_le (shown.from - 1) count && option_map_or (λ last. nat_lt count last) shown.to true
+
+-- why a run stops, where a trace has this verdict: the verdict without its line feed
+abbrev pub reason_of : Answer → Option (List ℕ)
+reason_of verdict = by_status verdict.status
+  where
+    by_status : Status → Option (List ℕ)
+    by_status NotARun = Some (take (length verdict.output - 1) verdict.output)
+    by_status status = None
+
+-- the run with which a trace begins, by its grants: all of the trace, or what stands before the
+-- first line whose grant can't be next; and the verdict on the trace
+pub data IsFrontRun (m : System) (base : ℕ) (trace : List ℕ) : List Grant → Answer → Type 0 where
+  whole : (count : ℕ) → (is : IsRunOf m base trace count)
+      → IsFrontRun m base trace is.grants (saying Done (run_text count))
+  stopped : (number : ℕ) (fault : BookFault)
+      → (first : IsFirstFault m base trace number (replay_fault.NotARun fault))
+      → IsFrontRun m base trace first.grants (saying NotARun (verdict_text m trace number fault))
+
+-- what stands behind the rows of a run of so many grants, which has this verdict and behind which
+-- this may run: nothing where the row behind all isn't shown; why the run stops there; or that
+abbrev pub IsFootOf : Shown → ℕ → Answer → List ℕ → Foot → Type 0
+IsFootOf shown count verdict runnable Nothing = shows_behind shown count ≡ false
+IsFootOf shown count verdict runnable (Fault why) =
+    (shows_behind shown count ≡ true) × (reason_of verdict ≡ Some why.now)
+IsFootOf shown count verdict runnable (Runnable text) =
+    (shows_behind shown count ≡ true) × (reason_of verdict ≡ None) × (text.now ≡ runnable)
+
+-- a chart has these rows, from the first one on that is shown, and this foot
+pub record IsDrawnAs (m : System) (classes : Partition) (shown : Shown) (grants : List Grant)
+    (foot : Foot) (chart : Chart) : Type 0 where
+  pub model : chart.model.now ≡ m
+  pub parted : chart.classes.now ≡ classes
+  pub rows : chart.book.now.grants ≡ grants
+  pub first : chart.first ≡ shown.from - 1
+  pub values : chart.values ≡ shown.values
+  pub below : chart.foot ≡ foot
+
+-- a chart of a run has the rows of its grants that are shown, and what stands behind them; what may
+-- run there may run in the state to which these lead, which are all where that is shown
+pub record IsChartOf (m : System) (classes : Partition) (shown : Shown) (grants : List Grant)
+    (verdict : Answer) (chart : Chart) : Type 0 where
+  pub foot : Foot
+  pub runnable : List ℕ
+  pub drawn : IsDrawnAs m classes shown (until_last shown grants) foot chart
+  pub behind : IsFootOf shown (length grants) verdict runnable foot
+  pub runs : AddsRunnable m (state_after m (until_last shown grants)) [] runnable
+
+-- what is answered of a run that has this verdict: its chart, with the verdict beside it, or that
+-- it has too many rows
+pub data IsPictured (m : System) (classes : Partition) (shown : Shown) (grants : List Grant)
+    (verdict : Answer) : Answer → Type 0 where
+  fitting : (chart : Chart) → count_shown shown grants ≤ most_rows
+      → IsChartOf m classes shown grants verdict chart
+      → IsPictured m classes shown grants verdict
+      (record { status = verdict.status; output = chart_of chart; complaint = verdict.output })
+  too_long : most_rows < count_shown shown grants
+      → IsPictured m classes shown grants verdict (complaining Refused (chart_refusal most_rows))
+
+-- the answer to the chart of the texts of a model and a trace, from a base
+pub data IsChartAnswer (base : ℕ) (shown : Shown) (model trace : List ℕ) : Answer → Type 0 where
+  -- the run with which the trace begins is drawn
+  charted : (m : System) (classes : Partition) (grants : List Grant) (verdict answer : Answer)
+      → Means model m classes → IsFrontRun m base trace grants verdict
+      → IsPictured m classes shown grants verdict answer
+      → IsChartAnswer base shown model trace answer
+  -- a text is refused, as a replay refuses it
+  uncharted : (answer : Answer) → IsAnswer base model trace answer → answer.status ≡ Refused
+      → IsChartAnswer base shown model trace answer
