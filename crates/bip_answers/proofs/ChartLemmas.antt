@@ -5,7 +5,7 @@ use Rattle.std.proofs.Common.{subst, sym, take}
 use Rattle.std.proofs.lemmas.List.{length-append, length-drop, length-take, take-append-drop}
 use Rattle.std.proofs.lemmas.List.{take_at}
 use Rattle.std.specs.Option.{option_map_or}
-use Rattle.std.specs.Prelude.{IsOk}
+use Rattle.std.specs.Prelude.{IsOk, min}
 use Rattle.bip_model.specs.Steps.{start_of}
 use Rattle.bip_model.specs.Texts.{lines}
 use Rattle.bip_model.specs.declared.grants.Grant.{Grant}
@@ -22,7 +22,8 @@ use Rattle.bip_replay.specs.declared.faults.TraceFault.{TraceFault}
 use Rattle.bip_replay.specs.declared.faults.BookFault.{BookFault}
 use Rattle.bip_replay.specs.declared.faults.ReplayFault.TheVariants.{NotARun}
 use Rattle.bip_answers.specs.Answers.{IsSaidOf}
-use Rattle.bip_answers.specs.Charted.{IsFrontRun, stopped, until_last, whole}
+use Rattle.bip_answers.specs.Charted.{IsFrontRun, count_shown, rows_shown, stopped, until_last}
+use Rattle.bip_answers.specs.Charted.{whole}
 use Rattle.bip_answers.specs.declared.answers.Answer.{Answer}
 use Rattle.bip_answers.specs.declared.charted.Shown.{Shown}
 
@@ -89,6 +90,17 @@ stopped_reads m base trace number fault first =
 pub whole_reads : (m : System) (base : ℕ) (trace : List ℕ) (count : ℕ) → IsRunOf m base trace count
     → IsOk (grants_of m trace)
 whole_reads m base trace count is = subst IsOk (sym is.reads) refl
+
+-- how many rows are shown
+pub rows_counted : (shown : Shown) (grants : List Grant)
+    → count_shown shown grants ≡ rows_shown shown (length grants)
+rows_counted shown grants = ap (λ (n : ℕ). n - (shown.from - 1)) (by_last shown.to)
+  where
+    by_last : (last : Option ℕ)
+        → length (option_map_or (λ n. take n grants) last grants)
+        ≡ option_map_or (λ n. min n (length grants)) last (length grants)
+    by_last None = refl
+    by_last (Some n) = length-take n grants
 
 -- a run up to a row
 pub run_until_last : (m : System) (base : ℕ) (shown : Shown) (grants : List Grant)

@@ -1,6 +1,6 @@
 -- The answer to a chart: the picture of the run with which a trace begins, beside its verdict.
 use Rattle.std.specs.Prelude.{◌≡◌, ◌<◌, ◌≤◌, ◌-◌, ◌&&◌, ℕ, Bool, true, List, length, nat_le, nat_lt}
-use Rattle.std.specs.Prelude.{Option, None, Some, [], false, take, ⊤}
+use Rattle.std.specs.Prelude.{Option, None, Some, [], false, min, take, ⊤}
 use Rattle.std.specs.Option.{option_map_or}
 use Rattle.bip_draw.specs.Charts.{chart_of}
 use Rattle.bip_draw.specs.Ends.{AddsRunnable}
@@ -48,6 +48,11 @@ until_last shown grants = option_map_or (λ last. take last grants) shown.to gra
 -- how many rows are shown
 abbrev pub count_shown : Shown → List Grant → ℕ
 count_shown shown grants = length (until_last shown grants) - (shown.from - 1)
+
+-- the same by how many grants there are
+abbrev pub rows_shown : Shown → ℕ → ℕ
+rows_shown shown count =
+    option_map_or (λ last. min last count) shown.to count - (shown.from - 1)
 
 -- whether the row behind so many is shown
 abbrev pub shows_behind : Shown → ℕ → Bool

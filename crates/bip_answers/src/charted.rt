@@ -1,6 +1,5 @@
 //! What is answered to a chart: the picture of the run with which a trace begins.
-ghost use Rattle.std.specs.Prelude.{◌≡◌, ◌≤◌, ◌-◌, ℕ, List, IfOk, IsOk, Ok};
-ghost use Rattle.std.specs.Prelude.{length, take};
+ghost use Rattle.std.specs.Prelude.{◌≡◌, ◌≤◌, ◌-◌, ℕ, List, IfOk, IsOk, Ok, take};
 ghost use Rattle.std.specs.Option.{option_map};
 ghost use Rattle.bip_draw.specs.Charts.{chart_of};
 ghost use Rattle.bip_draw.specs.declared.charts.Chart.{Chart};
@@ -10,8 +9,11 @@ ghost use Rattle.bip_reader.specs.Texts.{Means};
 ghost use Rattle.bip_replay.specs.Runs.{IsModelRun};
 ghost use Rattle.bip_replay.specs.Traces.{grants_from, grants_of};
 ghost use Rattle.bip_answers.specs.Charted.{IsChartAnswer, IsDrawnAs, IsFootOf, IsPictured};
-ghost use Rattle.bip_answers.specs.Charted.{reason_of, shows_behind, until_last};
-ghost use Rattle.bip_answers.specs.Answers.{greatest_base};
+ghost use Rattle.bip_answers.specs.Answers.{complaining, greatest_base};
+ghost use Rattle.bip_answers.specs.Charted.{most_rows, reason_of, rows_shown, shows_behind};
+ghost use Rattle.bip_answers.specs.Charted.{until_last};
+ghost use Rattle.bip_answers.specs.Wording.{chart_refusal};
+ghost use Rattle.bip_answers.specs.declared.answers.Status.TheVariants.{Refused};
 
 use crate::answers::{Answer, Status, answer_replayed, complained};
 use crate::wording::chart_refusal;
@@ -54,7 +56,11 @@ pub fn answer_chart(
     let replayed = replay(alloc, model, base, trace);
     let verdict = answer_replayed(alloc, explanation, model, trace, base, &replayed)?;
     match &replayed {
-        Ok(_) => {
+        Ok(count) => {
+            // Where they are too many, no grant is kept.
+            if count_rows(shown, *count) > MOST_ROWS as u64 {
+                return refuse_rows(alloc);
+            }
             let grants = all_grants(alloc, model, trace)?;
             answer_begun(alloc, model, classes, base, grants, verdict, shown)
         }
@@ -121,11 +127,11 @@ fn answer_begun(
     ensures { IfOk result (IsPictured model.now classes.now shown.now grants.items verdict) }
 {
     let count = grants.as_slice().len();
-    let drawn = until_last(grants, shown);
-    if count_rows(shown, drawn.as_slice()) > MOST_ROWS {
-        let complaint = chart_refusal(alloc, MOST_ROWS)?;
-        return Ok(complained(alloc, Status::Refused, complaint));
+    if count_rows(shown, count as u64) > MOST_ROWS as u64 {
+        drop(grants);
+        return refuse_rows(alloc);
     }
+    let drawn = until_last(grants, shown);
     let book = book_of(alloc, model, base, drawn)?;
     let mut runnable = Vec::new(alloc);
     write_runnable(&mut runnable, book.position())?;
@@ -207,12 +213,23 @@ fn until_last(grants: Vec<Grant>, shown: &Shown) -> Vec<Grant>
     grants
 }
 
-// How many rows are shown of the grants up to the last one that is.
-fn count_rows(shown: &Shown, drawn: &[Grant]) -> usize
-    ensures { result ≡ length drawn.now - (shown.now.from - 1) }
+// How many rows are shown of a run of so many grants.
+fn count_rows(shown: &Shown, count: u64) -> u64
+    ensures { result ≡ rows_shown shown.now count }
 {
-    let first = shown.from.saturating_sub(1) as usize;
-    drawn.len().saturating_sub(first)
+    let last = match shown.to {
+        Some(last) => count.min(last),
+        None => count,
+    };
+    last.saturating_sub(shown.from.saturating_sub(1))
+}
+
+// That a chart would have too many rows. The only error is want of memory.
+fn refuse_rows(alloc: Global) -> Result<Answer, AllocError>
+    ensures { IfOk result (λ answer. answer ≡ complaining Refused (chart_refusal most_rows)) }
+{
+    let complaint = chart_refusal(alloc, MOST_ROWS)?;
+    Ok(complained(alloc, Status::Refused, complaint))
 }
 
 // Whether the row behind so many is shown.

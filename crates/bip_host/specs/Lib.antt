@@ -18,6 +18,7 @@ pub mod Movers
 pub mod Nodes
 pub mod Posting
 pub mod Reports
+pub mod Rests
 pub mod Rings
 pub mod Seats
 pub mod Settled

@@ -4,7 +4,6 @@ ghost use Rattle.std.specs.Prelude.{◌≤◌};
 
 use crate::aims::Watch;
 use crate::counts::Counts;
-use crate::rests::Rest;
 use std::sync::Wait;
 
 /// What an actor does next.
@@ -137,7 +136,6 @@ pub fn run_actor<A: Actor + Drop, H: Hands<A> + Drop, R: Wait>(
     if let Step::Act(act) = actor.start() {
         let _begun = finish(rt, &mut actor, &mut hands, act);
     }
-    let mut rest = Rest::new();
     let mut made = 0;
     for number in 0..turns {
         if watch.is_over() {
@@ -148,7 +146,7 @@ pub fn run_actor<A: Actor + Drop, H: Hands<A> + Drop, R: Wait>(
             Turn::Done => watch.stir(),
             Turn::Nothing => {
                 watch.idle(&actor);
-                rest.give_way();
+                watch.give_way();
             }
             Turn::Ends => break,
         }

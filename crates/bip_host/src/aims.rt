@@ -2,6 +2,7 @@
 ghost use Rattle.std.specs.Prelude.{◌≡◌, None, Some};
 
 use crate::actors::Actor;
+use crate::rests::Rest;
 use std::sync::atomic::{AtomicU64, Ordering};
 
 /// After how many turns one behind another that did nothing a thread is quiet.
@@ -51,13 +52,15 @@ impl Aim {
 }
 
 /// What a thread sees of its host's aim, if that has one: where it looks whether it is over, and
-/// where it counts until it is quiet. A thread that ends is quiet (docs/HOST.md, "Turns").
+/// where it counts until it is quiet; and how it gives way. A thread that ends is quiet
+/// (docs/HOST.md, "Turns").
 pub struct Watch<'h> {
     aim: Option<&'h Aim>,
     counted_in: Option<&'h Aim>,
     /// How many turns did nothing since one did something, as far as that matters.
     idle: u32,
     is_quiet: bool,
+    rest: Rest,
 }
 
 impl<'h> Watch<'h> {
@@ -70,11 +73,12 @@ impl<'h> Watch<'h> {
             counted_in: None,
             idle: 0,
             is_quiet: false,
+            rest: Rest::patient(),
         }
     }
 
     /// Of a thread that counts.
-    pub(crate) fn counted(aim: Option<&'h Aim>) -> Watch<'h>
+    pub(crate) fn counted(aim: Option<&'h Aim>, rest: Rest) -> Watch<'h>
         ensures { (result.aim ≡ aim.entry) × (result.counted_in ≡ aim.entry) }
     {
         if let Some(aim) = aim {
@@ -85,11 +89,12 @@ impl<'h> Watch<'h> {
             counted_in: aim,
             idle: 0,
             is_quiet: false,
+            rest,
         }
     }
 
     /// Of a thread that does all for those that count.
-    pub(crate) fn beside(aim: Option<&'h Aim>) -> Watch<'h>
+    pub(crate) fn beside(aim: Option<&'h Aim>, rest: Rest) -> Watch<'h>
         ensures { (result.aim ≡ aim.entry) × (result.counted_in ≡ None) }
     {
         Watch {
@@ -97,6 +102,7 @@ impl<'h> Watch<'h> {
             counted_in: None,
             idle: 0,
             is_quiet: false,
+            rest,
         }
     }
 
@@ -110,6 +116,7 @@ impl<'h> Watch<'h> {
 
     /// A turn did something.
     pub(crate) fn stir(&mut self) {
+        self.rest.stir();
         let Some(aim) = self.counted_in else {
             return;
         };
@@ -120,7 +127,12 @@ impl<'h> Watch<'h> {
         self.is_quiet = false;
     }
 
-    /// A turn did nothing: after enough the thread is quiet. Each time that so many are over its
+    /// A turn did nothing: the thread gives way.
+    pub(crate) fn give_way(&mut self) {
+        self.rest.give_way();
+    }
+
+    /// The same: after enough the thread is quiet. Each time that so many are over its
     /// actor is asked whether a request of its own is open, for which it goes on.
     pub(crate) fn idle<A: Actor>(&mut self, actor: &A) {
         let Some(aim) = self.counted_in else {
@@ -145,6 +157,7 @@ impl Drop for Watch<'_> {
             counted_in,
             idle: _,
             is_quiet,
+            rest: _,
         } = self;
         if let Some(aim) = counted_in {
             if !is_quiet {

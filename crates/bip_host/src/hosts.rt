@@ -23,6 +23,7 @@ use crate::layers::StationLayers;
 use crate::mailboxes::LooseEnds;
 use crate::messages::{ToClass, ToStation};
 use crate::nodes::Nodes;
+use crate::rests::Rest;
 use crate::starting::{
     Commons, class_mailboxes, component_mailboxes, start_classes, start_components,
 };
@@ -463,6 +464,10 @@ fn run_threads<'h, 'p, 'm, 'g, L: Ledger + Send + Sync, G: Gate + Sync, R: Threa
     ensures { IfOk result (AreTotalsOf asked) }
 {
     let nodes = nodes.into_list(alloc)?;
+    let rest = match aim {
+        Some(_) => Rest::among(rt, nodes.len()),
+        None => Rest::patient(),
+    };
     thread::scope(
         thread::scope_env(),
         rt,
@@ -471,7 +476,7 @@ fn run_threads<'h, 'p, 'm, 'g, L: Ledger + Send + Sync, G: Gate + Sync, R: Threa
         {
             let turns = asked.limits.turns;
             // Who starts them counts too, until all are started.
-            let starting = Watch::counted(aim);
+            let starting = Watch::counted(aim, rest);
             let mut running = match Vec::with_capacity(alloc, nodes.len()) {
                 Ok(running) => running,
                 Err(refused) => {
@@ -481,7 +486,7 @@ fn run_threads<'h, 'p, 'm, 'g, L: Ledger + Send + Sync, G: Gate + Sync, R: Threa
                 }
             };
             for node in nodes {
-                let watch = node.watch(aim);
+                let watch = node.watch(aim, rest);
                 match scope.spawn_with(AtMost { turns }, move || node.run(rt, turns, watch)) {
                     Ok(handle) => running.push(handle)?,
                     Err(refused) => {

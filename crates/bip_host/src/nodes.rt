@@ -10,6 +10,7 @@ use crate::forks::ForkActor;
 use crate::gates::Gate;
 use crate::hands::{ClassHands, ComponentHands, StationHands};
 use crate::hosts::Kind;
+use crate::rests::Rest;
 use crate::rings::RingActor;
 use std::alloc::{AllocError, Global};
 use std::sync::Wait;
@@ -42,14 +43,14 @@ pub(crate) enum Node<'h, 'p, 'm, 'g, L: Ledger, G> {
 }
 
 impl<'h, 'p, 'm, 'g, L: Ledger, G: Gate> Node<'h, 'p, 'm, 'g, L, G> {
-    /// What its thread sees of an aim. Stations don't count: a ring's token goes round all the
+    /// What its thread sees of an aim, where it gives way so. Stations don't count: a ring's token goes round all the
     /// time, and what else they do is for a class whose request is open.
-    pub(crate) fn watch(&self, aim: Option<&'h Aim>) -> Watch<'h> {
+    pub(crate) fn watch(&self, aim: Option<&'h Aim>, rest: Rest) -> Watch<'h> {
         match self {
-            Node::Component(..) => Watch::counted(aim),
-            Node::Class(..) => Watch::counted(aim),
-            Node::Ring(..) => Watch::beside(aim),
-            Node::Forks(..) => Watch::beside(aim),
+            Node::Component(..) => Watch::counted(aim, rest),
+            Node::Class(..) => Watch::counted(aim, rest),
+            Node::Ring(..) => Watch::beside(aim, rest),
+            Node::Forks(..) => Watch::beside(aim, rest),
         }
     }
 

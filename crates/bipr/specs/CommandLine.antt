@@ -1,6 +1,7 @@
 -- What a command line asks.
 use Rattle.std.specs.Prelude.{◌≡◌, ℕ, ◌≤◌, List, Some, codes}
 use Rattle.clap.specs.Words.{Row, first_of}
+use Rattle.bip_answers.specs.Answers.{greatest_base}
 use Rattle.bip_host.specs.declared.hosts.Tables.{Tables}
 use Rattle.bip_schedule.specs.declared.drawing.Draw.{Draw}
 use Rattle.bip_schedule.specs.declared.drawing.Draws.{Draws}

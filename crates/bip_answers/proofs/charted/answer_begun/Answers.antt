@@ -1,13 +1,12 @@
-use Rattle.std.proofs.Common.{◌≡◌, ◌<◌, ◌≤◌, ◌-◌, ◌∙◌, ℕ, List, [], ap, arith, length, subst, sym}
+use Rattle.std.proofs.Common.{◌≡◌, ◌<◌, ◌≤◌, ◌∙◌, ℕ, List, [], ap, arith, length, subst, sym}
+use Rattle.std.proofs.lemmas.Result.{IfOk-weaker}
 use Rattle.bip_draw.specs.Ends.{AddsRunnable}
 use Rattle.bip_model.specs.declared.grants.Grant.{Grant}
 use Rattle.bip_model.specs.declared.parts.System.{System}
 use Rattle.bip_replay.specs.Runs.{IsModelRun, Standing, state_after}
-use Rattle.bip_answers.specs.Answers.{complaining}
 use Rattle.bip_answers.specs.Charted.{IsChartOf, IsFootOf, IsPictured, count_shown, fitting}
-use Rattle.bip_answers.specs.Charted.{most_rows, too_long, until_last}
-use Rattle.bip_answers.specs.declared.answers.Status.TheVariants.{Refused}
-use Rattle.bip_answers.proofs.ChartLemmas.{run_until_last}
+use Rattle.bip_answers.specs.Charted.{most_rows, rows_shown, too_long, until_last}
+use Rattle.bip_answers.proofs.ChartLemmas.{rows_counted, run_until_last}
 use Rattle.bip_answers.proofs.charted.answer_begun.Goals as goal
 
 pub book_of-requires-clause-run : goal.book_of-requires-clause-run
@@ -16,16 +15,19 @@ book_of-requires-clause-run c =
     (run_until_last c.args.model.now c.args.base c.args.shown.now c.args.grants.items
     c.requires.run)
 
-pub returns-then-count_rows-gt-MOST_ROWS : goal.returns-then-count_rows-gt-MOST_ROWS
-returns-then-count_rows-gt-MOST_ROWS c =
+pub returns-then-count_rows : goal.returns-then-count_rows
+returns-then-count_rows c =
     let shown = c.args.shown.now in
-    let counted : c.count_rows.result ≡ count_shown shown c.args.grants.items =
+    let grants = c.args.grants.items in
+    let counted : c.count_rows.result ≡ count_shown shown grants =
     c.count_rows.ensures
-    ∙ ap (λ (gs : List Grant). length gs - (shown.from - 1))
-    (c.as_slice.ensures.value ∙ c.until_last-drawn.ensures) in
-    subst (IsPictured c.args.model.now c.args.classes.now shown c.args.grants.items c.args.verdict)
-    (sym (c.complained.ensures ∙ ap (complaining Refused) c.in_ok-complaint.ensures))
-    (too_long (subst (λ (n : ℕ). most_rows < n) counted c.if-count_rows-gt-MOST_ROWS.true))
+    ∙ (ap (λ (n : ℕ). rows_shown shown n) (ap length c.as_slice-count.ensures.value)
+    ∙ sym (rows_counted shown grants)) in
+    IfOk-weaker c.refuse_rows.result _ _
+    (λ answer is.
+    subst (IsPictured c.args.model.now c.args.classes.now shown grants c.args.verdict) (sym is)
+    (too_long (subst (λ (n : ℕ). most_rows < n) counted
+    (omega (arith, c.if-count_rows.true))))) c.refuse_rows.ensures
 
 pub returns : goal.returns
 returns c =
@@ -36,10 +38,10 @@ returns c =
     let verdict = c.args.verdict in
     let counted : c.count_rows.result ≡ count_shown shown grants =
     c.count_rows.ensures
-    ∙ ap (λ (gs : List Grant). length gs - (shown.from - 1))
-    (c.as_slice.ensures.value ∙ c.until_last-drawn.ensures) in
+    ∙ (ap (λ (n : ℕ). rows_shown shown n) (ap length c.as_slice-count.ensures.value)
+    ∙ sym (rows_counted shown grants)) in
     let fits : count_shown shown grants ≤ most_rows =
-    omega (arith, c.if-count_rows-gt-MOST_ROWS.false, counted) in
+    omega (arith, c.if-count_rows.false, counted) in
     let (chart, drawn, same) = c.in_ok-picture.ensures in
     let book = c.in_ok-book.book in
     let rows : c.in_ok-book.book.grants ≡ until_last shown grants =
@@ -51,7 +53,7 @@ returns c =
       behind = subst (λ (n : ℕ).
           IsFootOf shown n verdict c.write_runnable.new.text.items c.foot_of-foot.result)
           (ap length c.as_slice-count.ensures.value)
-          (rw c.as_slice-2.ensures.value at c.foot_of-foot.ensures);
+          (rw c.as_slice.ensures.value at c.foot_of-foot.ensures);
       runs = subst (λ (gs : List Grant).
           AddsRunnable m (state_after m gs) [] c.write_runnable.new.text.items) rows
           (subst (λ (x : System).

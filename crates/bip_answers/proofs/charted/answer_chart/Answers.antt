@@ -1,20 +1,21 @@
-use Rattle.std.proofs.Common.{ap}
+use Rattle.std.proofs.Common.{◌≡◌, ◌<◌, ◌∙◌, ℕ, ap, arith, subst, sym}
 use Rattle.std.proofs.lemmas.Result.{IfOk-weaker}
-use Rattle.bip_answers.specs.Charted.{charted, uncharted}
+use Rattle.bip_answers.specs.Charted.{IsPictured, charted, count_shown, most_rows, rows_shown}
+use Rattle.bip_answers.specs.Charted.{too_long, uncharted}
 use Rattle.bip_answers.specs.declared.answers.Answer.{Answer}
 use Rattle.bip_answers.proofs.AnswerLemmas.{said_answers}
 use Rattle.bip_answers.proofs.ChartLemmas.{begins_stopped, begins_whole, stopped_reads, stopped_run}
-use Rattle.bip_answers.proofs.ChartLemmas.{whole_reads, whole_run}
+use Rattle.bip_answers.proofs.ChartLemmas.{rows_counted, whole_reads, whole_run}
 use Rattle.bip_answers.proofs.charted.answer_chart.Goals as goal
 
 pub all_grants-requires : goal.all_grants-requires
 all_grants-requires c =
-    whole_reads c.args.model.now c.args.base c.args.trace.now c.in-Ok.field-0
+    whole_reads c.args.model.now c.args.base c.args.trace.now c.in-Ok.count
     (rw c.in-Ok.is at c.replay-replayed.ensures.run)
 
 pub answer_begun-requires-clause-run : goal.answer_begun-requires-clause-run
 answer_begun-requires-clause-run c =
-    whole_run c.args.model.now c.args.base c.args.trace.now c.in-Ok.field-0
+    whole_run c.args.model.now c.args.base c.args.trace.now c.in-Ok.count
     c.in_ok-grants-in-Ok.grants.items (rw c.in-Ok.is at c.replay-replayed.ensures.run)
     c.in_ok-grants-in-Ok.ensures
 
@@ -30,12 +31,33 @@ answer_begun-requires-in-NotARun-clause-run c =
     stopped_run c.args.model.now c.args.base c.args.trace.now c.in-Err.line c.in-NotARun.field-0
     c.in_ok-grants-in-NotARun.grants.items first c.in_ok-grants-in-NotARun.ensures
 
+pub returns-then-count_rows : goal.returns-then-count_rows
+returns-then-count_rows c =
+    let m = c.args.model.now in
+    let classes = c.args.classes.now in
+    let shown = c.args.shown.now in
+    let verdict = c.in_ok-verdict.verdict in
+    let run = rw c.in-Ok.is at c.replay-replayed.ensures.run in
+    let said = rw c.in-Ok.is at c.in_ok-verdict.ensures.answered in
+    let begins =
+    begins_whole m c.args.base c.args.trace.now c.in-Ok.count verdict run.grants run said run.reads in
+    let counted : count_shown shown run.grants ≡ c.count_rows.result =
+    rows_counted shown run.grants
+    ∙ (ap (λ (n : ℕ). rows_shown shown n) run.counted ∙ sym c.count_rows.ensures) in
+    let many : most_rows < count_shown shown run.grants =
+    omega (arith, counted, c.if-count_rows.true) in
+    IfOk-weaker c.refuse_rows.result _ _
+    (λ answer is text means.
+    charted m classes run.grants verdict answer means begins
+    (subst (IsPictured m classes shown run.grants verdict) (sym is) (too_long many)))
+    c.refuse_rows.ensures
+
 pub returns-in_ok-grants-in-Ok : goal.returns-in_ok-grants-in-Ok
 returns-in_ok-grants-in-Ok c =
     let run = rw c.in-Ok.is at c.replay-replayed.ensures.run in
     let said = rw c.in-Ok.is at c.in_ok-verdict.ensures.answered in
     let begins =
-    begins_whole c.args.model.now c.args.base c.args.trace.now c.in-Ok.field-0
+    begins_whole c.args.model.now c.args.base c.args.trace.now c.in-Ok.count
     c.in_ok-verdict.verdict c.in_ok-grants-in-Ok.grants.items run said
     c.in_ok-grants-in-Ok.ensures in
     IfOk-weaker c.answer_begun.result _ _
