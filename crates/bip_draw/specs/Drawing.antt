@@ -112,11 +112,12 @@ firsts_of (t ∷ ts) = t ∷ filter (λ u. not (are_parallel t u)) (firsts_of ts
 abbrev pub parallel_to : Component → Transition → List Transition
 parallel_to k t = filter (are_parallel t) k.transitions
 
--- what stands between two transitions of a label: the end of a line, and a blank line where one of
--- the label's transitions has a guard or an update
+-- a transition has a guard or an update
 abbrev pub has_clauses : Transition → Bool
 has_clauses t = not (length t.guard == 0) || not (length t.update == 0)
 
+-- what stands between two transitions of a label: the end of a line, and a blank line where one of
+-- the label's transitions has a guard or an update
 abbrev pub gap_text : List Transition → List ℕ
 gap_text ts = if list_any has_clauses ts then codes "\\n\\n" else codes "\\n"
 
@@ -124,15 +125,15 @@ gap_text ts = if list_any has_clauses ts then codes "\\n\\n" else codes "\\n"
 unfoldable pub label_text : Component → List Transition → List ℕ
 label_text k ts = listed [] (gap_text ts) (transition_text k) ts
 
--- how many bytes the longest line of a label has, each with the `n` that begins it, where some
--- bytes of the first line have been read
+-- how many bytes the longest line of a label has, where some bytes of the first one have been read:
+-- a backslash, 92, ends a line, and its `n` is counted with the next one
 abbrev pub longest_line : ℕ → List ℕ → ℕ
 longest_line bytes [] = bytes
 longest_line bytes (b ∷ label) =
     if b == 92 then max bytes (longest_line 0 label) else longest_line (bytes + 1) label
 
 -- a location is so wide that a line of so many bytes has room above it, at 75 thousandths of an
--- inch a byte; as wide as other locations, which have room for ten, at least
+-- inch a byte, up to 2000 of them; at least as wide as other locations, which have room for ten
 unfoldable pub width_text : ℕ → ℕ → ℕ → List ℕ
 width_text c l bytes =
     location_node c l ++ (width_front ++ (decimal (75 * max 10 (min bytes 2000)) ++ width_end))
@@ -142,11 +143,12 @@ abbrev pub room_text : ℕ → Transition → List ℕ → List ℕ
 room_text c t label =
     if t.source.0 == t.target.0 then width_text c t.source.0 (longest_line 1 label) else []
 
--- the edge of a transition, from its source to its target, with all that are parallel to it
+-- the front of an edge from the source of a transition to its target
 unfoldable pub ends_text : ℕ → Transition → List ℕ
 ends_text c t =
     location_node c t.source.0 ++ (arrow ++ (location_node c t.target.0 ++ label_front))
 
+-- the edge of a transition, with all that are parallel to it
 abbrev pub edge_text : ℕ → Component → Transition → List ℕ
 edge_text c k t =
     let label = label_text k (parallel_to k t) in

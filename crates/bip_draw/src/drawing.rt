@@ -1,5 +1,6 @@
 //! The drawing of a model in the language of Graphviz.
-ghost use Rattle.std.specs.Prelude.{◌≡◌, ◌<◌, ◌++◌, ◌&&◌, All, IfOk, OnOk, length};
+ghost use Rattle.std.specs.Prelude.{◌≡◌, ◌<◌, ◌++◌, ◌==◌, ◌&&◌, [], All, IfOk, OnOk, length};
+ghost use Rattle.std.specs.Prelude.{if◌then◌else◌};
 ghost use Rattle.std.specs.List.{flat_map, list_any, range_with_len};
 ghost use Rattle.bip_model.specs.Partitions.{AreClassesOf};
 ghost use Rattle.bip_model.specs.Parts.{IsComponent, IsInteraction, IsTransitionOf, Participant};
@@ -270,12 +271,27 @@ fn write_edge_label(
     let mut count = 0;
     for other in component.transitions.as_slice() {
         if are_parallel(transition, other) {
-            write_mark(text, count, b"", gap)?;
-            write_transition(text, component, other)?;
+            write_next_transition(text, component, other, count, gap)?;
             count += 1;
         }
     }
     Ok(())
+}
+
+/// A transition of a label, below so many others, with the gap between two of them.
+fn write_next_transition(
+    text: &mut Vec<u8>,
+    component: &Component,
+    transition: &Transition,
+    count: usize,
+    gap: &[u8],
+) -> Result<(), AllocError>
+    requires { IsTransitionOf component.now transition.now }
+    ensures { OnOk result (text.new.items ≡ (text.old.items
+        ++ (if count == 0 then [] else gap.now)) ++ transition_text component.now transition.now) }
+{
+    write_mark(text, count, b"", gap)?;
+    write_transition(text, component, transition)
 }
 
 /// What stands between two of the transitions that are parallel to this one.
@@ -325,7 +341,8 @@ fn write_transition(
     Ok(())
 }
 
-/// How many bytes the longest line of a label has, each with the `n` that begins it.
+/// How many bytes the longest line of a label has, each with the `n` of the mark before it, and the
+/// first one with one more, too.
 fn longest_line(label: &[u8]) -> usize
     ensures { result ≡ longest_line 1 label.now }
 {

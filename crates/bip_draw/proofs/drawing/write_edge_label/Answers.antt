@@ -4,7 +4,7 @@ use Rattle.bip_draw.specs.Drawing.{are_parallel, transition_text}
 use Rattle.bip_draw.proofs.EdgeLemmas.{left_out, set_below}
 use Rattle.bip_draw.proofs.drawing.write_edge_label.Goals.{else-are_parallel}
 use Rattle.bip_draw.proofs.drawing.write_edge_label.Goals.{
-  then-are_parallel+in_ok-write_mark+in_ok-write_transition,
+  then-are_parallel+in_ok-write_next_transition,
 }
 use Rattle.bip_draw.proofs.drawing.write_edge_label.Goals as goal
 
@@ -18,14 +18,13 @@ loop-other-preserved c =
     let so = c.loop-other.invariant in
     let at = c.other-item.is in
     elim c.if-are_parallel.branch [
-      | then-are_parallel+in_ok-write_mark+in_ok-write_transition w ↦
+      | then-are_parallel+in_ok-write_next_transition w ↦
           let is : p t ≡ true = sym c.are_parallel.ensures ∙ w.if-are_parallel.true in
           let passes : p (get_or ts i t) ≡ true = rw (← at) is in
           record {
             text = rw (
               w.text-is,
-              w.in_ok-write_transition.ensures,
-              w.in_ok-write_mark.ensures,
+              w.in_ok-write_next_transition.ensures,
               so.text,
               so.count,
               at,
