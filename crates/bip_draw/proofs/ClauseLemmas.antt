@@ -15,8 +15,8 @@ flat_map-push f xs x = flat_map-append f xs (x ∷ [])
 
 module _ {X : Type 0} (first mark : List ℕ) (f : X → List ℕ) where
   -- one more part
-  listed-push : (xs : List X) (x : X) → listed first mark f (xs ++ x ∷ []) ≡ listed first mark f xs
-      ++ (cond (eqb (length xs) 0) first mark ++ f x)
+  pub listed-push : (xs : List X) (x : X) → listed first mark f (xs ++ x ∷ [])
+      ≡ listed first mark f xs ++ (cond (eqb (length xs) 0) first mark ++ f x)
   listed-push [] x = append-nil (first ++ f x)
   listed-push (y ∷ ys) x =
       let later : eqb (length (y ∷ ys)) 0 ≡ false = grind (arith, nat_tests) in

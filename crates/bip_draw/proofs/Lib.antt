@@ -1,5 +1,6 @@
 pub mod ChartLemmas
 pub mod ClauseLemmas
+pub mod EdgeLemmas
 pub mod EscapingLemmas
 pub mod HueLemmas
 pub mod LayoutLemmas

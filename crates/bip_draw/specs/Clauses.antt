@@ -24,8 +24,8 @@ assignments_text spell assignments =
     listed (codes "\\ndo") (codes "\\n;") (λ a. flat_map spaced (words_of_assignment spell a))
     assignments
 
--- the end of a label: a guard, assignments, and what ends it
+-- a guard and assignments
 unfoldable pub clauses_text : (Variable → List ℕ) → List (Comparison Variable)
     → List (Assignment Variable) → List ℕ
 clauses_text spell guard assignments =
-    guard_text spell guard ++ (assignments_text spell assignments ++ codes "\"];\n")
+    guard_text spell guard ++ assignments_text spell assignments

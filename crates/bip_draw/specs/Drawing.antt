@@ -1,9 +1,11 @@
 -- The drawing of a model in the language of Graphviz: each declared thing has its statement once.
 -- A component is a cluster of its locations and ports; a node has the numbers of what it stands
 -- for, and its label has the names.
-use Rattle.std.specs.Prelude.{ℕ, ◌*◌, List, ◌++◌, codes, length, slice_index}
+use Rattle.std.specs.Prelude.{ℕ, ◌*◌, ◌+◌, ◌==◌, ◌&&◌, ◌||◌, Bool, not, List, [], ◌∷◌, ◌++◌}
+use Rattle.std.specs.Prelude.{codes, filter, length, max, min, slice_index}
+use Rattle.std.specs.Prelude.{if◌then◌else◌}
 use Rattle.std.specs.Fmt.{decimal}
-use Rattle.std.specs.List.{flat_map, range_with_len}
+use Rattle.std.specs.List.{flat_map, list_any, range_with_len}
 use Rattle.bip_model.specs.Naming.{name_in}
 use Rattle.bip_model.specs.Partitions.{class_in}
 use Rattle.bip_model.specs.Parts.{Participant}
@@ -14,7 +16,7 @@ use Rattle.bip_model.specs.declared.parts.System.{System}
 use Rattle.bip_model.specs.declared.parts.Transition.{Transition}
 use Rattle.bip_model.specs.declared.partitions.Partition.{Partition}
 use Rattle.bip_reader.specs.Writing.{component_in, interaction_in, own_word, shared_word}
-use Rattle.bip_draw.specs.Clauses.{clauses_text}
+use Rattle.bip_draw.specs.Clauses.{clauses_text, listed}
 use Rattle.bip_draw.specs.Hues.{hue}
 
 -- `c0l1`, a location of a component, and `c0p1`, a port
@@ -58,6 +60,12 @@ two_borders = codes " [peripheries=2];\n"
 unfoldable pub label_end : List ℕ
 label_end = codes "\"];\n"
 
+unfoldable pub width_front : List ℕ
+width_front = codes " [width=\""
+
+unfoldable pub width_end : List ℕ
+width_end = codes "e-3\"];\n"
+
 -- on a line of the component's label: `VARIABLE = START`
 abbrev pub variable_text : Component → ℕ → List ℕ
 variable_text k v =
@@ -85,28 +93,80 @@ abbrev pub port_text : ℕ → Component → ℕ → List ℕ
 port_text c k p =
     port_node c p ++ (label_front ++ (name_in k.ports p ++ label_end))
 
--- a transition: an edge from its source to its target, with its port, guard and update
+-- a transition: its port and, on lines of their own, its guard and its update
+abbrev pub transition_text : Component → Transition → List ℕ
+transition_text k t =
+    name_in k.ports t.port.0 ++ clauses_text (own_word k) t.guard t.update
+
+-- two transitions are parallel: they have the same source and the same target
+abbrev pub are_parallel : Transition → Transition → Bool
+are_parallel t u = (t.source.0 == u.source.0) && (t.target.0 == u.target.0)
+
+-- the first ones of parallel transitions: in a list that begins with t, t, and of the first ones
+-- behind it those that aren't parallel to t
+abbrev pub firsts_of : List Transition → List Transition
+firsts_of [] = []
+firsts_of (t ∷ ts) = t ∷ filter (λ u. not (are_parallel t u)) (firsts_of ts)
+
+-- the transitions of a component that are parallel to this one, which is one of them
+abbrev pub parallel_to : Component → Transition → List Transition
+parallel_to k t = filter (are_parallel t) k.transitions
+
+-- a transition has a guard or an update
+abbrev pub has_clauses : Transition → Bool
+has_clauses t = not (length t.guard == 0) || not (length t.update == 0)
+
+-- what stands between two transitions of a label: the end of a line, and a blank line where one of
+-- the label's transitions has a guard or an update
+abbrev pub gap_text : List Transition → List ℕ
+gap_text ts = if list_any has_clauses ts then codes "\\n\\n" else codes "\\n"
+
+-- the label of an edge: its transitions, one below the other
+unfoldable pub label_text : Component → List Transition → List ℕ
+label_text k ts = listed [] (gap_text ts) (transition_text k) ts
+
+-- how many bytes the longest line of a label has, where some bytes of the first one have been read:
+-- a backslash, 92, ends a line, and its `n` is counted with the next one
+abbrev pub longest_line : ℕ → List ℕ → ℕ
+longest_line bytes [] = bytes
+longest_line bytes (b ∷ label) =
+    if b == 92 then max bytes (longest_line 0 label) else longest_line (bytes + 1) label
+
+-- a location is so wide that a line of so many bytes has room above it, at 75 thousandths of an
+-- inch a byte, up to 2000 of them; at least as wide as other locations, which have room for ten
+unfoldable pub width_text : ℕ → ℕ → ℕ → List ℕ
+width_text c l bytes =
+    location_node c l ++ (width_front ++ (decimal (75 * max 10 (min bytes 2000)) ++ width_end))
+
+-- what a loop asks of its location: room for its label, which stands in the component's box then
+abbrev pub room_text : ℕ → Transition → List ℕ → List ℕ
+room_text c t label =
+    if t.source.0 == t.target.0 then width_text c t.source.0 (longest_line 1 label) else []
+
+-- the front of an edge from the source of a transition to its target
 unfoldable pub ends_text : ℕ → Transition → List ℕ
 ends_text c t =
     location_node c t.source.0 ++ (arrow ++ (location_node c t.target.0 ++ label_front))
 
-abbrev pub transition_text : ℕ → Component → Transition → List ℕ
-transition_text c k t =
-    ends_text c t
-    ++ (name_in k.ports t.port.0 ++ clauses_text (own_word k) t.guard t.update)
+-- the edge of a transition, with all that are parallel to it
+abbrev pub edge_text : ℕ → Component → Transition → List ℕ
+edge_text c k t =
+    let label = label_text k (parallel_to k t) in
+    ends_text c t ++ (label ++ (label_end ++ room_text c t label))
 
 -- the location in which a component starts
 unfoldable pub start_text : ℕ → List ℕ
 start_text c = location_node c 0 ++ two_borders
 
--- a component: a cluster of its locations, ports and transitions
+-- a component: a cluster of its locations and ports, with an edge for all transitions from a
+-- location to another, or to itself
 abbrev pub cluster_text : ℕ → List ℕ → Component → List ℕ
 cluster_text c name k =
     head_text c name k
     ++ (flat_map (location_text c k) (range_with_len 0 (length k.locations))
     ++ (start_text c
     ++ (flat_map (port_text c k) (range_with_len 0 (length k.ports))
-    ++ (flat_map (transition_text c k) k.transitions ++ codes "}\n"))))
+    ++ (flat_map (edge_text c k) (firsts_of k.transitions) ++ codes "}\n"))))
 
 abbrev pub clusters_text : System → List ℕ
 clusters_text m =
@@ -143,7 +203,7 @@ box_of m classes a name i =
 
 abbrev pub node_text : System → Partition → ℕ → List ℕ → Interaction → List ℕ
 node_text m classes a name i =
-    box_of m classes a name i ++ flat_map (participant_text a) i.participants
+    box_of m classes a name i ++ (label_end ++ flat_map (participant_text a) i.participants)
 
 abbrev pub nodes_text : System → Partition → List ℕ
 nodes_text m classes =

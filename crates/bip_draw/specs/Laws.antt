@@ -1,9 +1,12 @@
 -- What pictures keep, in the subject's own words: laws that a reviewer reads.
 use Rattle.std.specs.Prelude.{ℕ, ◌+◌, ◌*◌, ◌<◌, ◌≤◌, ◌==◌, ◌||◌, ◌&&◌, Bool, List, true, ◌≡◌}
-use Rattle.std.specs.Prelude.{length, nat_le, not}
-use Rattle.std.specs.List.{list_all}
+use Rattle.std.specs.Prelude.{false, length, nat_le, not}
+use Rattle.std.specs.List.{AllPairs, flat_map, list_all}
+use Rattle.std.specs.List.Sorted.{IsPermutation}
 use Rattle.bip_model.specs.Naming.{IsName, name_in}
+use Rattle.bip_model.specs.declared.parts.Component.{Component}
 use Rattle.bip_model.specs.declared.parts.System.{System}
+use Rattle.bip_draw.specs.Drawing.{parallel_to, firsts_of, are_parallel}
 use Rattle.bip_draw.specs.Escaping.{escaped}
 use Rattle.bip_draw.specs.Hues.{hue}
 use Rattle.bip_draw.specs.Layout.{lane_x, layout_of, row_y}
@@ -58,3 +61,12 @@ is_label_byte b = is_printable b && not (b == 34 || b == 92)
 -- the names of a model, which stand in drawings as they are, end no label there
 abbrev pub NamesAreInert : Type 0
 NamesAreInert = (name : List ℕ) → IsName name → list_all is_label_byte name ≡ true
+
+-- what stands on the edges of a component, edge by edge, are its transitions, each once
+abbrev pub TransitionsStandOnce : Type 0
+TransitionsStandOnce = (k : Component) → IsPermutation k.transitions
+    (flat_map (parallel_to k) (firsts_of k.transitions))
+
+-- and no two edges lead from the same location to the same one
+abbrev pub EdgesDiffer : Type 0
+EdgesDiffer = (k : Component) → AllPairs (λ t u. are_parallel t u ≡ false) (firsts_of k.transitions)

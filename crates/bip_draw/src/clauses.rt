@@ -9,7 +9,12 @@ use bip_reader::Speller;
 use std::alloc::AllocError;
 
 /// The mark before a part of a list: the first one, or one that is not.
-fn write_mark(text: &mut Vec<u8>, index: usize, first: &[u8], mark: &[u8]) -> Result<(), AllocError>
+pub(crate) fn write_mark(
+    text: &mut Vec<u8>,
+    index: usize,
+    first: &[u8],
+    mark: &[u8],
+) -> Result<(), AllocError>
     ensures { OnOk result (text.new.items
         ≡ text.old.items ++ (if index == 0 then first.now else mark.now)) }
 {
@@ -54,7 +59,7 @@ fn write_assignments(
     Ok(())
 }
 
-/// The end of a label: a guard, assignments, and what ends it.
+/// A guard and assignments.
 #[tactic(auto, unfolding(crate::specs::Clauses::clauses_text))]
 pub(crate) fn write_clauses(
     text: &mut Vec<u8>,
@@ -68,6 +73,5 @@ pub(crate) fn write_clauses(
         ≡ text.old.items ++ clauses_text (variable_word speller.now) guard.now assignments.now) }
 {
     write_guard(text, speller, guard)?;
-    write_assignments(text, speller, assignments)?;
-    text.extend_from_slice(b"\"];\n")
+    write_assignments(text, speller, assignments)
 }

@@ -1,31 +1,34 @@
 //! The drawing of a model in the language of Graphviz.
-ghost use Rattle.std.specs.Prelude.{◌≡◌, ◌<◌, ◌++◌, All, IfOk, OnOk, length};
-ghost use Rattle.std.specs.List.{flat_map, range_with_len};
+ghost use Rattle.std.specs.Prelude.{◌≡◌, ◌<◌, ◌++◌, ◌==◌, ◌&&◌, [], All, IfOk, OnOk, length};
+ghost use Rattle.std.specs.Prelude.{if◌then◌else◌};
+ghost use Rattle.std.specs.List.{flat_map, list_any, range_with_len};
 ghost use Rattle.bip_model.specs.Partitions.{AreClassesOf};
 ghost use Rattle.bip_model.specs.Parts.{IsComponent, IsInteraction, IsTransitionOf, Participant};
-ghost use Rattle.bip_draw.specs.Drawing.{arrow, box_of, box_text, class_text, legend_front};
-ghost use Rattle.bip_draw.specs.Drawing.{cluster_front};
-ghost use Rattle.bip_draw.specs.Drawing.{legend_text, cluster_text, clusters_text, dashed};
-ghost use Rattle.bip_draw.specs.Drawing.{drawing_of, ellipse_front, ends_text, front_text};
-ghost use Rattle.bip_draw.specs.Drawing.{head_text};
-ghost use Rattle.bip_draw.specs.Drawing.{interaction_node, node_text, nodes_text};
-ghost use Rattle.bip_draw.specs.Drawing.{label_end, label_front, location_text, no_arrow};
-ghost use Rattle.bip_draw.specs.Drawing.{part_node, participant_text, port_text, priority_text};
-ghost use Rattle.bip_draw.specs.Drawing.{start_text, transition_text, two_borders, variable_text};
+ghost use Rattle.bip_draw.specs.Drawing.{are_parallel, arrow, box_of, box_text, class_text};
+ghost use Rattle.bip_draw.specs.Drawing.{cluster_front, cluster_text, clusters_text, dashed};
+ghost use Rattle.bip_draw.specs.Drawing.{drawing_of, edge_text, ellipse_front, ends_text};
+ghost use Rattle.bip_draw.specs.Drawing.{firsts_of, front_text, gap_text, has_clauses, head_text};
+ghost use Rattle.bip_draw.specs.Drawing.{interaction_node, label_end, label_front, label_text};
+ghost use Rattle.bip_draw.specs.Drawing.{legend_front, legend_text, location_text, longest_line};
+ghost use Rattle.bip_draw.specs.Drawing.{no_arrow, node_text, nodes_text, parallel_to, part_node};
+ghost use Rattle.bip_draw.specs.Drawing.{participant_text, port_text, priority_text, start_text};
+ghost use Rattle.bip_draw.specs.Drawing.{transition_text, two_borders, variable_text, width_end};
+ghost use Rattle.bip_draw.specs.Drawing.{width_front, width_text};
 
-use crate::clauses::write_clauses;
+use crate::clauses::{write_clauses, write_mark};
 use crate::escaping::write_number;
 use crate::hues::{class_of, hue_of};
 use bip_model::{
-    Classes, CompId, Component, InterId, Interaction, Model, Name, Pair, PortId, Transition,
+    Classes, CompId, Component, InterId, Interaction, LocId, Model, Name, Pair, PortId, Transition,
 };
 use bip_reader::Speller;
 use std::alloc::{AllocError, Global};
 
 /// The drawing of a model and its classes in the language of Graphviz: a cluster for each component
-/// with its locations, ports and transitions, a box for each interaction with an edge to each of
-/// its ports, a dashed edge for each priority, a box for each class with its colour. Each declared
-/// thing has its statement once (docs/DRAW.md, "Drawings").
+/// with its locations and ports, and an edge with all transitions from a location to another or to
+/// itself; a box for each interaction with an edge to each of its ports, a dashed edge for each
+/// priority, a box for each class with its colour. Each declared thing is drawn once (docs/DRAW.md,
+/// "Drawings").
 pub fn draw_model(alloc: Global, model: &Model, classes: &Classes) -> Result<Vec<u8>, AllocError>
     requires { AreClassesOf model.now classes.now }
     ensures { IfOk result (λ text. text.items ≡ drawing_of model.now classes.now) }
@@ -64,7 +67,7 @@ fn write_component(
     write_locations(text, number, component)?;
     write_start(text, number)?;
     write_ports(text, number, component)?;
-    write_transitions(text, number, component)?;
+    write_edges(text, number, component)?;
     text.extend_from_slice(b"}\n")
 }
 
@@ -202,33 +205,132 @@ fn write_port(
     write_label_end(text)
 }
 
-fn write_transitions(
-    text: &mut Vec<u8>,
-    comp: usize,
-    component: &Component,
-) -> Result<(), AllocError>
+fn write_edges(text: &mut Vec<u8>, comp: usize, component: &Component) -> Result<(), AllocError>
     requires { All (IsTransitionOf component.now) component.now.transitions }
     ensures { OnOk result (text.new.items ≡ text.old.items
-        ++ flat_map (transition_text comp component.now) component.now.transitions) }
+        ++ flat_map (edge_text comp component.now) (firsts_of component.now.transitions)) }
 {
-    for transition in component.transitions.as_slice() {
-        write_transition(text, comp, component, transition)?;
+    let transitions = component.transitions.as_slice();
+    for (index, transition) in transitions.iter().enumerate() {
+        if !has_parallel(transition, &transitions[..index]) {
+            write_edge(text, comp, component, transition)?;
+        }
     }
     Ok(())
 }
 
-fn write_transition(
+/// Whether a transition is parallel to one of the others.
+fn has_parallel(transition: &Transition, others: &[Transition]) -> bool
+    ensures { result ≡ list_any (λ t. are_parallel t transition.now) others.now }
+{
+    others.iter().any(|t| are_parallel(t, transition))
+}
+
+/// Whether two transitions have the same source and the same target.
+fn are_parallel(first: &Transition, second: &Transition) -> bool
+    ensures { result ≡ are_parallel first.now second.now }
+{
+    first.source == second.source && first.target == second.target
+}
+
+/// The edge of a transition, with all that are parallel to it; the location of a loop has room for
+/// the label.
+fn write_edge(
     text: &mut Vec<u8>,
     comp: usize,
     component: &Component,
     transition: &Transition,
 ) -> Result<(), AllocError>
+    requires { All (IsTransitionOf component.now) component.now.transitions }
+    ensures { OnOk result
+        (text.new.items ≡ text.old.items ++ edge_text comp component.now transition.now) }
+{
+    write_ends(text, comp, transition)?;
+    let start = text.len();
+    write_edge_label(text, component, transition)?;
+    let bytes = longest_line(&text[start..]);
+    write_label_end(text)?;
+    if transition.source == transition.target {
+        write_width(text, comp, transition.source, bytes)?;
+    }
+    Ok(())
+}
+
+/// The transitions that are parallel to this one, one below the other.
+#[tactic(auto, unfolding(crate::specs::Drawing::label_text))]
+fn write_edge_label(
+    text: &mut Vec<u8>,
+    component: &Component,
+    transition: &Transition,
+) -> Result<(), AllocError>
+    requires { All (IsTransitionOf component.now) component.now.transitions }
+    ensures { OnOk result (text.new.items ≡ text.old.items
+        ++ label_text component.now (parallel_to component.now transition.now)) }
+{
+    let gap = gap_of(component, transition);
+    let mut count = 0;
+    for other in component.transitions.as_slice() {
+        if are_parallel(transition, other) {
+            write_next_transition(text, component, other, count, gap)?;
+            count += 1;
+        }
+    }
+    Ok(())
+}
+
+/// A transition of a label, below so many others, with the gap between two of them.
+fn write_next_transition(
+    text: &mut Vec<u8>,
+    component: &Component,
+    transition: &Transition,
+    count: usize,
+    gap: &[u8],
+) -> Result<(), AllocError>
     requires { IsTransitionOf component.now transition.now }
-    ensures { OnOk result (text.new.items
-        ≡ text.old.items ++ transition_text comp component.now transition.now) }
+    ensures { OnOk result (text.new.items ≡ (text.old.items
+        ++ (if count == 0 then [] else gap.now)) ++ transition_text component.now transition.now) }
+{
+    write_mark(text, count, b"", gap)?;
+    write_transition(text, component, transition)
+}
+
+/// What stands between two of the transitions that are parallel to this one.
+fn gap_of(component: &Component, transition: &Transition) -> &'static [u8]
+    ensures { result.now ≡ gap_text (parallel_to component.now transition.now) }
+{
+    if any_has_clauses(component, transition) {
+        b"\\n\\n"
+    } else {
+        b"\\n"
+    }
+}
+
+fn any_has_clauses(component: &Component, transition: &Transition) -> bool
+    ensures { result ≡ list_any (λ t. are_parallel transition.now t && has_clauses t)
+        component.now.transitions }
+{
+    let transitions = component.transitions.as_slice();
+    transitions
+        .iter()
+        .any(|t| are_parallel(transition, t) && has_clauses(t))
+}
+
+fn has_clauses(transition: &Transition) -> bool
+    ensures { result ≡ has_clauses transition.now }
+{
+    !transition.guard.is_empty() || !transition.update.is_empty()
+}
+
+fn write_transition(
+    text: &mut Vec<u8>,
+    component: &Component,
+    transition: &Transition,
+) -> Result<(), AllocError>
+    requires { IsTransitionOf component.now transition.now }
+    ensures { OnOk result
+        (text.new.items ≡ text.old.items ++ transition_text component.now transition.now) }
 {
     let speller = Speller::Own(component);
-    write_ends(text, comp, transition)?;
     text.extend_from_slice(component.ports.as_slice()[transition.port.0 as usize].as_bytes())?;
     write_clauses(
         text,
@@ -237,6 +339,40 @@ fn write_transition(
         transition.update.as_slice(),
     )?;
     Ok(())
+}
+
+/// How many bytes the longest line of a label has, each with the `n` of the mark before it, and the
+/// first one with one more, too.
+fn longest_line(label: &[u8]) -> usize
+    ensures { result ≡ longest_line 1 label.now }
+{
+    let mut most = 0;
+    let mut bytes = 1;
+    for byte in label {
+        if *byte == b'\\' {
+            most = most.max(bytes);
+            bytes = 0;
+        } else {
+            bytes += 1;
+        }
+    }
+    most.max(bytes)
+}
+
+/// Makes a location so wide that a line of so many bytes has room above it.
+#[tactic(auto, unfolding(crate::specs::Drawing::width_text))]
+fn write_width(
+    text: &mut Vec<u8>,
+    comp: usize,
+    location: LocId,
+    bytes: usize,
+) -> Result<(), AllocError>
+    ensures { OnOk result (text.new.items ≡ text.old.items ++ width_text comp location.0 bytes) }
+{
+    write_part_node(text, comp, b"l", location.0 as usize)?;
+    write_width_front(text)?;
+    write_number(text, 75 * bytes.min(2000).max(10) as u64)?;
+    write_width_end(text)
 }
 
 /// The source and the target of a transition.
@@ -325,6 +461,7 @@ fn write_interaction(
         ++ node_text model.now classes.now inter.0 name.now interaction.now) }
 {
     write_interaction_box(text, model, classes, inter, name, interaction)?;
+    write_label_end(text)?;
     write_participants(text, inter, interaction.participants.as_slice())
 }
 
@@ -434,6 +571,20 @@ fn write_label_end(text: &mut Vec<u8>) -> Result<(), AllocError>
     ensures { OnOk result (text.new.items ≡ text.old.items ++ label_end) }
 {
     text.extend_from_slice(b"\"];\n")
+}
+
+#[tactic(auto, unfolding(crate::specs::Drawing::width_front))]
+fn write_width_front(text: &mut Vec<u8>) -> Result<(), AllocError>
+    ensures { OnOk result (text.new.items ≡ text.old.items ++ width_front) }
+{
+    text.extend_from_slice(b" [width=\"")
+}
+
+#[tactic(auto, unfolding(crate::specs::Drawing::width_end))]
+fn write_width_end(text: &mut Vec<u8>) -> Result<(), AllocError>
+    ensures { OnOk result (text.new.items ≡ text.old.items ++ width_end) }
+{
+    text.extend_from_slice(b"e-3\"];\n")
 }
 
 #[tactic(auto, unfolding(crate::specs::Drawing::arrow))]

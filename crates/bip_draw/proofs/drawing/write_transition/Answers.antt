@@ -1,13 +1,9 @@
-use Rattle.std.proofs.Common.{◌≡◌, ◌<◌, ℕ, List, [], ◌++◌, ◌∙◌, append_assoc, length, sym}
+use Rattle.std.proofs.Common.{◌≡◌, ◌<◌, [], append_assoc, length, sym}
 use Rattle.std.proofs.lemmas.List.{get_or_read}
 use Rattle.bip_model.specs.Naming.{name_in}
 use Rattle.bip_reader.specs.Writing.{own_word}
 use Rattle.bip_draw.specs.Clauses.{clauses_text}
-use Rattle.bip_draw.specs.Drawing.{ends_text}
 use Rattle.bip_draw.proofs.drawing.write_transition.Goals as goal
-
-three_parts : (o a b d : List ℕ) → ((o ++ a) ++ b) ++ d ≡ o ++ (a ++ (b ++ d))
-three_parts o a b d = append_assoc (o ++ a) b d ∙ append_assoc o a (b ++ d)
 
 pub returns : goal.returns
 returns c =
@@ -21,11 +17,10 @@ returns c =
     rw (
       c.in_ok-write_clauses.ensures,
       c.in_ok-extend_from_slice.ensures.items,
-      c.in_ok-write_ends.ensures,
       c.as_bytes.ensures.bytes,
       ← name,
       c.as_slice-2.ensures,
       c.as_slice-3.ensures,
     )
-    (three_parts c.args.text.now.items (ends_text c.args.comp t) (name_in k.ports t.port.0)
+    (append_assoc c.args.text.now.items (name_in k.ports t.port.0)
     (clauses_text (own_word k) t.guard t.update))

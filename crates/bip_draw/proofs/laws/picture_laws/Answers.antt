@@ -1,3 +1,4 @@
+use Rattle.bip_draw.proofs.EdgeLemmas.{edges_differ, transitions_stand_once}
 use Rattle.bip_draw.proofs.EscapingLemmas.{escaped_texts_are_kept, names_are_inert}
 use Rattle.bip_draw.proofs.EscapingLemmas.{texts_are_inert}
 use Rattle.bip_draw.proofs.LayoutLemmas.{lanes_are_apart, rows_are_apart}
@@ -13,4 +14,6 @@ returns c = record {
   inert = texts_are_inert;
   escaped = escaped_texts_are_kept;
   names = names_are_inert;
+  once = transitions_stand_once;
+  edges = edges_differ;
 }
