@@ -1,9 +1,11 @@
 -- Charts: the run with which a trace begins.
-use Rattle.std.proofs.Common.{◌≡◌, ◌≢◌, ◌+◌, ◌-◌, ◌<◌, ◌∙◌, ℕ, List, [], ◌∷◌, ◌++◌, None, Option}
-use Rattle.std.proofs.Common.{Some, Result, Ok, Err, ap, append_assoc, arith, drop, length, refl}
+use Rattle.std.proofs.Common.{◌≡◌, ◌≢◌, ◌+◌, ◌-◌, ◌<◌, ◌≤◌, ◌∙◌, ℕ, List, [], ◌∷◌, ◌++◌, None}
+use Rattle.std.proofs.Common.{Option}
+use Rattle.std.proofs.Common.{Some, Result, Ok, Err, ap, ap₂, append_assoc, arith, drop, length, refl}
 use Rattle.std.proofs.Common.{subst, sym, take}
 use Rattle.std.proofs.lemmas.List.{length-append, length-drop, length-take, take-append-drop}
-use Rattle.std.proofs.lemmas.List.{take_at}
+use Rattle.std.proofs.lemmas.List.{take-append-le, take_at, take_min}
+use Rattle.std.proofs.Math.Seq.{take-length}
 use Rattle.std.specs.Option.{option_map_or}
 use Rattle.std.specs.Prelude.{IsOk, min}
 use Rattle.bip_model.specs.Steps.{start_of}
@@ -11,8 +13,9 @@ use Rattle.bip_model.specs.Texts.{lines}
 use Rattle.bip_model.specs.declared.grants.Grant.{Grant}
 use Rattle.bip_model.specs.declared.parts.System.{System}
 use Rattle.bip_replay.specs.Replays.{IsFirstFault, IsRunOf}
-use Rattle.bip_replay.proofs.ItemLemmas.{first_at_fault, items_from-append, onto}
+use Rattle.bip_replay.proofs.ItemLemmas.{first_at_fault, first_read, items_from-append, onto}
 use Rattle.bip_replay.proofs.RunLemmas.{IsRunFrom-parts}
+use Rattle.bip_replay.specs.Items.{before_rest, items_from, one_more}
 use Rattle.bip_replay.specs.Lines.{grant_on}
 use Rattle.bip_replay.specs.Runs.{IsModelRun}
 use Rattle.bip_replay.specs.Traces.{IsTraceFault, grants_from, grants_of}
@@ -22,7 +25,8 @@ use Rattle.bip_replay.specs.declared.faults.TraceFault.{TraceFault}
 use Rattle.bip_replay.specs.declared.faults.BookFault.{BookFault}
 use Rattle.bip_replay.specs.declared.faults.ReplayFault.TheVariants.{NotARun}
 use Rattle.bip_answers.specs.Answers.{IsSaidOf}
-use Rattle.bip_answers.specs.Charted.{IsFrontRun, count_shown, rows_shown, stopped, until_last}
+use Rattle.bip_answers.specs.Charted.{ArePart, IsFrontRun, count_shown, rows_shown, stopped}
+use Rattle.bip_answers.specs.Charted.{until_last}
 use Rattle.bip_answers.specs.Charted.{whole}
 use Rattle.bip_answers.specs.declared.answers.Answer.{Answer}
 use Rattle.bip_answers.specs.declared.charted.Shown.{Shown}
@@ -102,6 +106,36 @@ rows_counted shown grants = ap (λ (n : ℕ). n - (shown.from - 1)) (by_last sho
     by_last None = refl
     by_last (Some n) = length-take n grants
 
+-- lines before others read, where all do, as the first items of all
+front_items : {X : Type 0} (on : List ℕ → Result (Option X) LineFault) (n : ℕ)
+    (front rest : List (List ℕ)) (all : List X) → items_from on n (front ++ rest) ≡ Ok all
+    → (xs : List X) × (ys : List X) × (items_from on n front ≡ Ok xs) × (all ≡ xs ++ ys)
+front_items {X = X} on n [] rest all reads = ([], all, refl, refl)
+front_items {X = X} on n (line ∷ front) rest all reads =
+    let (said, later, says, behind, joined) =
+    first_read n (on line) (items_from on (n + 1) (front ++ rest)) all reads in
+    let (xs, ys, first, split) = front_items on (n + 1) front rest later behind in (
+      one_more [] said ++ xs,
+      ys,
+      ap₂ (before_rest n) says first ∙ one_line said xs,
+      sym joined ∙ (ap (λ (zs : List X). one_more [] said ++ zs) split
+          ∙ sym (append_assoc (one_more [] said) xs ys)),
+    )
+  where
+    one_line : (said : Option X) (xs : List X)
+        → before_rest n (Ok said) (Ok xs) ≡ Ok (one_more [] said ++ xs)
+    one_line None xs = refl
+    one_line (Some x) xs = refl
+
+-- so lines before one read, as the first grants of a trace
+pub front_grants : (m : System) (trace : List ℕ) (line : ℕ) (all : List Grant)
+    → grants_of m trace ≡ Ok all
+    → (xs : List Grant) × (ys : List Grant)
+    × (grants_from m 1 (take (line - 1) (lines trace)) ≡ Ok xs) × (all ≡ xs ++ ys)
+front_grants m trace line all reads =
+    front_items (grant_on m) 1 (take (line - 1) (lines trace)) (drop (line - 1) (lines trace)) all
+    (ap (grants_from m 1) (take-append-drop (line - 1) (lines trace)) ∙ reads)
+
 -- a run up to a row
 pub run_until_last : (m : System) (base : ℕ) (shown : Shown) (grants : List Grant)
     → IsModelRun m base grants → IsModelRun m base (until_last shown grants)
@@ -172,3 +206,44 @@ reads_front m trace end number Syntax reads is before other =
 reads_front m trace end number Unknown reads is before other =
     behind_front m trace end number _ reads is before
 reads_front m trace end number Memory reads is before other = other refl
+
+-- lines before one read where all do
+pub lines_read : (m : System) (trace : List ℕ) (line : ℕ) → IsOk (grants_of m trace)
+    → IsOk (grants_from m 1 (take (line - 1) (lines trace)))
+lines_read m trace line reads =
+    let (all, read) = read_of (grants_of m trace) reads in
+    let (xs, ys, first, split) = front_grants m trace line all read in
+    subst IsOk (sym first) refl
+
+-- where they have as many grants, the first ones are the first ones of all
+pub front_part : (m : System) (trace : List ℕ) (line count : ℕ) (read part : List Grant)
+    → grants_from m 1 (take (line - 1) (lines trace)) ≡ Ok read → count ≤ length read
+    → part ≡ take count read → ArePart m trace count part
+front_part m trace line count read part reads enough cut grants all =
+    let (xs, ys, first, split) = front_grants m trace line grants all in
+    let same = same_grants (grants_from m 1 (take (line - 1) (lines trace))) xs read first reads in
+    let within : count ≤ length xs = omega (arith, enough, ap length same) in
+    cut ∙ (ap (take count) (sym same)
+    ∙ sym (ap (take count) split ∙ take-append-le count xs ys within))
+
+-- those of all are
+pub whole_part : (m : System) (trace : List ℕ) (count : ℕ) (read part : List Grant)
+    → grants_of m trace ≡ Ok read → part ≡ take count read → ArePart m trace count part
+whole_part m trace count read part reads cut grants all =
+    cut ∙ ap (take count) (same_grants (grants_of m trace) read grants reads all)
+
+-- the first ones up to the last row that is drawn are those up to the last one that is shown
+pub part_drawn : (m : System) (base : ℕ) (trace : List ℕ) (count : ℕ) (shown : Shown)
+    (drawn : List Grant) → (run : IsRunOf m base trace count)
+    → ArePart m trace (option_map_or (λ last. min last count) shown.to count) drawn
+    → drawn ≡ until_last shown run.grants
+part_drawn m base trace count shown drawn run are =
+    are run.grants run.reads ∙ by_last shown.to
+  where
+    by_last : (last : Option ℕ)
+        → take (option_map_or (λ n. min n count) last count) run.grants
+        ≡ option_map_or (λ n. take n run.grants) last run.grants
+    by_last None = subst (λ (n : ℕ). take n run.grants ≡ run.grants) run.counted
+        (take-length run.grants)
+    by_last (Some n) = subst (λ (k : ℕ). take (min n k) run.grants ≡ take n run.grants) run.counted
+        (take_min n run.grants)

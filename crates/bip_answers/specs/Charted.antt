@@ -1,6 +1,6 @@
 -- The answer to a chart: the picture of the run with which a trace begins, beside its verdict.
 use Rattle.std.specs.Prelude.{◌≡◌, ◌<◌, ◌≤◌, ◌-◌, ◌&&◌, ℕ, Bool, true, List, length, nat_le, nat_lt}
-use Rattle.std.specs.Prelude.{Option, None, Some, [], false, min, take, ⊤}
+use Rattle.std.specs.Prelude.{Ok, Option, None, Some, [], false, min, take, ⊤}
 use Rattle.std.specs.Option.{option_map_or}
 use Rattle.bip_draw.specs.Charts.{chart_of}
 use Rattle.bip_draw.specs.Ends.{AddsRunnable}
@@ -13,6 +13,7 @@ use Rattle.bip_model.specs.declared.partitions.Partition.{Partition}
 use Rattle.bip_reader.specs.Texts.{Means}
 use Rattle.bip_replay.specs.Replays.{IsFirstFault, IsRunOf}
 use Rattle.bip_replay.specs.Runs.{state_after}
+use Rattle.bip_replay.specs.Traces.{grants_of}
 use Rattle.bip_replay.specs.declared.faults.BookFault.{BookFault}
 use Rattle.bip_replay.specs.declared.faults.ReplayFault.TheVariants as replay_fault
 use Rattle.bip_answers.specs.Answers.{IsAnswer, complaining, saying}
@@ -44,6 +45,11 @@ most_rows = 2000
 -- the grants up to the last row that is shown
 abbrev pub until_last : Shown → List Grant → List Grant
 until_last shown grants = option_map_or (λ last. take last grants) shown.to grants
+
+-- these are the first so many grants of a trace
+abbrev pub ArePart : System → List ℕ → ℕ → List Grant → Type 0
+ArePart m trace count part =
+    (grants : List Grant) → grants_of m trace ≡ Ok grants → part ≡ take count grants
 
 -- how many rows are shown
 abbrev pub count_shown : Shown → List Grant → ℕ

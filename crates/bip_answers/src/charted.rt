@@ -1,6 +1,7 @@
 //! What is answered to a chart: the picture of the run with which a trace begins.
-ghost use Rattle.std.specs.Prelude.{◌≡◌, ◌≤◌, ◌-◌, ℕ, List, IfOk, IsOk, Ok, take};
-ghost use Rattle.std.specs.Option.{option_map};
+ghost use Rattle.std.specs.Prelude.{◌≡◌, ◌≤◌, ◌-◌, ℕ, List, IfOk, IfSome, IsOk, Ok, length};
+ghost use Rattle.std.specs.Prelude.{min, take};
+ghost use Rattle.std.specs.Option.{option_map, option_map_or};
 ghost use Rattle.bip_draw.specs.Charts.{chart_of};
 ghost use Rattle.bip_draw.specs.declared.charts.Chart.{Chart};
 ghost use Rattle.bip_model.specs.Partitions.{AreClassesOf};
@@ -8,7 +9,9 @@ ghost use Rattle.bip_model.specs.Texts.{lines};
 ghost use Rattle.bip_reader.specs.Texts.{Means};
 ghost use Rattle.bip_replay.specs.Runs.{IsModelRun};
 ghost use Rattle.bip_replay.specs.Traces.{grants_from, grants_of};
-ghost use Rattle.bip_answers.specs.Charted.{IsChartAnswer, IsDrawnAs, IsFootOf, IsPictured};
+ghost use Rattle.bip_model.specs.declared.grants.Grant.{Grant};
+ghost use Rattle.bip_answers.specs.Charted.{ArePart, IsChartAnswer, IsDrawnAs, IsFootOf};
+ghost use Rattle.bip_answers.specs.Charted.{IsPictured};
 ghost use Rattle.bip_answers.specs.Answers.{complaining, greatest_base};
 ghost use Rattle.bip_answers.specs.Charted.{most_rows, reason_of, rows_shown, shows_behind};
 ghost use Rattle.bip_answers.specs.Charted.{until_last};
@@ -35,6 +38,18 @@ pub struct Shown {
 /// How many rows a chart has at most.
 pub const MOST_ROWS: usize = 2_000;
 
+// How often twice as many lines are read of a trace, until they have the grants that are drawn.
+const MOST_DOUBLINGS: u32 = 32;
+
+// The run with which a trace begins: its grants up to the last row that is shown, how many it has,
+// and the verdict on the trace.
+#[derive(Drop)]
+struct FrontRun {
+    drawn: Vec<Grant>,
+    count: u64,
+    verdict: Answer,
+}
+
 /// The answer to the chart of a trace, where the model's text is one: the shown rows of the run
 /// with which the trace begins, behind them why it stops or what may run there, and the verdict on
 /// the trace beside it; or that they are too many rows; or the first fault of the trace's text
@@ -57,17 +72,29 @@ pub fn answer_chart(
     let verdict = answer_replayed(alloc, explanation, model, trace, base, &replayed)?;
     match &replayed {
         Ok(count) => {
-            // Where they are too many, no grant is kept.
-            if count_rows(shown, *count) > MOST_ROWS as u64 {
+            let count = *count;
+            // Where they are too many, no grant is kept; else those alone that are drawn.
+            if count_rows(shown, count) > MOST_ROWS as u64 {
                 return refuse_rows(alloc);
             }
-            let grants = all_grants(alloc, model, trace)?;
-            answer_begun(alloc, model, classes, base, grants, verdict, shown)
+            let drawn = first_grants(alloc, model, trace, last_drawn(shown, count))?;
+            let front = FrontRun {
+                drawn,
+                count,
+                verdict,
+            };
+            answer_begun(alloc, model, classes, base, front, shown)
         }
         Err((line, fault)) => match fault {
             ReplayFault::NotARun(_) => {
                 let grants = grants_before(alloc, model, trace, *line)?;
-                answer_begun(alloc, model, classes, base, grants, verdict, shown)
+                let count = grants.as_slice().len() as u64;
+                let front = FrontRun {
+                    drawn: until_last(grants, shown),
+                    count,
+                    verdict,
+                };
+                answer_begun(alloc, model, classes, base, front, shown)
             }
             ReplayFault::Syntax => Ok(verdict),
             ReplayFault::Unknown => Ok(verdict),
@@ -90,6 +117,55 @@ fn all_grants(alloc: Global, model: &Model, trace: &[u8]) -> Result<Vec<Grant>, 
     }
 }
 
+// The first so many grants of a trace that reads: where lines say nothing, those of some more.
+fn first_grants(
+    alloc: Global,
+    model: &Model,
+    trace: &[u8],
+    count: u64,
+) -> Result<Vec<Grant>, AllocError>
+    requires { IsOk (grants_of model.now trace.now) }
+    ensures { IfOk result (λ grants. ArePart model.now trace.now count grants.items) }
+{
+    let mut line = count.saturating_add(1);
+    for _ in 0..MOST_DOUBLINGS {
+        if let Some(grants) = grants_within(alloc, model, trace, line, count)? {
+            return Ok(grants);
+        }
+        line = line.saturating_mul(2);
+    }
+    Ok(cut(all_grants(alloc, model, trace)?, count))
+}
+
+// The same, where the lines before one have as many.
+fn grants_within(
+    alloc: Global,
+    model: &Model,
+    trace: &[u8],
+    line: u64,
+    count: u64,
+) -> Result<Option<Vec<Grant>>, AllocError>
+    requires { IsOk (grants_of model.now trace.now) }
+    ensures { IfOk result (λ found. IfSome found (λ grants.
+        ArePart model.now trace.now count grants.items)) }
+{
+    let grants = grants_before(alloc, model, trace, line)?;
+    if (grants.as_slice().len() as u64) < count {
+        drop(grants);
+        return Ok(None);
+    }
+    Ok(Some(cut(grants, count)))
+}
+
+// The first so many of some grants.
+fn cut(grants: Vec<Grant>, count: u64) -> Vec<Grant>
+    ensures { result.items ≡ take count grants.items }
+{
+    let mut grants = grants;
+    grants.truncate(count as usize);
+    grants
+}
+
 // The same of its lines before one, where these read.
 fn grants_before(
     alloc: Global,
@@ -110,32 +186,37 @@ fn grants_before(
     }
 }
 
-// The chart of a run that has this verdict, with the verdict beside it; or that it has too many
-// rows. The only error is want of memory.
+// The chart of a run, with its verdict beside it; or that it has too many rows. The only error is
+// want of memory.
 fn answer_begun(
     alloc: Global,
     model: &Model,
     classes: &Classes,
     base: Number,
-    grants: Vec<Grant>,
-    verdict: Answer,
+    front: FrontRun,
     shown: &Shown,
 ) -> Result<Answer, AllocError>
     requires base { base ≤ greatest_base }
     requires classes { AreClassesOf model.now classes.now }
-    requires run { IsModelRun model.now base grants.items }
-    ensures { IfOk result (IsPictured model.now classes.now shown.now grants.items verdict) }
+    requires run { IsModelRun model.now base front.drawn.items }
+    ensures { IfOk result (λ answer. (grants : List Grant) → length grants ≡ front.count
+        → front.drawn.items ≡ until_last shown.now grants
+        → IsPictured model.now classes.now shown.now grants front.verdict answer) }
 {
-    let count = grants.as_slice().len();
-    if count_rows(shown, count as u64) > MOST_ROWS as u64 {
-        drop(grants);
+    let FrontRun {
+        drawn,
+        count,
+        verdict,
+    } = front;
+    if count_rows(shown, count) > MOST_ROWS as u64 {
+        drop(drawn);
+        drop(verdict);
         return refuse_rows(alloc);
     }
-    let drawn = until_last(grants, shown);
     let book = book_of(alloc, model, base, drawn)?;
     let mut runnable = Vec::new(alloc);
     write_runnable(&mut runnable, book.position())?;
-    let foot = foot_of(&verdict, shown, count, runnable.as_slice());
+    let foot = foot_of(&verdict, shown, count as usize, runnable.as_slice());
     let picture = draw_shown(alloc, model, classes, &book, foot, shown)?;
     Ok(Answer {
         status: verdict.status,
@@ -213,15 +294,21 @@ fn until_last(grants: Vec<Grant>, shown: &Shown) -> Vec<Grant>
     grants
 }
 
+// The last row that is drawn of a run of so many grants.
+fn last_drawn(shown: &Shown, count: u64) -> u64
+    ensures { result ≡ option_map_or (λ last. min last count) shown.now.to count }
+{
+    match shown.to {
+        Some(last) => count.min(last),
+        None => count,
+    }
+}
+
 // How many rows are shown of a run of so many grants.
 fn count_rows(shown: &Shown, count: u64) -> u64
     ensures { result ≡ rows_shown shown.now count }
 {
-    let last = match shown.to {
-        Some(last) => count.min(last),
-        None => count,
-    };
-    last.saturating_sub(shown.from.saturating_sub(1))
+    last_drawn(shown, count).saturating_sub(shown.from.saturating_sub(1))
 }
 
 // That a chart would have too many rows. The only error is want of memory.
