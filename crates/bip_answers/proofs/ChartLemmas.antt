@@ -1,7 +1,7 @@
 -- Charts: the run with which a trace begins.
-use Rattle.std.proofs.Common.{◌≡◌, ◌≢◌, ◌+◌, ◌-◌, ◌<◌, ◌≤◌, ◌∙◌, ℕ, List, [], ◌∷◌, ◌++◌, None}
-use Rattle.std.proofs.Common.{Option}
-use Rattle.std.proofs.Common.{Some, Result, Ok, Err, ap, ap₂, append_assoc, arith, drop, length, refl}
+use Rattle.std.proofs.Common.{◌≡◌, ◌≢◌, ◌+◌, ◌-◌, ◌<◌, ◌≤◌, ◌∙◌, ℕ, List, [], ◌∷◌, ◌++◌}
+use Rattle.std.proofs.Common.{None, Option, refl}
+use Rattle.std.proofs.Common.{Some, Result, Ok, Err, ap, ap₂, append_assoc, arith, drop, length}
 use Rattle.std.proofs.Common.{subst, sym, take}
 use Rattle.std.proofs.lemmas.List.{length-append, length-drop, length-take, take-append-drop}
 use Rattle.std.proofs.lemmas.List.{take-append-le, take_at, take_min}

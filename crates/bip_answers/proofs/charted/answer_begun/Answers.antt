@@ -18,7 +18,8 @@ returns-then-count_rows c =
     let shows : count_shown shown grants ≡ c.count_rows.result =
     rows_counted shown grants
     ∙ (ap (λ (n : ℕ). rows_shown shown n) counted ∙ sym c.count_rows.ensures) in
-    subst (IsPictured c.args.model.now c.args.classes.now shown grants c.args.front.verdict) (sym is)
+    subst (IsPictured c.args.model.now c.args.classes.now shown grants c.args.front.verdict)
+    (sym is)
     (too_long (omega (arith, shows, many)))) c.refuse_rows.ensures
 
 pub returns : goal.returns

@@ -50,7 +50,8 @@ returns-then-count_rows c =
     let run = rw c.in-Ok.is at c.replay-replayed.ensures.run in
     let said = rw c.in-Ok.is at c.in_ok-verdict.ensures.answered in
     let begins =
-    begins_whole m c.args.base c.args.trace.now c.in-Ok.count verdict run.grants run said run.reads in
+    begins_whole m c.args.base c.args.trace.now c.in-Ok.count verdict run.grants run said
+    run.reads in
     let counted : count_shown shown run.grants ≡ c.count_rows.result =
     rows_counted shown run.grants
     ∙ (ap (λ (n : ℕ). rows_shown shown n) run.counted ∙ sym c.count_rows.ensures) in
@@ -69,7 +70,8 @@ returns-in_ok-drawn-in-Ok c =
     let run = rw c.in-Ok.is at c.replay-replayed.ensures.run in
     let said = rw c.in-Ok.is at c.in_ok-verdict.ensures.answered in
     let begins =
-    begins_whole m c.args.base c.args.trace.now c.in-Ok.count verdict run.grants run said run.reads in
+    begins_whole m c.args.base c.args.trace.now c.in-Ok.count verdict run.grants run said
+    run.reads in
     let drawn =
     part_drawn m c.args.base c.args.trace.now c.in-Ok.count c.args.shown.now
     c.in_ok-drawn-in-Ok.drawn.items run
