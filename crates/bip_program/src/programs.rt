@@ -309,6 +309,7 @@ pub fn program<'a>(alloc: Global, choices: Choices<'a>) -> Result<Command<'a>, A
 }
 
 // A program with one more command, where there is memory for both.
+#[inline(never)]
 fn with<'a>(
     program: Result<Command<'a>, AllocError>,
     command: Result<Command<'a>, AllocError>,
@@ -333,6 +334,7 @@ fn bare<'a>(alloc: Global) -> Result<Command<'a>, AllocError>
 }
 
 // A command of a name, with what is told of it and these arguments.
+#[inline(never)]
 fn command<'a>(
     alloc: Global,
     name: &'a str,
@@ -485,6 +487,9 @@ fn run<'a>(
     command(alloc, "run", RUN_ABOUT, RUN_HELP, arguments)
 }
 
+// Below, what makes an argument is no part of who asks for it: in place it would take kilobytes of
+// code each time.
+
 // The argument that all commands have.
 fn model<'a>(alloc: Global) -> Arg<'a>
     ensures { HasRule (path (codes "model")) result }
@@ -507,6 +512,7 @@ fn schedule<'a>(alloc: Global) -> Arg<'a>
 }
 
 // A path that has to be given.
+#[inline(never)]
 fn path<'a>(alloc: Global, name: &'a str, shown: &'a str) -> Arg<'a>
     ensures { HasRule (path name.entry.now) result }
 {
@@ -514,6 +520,7 @@ fn path<'a>(alloc: Global, name: &'a str, shown: &'a str) -> Arg<'a>
 }
 
 // The option that names who grants.
+#[inline(never)]
 fn resolver<'a>(alloc: Global, resolvers: &'a [&'a str]) -> Arg<'a>
     ensures { HasRule (resolver_option resolvers.entry) result }
 {
@@ -577,6 +584,7 @@ fn events<'a>(alloc: Global) -> Arg<'a>
 }
 
 // The option that names how events are drawn.
+#[inline(never)]
 fn draw_by<'a>(alloc: Global, draws: &'a [&'a str]) -> Arg<'a>
     ensures { HasRule (draw_option draws.entry) result }
 {
@@ -605,6 +613,7 @@ fn run_grants<'a>(alloc: Global) -> Arg<'a>
 }
 
 // The option that names how tables are shared.
+#[inline(never)]
 fn table<'a>(alloc: Global, tables: &'a [&'a str]) -> Arg<'a>
     ensures { HasRule (table_option tables.entry) result }
 {
@@ -632,6 +641,7 @@ fn to<'a>(alloc: Global) -> Arg<'a>
 }
 
 // An option that takes the number of a row.
+#[inline(never)]
 fn row<'a>(alloc: Global, name: &'a str) -> Arg<'a>
     ensures { HasRule (option name.entry.now rows) result }
 {
@@ -642,6 +652,7 @@ fn row<'a>(alloc: Global, name: &'a str) -> Arg<'a>
 }
 
 // An option that takes a number from one to another.
+#[inline(never)]
 fn number<'a>(alloc: Global, name: &'a str, shown: &'a str, low: u32, high: u32) -> Arg<'a>
     ensures { HasRule (option name.entry.now (numbers low high)) result }
 {
@@ -716,6 +727,7 @@ fn explain<'a>(alloc: Global) -> Arg<'a>
 }
 
 // An option that takes no value.
+#[inline(never)]
 fn flag<'a>(alloc: Global, name: &'a str) -> Arg<'a>
     ensures { HasRule (flag name.entry.now) result }
 {
@@ -723,6 +735,7 @@ fn flag<'a>(alloc: Global, name: &'a str) -> Arg<'a>
 }
 
 // The option of a base.
+#[inline(never)]
 fn base<'a>(alloc: Global) -> Arg<'a>
     ensures { HasRule base_option result }
 {
