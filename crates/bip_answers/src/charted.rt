@@ -166,7 +166,7 @@ fn cut(grants: Vec<Grant>, count: u64) -> Vec<Grant>
     grants
 }
 
-// The same of its lines before one, where these read.
+// The grants of a trace's lines before one, where these read.
 fn grants_before(
     alloc: Global,
     model: &Model,

@@ -43,8 +43,8 @@ pub(crate) enum Node<'h, 'p, 'm, 'g, L: Ledger, G> {
 }
 
 impl<'h, 'p, 'm, 'g, L: Ledger, G: Gate> Node<'h, 'p, 'm, 'g, L, G> {
-    /// What its thread sees of an aim, where it gives way so. Stations don't count: a ring's token goes round all the
-    /// time, and what else they do is for a class whose request is open.
+    /// What its thread sees of an aim, where it gives way so. Stations don't count: a ring's token
+    /// goes round all the time, and what else they do is for a class whose request is open.
     pub(crate) fn watch(&self, aim: Option<&'h Aim>, rest: Rest) -> Watch<'h> {
         match self {
             Node::Component(..) => Watch::counted(aim, rest),

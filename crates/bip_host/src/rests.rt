@@ -13,8 +13,8 @@ const IDLE_TURNS_A_YIELD: u32 = 64;
 /// another's processors, and turns are no measure of what they are asked for.
 const TURNS_AT_ONCE: u32 = 1_000;
 
-/// The turns of a thread that did nothing: since one did something, as far as these ask at once, and
-/// since one of the others asked.
+/// The turns of a thread that did nothing: since one did something, as far as these ask at once,
+/// and since one of the others asked.
 #[derive(Clone, Copy)]
 pub(crate) struct Rest {
     at_once: u32,
