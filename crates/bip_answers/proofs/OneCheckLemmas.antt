@@ -2,24 +2,16 @@
 use Rattle.std.proofs.Common.{◌≡◌, ℕ, List, length, map, refl, sym, ap, ◌∙◌, subst, inl, inr}
 use Rattle.std.proofs.lemmas.Bool.{cases_order}
 use Rattle.bip_model.specs.declared.numbering.CompId.{CompId}
-use Rattle.bip_model.specs.declared.numbering.InterId.{InterId}
 use Rattle.bip_model.specs.declared.parts.System.{System}
 use Rattle.bip_model.proofs.NumberingLemmas.{rises_from_increasing, same_list}
+use Rattle.bip_partition.proofs.TableLemmas.{one_stations}
 use Rattle.bip_partition.specs.Faults.{IsLowestTooMany}
-use Rattle.bip_partition.specs.Plans.{AreStations, IsCountTabled, Planned}
+use Rattle.bip_partition.specs.Plans.{IsCountTabled, Planned}
 use Rattle.bip_answers.specs.Answers.{AreCountsOf, HasPlan, IsCheckAnswer, IsRefusedModel, no_plan}
 use Rattle.bip_answers.specs.Answers.{no_text, planned, unchecked}
 use Rattle.bip_answers.specs.declared.answers.Answer.{Answer}
 use Rattle.bip_answers.specs.declared.wording.Counts.{Counts}
 use Rattle.bip_answers.proofs.OneAnswerLemmas.{AreExact}
-
--- there is one list of stations
-one_reserved : (p : Planned) (xs ys : List InterId) → AreStations p xs → AreStations p ys → xs ≡ ys
-one_reserved p xs ys a b =
-    same_list (λ (c : InterId). c.0) xs ys (rises_from_increasing
-    (map (λ (c : InterId). c.0) xs) a.rising)
-    (rises_from_increasing (map (λ (c : InterId). c.0) ys) b.rising)
-    (λ z at. (b.exact z.0).1 ((a.exact z.0).0 at)) (λ z at. (a.exact z.0).1 ((b.exact z.0).0 at))
 
 -- components with rows are counted in one way
 one_tabled : (p : Planned) (n k : ℕ) → IsCountTabled p n → IsCountTabled p k → n ≡ k
@@ -38,7 +30,7 @@ one_counts p n k a b =
     let classes : n.classes ≡ k.classes = a.classes ∙ sym b.classes in
     let tabled : n.tabled ≡ k.tabled = one_tabled p n.tabled k.tabled a.tabled b.tabled in
     let reserved : n.reserved ≡ k.reserved =
-    a.counted ∙ (ap length (one_reserved p a.stations b.stations a.reserved b.reserved)
+    a.counted ∙ (ap length (one_stations p a.stations b.stations a.reserved b.reserved)
     ∙ sym b.counted) in
     let same : record {
       components = n.components;

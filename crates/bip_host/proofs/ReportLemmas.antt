@@ -1,7 +1,5 @@
 -- Why grants aren't known to be a run.
-use Rattle.std.proofs.Common.{◌≡◌, ℕ, ◌<◌, suc, Bool, List, [], ◌∷◌, ◌++◌, None, Some, ap, arith}
-use Rattle.std.proofs.Common.{drop, get_or, length, map, refl, subst, sym, take}
-use Rattle.std.proofs.lemmas.Grind.{common_steps}
+use Rattle.std.proofs.Common.{◌≡◌, ℕ, Bool, List, [], ◌∷◌, ◌++◌, None, Some, ap, refl, subst, sym}
 use Rattle.std.specs.Prelude.{Err, IfOk, IsTrue, Ok, Result}
 use Rattle.bip_host.specs.Books.{SharedContent, blames_grant}
 use Rattle.bip_host.specs.Reports.{AreFiguresOf, AreTotalsOf, IsEndedBy, IsReportOf, IsThreadCount}
@@ -56,19 +54,6 @@ refuted m done rest g fault why begin is only =
         (refl, λ run. differs (Number c expected) refl (only (front run)))
     by_fault Parties only = (refl, λ run. differs Parties refl (only (front run)))
     by_fault Memory only = tt
-
--- grants of which so many were taken, and the next one
-pub taken : (all done : List Grant) (g : Grant) → map (λ y. y) done ≡ take (length done) all
-    → length done < length all → g ≡ get_or all (length done) g
-    → all ≡ done ++ g ∷ drop (suc (length done)) all
-taken [] done g so_far within is = absurd (omega (arith, within))
-taken (a ∷ all) [] g so_far within is = ap (λ x. x ∷ all) (sym is)
-taken (a ∷ all) (d ∷ done) g so_far within is =
-    let first : d ≡ a = grind (arith, common_steps, so_far) in
-    let others : map (λ y. y) done ≡ take (length done) all = grind (arith, common_steps, so_far) in
-    let inside : length done < length all = omega (arith, within) in
-    let rest = taken all done g others inside is in
-    grind (arith, common_steps, first, rest)
 
 -- the first refusal is told
 pub first_told : (m : System) (b : SharedContent) (lacks short : Bool) (why : HostFault)

@@ -213,3 +213,12 @@ module _ (p : Planned) (valid : IsSystem p.model) (touches : List (List CompId))
             ),
       );
     }
+
+-- there is one list of stations
+pub one_stations : (p : Planned) (xs ys : List InterId) → AreStations p xs → AreStations p ys
+    → xs ≡ ys
+one_stations p xs ys a b =
+    same_list (λ (c : InterId). c.0) xs ys (rises_from_increasing
+    (map (λ (c : InterId). c.0) xs) a.rising)
+    (rises_from_increasing (map (λ (c : InterId). c.0) ys) b.rising)
+    (λ z at. (b.exact z.0).1 ((a.exact z.0).0 at)) (λ z at. (a.exact z.0).1 ((b.exact z.0).0 at))

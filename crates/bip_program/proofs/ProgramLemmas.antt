@@ -55,13 +55,6 @@ have_rules (rule ∷ rules) (argument ∷ arguments) old new shape has are adds 
 have_rules [] (argument ∷ arguments) old new shape has are adds = absurd are
 have_rules (rule ∷ rules) [] old new shape has are adds = absurd are
 
--- a program with one more command
-pub has_command : (old sub new : Command) (above : App) (shape : Shape) → app_of old ≡ above
-    → HasShape shape sub
-    → AddsSubcommand old sub new → app_of new ≡ with_subcommand above shape
-has_command old sub new above shape is has adds =
-    adds.shape has.1 ∙ ap₂ with_subcommand is (ap (λ (a : App). a.top) has.0)
-
 -- the library's function gives what the program reads, and which faults there are
 pub program_simple : (choices : Choices) → is_simple (program choices) ≡ true
 unfolding clap_on_literals

@@ -1,12 +1,13 @@
 -- Runs: in parts, step by step, what they are histories of, the numbers of moves, where one grant
--- more
--- leads, and used numbers of wants granted one after another.
+-- more leads, and used numbers of wants granted one after another.
 use Rattle.std.proofs.Common.{◌≡◌, ℕ, ◌+◌, ◌<◌, List, [], ◌∷◌, ◌++◌, refl, arith, Bool, length}
-use Rattle.std.proofs.Common.{Option, None, Some, find, subst, inl, inr, ◌⊎◌, sym, ap, ◌∙◌}
+use Rattle.std.proofs.Common.{Option, None, Some, ap, ap₂, drop, find, get_or, inl, inr, map, subst}
+use Rattle.std.proofs.Common.{suc, sym, take, ◌⊎◌, ◌∙◌}
+use Rattle.std.proofs.Math.Seq.{drop-cons}
 use Rattle.std.proofs.lemmas.List.Elements.{All-head, All-tail, filter-append}
 use Rattle.std.specs.Prelude.{◌↔◌, All, filter, nat_lt}
 use Rattle.std.specs.List.Sorted.{IsStrictlyIncreasing}
-use Rattle.std.proofs.lemmas.List.{length-append}
+use Rattle.std.proofs.lemmas.List.{length-append, map-id, take-append-drop}
 use Rattle.bip_model.specs.declared.grants.Grant.{Grant}
 use Rattle.bip_model.specs.declared.wants.Want.{Want}
 use Rattle.bip_model.specs.declared.parts.System.{System}
@@ -245,3 +246,13 @@ pub stands_on : (p : Standing) (t : State) (u : ℕ → ℕ) (g : Grant)
     → t ≡ after p.model p.state g.inter.0 → u ≡ raised p.used g.wants
     → standing_on p g ≡ record { model = p.model; base = p.base; state = t; used = u }
 stands_on p t u g e f = rw (e, f) refl
+
+-- grants of which so many were taken, and the next one
+pub taken : (all done : List Grant) (g : Grant) → map (λ y. y) done ≡ take (length done) all
+    → length done < length all → g ≡ get_or all (length done) g
+    → all ≡ done ++ g ∷ drop (suc (length done)) all
+taken all done g so_far within is =
+    sym (take-append-drop (length done) all)
+    ∙ ap₂ (λ (front rest : List Grant). front ++ rest) (sym so_far ∙ map-id done)
+    (drop-cons all (length done) g within
+    ∙ ap (λ (x : Grant). x ∷ drop (suc (length done)) all) (sym is))

@@ -19,11 +19,11 @@ use Rattle.bip_core.specs.declared.events.Event.TheVariants as event
 use Rattle.bip_core.specs.declared.events.Event.{Event}
 use Rattle.bip_model.specs.declared.numbering.InterId.{InterId}
 use Rattle.bip_partition.specs.Plans.{AreStations, Planned}
-use Rattle.bip_schedule.proofs.StationLemmas.{one_stations}
+use Rattle.bip_partition.proofs.TableLemmas.{one_stations}
 use Rattle.bip_schedule.specs.Writing.{HasSpelling, HaveSpelling}
-use Rattle.bip_schedule.specs.Busy.{FindsNone, HaveWork, IsFound, IsQuietKind, IsTaken, arrival_at}
-use Rattle.bip_schedule.specs.Busy.{arriving, asked_at, asked_count, count_at, event_at, none_below}
-use Rattle.bip_schedule.specs.Busy.{one_has, one_lacks}
+use Rattle.bip_schedule.specs.Busy.{FindsNone, HaveWork, IsBusyAmong, IsDrawnOfKind, IsQuietKind}
+use Rattle.bip_schedule.specs.Busy.{arrival_at, arriving, asked_at, asked_count, count_of_kind}
+use Rattle.bip_schedule.specs.Busy.{event_at, none_below, one_has, one_lacks}
 use Rattle.bip_schedule.specs.declared.busy.EventKind.TheVariants.{Mail, Step, Try}
 use Rattle.bip_schedule.specs.declared.busy.EventKind.{EventKind}
 
@@ -52,7 +52,7 @@ module _ (w : WorldContent) (at : ℕ → Event) where
   -- and those before one
   pub found_at : (count place busy before : ℕ) (e : Event) → place < count
       → HaveWork w at place busy → busy ≡ before → e ≡ at place → HasWork w e
-      → IsFound w at count before e
+      → IsBusyAmong w at count before e
   found_at count place busy before e within so is here work = record {
     place = place;
     within = within;
@@ -190,19 +190,19 @@ module _ (w : WorldContent) (n : ℕ) (kind : EventKind) (way : MovesInOneWay w.
   Counted asked = HaveWork w (asked_at w.plan n kind) (asked_count w.plan n kind) asked
 
   all_work : (asked : ℕ) → Counted asked
-      → HaveWork w At (count_at w n kind) (arriving w kind + asked)
+      → HaveWork w At (count_of_kind w n kind) (arriving w kind + asked)
   all_work asked so = behind_them (asked_count w.plan n kind) asked so
 
   -- there are none
   pub quiet_kind : (asked : ℕ) → Counted asked → arriving w kind + asked ≡ 0
       → IsQuietKind w n kind
   quiet_kind asked so none =
-      subst (λ (k : ℕ). HaveWork w At (count_at w n kind) k) none (all_work asked so)
+      subst (λ (k : ℕ). HaveWork w At (count_of_kind w n kind) k) none (all_work asked so)
 
   -- an arrival is taken
   pub arrival_taken : (asked number : ℕ) → Counted asked
       → number % (arriving w kind + asked) < arriving w kind
-      → IsTaken w n kind number (arrival_at kind (number % (arriving w kind + asked)))
+      → IsDrawnOfKind w n kind number (arrival_at kind (number % (arriving w kind + asked)))
   arrival_taken asked number so within = record {
     busy = arriving w kind + asked;
     all = all_work asked so;
@@ -220,8 +220,8 @@ module _ (w : WorldContent) (n : ℕ) (kind : EventKind) (way : MovesInOneWay w.
   pub asked_taken : (asked number before : ℕ) (e : Event) → Counted asked
       → 0 < arriving w kind + asked
       → arriving w kind + before ≡ number % (arriving w kind + asked)
-      → IsFound w (asked_at w.plan n kind) (asked_count w.plan n kind) before e
-      → IsTaken w n kind number e
+      → IsBusyAmong w (asked_at w.plan n kind) (asked_count w.plan n kind) before e
+      → IsDrawnOfKind w n kind number e
   asked_taken asked number before e so some is found = record {
     busy = arriving w kind + asked;
     all = all_work asked so;
@@ -248,8 +248,8 @@ module _ (w : WorldContent) (n : ℕ) (kind : EventKind) (way : MovesInOneWay w.
 pub taken_of_asked : (w : WorldContent) (n : ℕ) (kind : EventKind) (asked number before : ℕ)
     (o : Option Event) → HaveWork w (asked_at w.plan n kind) (asked_count w.plan n kind) asked
     → 0 < arriving w kind + asked → arriving w kind + before ≡ number % (arriving w kind + asked)
-    → IfSome o (IsFound w (asked_at w.plan n kind) (asked_count w.plan n kind) before)
-    → IfSome o (λ (e : Event). MovesInOneWay w.bank.sharing → IsTaken w n kind number e)
+    → IfSome o (IsBusyAmong w (asked_at w.plan n kind) (asked_count w.plan n kind) before)
+    → IfSome o (λ (e : Event). MovesInOneWay w.bank.sharing → IsDrawnOfKind w n kind number e)
 taken_of_asked w n kind asked number before None so some is found = tt
 taken_of_asked w n kind asked number before (Some e) so some is found =
     λ way. asked_taken w n kind way asked number before e so some is found

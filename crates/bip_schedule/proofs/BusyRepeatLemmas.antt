@@ -14,10 +14,11 @@ use Rattle.bip_core.specs.declared.events.Event.TheVariants as event
 use Rattle.bip_core.specs.declared.messages.Message.{Message}
 use Rattle.bip_model.specs.declared.numbering.InterId.{InterId}
 use Rattle.bip_schedule.proofs.BusyLemmas.{one_count}
-use Rattle.bip_schedule.proofs.StationLemmas.{one_stations}
-use Rattle.bip_schedule.specs.Busy.{HaveWork, IsBusyDrawn, IsFound, IsQuiet, IsQuietKind, IsTaken}
+use Rattle.bip_partition.proofs.TableLemmas.{one_stations}
+use Rattle.bip_schedule.specs.Busy.{HaveWork, IsBusyAmong, IsBusyDrawn, IsDrawnOfKind, IsQuiet}
+use Rattle.bip_schedule.specs.Busy.{IsQuietKind}
 use Rattle.bip_schedule.specs.Busy.{IsTakenOf, arrival_at, arriving, asked_at, asked_count}
-use Rattle.bip_schedule.specs.Busy.{count_at}
+use Rattle.bip_schedule.specs.Busy.{count_of_kind}
 use Rattle.bip_schedule.specs.Busy.{event_at, kinds_of, none_below, one_has, one_lacks}
 use Rattle.bip_schedule.specs.declared.busy.EventKind.TheVariants.{Mail, Step, Try}
 use Rattle.bip_schedule.specs.declared.busy.EventKind.{EventKind}
@@ -48,7 +49,7 @@ module _ (x : WorldContent) (ms : List Message) (same : length ms ≡ length x.m
       ap (λ (k : ℕ). cond (nat_lt i k) (arrival_at kind i) (asked_at x.plan n kind (i - k)))
       (arrive_so kind)
 
-  count_so : (n : ℕ) (kind : EventKind) → count_at w n kind ≡ count_at x n kind
+  count_so : (n : ℕ) (kind : EventKind) → count_of_kind w n kind ≡ count_of_kind x n kind
   count_so n kind = ap (λ (k : ℕ). k + asked_count x.plan n kind) (arrive_so kind)
 
   have_so : (n : ℕ) (kind : EventKind) (below busy : ℕ)
@@ -63,14 +64,14 @@ module _ (x : WorldContent) (ms : List Message) (same : length ms ≡ length x.m
       (subst (HasNoWork x) (at_so n kind below) (rests_so (event_at w n kind below) is))
 
   all_so : (n : ℕ) (kind : EventKind) (busy : ℕ)
-      → HaveWork w (event_at w n kind) (count_at w n kind) busy
-      → HaveWork x (event_at x n kind) (count_at x n kind) busy
+      → HaveWork w (event_at w n kind) (count_of_kind w n kind) busy
+      → HaveWork x (event_at x n kind) (count_of_kind x n kind) busy
   all_so n kind busy so =
       subst (λ (k : ℕ). HaveWork x (event_at x n kind) k busy) (count_so n kind)
-      (have_so n kind (count_at w n kind) busy so)
+      (have_so n kind (count_of_kind w n kind) busy so)
 
-  taken_so : (n : ℕ) (kind : EventKind) (number : ℕ) (e : Event) → IsTaken w n kind number e
-      → IsTaken x n kind number e
+  taken_so : (n : ℕ) (kind : EventKind) (number : ℕ) (e : Event) → IsDrawnOfKind w n kind number e
+      → IsDrawnOfKind x n kind number e
   taken_so n kind number e is = record {
     busy = is.busy;
     all = all_so n kind is.busy is.all;
@@ -148,15 +149,16 @@ module _ (w : WorldContent) (way : MovesInOneWay w.bank.sharing) where
       subst (λ (k : ℕ). HaveWork w at k behind) (omega arith) other in
       omega (arith, no_fewer at (suc place) more (suc behind) behind next there)
 
-  later_than : (at : ℕ → Event) (count behind : ℕ) (e f : Event) (one : IsFound w at count behind e)
-      (other : IsFound w at count behind f) → one.place < other.place → ⊥
+  later_than : (at : ℕ → Event) (count behind : ℕ) (e f : Event)
+      (one : IsBusyAmong w at count behind e)
+      (other : IsBusyAmong w at count behind f) → one.place < other.place → ⊥
   later_than at count behind e f one other later =
       not_later at one.place behind (other.place - one.place - 1) one.before
       (subst (HasWork w) one.is one.work)
       (subst (λ (k : ℕ). HaveWork w at k behind) (omega (arith, later)) other.before)
 
-  same_found : (at : ℕ → Event) (count behind : ℕ) (e f : Event) → IsFound w at count behind e
-      → IsFound w at count behind f → e ≡ f
+  same_found : (at : ℕ → Event) (count behind : ℕ) (e f : Event) → IsBusyAmong w at count behind e
+      → IsBusyAmong w at count behind f → e ≡ f
   same_found at count behind e f one other = elim (cases_lt one.place other.place) [
     | inl before ↦ absurd (later_than at count behind e f one other before)
     | inr past ↦ elim (cases_lt other.place one.place) [
@@ -165,23 +167,26 @@ module _ (w : WorldContent) (way : MovesInOneWay w.bank.sharing) where
     ]
   ]
 
-  same_taken : (n : ℕ) (kind : EventKind) (number : ℕ) (e f : Event) → IsTaken w n kind number e
-      → IsTaken w n kind number f → e ≡ f
+  same_taken : (n : ℕ) (kind : EventKind) (number : ℕ) (e f : Event)
+      → IsDrawnOfKind w n kind number e
+      → IsDrawnOfKind w n kind number f → e ≡ f
   same_taken n kind number e f one other =
       let busy : one.busy ≡ other.busy =
-      one_count w (event_at w n kind) (count_at w n kind) one.busy other.busy way one.all other.all
+      one_count w (event_at w n kind) (count_of_kind w n kind) one.busy other.busy way one.all
+      other.all
       in
-      same_found (event_at w n kind) (count_at w n kind) (number % other.busy) e f
-      (subst (λ (k : ℕ). IsFound w (event_at w n kind) (count_at w n kind) (number % k) e) busy
+      same_found (event_at w n kind) (count_of_kind w n kind) (number % other.busy) e f
+      (subst (λ (k : ℕ).
+      IsBusyAmong w (event_at w n kind) (count_of_kind w n kind) (number % k) e) busy
       one.found) other.found
 
-  not_quiet : (n : ℕ) (kind : EventKind) (number : ℕ) (e : Event) → IsTaken w n kind number e
+  not_quiet : (n : ℕ) (kind : EventKind) (number : ℕ) (e : Event) → IsDrawnOfKind w n kind number e
       → IsQuietKind w n kind → ⊥
   not_quiet n kind number e is quiet =
       omega (
         arith,
         is.some,
-        one_count w (event_at w n kind) (count_at w n kind) is.busy 0 way is.all
+        one_count w (event_at w n kind) (count_of_kind w n kind) is.busy 0 way is.all
             quiet,
       )
 

@@ -18,7 +18,7 @@ use Rattle.bip_model.specs.declared.numbering.InterId.{InterId}
 use Rattle.bip_partition.proofs.ClassLemmas.{stands_in_its_class}
 use Rattle.bip_partition.specs.Laws.{IsPlanned}
 use Rattle.bip_partition.specs.Plans.{Planned}
-use Rattle.bip_schedule.proofs.StationLemmas.{one_stations}
+use Rattle.bip_partition.proofs.TableLemmas.{one_stations}
 use Rattle.bip_schedule.specs.Drawing.{IsDrawn, event_drawn, kind_drawn, one_of, station_drawn}
 use Rattle.bip_schedule.specs.Drawing.{step_drawn, try_drawn}
 use Rattle.bip_schedule.specs.Writing.{HasSpelling, HaveSpelling}

@@ -17,7 +17,7 @@ use Rattle.bip_replay.specs.declared.faults.LineFault.{LineFault}
 use Rattle.bip_replay.specs.declared.faults.LineFault.TheVariants as line_fault
 use Rattle.bip_replay.specs.declared.faults.TraceFault.{TraceFault}
 use Rattle.bip_replay.specs.declared.faults.TraceFault.TheVariants.{Memory, Syntax, Unknown}
-use Rattle.bip_schedule.proofs.StationLemmas.{one_stations}
+use Rattle.bip_partition.proofs.TableLemmas.{one_stations}
 use Rattle.bip_schedule.specs.Following.{IsLineTested}
 use Rattle.bip_schedule.specs.Lines.{event_on}
 use Rattle.bip_schedule.specs.Schedules.{IsEventText}

@@ -27,7 +27,7 @@ use Rattle.bip_replay.specs.declared.faults.TraceFault.{TraceFault}
 use Rattle.bip_replay.specs.declared.faults.TraceFault.TheVariants.{Memory, Syntax, Unknown}
 use Rattle.bip_schedule.proofs.BusyRepeatLemmas.{busy_alike, one_busy, quiet_alike, quiet_or_drawn}
 use Rattle.bip_schedule.proofs.DrawLemmas.{seeded_run}
-use Rattle.bip_schedule.proofs.StationLemmas.{one_stations}
+use Rattle.bip_partition.proofs.TableLemmas.{one_stations}
 use Rattle.bip_schedule.specs.Drawing.{IsDrawn}
 use Rattle.bip_schedule.specs.Exploring.{SeedRun}
 use Rattle.bip_schedule.specs.Laws.{EventsOrFault, IsFault, EventsHaveNoFault, OneSchedule}

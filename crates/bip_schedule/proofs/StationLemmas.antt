@@ -9,7 +9,6 @@ use Rattle.std.proofs.lemmas.List.Elements.{Contains-get_or}
 use Rattle.std.proofs.lemmas.List.Quantifiers.{position-Some}
 use Rattle.std.proofs.lemmas.List.Sums.{position_or_len_is}
 use Rattle.bip_model.proofs.ListLemmas.{below_later}
-use Rattle.bip_model.proofs.NumberingLemmas.{rises_from_increasing, same_list}
 use Rattle.bip_model.specs.Parts.{IsSystem}
 use Rattle.bip_model.specs.declared.numbering.InterId.{InterId}
 use Rattle.bip_partition.proofs.TableLemmas.{reserved_known}
@@ -67,12 +66,3 @@ few_stations p (a ∷ list) valid are =
     let high = station_declared p (a ∷ list) (length list) (record { 0 = 0 }) valid are last in
     let longer : length (a ∷ list) ≡ suc (length list) = refl in
     omega (arith, longer, low, high, valid.so_far.few_interactions, valid.so_far.interactions_named)
-
--- there is one list of stations
-pub one_stations : (p : Planned) (xs ys : List InterId) → AreStations p xs → AreStations p ys
-    → xs ≡ ys
-one_stations p xs ys a b =
-    same_list (λ (c : InterId). c.0) xs ys (rises_from_increasing
-    (map (λ (c : InterId). c.0) xs) a.rising)
-    (rises_from_increasing (map (λ (c : InterId). c.0) ys) b.rising)
-    (λ z at. (b.exact z.0).1 ((a.exact z.0).0 at)) (λ z at. (a.exact z.0).1 ((b.exact z.0).0 at))

@@ -56,8 +56,8 @@ event_at w n kind i =
     if nat_lt i (arriving w kind) then arrival_at kind i
     else asked_at w.plan n kind (i - arriving w kind)
 
-abbrev pub count_at : WorldContent → ℕ → EventKind → ℕ
-count_at w n kind = arriving w kind + asked_count w.plan n kind
+abbrev pub count_of_kind : WorldContent → ℕ → EventKind → ℕ
+count_of_kind w n kind = arriving w kind + asked_count w.plan n kind
 
 -- of events with numbers below one, so many have something to do
 pub data HaveWork (w : WorldContent) (at : ℕ → Event) : ℕ → ℕ → Type 0 where
@@ -68,31 +68,32 @@ pub data HaveWork (w : WorldContent) (at : ℕ → Event) : ℕ → ℕ → Type
       → HaveWork w at (suc below) busy
 
 -- one of so many events has something to do, as so many before it have
-pub record IsFound (w : WorldContent) (at : ℕ → Event) (count behind : ℕ) (e : Event) : Type 0 where
-  pub place : ℕ
-  pub within : place < count
-  pub before : HaveWork w at place behind
-  pub is : e ≡ at place
-  pub work : HasWork w e
+pub record IsBusyAmong (w : WorldContent) (at : ℕ → Event) (count behind : ℕ) (e : Event) : Type 0
+  where
+    pub place : ℕ
+    pub within : place < count
+    pub before : HaveWork w at place behind
+    pub is : e ≡ at place
+    pub work : HasWork w e
 
 -- none of a kind has something to do
 abbrev pub IsQuietKind : WorldContent → ℕ → EventKind → Type 0
-IsQuietKind w n kind = HaveWork w (event_at w n kind) (count_at w n kind) 0
+IsQuietKind w n kind = HaveWork w (event_at w n kind) (count_of_kind w n kind) 0
 
 -- an event is the one that a number takes among those of a kind that have something to do, in
 -- order, from 0: the number by how many there are, what is left
-pub record IsTaken (w : WorldContent) (n : ℕ) (kind : EventKind) (number : ℕ) (e : Event) : Type 0
-  where
-    pub busy : ℕ
-    pub all : HaveWork w (event_at w n kind) (count_at w n kind) busy
-    pub some : 0 < busy
-    pub found : IsFound w (event_at w n kind) (count_at w n kind) (number % busy) e
+pub record IsDrawnOfKind (w : WorldContent) (n : ℕ) (kind : EventKind) (number : ℕ) (e : Event)
+    : Type 0 where
+  pub busy : ℕ
+  pub all : HaveWork w (event_at w n kind) (count_of_kind w n kind) busy
+  pub some : 0 < busy
+  pub found : IsBusyAmong w (event_at w n kind) (count_of_kind w n kind) (number % busy) e
 
 -- it is taken among those of the first of some kinds that has any
 abbrev pub IsTakenOf : WorldContent → ℕ → ℕ → List EventKind → Event → Type 0
 IsTakenOf w n number [] e = ⊥
 IsTakenOf w n number (kind ∷ kinds) e =
-    IsTaken w n kind number e ⊎ IsQuietKind w n kind × IsTakenOf w n number kinds e
+    IsDrawnOfKind w n kind number e ⊎ IsQuietKind w n kind × IsTakenOf w n number kinds e
 
 -- the kinds of a word, the first that is asked first: as of any word half of them are messages, a
 -- quarter tries, and a quarter steps of the bank; and what comes where there are none

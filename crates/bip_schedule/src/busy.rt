@@ -1,14 +1,15 @@
 //! Events by chance that have something to do: which one a word is, in a world.
-ghost use Rattle.std.specs.Prelude.{◌≡◌, ◌<◌, ◌≤◌, ◌+◌, ◌-◌, ◌*◌, ◌%◌, ◌∷◌, [], IfNone, IfSome, List};
-ghost use Rattle.std.specs.Prelude.{IsTrue, length, ℕ};
+ghost use Rattle.std.specs.Prelude.{◌≡◌, ◌<◌, ◌≤◌, ◌+◌, ◌-◌, ◌*◌, ◌%◌, ◌∷◌, [], IfNone, IfSome};
+ghost use Rattle.std.specs.Prelude.{IsTrue, List, length, ℕ};
 ghost use Rattle.bip_bank.specs.Laws.{MovesInOneWay};
 ghost use Rattle.bip_core.specs.Events.{HasWork};
 ghost use Rattle.bip_core.specs.Worlds.{world_of};
 ghost use Rattle.bip_core.specs.declared.events.Event.TheVariants.{Bank};
 ghost use Rattle.bip_model.specs.declared.numbering.InterId.{InterId};
-ghost use Rattle.bip_schedule.specs.Busy.{FindsNone, HaveWork, IsBusyDrawn, IsFound, IsQuiet};
-ghost use Rattle.bip_schedule.specs.Busy.{IsQuietKind, IsTaken, arrival_at, arriving, asked_at};
-ghost use Rattle.bip_schedule.specs.Busy.{asked_count, kinds_of, pair_at, step_at};
+ghost use Rattle.bip_schedule.specs.Busy.{FindsNone, HaveWork, IsBusyAmong, IsBusyDrawn};
+ghost use Rattle.bip_schedule.specs.Busy.{IsDrawnOfKind, IsQuiet, IsQuietKind, arrival_at};
+ghost use Rattle.bip_schedule.specs.Busy.{arriving, asked_at, asked_count, kinds_of, pair_at};
+ghost use Rattle.bip_schedule.specs.Busy.{step_at};
 ghost use Rattle.bip_schedule.specs.Writing.{HasSpelling, HaveSpelling};
 ghost use Rattle.bip_schedule.specs.declared.busy.EventKind.TheVariants.{Try};
 
@@ -73,7 +74,7 @@ fn take<'p, B: Bank>(
 ) -> Option<Event>
     requires few { stations ≤ 65536 }
     ensures some { IfSome result (λ e. MovesInOneWay (world_of world.now).bank.sharing
-        → IsTaken (world_of world.now) stations kind number e) }
+        → IsDrawnOfKind (world_of world.now) stations kind number e) }
     ensures none { IfNone result (MovesInOneWay (world_of world.now).bank.sharing
         → IsQuietKind (world_of world.now) stations kind) }
     ensures spelled { (list : List InterId) → length list ≡ stations
@@ -138,7 +139,7 @@ fn find_asked<'p, B: Bank>(
 ) -> Option<Event>
     requires few { stations ≤ 65536 }
     ensures some { let p = (world_of world.now).plan
-        in IfSome result (IsFound (world_of world.now) (asked_at p stations kind)
+        in IfSome result (IsBusyAmong (world_of world.now) (asked_at p stations kind)
         (asked_count p stations kind) before) }
     ensures none { let p = (world_of world.now).plan
         in IfNone result (FindsNone (world_of world.now) (asked_at p stations kind)

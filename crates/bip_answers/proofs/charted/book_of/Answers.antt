@@ -1,24 +1,11 @@
-use Rattle.std.proofs.Common.{◌≡◌, ◌<◌, ◌∙◌, List, ◌∷◌, ◌++◌, ap, ap₂, drop, get_or, length, map}
-use Rattle.std.proofs.Common.{rules, subst, suc, sym, take}
-use Rattle.std.proofs.Math.Seq.{drop-cons}
+use Rattle.std.proofs.Common.{◌≡◌, drop, length, rules, subst, suc}
 use Rattle.std.proofs.lemmas.Iterator.Adapters.{YieldsList-from_vec}
 use Rattle.std.proofs.lemmas.Iterator.Consumers.{YieldsList-so_far, YieldsList-turn}
-use Rattle.std.proofs.lemmas.List.{map-id, take-append-drop}
 use Rattle.std.specs.Vec.Iter.{into_iter_items, into_iter_len}
-use Rattle.bip_model.specs.declared.grants.Grant.{Grant}
+use Rattle.bip_replay.proofs.RunLemmas.{taken}
 use Rattle.bip_replay.specs.Runs.{IsModelRun}
 use Rattle.bip_answers.proofs.ChartLemmas.{run_with}
 use Rattle.bip_answers.proofs.charted.book_of.Goals as goal
-
--- grants of which so many were taken, and the next one
-taken : (all done : List Grant) (g : Grant) → map (λ y. y) done ≡ take (length done) all
-    → length done < length all → g ≡ get_or all (length done) g
-    → all ≡ done ++ g ∷ drop (suc (length done)) all
-taken all done g so_far within is =
-    sym (take-append-drop (length done) all)
-    ∙ ap₂ (λ (front rest : List Grant). front ++ rest) (sym so_far ∙ map-id done)
-    (drop-cons all (length done) g within
-    ∙ ap (λ (x : Grant). x ∷ drop (suc (length done)) all) (sym is))
 
 pub push-requires : goal.push-requires
 push-requires c =

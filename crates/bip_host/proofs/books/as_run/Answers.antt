@@ -3,7 +3,8 @@ use Rattle.std.proofs.lemmas.Iterator.Adapters.{YieldsList-from_vec}
 use Rattle.std.proofs.lemmas.Iterator.Consumers.{YieldsList-so_far, YieldsList-turn}
 use Rattle.std.proofs.lemmas.Result.{err_from_is_err_and}
 use Rattle.std.specs.Vec.Iter.{into_iter_items, into_iter_len}
-use Rattle.bip_host.proofs.ReportLemmas.{refuted, taken}
+use Rattle.bip_host.proofs.ReportLemmas.{refuted}
+use Rattle.bip_replay.proofs.RunLemmas.{taken}
 use Rattle.bip_host.proofs.books.as_run.Goals as goal
 
 pub returns-in_err-append-clause-none : goal.returns-in_err-append-clause-none

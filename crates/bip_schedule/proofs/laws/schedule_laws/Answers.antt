@@ -1,7 +1,7 @@
 use Rattle.bip_schedule.proofs.LawLemmas.{events_or_fault, not_both, one_schedule}
 use Rattle.bip_schedule.proofs.LawLemmas.{one_schedule_fault, one_seed_trace}
 use Rattle.bip_schedule.proofs.LineLemmas.{lines_are_events, lines_are_unknown, lines_say_nothing}
-use Rattle.bip_schedule.proofs.StationLemmas.{one_stations}
+use Rattle.bip_partition.proofs.TableLemmas.{one_stations}
 use Rattle.bip_schedule.proofs.IdleLemmas.{busy_never_idle}
 use Rattle.bip_schedule.proofs.laws.schedule_laws.Goals as goal
 

@@ -3,7 +3,7 @@ use Rattle.std.specs.Prelude.{All}
 use Rattle.bip_model.specs.declared.numbering.InterId.{InterId}
 use Rattle.bip_replay.proofs.ItemLemmas.{has_read-end, has_read-fault, has_read-more}
 use Rattle.bip_schedule.specs.Writing.{HasSpelling}
-use Rattle.bip_schedule.proofs.StationLemmas.{one_stations}
+use Rattle.bip_partition.proofs.TableLemmas.{one_stations}
 use Rattle.bip_schedule.proofs.schedules.read_schedule.Goals as goal
 
 pub returns-in-Err-clause-fault : goal.returns-in-Err-clause-fault

@@ -1,7 +1,7 @@
 use Rattle.std.proofs.Common.{List, subst}
 use Rattle.std.specs.Prelude.{All}
 use Rattle.bip_model.specs.declared.numbering.InterId.{InterId}
-use Rattle.bip_schedule.proofs.StationLemmas.{one_stations}
+use Rattle.bip_partition.proofs.TableLemmas.{one_stations}
 use Rattle.bip_schedule.specs.Writing.{HasSpelling}
 use Rattle.bip_schedule.proofs.writing.have_spelling.Goals as goal
 
