@@ -11,5 +11,5 @@ mod stations;
 
 pub use forks::Forks;
 pub use laws::fork_laws;
-pub use shares::{AskToken, Fork, Neighbours, Side};
+pub use shares::{AskToken, Fork, Neighbours, Side, other_of};
 pub use stations::Station;

@@ -25,12 +25,30 @@ pub struct AskToken {
     pub(crate) pair: Neighbours,
 }
 
+impl AskToken {
+    /// The stations that share its fork.
+    pub fn pair(&self) -> Neighbours
+        ensures { result ≡ self.now.pair }
+    {
+        self.pair
+    }
+}
+
 /// A fork: its two stations, and the number of each component that both touch. Only a station makes
 /// one.
 #[derive(Drop)]
 pub struct Fork {
     pub(crate) pair: Neighbours,
     pub(crate) rows: Seq<Row>,
+}
+
+impl Fork {
+    /// The stations that share it.
+    pub fn pair(&self) -> Neighbours
+        ensures { result ≡ self.now.pair }
+    {
+        self.pair
+    }
 }
 
 /// What a station has of what it shares with another one: whether they share anything; the fork,
@@ -61,7 +79,7 @@ pub(crate) fn pair_of_stations(one: StationId, other: StationId) -> Neighbours
 }
 
 /// The other station of a pair that has this one.
-pub(crate) fn other_of(pair: Neighbours, station: StationId) -> Option<StationId>
+pub fn other_of(pair: Neighbours, station: StationId) -> Option<StationId>
     ensures { result ≡ other_of pair station }
 {
     if pair.low.0 == station.0 {

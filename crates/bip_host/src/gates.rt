@@ -1,6 +1,7 @@
-//! Gates: what happens between two steps of a class's thread.
+//! Gates: what happens between two steps of a class's thread, and who is told what nodes do.
+use crate::acts::NodeAct;
 use bip_model::{ClassId, InterId};
-use std::sync::Wait;
+use std::sync::{MutexGuard, Wait};
 
 /// Where the thread of a class stands when it passes the gate (docs/HOST.md, "Gates").
 #[derive(Clone, Copy, Debug, PartialEq, Eq)]
@@ -12,10 +13,25 @@ pub enum Point {
 }
 
 /// What happens between two steps of a class's thread: nothing in a host that serves, waiting or
-/// counting in one that is tried (docs/HOST.md, "Gates").
+/// counting in one that is tried. A gate that listens is told what each node does, by the thread
+/// that did it, and in its order (docs/HOST.md, "Gates").
 pub trait Gate {
     /// Is passed at a point, by the thread that stands there.
     fn pass<R: Wait>(&self, rt: &R, at: Point);
+
+    /// Whether it is told what nodes do.
+    fn listens(&self) -> bool {
+        false
+    }
+
+    /// Is told what a node did.
+    fn note<R: Wait>(&self, _rt: &R, _act: NodeAct) {}
+
+    /// What a class's thread holds while it asks one table, until it has told what came of it; by
+    /// none several ask at once.
+    fn hold<R: Wait>(&self, _rt: &R) -> Option<MutexGuard<'_, ()>> {
+        None
+    }
 }
 
 /// The gate at which nothing happens.

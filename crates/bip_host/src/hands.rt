@@ -21,7 +21,8 @@ use crate::layers::ThirdLayer;
 use crate::messages::{ToClass, ToStation};
 use crate::rings::RingActor;
 use crate::stations::{StationAct, StationAnswer};
-use bip_model::Notify;
+use bip_bank::StationId;
+use bip_model::{ClassId, Notify};
 use std::sync::Wait;
 use std::sync::ledger::Ledger;
 
@@ -60,7 +61,7 @@ impl<'h, 'p> Hands<ComponentActor<'p>> for ComponentHands<'h> {
 }
 
 /// What a class's actor hears with and acts with: its own inbox, and one of each component that it
-/// touches; of whom it asks for reserved interactions; its keeper, and the gate.
+/// touches; of whom it asks for reserved interactions; its keeper, the gate, and its number.
 #[derive(Drop)]
 pub(crate) struct ClassHands<'h, 'm, 'g, 'p, L: Ledger, G> {
     pub(crate) intake: Intake<'h, ToClass>,
@@ -68,6 +69,7 @@ pub(crate) struct ClassHands<'h, 'm, 'g, 'p, L: Ledger, G> {
     pub(crate) layer: ThirdLayer<'h, 'p, L>,
     pub(crate) keeper: BookKeeper<'h, 'm>,
     pub(crate) gate: &'g G,
+    pub(crate) class: ClassId,
 }
 
 impl<'h, 'm, 'g, 'p, L: Ledger, G: Gate> Hands<ClassActor<'p>>
@@ -110,17 +112,18 @@ impl<'h, 'm, 'g, 'p, L: Ledger, G: Gate> Hands<ClassActor<'p>>
 }
 
 /// What a station's actor hears with and acts with: its own inbox, one of the class of its
-/// interaction, and one of each station with which it shares something; and its keeper.
+/// interaction, and one of each station with which it shares something; its keeper, and its number.
 #[derive(Drop)]
 pub(crate) struct StationHands<'h, 'm> {
     pub(crate) intake: Intake<'h, ToStation>,
     pub(crate) class: Outlet<'h, ToClass>,
     pub(crate) stations: Addressed<'h, ToStation>,
     pub(crate) keeper: BookKeeper<'h, 'm>,
+    pub(crate) number: StationId,
 }
 
 impl<'h, 'm> StationHands<'h, 'm> {
-    fn act_for<R: Wait>(&mut self, rt: &R, act: StationAct) -> StationAnswer
+    pub(crate) fn act_for<R: Wait>(&mut self, rt: &R, act: StationAct) -> StationAnswer
         ensures fits { StationFits act result }
         ensures put { IsStationActDone act self.old result self.new }
     {

@@ -365,7 +365,7 @@ fn run_nodes<L: Ledger + Send + Sync, G: Gate + Sync, R: Threads + Wait + Sync>(
     ensures { IfOk result (AreTotalsOf asked) }
 {
     let nodes = start_nodes(alloc, plan, asked.kind, commons, ends, gate)?;
-    run_threads(rt, alloc, nodes, asked, commons.book.aim())
+    run_threads(rt, alloc, nodes, asked, commons.book.aim(), gate)
 }
 
 /// The ends of all inboxes of a host, which aren't handed out yet, and by what its table is asked.
@@ -458,6 +458,7 @@ fn run_threads<'h, 'p, 'm, 'g, L: Ledger + Send + Sync, G: Gate + Sync, R: Threa
     nodes: Nodes<'h, 'p, 'm, 'g, L, G>,
     asked: Asked,
     aim: Option<&'h Aim>,
+    gate: &'g G,
 ) -> Result<Totals, AllocError>
     requires kind { kind_of nodes.stations ≡ asked.kind }
     requires form { HaveForm (form_asked asked.kind asked.tables) nodes.classes.items }
@@ -487,7 +488,7 @@ fn run_threads<'h, 'p, 'm, 'g, L: Ledger + Send + Sync, G: Gate + Sync, R: Threa
             };
             for node in nodes {
                 let watch = node.watch(aim, rest);
-                match scope.spawn_with(AtMost { turns }, move || node.run(rt, turns, watch)) {
+                match scope.spawn_with(AtMost { turns }, move || node.run(rt, turns, watch, gate)) {
                     Ok(handle) => running.push(handle)?,
                     Err(refused) => {
                         drop(refused);

@@ -3,6 +3,7 @@
 #![tactic(auto)]
 
 mod actors;
+mod acts;
 mod addressed;
 mod aims;
 mod books;
@@ -25,6 +26,7 @@ mod mailboxes;
 mod merging;
 mod messages;
 mod nodes;
+mod noting;
 mod places;
 mod posting;
 mod rests;
@@ -38,6 +40,7 @@ mod tables;
 mod waiting;
 
 pub use actors::{Actor, Hands, NodeEnd, Step, Turn, run_actor};
+pub use acts::{NodeAct, Parcel};
 pub use aims::Watch;
 pub use books::{Entry, SharedBook};
 pub use classes::{ClassAct, ClassActor, ClassAnswer, Reserved};

@@ -10,6 +10,7 @@ use crate::forks::ForkActor;
 use crate::gates::Gate;
 use crate::hands::{ClassHands, ComponentHands, StationHands};
 use crate::hosts::Kind;
+use crate::noting::{NotingClass, NotingComponent, NotingStation};
 use crate::rests::Rest;
 use crate::rings::RingActor;
 use std::alloc::{AllocError, Global};
@@ -55,15 +56,39 @@ impl<'h, 'p, 'm, 'g, L: Ledger, G: Gate> Node<'h, 'p, 'm, 'g, L, G> {
     }
 
     /// Makes so many turns, or fewer where the node ends before, or the host is over (docs/HOST.md,
-    /// "Turns").
-    pub(crate) fn run<R: Wait>(self, rt: &R, turns: u32, watch: Watch<'h>) -> NodeEnd
+    /// "Turns"). A gate that listens is told what it does.
+    pub(crate) fn run<R: Wait>(self, rt: &R, turns: u32, watch: Watch<'h>, gate: &'g G) -> NodeEnd
         ensures { result.turns ≤ turns }
     {
+        if gate.listens() {
+            return self.run_noting(rt, turns, watch, gate);
+        }
         match self {
             Node::Component(actor, hands) => run_actor(rt, actor, hands, turns, watch),
             Node::Class(actor, hands) => run_actor(rt, actor, hands, turns, watch),
             Node::Ring(actor, hands) => run_actor(rt, actor, hands, turns, watch),
             Node::Forks(actor, hands) => run_actor(rt, actor, hands, turns, watch),
+        }
+    }
+
+    /// The same where the gate is told what the node does.
+    fn run_noting<R: Wait>(self, rt: &R, turns: u32, watch: Watch<'h>, gate: &'g G) -> NodeEnd
+        ensures { result.turns ≤ turns }
+    {
+        match self {
+            Node::Component(actor, hands) => {
+                run_actor(rt, actor, NotingComponent { hands, gate }, turns, watch)
+            }
+            Node::Class(actor, hands) => {
+                let noting = NotingClass { hands, waits: None };
+                run_actor(rt, actor, noting, turns, watch)
+            }
+            Node::Ring(actor, hands) => {
+                run_actor(rt, actor, NotingStation { hands, gate }, turns, watch)
+            }
+            Node::Forks(actor, hands) => {
+                run_actor(rt, actor, NotingStation { hands, gate }, turns, watch)
+            }
         }
     }
 }

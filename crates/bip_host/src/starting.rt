@@ -194,6 +194,7 @@ pub(crate) fn start_classes<'h, 'p, 'm, 'g, L: Ledger, G: Gate>(
                     layer,
                     keeper: BookKeeper::of(book),
                     gate,
+                    class: ClassId(nodes.len() as u16),
                 };
                 nodes.push((actor, hands))?;
             }

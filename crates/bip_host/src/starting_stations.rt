@@ -80,6 +80,11 @@ pub(crate) fn start_stations<'h, 'm>(
     }
 }
 
+/// The number of the station at a place.
+fn station_at(place: usize) -> StationId {
+    StationId(u16::try_from(place).unwrap_or(u16::MAX))
+}
+
 /// The stations of a ring, each with its own inbox; the first one has the token. They stand by
 /// station.
 #[tactic(auto, using(crate::proofs::StartingLemmas::no_ring))]
@@ -119,6 +124,7 @@ fn start_ring<'h, 'm>(
                     class,
                     stations: own,
                     keeper: BookKeeper::of(book),
+                    number: station_at(nodes.len()),
                 };
                 nodes.push((RingActor::new(alloc, next, token.take()), hands))?;
             }
@@ -239,6 +245,7 @@ fn start_forks<'h, 'm>(
                     class,
                     stations: own,
                     keeper: BookKeeper::of(book),
+                    number: station_at(place),
                 };
                 nodes.push((actor, hands))?;
             }
