@@ -34,7 +34,11 @@ option name parser = record (new_rule name) {
   parser = Some parser;
 }
 
--- the same, which has to be given
+-- `--name VALUE`, of any text
+abbrev pub text_option : Text → Rule
+text_option name = record (new_rule name) { long = Some name; value_names = 1 }
+
+-- a value of a parser that has to be given
 abbrev pub needed : Text → ValueParser → Rule
 needed name parser = record (option name parser) { required = true }
 
@@ -116,7 +120,8 @@ abbrev pub run_command : Bor (List (Bor Text)) → Bor (List (Bor Text)) → Sha
 run_command resolvers tables = with_arguments (codes "run")
     (path (codes "model") ∷ resolver_option resolvers
     ∷ option (codes "turns") (numbers 1 1000000) ∷ option (codes "grants") (numbers 1 1000000)
-    ∷ table_option tables ∷ flag (codes "stats") ∷ flag (codes "explain") ∷ [])
+    ∷ table_option tables ∷ text_option (codes "record") ∷ flag (codes "stats")
+    ∷ flag (codes "explain") ∷ [])
 
 abbrev pub seed_command : Bor (List (Bor Text)) → Bor (List (Bor Text)) → Shape
 seed_command resolvers draws = with_arguments (codes "seed")

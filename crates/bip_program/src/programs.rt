@@ -8,7 +8,7 @@ ghost use Rattle.bip_program.specs.Programs.{draw_option, explore_command, flag,
 ghost use Rattle.bip_program.specs.Programs.{needed, numbers, option, path, program};
 ghost use Rattle.bip_program.specs.Programs.{replay_command, resolver_option, rows, run_command};
 ghost use Rattle.bip_program.specs.Programs.{seed_command, steps_command, table_option};
-ghost use Rattle.bip_program.specs.Programs.{walk_command};
+ghost use Rattle.bip_program.specs.Programs.{text_option, walk_command};
 
 use clap::{Arg, ArgAction, Command, value_parser};
 use std::alloc::{AllocError, Global};
@@ -254,7 +254,17 @@ With `--grants N` in place of `--turns` threads go on until there are N grants, 
 more, since they race; or until each component and each class had 100,000 turns in a row
 without anything to do, or 10,000,000 while a request of its own is open; or until one
 thread made 1,000,000,000 turns. With --stats one more line says then which of these ended
-the run: `ended by grants`, `ended by quiet` or `ended by turns`.";
+the run: `ended by grants`, `ended by quiet` or `ended by turns`.
+
+With `--record FILE` the run is written down, as a schedule that does it again:
+
+    bipr run MODEL --resolver ring --turns 10000 --record run.schedule > run.trace
+    bipr steps MODEL run.schedule --resolver ring --tell
+
+writes the same trace: a schedule is kept only where its steps lead to that, in a check of
+its own. What threads wrote in words is done again with `--resolver central`. Of a ring's
+token the schedule passes on no more than grants and refusals need. Nothing is kept where
+messages were lost for want of memory, or of more than 16777216 bytes.";
 
 const WALK_ABOUT: &str = "Walks a model: writes a run of it, by chance";
 
@@ -481,6 +491,7 @@ fn run<'a>(
         turns(alloc),
         run_grants(alloc),
         table(alloc, tables),
+        record(alloc),
         stats(alloc),
         explain(alloc),
     ]?;
@@ -623,6 +634,17 @@ fn table<'a>(alloc: Global, tables: &'a [&'a str]) -> Arg<'a>
         .value_parser(tables)
         .default_value("locked")
         .help("how threads share the table: behind a lock, or with `central` in words without one")
+}
+
+// The option that names the file in which a run is written down.
+#[inline(never)]
+fn record<'a>(alloc: Global) -> Arg<'a>
+    ensures { HasRule (text_option (codes "record")) result }
+{
+    Arg::new(alloc, "record")
+        .long("record")
+        .value_name("FILE")
+        .help("write the run down in this file, made anew: a schedule for `bipr steps`")
 }
 
 // The options of which rows a chart shows.

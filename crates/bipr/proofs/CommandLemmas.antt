@@ -3,19 +3,15 @@ use Rattle.std.proofs.Common.{[], None}
 use Rattle.std.proofs.Common.{◌≡◌, ℕ, Bool, List, Option, Some, Result, subst}
 use Rattle.std.specs.Result.{IsErrAnd}
 use Rattle.clap.specs.Words.{Row, Text}
-use Rattle.bip_host.specs.declared.faults.HostFault.{HostFault}
-use Rattle.bip_host.specs.declared.hosts.Limits.{Limits}
-use Rattle.bip_partition.specs.Plans.{Planned}
 use Rattle.bip_program.specs.Asked.{IsReadAs}
 use Rattle.bipr.specs.Commands.{IsAnsweredTo, IsCarriedOutBy, IsSaidTo, asked, named, spelled}
 use Rattle.bipr.specs.Commands.{unasked}
 use Rattle.bipr.specs.Endings.{AllOutcomesTelling}
+use Rattle.bipr.specs.Hosted.{Hosts}
 use Rattle.bipr.specs.Streams.{Put}
 use Rattle.bip_answers.specs.declared.answers.Answer.{Answer}
 use Rattle.bipr.specs.declared.commands.Command.{Command}
-use Rattle.bipr.specs.declared.hosted.Hosted.{Hosted}
 use Rattle.bipr.specs.declared.inputs.InputFault.{InputFault}
-use Rattle.bipr.specs.declared.resolvers.HostForm.{HostForm}
 use Rattle.bipr.specs.declared.stops.Stop.{Stop}
 use Rattle.bipr.specs.declared.stops.Stop.TheVariants.{BaseOutOfRange}
 use Rattle.bipr.proofs.EndingLemmas.{outcome_out_of_range, outcomes_quiet, outcomes_weaker}
@@ -45,8 +41,7 @@ module _ {S : Type 0} (writes : S → List ℕ → Bool → S → Type 0) (befor
   -- words that name it
   pub carried : (parsed : Option (Text × List Row))
       (gives : List ℕ → Result (List ℕ) InputFault → Type 0)
-      (hosts : Planned → HostForm → Limits → Result Hosted HostFault → Type 0) (command : Command)
-      (values : List Row) → parsed ≡ Some (spelled command, values)
+      (hosts : Hosts) (command : Command) (values : List Row) → parsed ≡ Some (spelled command, values)
       → AllOutcomesTelling writes before after given (IsSaidTo command values gives hosts)
       → AllOutcomesTelling writes before after given (IsCarriedOutBy parsed gives hosts)
   carried parsed gives hosts command values at all =

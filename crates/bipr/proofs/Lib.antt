@@ -6,6 +6,7 @@ pub mod HostedLemmas
 pub mod KnownLemmas
 pub mod LoadingLemmas
 pub mod MarkLemmas
+pub mod RecordedLemmas
 pub mod RepeatLemmas
 pub mod ScheduledLemmas
 pub mod SeedLemmas

@@ -19,7 +19,8 @@ use Rattle.bip_schedule.proofs.LawLemmas.{one_schedule, one_seed_trace}
 use Rattle.bip_schedule.specs.Exploring.{IsSeedRun, SeedRun}
 use Rattle.bip_schedule.specs.declared.drawing.Draws.{Draws}
 use Rattle.bip_schedule.specs.Schedules.{IsEventText}
-use Rattle.bipr.specs.Laws.{OneStepsAnswer, OneTraceOfASeed, SeedsAreSteps, ToldOrNot}
+use Rattle.bipr.specs.Laws.{OneStepsAnswer, OneTraceOfASeed, RecordsAreSteps, SeedsAreSteps}
+use Rattle.bipr.specs.Laws.{ToldOrNot}
 use Rattle.bipr.specs.Resolvers.{IsSharedAtFirst}
 use Rattle.bipr.specs.Scheduled.{IsStepped, reporting}
 use Rattle.bipr.specs.Wording.{report_text}
@@ -78,6 +79,13 @@ seeds_are_steps p asked schedule report answer seed two so =
     seed.reads of.new of.shared
     (seeded_run asked.seed asked.draws of.events of.first of.last of.report of.seeded) two
     seed.whole so)
+
+pub records_are_steps : RecordsAreSteps
+records_are_steps p resolver trace schedule report answer (sharing, first, of) two so =
+    ap (λ (a : Answer). a.output)
+    (answered_so p 0 resolver schedule of.events of.first of.last of.report report answer of.reads
+    of.new (subst (IsSharedAtFirst resolver p) (sym of.shared) first) of.ran two of.whole so)
+    ∙ of.leads
 
 pub told_or_not : ToldOrNot
 told_or_not p base resolver schedule report other told a b one two whole so =

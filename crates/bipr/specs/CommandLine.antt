@@ -1,4 +1,6 @@
 -- What a command line asks.
+use Rattle.std.specs.Borrow.{Bor}
+use Rattle.std.specs.Option.{option_map}
 use Rattle.std.specs.Prelude.{◌≡◌, ℕ, ◌≤◌, List, Some, codes}
 use Rattle.clap.specs.Words.{Row, first_of}
 use Rattle.bip_answers.specs.Answers.{greatest_base}
@@ -112,4 +114,6 @@ pub record IsRunAsked (values : List Row) (arguments : RunArguments) : Type 0 wh
   pub tables : AreTablesAsked values arguments.form.tables
   pub turns : MayAskNumber values (codes "turns") 32 arguments.turns
   pub grants : MayAskNumber values (codes "grants") 32 arguments.grants
+  pub record_in : option_map (λ (path : Bor (List ℕ)). path.now) arguments.record_in
+      ≡ first_of (codes "record") values
   pub stats : IsFlagAsked values (codes "stats") arguments.with_stats

@@ -1,10 +1,10 @@
 -- What the program may answer to the words of a command line.
 use Rattle.std.specs.Prelude.{◌≡◌, ◌≢◌, Bool, List, [], ℕ, Option, None, Some, false, Result, Ok}
-use Rattle.std.specs.Prelude.{Err, codes}
+use Rattle.std.specs.Borrow.{Bor}
+use Rattle.std.specs.Prelude.{Err, codes, true}
 use Rattle.std.specs.declared.io.Error as io_error
 use Rattle.clap.specs.Words.{Row, Text}
 use Rattle.clap.specs.declared.error.Error.{Error}
-use Rattle.bip_host.specs.declared.faults.HostFault.{HostFault}
 use Rattle.bip_host.specs.declared.hosts.Limits.{Limits}
 use Rattle.bip_partition.specs.Plans.{Planned}
 use Rattle.bip_answers.specs.Answers.{IsAnswer, IsCheckShowing, IsRefusedModel, code_of}
@@ -15,7 +15,7 @@ use Rattle.bipr.specs.CommandLine.{IsExploreAsked, IsRenderAsked, IsRunAsked, Is
 use Rattle.bipr.specs.CommandLine.{IsVerdictAsked, IsWalkAsked}
 use Rattle.bipr.specs.Endings.{Ends, EndsExplaining}
 use Rattle.bipr.specs.Explored.{IsExploreAnswer}
-use Rattle.bipr.specs.Hosted.{IsPlanHosted, limits_of}
+use Rattle.bipr.specs.Hosted.{Hosts, IsPlanHosted, limits_of}
 use Rattle.bipr.specs.Loading.{IsModelText, IsNoModel, IsPlannedText, OfPlan, OfText, OfTexts}
 use Rattle.bipr.specs.Loading.{Silently}
 use Rattle.bip_program.specs.Programs.{IsNoParse, IsParse, Parsed}
@@ -24,8 +24,9 @@ use Rattle.bip_answers.specs.Renderings.{IsRenderingAnswer}
 use Rattle.bipr.specs.Resolvers.{NeedsCentral}
 use Rattle.bipr.specs.Scheduled.{IsScheduleAnswered}
 use Rattle.bipr.specs.Seeds.{IsSeedAnswer}
-use Rattle.bipr.specs.Stops.{bad_base, bad_limits, bad_range, bad_seeds, out_of_memory}
-use Rattle.bipr.specs.Stops.{words_need_central}
+use Rattle.bipr.specs.Sources.{is_standard_input}
+use Rattle.bipr.specs.Stops.{bad_base, bad_limits, bad_range, bad_record, bad_seeds}
+use Rattle.bipr.specs.Stops.{out_of_memory, words_need_central}
 use Rattle.bipr.specs.Streams.{Put, Puts}
 use Rattle.bip_answers.specs.Views.{IsViewed, verdict_view}
 use Rattle.bipr.specs.Walked.{IsWalkAnswer, walks_of}
@@ -43,11 +44,9 @@ use Rattle.bipr.specs.declared.commands.run.RunArguments.{RunArguments}
 use Rattle.bipr.specs.declared.commands.seed.SeedArguments.{SeedArguments}
 use Rattle.bipr.specs.declared.commands.steps.StepsArguments.{StepsArguments}
 use Rattle.bipr.specs.declared.commands.walk.WalkArguments.{WalkArguments}
-use Rattle.bipr.specs.declared.hosted.Hosted.{Hosted}
 use Rattle.bipr.specs.declared.inputs.InputFault.{InputFault}
 use Rattle.bip_answers.specs.declared.renderings.Rendering.{Rendering}
 use Rattle.bip_answers.specs.declared.renderings.Rendering.TheVariants.{Canonical, Drawing}
-use Rattle.bipr.specs.declared.resolvers.HostForm.{HostForm}
 use Rattle.bipr.specs.declared.walked.Walks.{Walks}
 
 -- Below, reading the text that a path names may give what `gives` says, and running the nodes of a
@@ -125,19 +124,28 @@ pub data AreWalksWritten (gives : List ℕ → Result (List ℕ) InputFault → 
       (λ model. OfPlan model (λ p. Silently (IsWalkAnswer p asked walks))) told answer
       → AreWalksWritten gives asked told answer
 
+-- a record is asked for on standard output
+abbrev pub is_on_output : Option (Bor (List ℕ)) → Bool
+is_on_output None = false
+is_on_output (Some path) = is_standard_input path.now
+
 -- the run of nodes as threads
-pub data IsThreadedRun (gives : List ℕ → Result (List ℕ) InputFault → Type 0)
-    (hosts : Planned → HostForm → Limits → Result Hosted HostFault → Type 0) (asked : RunArguments)
-    : List Put → Answer → Type 0 where
+pub data IsThreadedRun (gives : List ℕ → Result (List ℕ) InputFault → Type 0) (hosts : Hosts)
+    (asked : RunArguments) : List Put → Answer → Type 0 where
   -- not just one of turns and of grants is said: nothing is read
   of_no_limits : limits_of asked.turns asked.grants ≡ None
       → IsThreadedRun gives hosts asked [] bad_limits
   -- row words are asked for without the central bank: nothing is read
   of_no_bank : (limits : Limits) → limits_of asked.turns asked.grants ≡ Some limits
       → NeedsCentral asked.form → IsThreadedRun gives hosts asked [] words_need_central
+  -- a record is asked for on standard output: nothing is read
+  of_output : (limits : Limits) → limits_of asked.turns asked.grants ≡ Some limits
+      → ¬ NeedsCentral asked.form → is_on_output asked.record_in ≡ true
+      → IsThreadedRun gives hosts asked [] bad_record
   -- the plan of the text that the path names is run
   of_bank : (limits : Limits) (told : List Put) (answer : Answer)
       → limits_of asked.turns asked.grants ≡ Some limits → ¬ NeedsCentral asked.form
+      → is_on_output asked.record_in ≡ false
       → OfText gives asked.model.now
       (λ model. OfPlan model (λ p. Silently (IsPlanHosted p hosts asked limits))) told answer
       → IsThreadedRun gives hosts asked told answer
@@ -167,7 +175,7 @@ pub data IsAnsweredTo {A : Type 0} (asks : A → Type 0) (does : A → List Put 
 
 -- the same of each command, by the values behind it
 abbrev pub IsSaidTo : Command → List Row → (List ℕ → Result (List ℕ) InputFault → Type 0)
-    → (Planned → HostForm → Limits → Result Hosted HostFault → Type 0) → List Put → Answer → Type 0
+    → Hosts → List Put → Answer → Type 0
 IsSaidTo command.Canon values gives hosts =
     IsAnsweredTo (IsRenderAsked values) (IsRender Canonical gives)
 IsSaidTo command.Chart values gives hosts = IsAnsweredTo (IsChartAsked values) (IsChart gives)
@@ -188,8 +196,7 @@ IsSaidTo command.Walk values gives hosts =
 -- what words that name a command, with the values behind it, may tell on the way and answer; those
 -- that name none are refused as if the base were out of range
 pub data IsCarriedOutBy (parsed : Option (Text × List Row))
-    (gives : List ℕ → Result (List ℕ) InputFault → Type 0)
-    (hosts : Planned → HostForm → Limits → Result Hosted HostFault → Type 0)
+    (gives : List ℕ → Result (List ℕ) InputFault → Type 0) (hosts : Hosts)
     : List Put → Answer → Type 0 where
   named : (command : Command) (values : List Row) (told : List Put) (answer : Answer)
       → parsed ≡ Some (spelled command, values) → IsSaidTo command values gives hosts told answer
@@ -200,9 +207,8 @@ pub data IsCarriedOutBy (parsed : Option (Text × List Row))
 -- what the program may tell on the way and answer to words; and whether it is asked to explain what
 -- it refuses
 pub data IsCarriedOut (words : List Text)
-    (gives : List ℕ → Result (List ℕ) InputFault → Type 0)
-    (hosts : Planned → HostForm → Limits → Result Hosted HostFault → Type 0) :
-    Bool → List Put → Answer → Type 0 where
+    (gives : List ℕ → Result (List ℕ) InputFault → Type 0) (hosts : Hosts)
+    : Bool → List Put → Answer → Type 0 where
   parsed : (said : Parsed) (is_asked : Bool) (told : List Put) (answer : Answer)
       → IsParse words said → IsExplainAsked said is_asked
       → IsCarriedOutBy said.command gives hosts told answer
@@ -214,8 +220,7 @@ pub data IsCarriedOut (words : List Text)
 -- how the program may end, where asking for its words may give these, and reading a path these
 -- texts: the words can't be had, or they were carried out
 pub data IsProgramEnd {S : Type 0} (asks : Result (List Text) io_error.Error → Type 0)
-    (gives : List ℕ → Result (List ℕ) InputFault → Type 0)
-    (hosts : Planned → HostForm → Limits → Result Hosted HostFault → Type 0)
+    (gives : List ℕ → Result (List ℕ) InputFault → Type 0) (hosts : Hosts)
     (says : List ℕ → Bool → Type 0)
     (writes : S → List ℕ → Bool → S → Type 0) (before after : S) (status : Status) : Type 0 where
   wordless : (error : io_error.Error) → asks (Err error)

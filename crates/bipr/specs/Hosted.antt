@@ -1,6 +1,7 @@
 -- The answer to running the nodes of a plan as threads.
 use Rattle.std.specs.Prelude.{◌≡◌, Bool, true, false, List, [], None, Option, Some, ℕ, Result, Ok}
-use Rattle.std.specs.Prelude.{Err, length}
+use Rattle.std.specs.Prelude.{Err, IfOk, length, ⊤, ◌≢◌, ◌⊎◌}
+use Rattle.std.specs.Borrow.{Bor}
 use Rattle.bip_host.specs.declared.faults.HostFault.TheVariants as host_fault
 use Rattle.bip_host.specs.declared.faults.HostFault.{HostFault}
 use Rattle.bip_host.specs.declared.hosts.Limits.{Limits}
@@ -14,13 +15,16 @@ use Rattle.bip_replay.specs.declared.faults.BookFault.{BookFault}
 use Rattle.bip_answers.specs.Answers.{complaining}
 use Rattle.bipr.specs.Resolvers.{kind_named}
 use Rattle.bipr.specs.Scheduled.{reporting}
-use Rattle.bipr.specs.Stops.{out_of_memory, too_many_rows}
+use Rattle.bipr.specs.Recorded.{IsRecorded}
+use Rattle.bipr.specs.Stops.{out_of_memory, too_many_rows, unwritten_text}
 use Rattle.bipr.specs.Wording.{host_refusal, no_thread_text, stats_text}
 use Rattle.bip_answers.specs.declared.answers.Answer.{Answer}
-use Rattle.bip_answers.specs.declared.answers.Status.TheVariants.{NoThread, NotARun}
+use Rattle.bip_answers.specs.declared.answers.Status.TheVariants.{Done, NoThread, NotARun, Refused}
 use Rattle.bipr.specs.declared.commands.run.RunArguments.{RunArguments}
 use Rattle.bipr.specs.declared.hosted.Hosted.{Hosted}
 use Rattle.bipr.specs.declared.resolvers.HostForm.{HostForm}
+use Rattle.bipr.specs.declared.stops.Stop.{Stop}
+use Rattle.bipr.specs.declared.stops.Stop.TheVariants.{GrantRefused, OutOfMemory, ThreadRefused}
 
 -- how long a host runs: each thread for so many turns, or until there are so many grants and for at
 -- most 10^9 turns each; by just one of the two
@@ -28,6 +32,12 @@ abbrev pub limits_of : Option ℕ → Option ℕ → Option Limits
 limits_of (Some turns) None = Some (record { turns = turns; grants = None })
 limits_of None (Some grants) = Some (record { turns = 1000000000; grants = Some grants })
 limits_of turns grants = None
+
+-- what running the nodes of a plan in a form, with limits, may give; and what may come of a text
+-- that is kept in the file that a path names: whether all of it is out
+pub record Hosts : Type 1 where
+  pub gives : Planned → HostForm → Limits → Result Hosted HostFault → Type 0
+  pub keeps : List ℕ → List ℕ → Bool → Type 0
 
 -- what a host gave in a form, with these limits: a run of the plan's model, by the third layer that
 -- the resolver names, whose tables were shared so, in as many threads as that asks for, none of
@@ -38,6 +48,13 @@ pub record IsHostedAs (p : Planned) (form : HostForm) (limits : Limits) (hosted 
     pub figures : AreFiguresOf p (kind_named form.resolver) form.tables limits.turns hosted.figures
     pub limited : hosted.limits ≡ limits
     pub ended : IsEndedBy limits hosted.report.grants.items hosted.figures
+
+-- what threads of the process may give, and whatever comes of a file
+abbrev pub threaded : Hosts
+threaded = record {
+  gives = λ p form limits given. IfOk given (IsHostedAs p form limits);
+  keeps = λ path text is_out. ⊤;
+}
 
 -- what is told of a host on standard error: what is counted, where that is asked for
 abbrev pub stats_told : Bool → Hosted → List ℕ
@@ -64,17 +81,36 @@ pub data IsHostAnswer (gives : Result Hosted HostFault → Type 0) (p : Planned)
   text_lacking : (given : Hosted) → gives (Ok given)
       → IsHostAnswer gives p with_stats out_of_memory
 
+-- what stops a command whose host gave no report: a refused grant, a thread that couldn't be made,
+-- or want of memory
+abbrev pub IsHostStop : Stop → Type 0
+IsHostStop why = (why ≡ GrantRefused) ⊎ (why ≡ ThreadRefused) ⊎ (why ≡ OutOfMemory)
+
 -- a plan can have the form of host that is asked for
 abbrev pub FitsPlan : Planned → HostForm → Type 0
 FitsPlan p form = CanHave p (kind_named form.resolver) form.tables
 
+-- no record is asked for, or there is none to keep, since the answer has no trace
+abbrev pub KeepsNone : RunArguments → Answer → Type 0
+KeepsNone asked answer = (asked.record_in ≡ None) ⊎ (answer.status ≢ Done)
+
 -- what may be answered where running the nodes of a plan in a form, with limits, may give that
-pub data IsPlanHosted (p : Planned)
-    (hosts : Planned → HostForm → Limits → Result Hosted HostFault → Type 0) (asked : RunArguments)
-    (limits : Limits) : Answer → Type 0 where
+pub data IsPlanHosted (p : Planned) (hosts : Hosts) (asked : RunArguments) (limits : Limits)
+    : Answer → Type 0 where
   -- the plan can have the form that is asked for
-  of_host : (answer : Answer) → FitsPlan p asked.form
-      → IsHostAnswer (hosts p asked.form limits) p asked.with_stats answer
+  of_host : (answer : Answer) → FitsPlan p asked.form → KeepsNone asked answer
+      → IsHostAnswer (hosts.gives p asked.form limits) p asked.with_stats answer
       → IsPlanHosted p hosts asked limits answer
+  -- and its trace is recorded in the file that a path names
+  of_record : (plain answer : Answer) (path : Bor (List ℕ)) → FitsPlan p asked.form
+      → asked.record_in ≡ Some path → plain.status ≡ Done
+      → IsHostAnswer (hosts.gives p asked.form limits) p asked.with_stats plain
+      → IsRecorded p asked.form.resolver (hosts.keeps path.now) plain answer
+      → IsPlanHosted p hosts asked limits answer
+  -- that file can't be made, and nothing is run; or memory is out for the record
+  of_no_file : FitsPlan p asked.form → asked.record_in ≢ None
+      → IsPlanHosted p hosts asked limits (complaining Refused unwritten_text)
+  record_lacking : FitsPlan p asked.form → asked.record_in ≢ None
+      → IsPlanHosted p hosts asked limits out_of_memory
   -- more of its components have a row than row words can
   of_many_rows : ¬ FitsPlan p asked.form → IsPlanHosted p hosts asked limits too_many_rows

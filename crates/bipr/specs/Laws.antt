@@ -26,6 +26,7 @@ use Rattle.bipr.specs.Hosted.{IsHostAnswer}
 use Rattle.bipr.specs.Inputs.{IsReading, Named, bytes, most_bytes}
 use Rattle.bipr.specs.Loading.{IsModelText, are_joined}
 use Rattle.bip_answers.specs.Renderings.{IsRenderingAnswer}
+use Rattle.bipr.specs.Recorded.{IsRecord}
 use Rattle.bipr.specs.Resolvers.{IsSharedAtFirst}
 use Rattle.bipr.specs.Scheduled.{IsScheduleAnswered, IsStepped, IsToldStepped, reporting}
 use Rattle.bipr.specs.Seeds.{IsSeedSchedule}
@@ -120,6 +121,14 @@ SeedsAreSteps =
     → (seed : IsSeedSchedule p asked schedule)
     → IsStepped p 0 asked.resolver schedule report answer → IsLossless report
     → answer ≡ reporting (text_of p.model seed.trace) (report_text seed.of_seed.report)
+
+-- the steps of a record have the trace that was recorded, with the resolver of the run, where no
+-- event was skipped and no message lost
+abbrev pub RecordsAreSteps : Type 0
+RecordsAreSteps =
+    (p : Planned) (resolver : Resolver) (trace schedule : List ℕ) (report : Report)
+    (answer : Answer) → IsRecord p resolver trace schedule
+    → IsStepped p 0 resolver schedule report answer → IsLossless report → answer.output ≡ trace
 
 -- a text is the trace of a run of the model that another text means; or its first line at fault has
 -- a grant that can't be next

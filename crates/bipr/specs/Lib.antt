@@ -9,6 +9,7 @@ pub mod Hosted
 pub mod Inputs
 pub mod Laws
 pub mod Loading
+pub mod Recorded
 pub mod Refusals
 pub mod Resolvers
 pub mod Scheduled

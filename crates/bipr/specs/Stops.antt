@@ -75,6 +75,10 @@ bad_seeds = bad_command_line (codes "error: a walk has --seed or --seeds" ++ lin
 abbrev pub bad_limits : Answer
 bad_limits = bad_command_line (codes "error: a run has --turns or --grants" ++ line_feed ∷ [])
 
+-- what is said where a record is asked for on standard output
+abbrev pub bad_record : Answer
+bad_record = bad_command_line (codes "error: --record is a file" ++ line_feed ∷ [])
+
 -- what is said where row words are asked for without the central bank, and where more components
 -- have a row than these can
 abbrev pub words_need_central : Answer
@@ -84,9 +88,11 @@ abbrev pub too_many_rows : Answer
 too_many_rows = complaining Refused too_many_rows_text
 
 -- what is said where a schedule is longer than any text that is read
+abbrev pub long_schedule_text : List ℕ
+long_schedule_text = complaint_text (codes "a schedule has at most 16777216 bytes")
+
 abbrev pub long_schedule : Answer
-long_schedule =
-    complaining Refused (complaint_text (codes "a schedule has at most 16777216 bytes"))
+long_schedule = complaining Refused long_schedule_text
 
 -- what is said of what stopped a command
 abbrev pub answer_of_stop : Stop → Answer
@@ -97,6 +103,7 @@ answer_of_stop stop.RowsOutOfOrder = bad_range
 answer_of_stop stop.SeedOrSeeds = bad_seeds
 answer_of_stop stop.TurnsOrGrants = bad_limits
 answer_of_stop stop.WordsNeedCentral = words_need_central
+answer_of_stop stop.RecordOnOutput = bad_record
 answer_of_stop stop.TooManyRows = too_many_rows
 answer_of_stop stop.ScheduleTooLong = long_schedule
 answer_of_stop stop.GrantRefused = complaining NotARun host_refusal

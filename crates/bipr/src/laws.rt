@@ -1,7 +1,8 @@
 //! The laws of answers, of two texts in one, and of the replay of texts that are known.
 ghost use Rattle.bipr.specs.Laws.{CheckStatusesTell, HostsReplay, OneAnswer, OneCheckAnswer};
 ghost use Rattle.bipr.specs.Laws.{OneRenderingAnswer, OneStepsAnswer};
-ghost use Rattle.bipr.specs.Laws.{OneTextDecides, OneTraceOfASeed, PartedByLines, SeedsAreSteps};
+ghost use Rattle.bipr.specs.Laws.{OneTextDecides, OneTraceOfASeed, PartedByLines};
+ghost use Rattle.bipr.specs.Laws.{RecordsAreSteps, SeedsAreSteps};
 ghost use Rattle.bipr.specs.Laws.{SomeAnswer, StatusesTell, StepsReplay, StepsStatusesTell};
 ghost use Rattle.bipr.specs.Laws.{ToldOrNot, TwoTextsDecide};
 
@@ -40,13 +41,15 @@ pub fn status_laws()
 }
 
 /// The same again comes to the same: with each resolver a schedule has one answer, whether its
-/// events are told or not, and a seed one trace, which the steps of its schedule have too, where no
-/// event was skipped and no message lost (docs/ANSWERS.md, "Answers").
+/// events are told or not, and a seed one trace, which the steps of its schedule have too, as those
+/// of a record have the trace that was recorded, where no event was skipped and no message lost
+/// (docs/ANSWERS.md, "Answers").
 pub fn repeat_laws()
     ensures steps { OneStepsAnswer }
     ensures told { ToldOrNot }
     ensures seeds { OneTraceOfASeed }
     ensures seed_steps { SeedsAreSteps }
+    ensures record_steps { RecordsAreSteps }
 {}
 
 /// Where the paths of a replay name texts that are known, what is answered is the answer of these

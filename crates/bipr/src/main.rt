@@ -15,6 +15,7 @@ mod invocations;
 mod laws;
 mod loading;
 mod progress;
+mod recorded;
 mod refusals;
 mod resolvers;
 mod scheduled;
@@ -48,7 +49,7 @@ fn main(rt: HostRuntime) -> ExitCode {
         rt: &rt,
         alloc: rt.alloc(),
         inputs: &Sources::new(&rt),
-        hosting: &Threaded,
+        hosting: &Threaded::new(&rt),
         explanation: Explanation::new(false),
         output: io::writer(&rt),
         errors: rt.stderr(),

@@ -16,6 +16,19 @@ pub enum Resolver {
     Forks,
 }
 
+impl Resolver {
+    /// The kind of third layer that it names.
+    pub fn kind(self) -> Kind
+        ensures { result ≡ kind_named self }
+    {
+        match self {
+            Resolver::Central => Kind::Central,
+            Resolver::Ring => Kind::Ring,
+            Resolver::Forks => Kind::Forks,
+        }
+    }
+}
+
 /// The name of the central bank.
 const CENTRAL: &str = "central";
 
@@ -40,11 +53,7 @@ impl HostForm {
     pub fn kind(&self) -> Kind
         ensures { result ≡ kind_named self.now.resolver }
     {
-        match self.resolver {
-            Resolver::Central => Kind::Central,
-            Resolver::Ring => Kind::Ring,
-            Resolver::Forks => Kind::Forks,
-        }
+        self.resolver.kind()
     }
 
     /// Whether row words are asked for with another resolver than the central bank, which alone can

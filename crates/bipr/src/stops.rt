@@ -25,6 +25,8 @@ pub enum Stop<'a> {
     TurnsOrGrants,
     /// Row words are asked for without the central bank.
     WordsNeedCentral,
+    /// A record is asked for on standard output.
+    RecordOnOutput,
     /// More components have a row than row words can.
     TooManyRows,
     /// A host's book refused a grant.
@@ -63,6 +65,9 @@ pub const BAD_SEEDS: &[u8] = b"bipr: bad command line\nerror: a walk has --seed 
 /// The complaint where not just one of turns and of grants is said.
 pub const BAD_LIMITS: &[u8] = b"bipr: bad command line\nerror: a run has --turns or --grants\n";
 
+/// The complaint where a record is asked for on standard output.
+pub const BAD_RECORD: &[u8] = b"bipr: bad command line\nerror: --record is a file\n";
+
 /// The complaint where row words are asked for without the central bank; and where more components
 /// have a row than these can.
 pub const WORDS_NEED_CENTRAL: &[u8] = b"bipr: words need central\n";
@@ -71,6 +76,12 @@ pub const TOO_MANY_ROWS: &[u8] = b"bipr: too many rows\n";
 
 /// The complaint where a schedule is longer than any text that is read.
 pub const SCHEDULE_TOO_LONG: &[u8] = b"bipr: a schedule has at most 16777216 bytes\n";
+
+/// The complaint where a run isn't recorded, since messages were lost for want of memory; and where
+/// what threads did leads elsewhere.
+pub const LOST: &[u8] = b"bipr: messages were lost, nothing is recorded\n";
+
+pub const OTHER_RUN: &[u8] = b"bipr: not the same run\n";
 
 impl<'a> Stop<'a> {
     /// Why the text of this path isn't read.

@@ -3,17 +3,18 @@ ghost use Rattle.std.specs.Prelude.{◌≡◌, Some};
 ghost use Rattle.clap.specs.Words.{found_of, rows_of};
 ghost use Rattle.bip_program.specs.Asked.{IsReadAs};
 ghost use Rattle.bipr.specs.CommandLine.{IsRunAsked};
-ghost use Rattle.bipr.specs.Commands.{IsThreadedRun};
+ghost use Rattle.bipr.specs.Commands.{IsThreadedRun, is_on_output};
 ghost use Rattle.bipr.specs.Endings.{AllOutcomes, AllOutcomesTelling};
 ghost use Rattle.bipr.specs.Hosted.{IsPlanHosted, limits_of};
 
 use crate::command_line::{resolver_asked, tables_asked};
-use crate::hosted::{answer_host, limits_of};
+use crate::hosted::limits_of;
 use crate::hosting::Hosting;
 use crate::inputs::Inputs;
 use crate::invocations::Invocation;
 use crate::loading::load;
 use crate::resolvers::HostForm;
+use crate::sources::is_standard_input;
 use crate::stops::Stop;
 use crate::streams::Stream;
 use bip_answers::{Answer, PlanOrRefusal, plan_text};
@@ -26,14 +27,15 @@ use std::thread::Threads;
 use std::time::Clock;
 
 /// The running of the nodes of the model that a path names as threads, in a form, for so many turns
-/// each or until there are so many grants, as far as either is said; and whether what is counted is
-/// told.
+/// each or until there are so many grants, as far as either is said; in which file it is recorded,
+/// if in one; and whether what is counted is told.
 #[derive(Drop)]
 pub struct RunArguments<'p> {
     pub model: &'p str,
     pub form: HostForm,
     pub turns: Option<u32>,
     pub grants: Option<u32>,
+    pub record_in: Option<&'p str>,
     pub with_stats: bool,
 }
 
@@ -49,6 +51,7 @@ impl<'p> RunArguments<'p> {
             form: HostForm { resolver, tables },
             turns: number_asked(matches, "turns"),
             grants: number_asked(matches, "grants"),
+            record_in: text_asked(matches, "record"),
             with_stats: is_set(matches, "stats"),
         })
     }
@@ -98,6 +101,11 @@ impl<R: Threads + Wait + Clock + Sync, I: Inputs, H: Hosting, O, E: Stream> Invo
                 .say(b"`--table words` goes with `--resolver central` alone");
             return Err(Stop::WordsNeedCentral);
         }
+        if is_on_output(asked.record_in) {
+            self.explanation
+                .say(b"`--record` names a file, and no stream");
+            return Err(Stop::RecordOnOutput);
+        }
         let (alloc, explanation) = (self.alloc, &mut self.explanation);
         let text = load(alloc, explanation, self.inputs, asked.model)?;
         match plan_text(alloc, explanation, text.as_slice())? {
@@ -123,14 +131,19 @@ impl<R: Threads + Wait + Clock + Sync, I: Inputs, H: Hosting, O, E: Stream> Invo
             explanation.say(b"row words are of at most 32 components, and more have a row");
             return Err(Stop::TooManyRows);
         }
-        answer_host(
-            self.rt,
-            alloc,
-            explanation,
-            plan,
-            self.hosting,
-            asked,
-            limits,
-        )
+        match asked.record_in {
+            None => self.answer_host(plan, asked, limits),
+            Some(path) => self.answer_recorded(plan, asked, limits, path),
+        }
+    }
+}
+
+/// Whether a record is asked for on standard output.
+fn is_on_output(record_in: Option<&str>) -> bool
+    ensures { result ≡ is_on_output record_in.entry }
+{
+    match record_in {
+        None => false,
+        Some(path) => is_standard_input(path),
     }
 }

@@ -1,0 +1,40 @@
+-- Answers of runs that are recorded.
+use Rattle.std.proofs.Common.{◌≡◌, ◌≢◌, ◌∙◌, ℕ, Bool, Err, List, None, Ok, Option, Result, Some, false}
+use Rattle.std.proofs.Common.{subst, sym, true}
+use Rattle.std.specs.Prelude.{IfOk}
+use Rattle.std.specs.declared.alloc.AllocError.{AllocError}
+use Rattle.bip_answers.specs.declared.answers.Answer.{Answer}
+use Rattle.bip_partition.specs.Plans.{Planned}
+use Rattle.bipr.specs.Recorded.{IsRecordKept, IsRecorded, answer_kept, answer_unkept, elsewhere}
+use Rattle.bipr.specs.Recorded.{kept, lost, too_long, unkept}
+use Rattle.bipr.specs.declared.recorded.Unkept.{Unkept}
+use Rattle.bipr.specs.declared.recorded.Unkept.TheVariants.{Elsewhere, Lost, TooLong}
+use Rattle.bipr.specs.declared.resolvers.Resolver.{Resolver}
+
+-- what is there is not nothing
+pub some_not_none : {A : Type 0} (x : Option A) (a : A) → x ≡ Some a → x ≢ None
+some_not_none None a is none = cc
+some_not_none (Some b) a is none = cc
+
+module _ (p : Planned) (resolver : Resolver) (keeps : List ℕ → Bool → Type 0) (plain : Answer) where
+  -- a record that was put into its file is answered by whether it is out
+  pub record_put : (schedule : List ℕ) (is_out : Bool) (result : Result Answer AllocError)
+      → IsRecordKept p resolver plain.output schedule → keeps schedule is_out
+      → IfOk result (λ answer. answer ≡ answer_kept plain is_out)
+      → IfOk result (IsRecorded p resolver keeps plain)
+  record_put schedule true (Ok answer) is put same =
+      subst (IsRecorded p resolver keeps plain) (sym same) (kept schedule is.0 is.1 put)
+  record_put schedule false (Ok answer) is put same =
+      subst (IsRecorded p resolver keeps plain) (sym same) (unkept schedule is.0 is.1 put)
+  record_put schedule is_out (Err e) is put same = tt
+
+  -- and so is why there is none
+  pub record_none : (why : Unkept) (result : Result Answer AllocError)
+      → IfOk result (λ answer. answer ≡ answer_unkept plain why)
+      → IfOk result (IsRecorded p resolver keeps plain)
+  record_none TooLong (Ok answer) same =
+      subst (IsRecorded p resolver keeps plain) (sym same) too_long
+  record_none Lost (Ok answer) same = subst (IsRecorded p resolver keeps plain) (sym same) lost
+  record_none Elsewhere (Ok answer) same =
+      subst (IsRecorded p resolver keeps plain) (sym same) elsewhere
+  record_none why (Err e) same = tt

@@ -1,0 +1,51 @@
+use Rattle.std.proofs.Common.{ap, inr}
+use Rattle.bip_answers.specs.declared.answers.Answer.{Answer}
+use Rattle.bipr.specs.Hosted.{IsPlanHosted, of_host, of_no_file, of_record, record_lacking}
+use Rattle.bipr.proofs.EndingLemmas.{outcome_answered, outcome_lacking}
+use Rattle.bipr.proofs.HostedLemmas.{host_answered, host_stop_ends, host_stop_said}
+use Rattle.bipr.proofs.RecordedLemmas.{some_not_none}
+use Rattle.bipr.proofs.invocations.Invocation.answer_recorded.Goals as goal
+
+pub returns-in_default-clause-says : goal.returns-in_default-clause-says
+returns-in_default-clause-says g c =
+    let hosts = g.H.Hosting.hosts c.args.self.now.hosting.now in
+    let some = some_not_none c.args.asked.now.record_in c.args.path c.requires.path in
+    outcome_answered (IsPlanHosted c.args.plan.now hosts c.args.asked.now c.args.limits) _
+    (of_no_file c.requires.form some)
+
+pub returns-in-Err-clause-says : goal.returns-in-Err-clause-says
+returns-in-Err-clause-says g c =
+    let hosts = g.H.Hosting.hosts c.args.self.now.hosting.now in
+    let stopped = c.in-Err.ensures.stopped in
+    host_stop_said (IsPlanHosted c.args.plan.now hosts c.args.asked.now c.args.limits) c.in-Err.why
+    stopped.1
+    (of_host _ c.requires.form (inr (host_stop_ends c.in-Err.why stopped.1)) stopped.0)
+
+pub returns-in_err-plain-clause-says : goal.returns-in_err-plain-clause-says
+returns-in_err-plain-clause-says g c =
+    let hosts = g.H.Hosting.hosts c.args.self.now.hosting.now in
+    let some = some_not_none c.args.asked.now.record_in c.args.path c.requires.path in
+    outcome_lacking c.from_residual.result
+    (IsPlanHosted c.args.plan.now hosts c.args.asked.now c.args.limits) c.from_residual.ensures.1
+    (record_lacking c.requires.form some)
+
+pub returns-in_err-kept-clause-says : goal.returns-in_err-kept-clause-says
+returns-in_err-kept-clause-says g c =
+    let hosts = g.H.Hosting.hosts c.args.self.now.hosting.now in
+    let some = some_not_none c.args.asked.now.record_in c.args.path c.requires.path in
+    outcome_lacking c.from_residual-in_err-kept.result
+    (IsPlanHosted c.args.plan.now hosts c.args.asked.now c.args.limits)
+    c.from_residual-in_err-kept.ensures.1 (record_lacking c.requires.form some)
+
+pub returns-clause-says : goal.returns-clause-says
+returns-clause-says g c =
+    let hosts = g.H.Hosting.hosts c.args.self.now.hosting.now in
+    let done = ap (λ (a : Answer). a.status) c.in_ok-plain.ensures.is in
+    let given =
+    host_answered _ c.args.plan.now c.args.asked.now.with_stats c.in-Ok.hosted c.in_ok-plain.plain
+    c.in-Ok.ensures.gives c.in_ok-plain.ensures.is c.in_ok-plain.ensures.run in
+    let kept = rw c.in-Ok.ensures.hosting at c.in_ok-kept.ensures.is in
+    outcome_answered (IsPlanHosted c.args.plan.now hosts c.args.asked.now c.args.limits)
+    c.in_ok-kept.kept
+    (of_record c.in_ok-plain.plain c.in_ok-kept.kept c.args.path c.requires.form c.requires.path done
+    given kept)
