@@ -1,4 +1,5 @@
 pub mod Actors
+pub mod Acts
 pub mod Addressed
 pub mod Attempts
 pub mod Books

@@ -1,4 +1,7 @@
 //! What nodes do, as it is told to a gate: each act by what tells it from all others.
+ghost use Rattle.std.specs.Prelude.{◌≡◌};
+ghost use Rattle.bip_host.specs.Acts.{parcel_of_reply, parcel_of_request};
+
 use bip_bank::StationId;
 use bip_model::{ClassId, CompId, InterId, Number, Reply, Request};
 
@@ -21,12 +24,16 @@ pub enum Parcel {
 
 impl Parcel {
     /// A request as a message.
-    pub fn of_request(request: &Request) -> Parcel {
+    pub fn of_request(request: &Request) -> Parcel
+        ensures { result ≡ parcel_of_request request.now }
+    {
         Parcel::Request(request.class, request.inter, request.request)
     }
 
     /// An answer as a message.
-    pub fn of_reply(reply: &Reply) -> Parcel {
+    pub fn of_reply(reply: &Reply) -> Parcel
+        ensures { result ≡ parcel_of_reply reply.now }
+    {
         match *reply {
             Reply::Granted {
                 class,

@@ -65,18 +65,18 @@ impl<'h, 'g, 'p, G: Gate> Hands<ComponentActor<'p>> for NotingComponent<'h, 'g, 
 pub(crate) struct NotingClass<'h, 'm, 'g, 'p, L: Ledger, G> {
     pub(crate) hands: ClassHands<'h, 'm, 'g, 'p, L, G>,
     /// Which request was granted, where its grant waits for those with lower serials.
-    pub(crate) waits: Option<Asked>,
+    pub(crate) waits: Option<OwnRequest>,
 }
 
 /// A request that a class asks for: its class, its interaction and its number.
 #[derive(Clone, Copy, Debug)]
-pub(crate) struct Asked {
+pub(crate) struct OwnRequest {
     class: ClassId,
     inter: InterId,
     number: u64,
 }
 
-impl Asked {
+impl OwnRequest {
     fn request(self) -> Parcel {
         Parcel::Request(self.class, self.inter, self.number)
     }
@@ -88,7 +88,7 @@ impl Asked {
 
 impl<'h, 'm, 'g, 'p, L: Ledger, G: Gate> NotingClass<'h, 'm, 'g, 'p, L, G> {
     /// Does an act that asks the third layer, and tells what came of it.
-    fn ask<R: Wait>(&mut self, rt: &R, act: ClassAct, asked: Asked) -> ClassAnswer
+    fn ask<R: Wait>(&mut self, rt: &R, act: ClassAct, asked: OwnRequest) -> ClassAnswer
         ensures fits { ClassFits act result }
         ensures put { IsClassActDone act self.old.hands result self.new.hands }
     {
@@ -110,7 +110,7 @@ impl<'h, 'm, 'g, 'p, L: Ledger, G: Gate> NotingClass<'h, 'm, 'g, 'p, L, G> {
     }
 
     /// Tells that a request was taken and decided on, and that the answer was heard.
-    fn note_decided<R: Wait>(&self, rt: &R, asked: Asked, decided: NodeAct) {
+    fn note_decided<R: Wait>(&self, rt: &R, asked: OwnRequest, decided: NodeAct) {
         let gate = self.hands.gate;
         gate.note(rt, NodeAct::Takes(asked.request()));
         gate.note(rt, decided);
@@ -167,7 +167,7 @@ impl<'h, 'm, 'g, 'p, L: Ledger, G: Gate> Hands<ClassActor<'p>>
     {
         match act {
             ClassAct::Ask(request) => {
-                let asked = Asked {
+                let asked = OwnRequest {
                     class: request.class,
                     inter: request.inter,
                     number: request.request,

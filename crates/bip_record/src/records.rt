@@ -1,8 +1,9 @@
 //! Records: schedules that lead to the trace of a run of threads.
-ghost use Rattle.std.specs.Prelude.{IfOk, IfSome};
+ghost use Rattle.std.specs.Prelude.{IfNone, IfOk, IfSome};
 ghost use Rattle.bip_bank.specs.Banks.{content_of};
 ghost use Rattle.bip_core.specs.Starting.{IsUnasked};
-ghost use Rattle.bip_record.specs.Records.{IsRecordOf};
+ghost use Rattle.bip_record.specs.Records.{AreNoRecordOf, IsRecordOf};
+ghost use Rattle.bip_schedule.specs.Writing.{IsWritten};
 
 use bip_bank::Bank;
 use bip_core::{Event, World, run_steps};
@@ -23,8 +24,12 @@ pub fn record_of<B: Bank + Drop>(
     trace: &[u8],
 ) -> Result<Option<Vec<u8>>, AllocError>
     requires { IsUnasked plan.now 0 (content_of (B.kept bank)) }
-    ensures { IfOk result (λ made. IfSome made (λ schedule.
+    ensures record { IfOk result (λ made. IfSome made (λ schedule.
         IsRecordOf plan.now (B.kept bank).sharing trace.now schedule.items)) }
+    ensures written { IfOk result (λ made. IfSome made (λ schedule.
+        IsWritten plan.now events.now schedule.items)) }
+    ensures none { IfOk result (λ made. IfNone made
+        (AreNoRecordOf plan.now (B.kept bank).sharing events.now trace.now)) }
 {
     if !have_spelling(plan, events) {
         drop(bank);

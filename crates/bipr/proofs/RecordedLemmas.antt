@@ -5,8 +5,9 @@ use Rattle.std.specs.Prelude.{IfOk}
 use Rattle.std.specs.declared.alloc.AllocError.{AllocError}
 use Rattle.bip_answers.specs.declared.answers.Answer.{Answer}
 use Rattle.bip_partition.specs.Plans.{Planned}
-use Rattle.bipr.specs.Recorded.{IsRecordKept, IsRecorded, answer_kept, answer_unkept, elsewhere}
-use Rattle.bipr.specs.Recorded.{kept, lost, too_long, unkept}
+use Rattle.bipr.specs.Recorded.{IsRecordKept, IsRecorded, IsWhyUnkept, answer_kept, answer_unkept}
+use Rattle.bipr.specs.Recorded.{elsewhere, kept, lost, too_long, unkept}
+use Rattle.bipr.specs.declared.hosted.Hosted.{Hosted}
 use Rattle.bipr.specs.declared.recorded.Unkept.{Unkept}
 use Rattle.bipr.specs.declared.recorded.Unkept.TheVariants.{Elsewhere, Lost, TooLong}
 use Rattle.bipr.specs.declared.resolvers.Resolver.{Resolver}
@@ -16,25 +17,30 @@ pub some_not_none : {A : Type 0} (x : Option A) (a : A) → x ≡ Some a → x �
 some_not_none None a is none = cc
 some_not_none (Some b) a is none = cc
 
-module _ (p : Planned) (resolver : Resolver) (keeps : List ℕ → Bool → Type 0) (plain : Answer) where
+module _ (p : Planned) (resolver : Resolver) (keeps : List ℕ → Bool → Type 0) (given : Hosted)
+    (plain : Answer) where
   -- a record that was put into its file is answered by whether it is out
   pub record_put : (schedule : List ℕ) (is_out : Bool) (result : Result Answer AllocError)
-      → IsRecordKept p resolver plain.output schedule → keeps schedule is_out
+      → IsRecordKept p resolver given plain.output schedule → keeps schedule is_out
       → IfOk result (λ answer. answer ≡ answer_kept plain is_out)
-      → IfOk result (IsRecorded p resolver keeps plain)
-  record_put schedule true (Ok answer) is put same =
-      subst (IsRecorded p resolver keeps plain) (sym same) (kept schedule is.0 is.1 put)
-  record_put schedule false (Ok answer) is put same =
-      subst (IsRecorded p resolver keeps plain) (sym same) (unkept schedule is.0 is.1 put)
-  record_put schedule is_out (Err e) is put same = tt
+      → IfOk result (IsRecorded p resolver keeps given plain)
+  record_put schedule true (Ok answer) of put same =
+      subst (IsRecorded p resolver keeps given plain) (sym same)
+      (kept schedule of.whole of.is of.short put)
+  record_put schedule false (Ok answer) of put same =
+      subst (IsRecorded p resolver keeps given plain) (sym same)
+      (unkept schedule of.whole of.is of.short put)
+  record_put schedule is_out (Err e) of put same = tt
 
   -- and so is why there is none
   pub record_none : (why : Unkept) (result : Result Answer AllocError)
+      → IsWhyUnkept p resolver given plain.output why
       → IfOk result (λ answer. answer ≡ answer_unkept plain why)
-      → IfOk result (IsRecorded p resolver keeps plain)
-  record_none TooLong (Ok answer) same =
-      subst (IsRecorded p resolver keeps plain) (sym same) too_long
-  record_none Lost (Ok answer) same = subst (IsRecorded p resolver keeps plain) (sym same) lost
-  record_none Elsewhere (Ok answer) same =
-      subst (IsRecorded p resolver keeps plain) (sym same) elsewhere
-  record_none why (Err e) same = tt
+      → IfOk result (IsRecorded p resolver keeps given plain)
+  record_none TooLong (Ok answer) is same =
+      subst (IsRecorded p resolver keeps given plain) (sym same) (too_long is.0 is.1)
+  record_none Lost (Ok answer) is same =
+      subst (IsRecorded p resolver keeps given plain) (sym same) (lost is)
+  record_none Elsewhere (Ok answer) is same =
+      subst (IsRecorded p resolver keeps given plain) (sym same) (elsewhere is.0 is.1)
+  record_none why (Err e) is same = tt

@@ -33,10 +33,11 @@ limits_of (Some turns) None = Some (record { turns = turns; grants = None })
 limits_of None (Some grants) = Some (record { turns = 1000000000; grants = Some grants })
 limits_of turns grants = None
 
--- what running the nodes of a plan in a form, with limits, may give; and what may come of a text
--- that is kept in the file that a path names: whether all of it is out
+-- what running the nodes of a plan in a form, with limits, may give; whether the file that a path
+-- names may be made; and what may come of a text that is kept there: whether all of it is out
 pub record Hosts : Type 1 where
   pub gives : Planned → HostForm → Limits → Result Hosted HostFault → Type 0
+  pub makes : List ℕ → Bool → Type 0
   pub keeps : List ℕ → List ℕ → Bool → Type 0
 
 -- what a host gave in a form, with these limits: a run of the plan's model, by the third layer that
@@ -53,6 +54,7 @@ pub record IsHostedAs (p : Planned) (form : HostForm) (limits : Limits) (hosted 
 abbrev pub threaded : Hosts
 threaded = record {
   gives = λ p form limits given. IfOk given (IsHostedAs p form limits);
+  makes = λ path is_made. ⊤;
   keeps = λ path text is_out. ⊤;
 }
 
@@ -101,14 +103,17 @@ pub data IsPlanHosted (p : Planned) (hosts : Hosts) (asked : RunArguments) (limi
   of_host : (answer : Answer) → FitsPlan p asked.form → KeepsNone asked answer
       → IsHostAnswer (hosts.gives p asked.form limits) p asked.with_stats answer
       → IsPlanHosted p hosts asked limits answer
-  -- and its trace is recorded in the file that a path names
-  of_record : (plain answer : Answer) (path : Bor (List ℕ)) → FitsPlan p asked.form
-      → asked.record_in ≡ Some path → plain.status ≡ Done
-      → IsHostAnswer (hosts.gives p asked.form limits) p asked.with_stats plain
-      → IsRecorded p asked.form.resolver (hosts.keeps path.now) plain answer
-      → IsPlanHosted p hosts asked limits answer
-  -- that file can't be made, and nothing is run; or memory is out for the record
-  of_no_file : FitsPlan p asked.form → asked.record_in ≢ None
+  -- the host gave this, a run of the model, whose trace is recorded in the file that a path names
+  of_record : (given : Hosted) (answer : Answer) (path : Bor (List ℕ)) → FitsPlan p asked.form
+      → asked.record_in ≡ Some path → hosts.gives p asked.form limits (Ok given)
+      → IsRunOf p.model 0 (text_of p.model given.report.grants.items)
+      (length given.report.grants.items)
+      → IsRecorded p asked.form.resolver (hosts.keeps path.now) given
+      (reporting (text_of p.model given.report.grants.items) (stats_told asked.with_stats given))
+      answer → IsPlanHosted p hosts asked limits answer
+  -- that file isn't made, and nothing is run; or memory is out for the record
+  of_no_file : (path : Bor (List ℕ)) → FitsPlan p asked.form → asked.record_in ≡ Some path
+      → hosts.makes path.now false
       → IsPlanHosted p hosts asked limits (complaining Refused unwritten_text)
   record_lacking : FitsPlan p asked.form → asked.record_in ≢ None
       → IsPlanHosted p hosts asked limits out_of_memory

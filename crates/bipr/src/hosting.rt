@@ -1,6 +1,6 @@
 //! What runs the nodes of a plan as threads.
 ghost use denote.Param.Send.{IsSync};
-ghost use Rattle.std.specs.Prelude.{IfOk};
+ghost use Rattle.std.specs.Prelude.{IfOk, is_some};
 ghost use Rattle.bip_replay.specs.Runs.{IsModelRun};
 ghost use Rattle.bip_host.specs.Reports.{AreFiguresOf, IsEndedBy};
 ghost use Rattle.bip_host.specs.Seats.{CanHave};
@@ -30,7 +30,8 @@ pub trait Hosting {
     type Record: Drop;
 
     /// Makes the file anew that a path names, if it can be made.
-    fn make(&self, path: &str) -> Option<Self::Record>;
+    fn make(&self, path: &str) -> Option<Self::Record>
+        ensures { (hosts self.now).makes path.now (is_some result) };
 
     /// Writes a text into the file that was made for a path, and says whether all of it is out.
     fn keep(&self, path: &str, record: Self::Record, text: &[u8]) -> bool

@@ -1,13 +1,12 @@
 //! Answers to running nodes as threads, where the run is recorded.
-ghost use Rattle.std.specs.Prelude.{◌≡◌, IfOk, IfSome, Some};
-ghost use Rattle.bip_answers.specs.declared.answers.Status.TheVariants.{Done};
+ghost use Rattle.std.specs.Prelude.{◌≡◌, IfErr, IfNone, IfOk, IfSome, Some};
 ghost use Rattle.bip_bank.specs.Banks.{content_of};
 ghost use Rattle.bip_core.specs.Starting.{IsUnasked};
 ghost use Rattle.bip_host.specs.Seats.{CanHave};
 ghost use Rattle.bipr.specs.Endings.{AllOutcomes};
 ghost use Rattle.bipr.specs.Hosted.{IsPlanHosted};
-ghost use Rattle.bipr.specs.Recorded.{IsRecord, IsRecordKept, IsRecorded, answer_kept};
-ghost use Rattle.bipr.specs.Recorded.{answer_unkept, instead};
+ghost use Rattle.bipr.specs.Recorded.{IsRecord, IsRecordKept, IsRecorded, IsWhyUnkept};
+ghost use Rattle.bipr.specs.Recorded.{LeadElsewhere, answer_kept, answer_unkept, instead};
 ghost use Rattle.bipr.specs.Resolvers.{IsSharedAtFirst, kind_named};
 
 use crate::commands::run::RunArguments;
@@ -79,7 +78,7 @@ impl<R: Threads + Wait + Clock + Sync, I, H: Hosting, O, E> Invocation<'_, R, I,
         record: H::Record,
     ) -> Result<Answer, AllocError>
         ensures is { IfOk result (IsRecorded plan.now resolver
-            ((H.hosts self.old.hosting.now).keeps path.now) plain) }
+            ((H.hosts self.old.hosting.now).keeps path.now) hosted.now plain) }
         ensures errors { self.new.errors ≡ self.old.errors }
         ensures output { self.new.output ≡ self.old.output }
     {
@@ -155,8 +154,10 @@ fn make_record(
     hosted: &Hosted,
     trace: &[u8],
 ) -> Result<Result<Vec<u8>, Unkept>, AllocError>
-    ensures { IfOk result (λ made. IfOk made (λ schedule.
-        IsRecordKept plan.now resolver trace.now schedule.items)) }
+    ensures made { IfOk result (λ made. IfOk made (λ schedule.
+        IsRecordKept plan.now resolver hosted.now trace.now schedule.items)) }
+    ensures none { IfOk result (λ made. IfErr made
+        (IsWhyUnkept plan.now resolver hosted.now trace.now)) }
 {
     if hosted.report.lost != 0 {
         return Ok(Err(Unkept::Lost));
@@ -194,8 +195,10 @@ fn record_with(
     resolver: Resolver,
     run: &Run<'_>,
 ) -> Result<Option<Vec<u8>>, AllocError>
-    ensures { IfOk result (λ made. IfSome made (λ schedule.
+    ensures made { IfOk result (λ made. IfSome made (λ schedule.
         IsRecord plan.now resolver run.now.trace.now schedule.items)) }
+    ensures none { IfOk result (λ made. IfNone made
+        (LeadElsewhere plan.now resolver run.now.trace.now)) }
 {
     match resolver {
         Resolver::Central => {
@@ -225,8 +228,10 @@ fn record_by<B: Bank + Drop>(
     requires unasked { IsUnasked plan.now 0 (content_of (B.kept first)) }
     requires anew { IsUnasked plan.now 0 (content_of (B.kept again)) }
     requires shared { IsSharedAtFirst resolver plan.now (B.kept again).sharing }
-    ensures { IfOk result (λ made. IfSome made (λ schedule.
+    ensures made { IfOk result (λ made. IfSome made (λ schedule.
         IsRecord plan.now resolver run.now.trace.now schedule.items)) }
+    ensures none { IfOk result (λ made. IfNone made
+        (LeadElsewhere plan.now resolver run.now.trace.now)) }
 {
     let events = match order_acts(alloc, plan, first, resolver.kind(), run.acts, run.grants) {
         Ok(events) => events,

@@ -1,17 +1,16 @@
-use Rattle.std.proofs.Common.{ap, inr}
-use Rattle.bip_answers.specs.declared.answers.Answer.{Answer}
+use Rattle.std.proofs.Common.{inr}
 use Rattle.bipr.specs.Hosted.{IsPlanHosted, of_host, of_no_file, of_record, record_lacking}
 use Rattle.bipr.proofs.EndingLemmas.{outcome_answered, outcome_lacking}
-use Rattle.bipr.proofs.HostedLemmas.{host_answered, host_stop_ends, host_stop_said}
+use Rattle.bipr.proofs.HostedLemmas.{host_stop_ends, host_stop_said}
 use Rattle.bipr.proofs.RecordedLemmas.{some_not_none}
 use Rattle.bipr.proofs.invocations.Invocation.answer_recorded.Goals as goal
 
 pub returns-in_default-clause-says : goal.returns-in_default-clause-says
 returns-in_default-clause-says g c =
     let hosts = g.H.Hosting.hosts c.args.self.now.hosting.now in
-    let some = some_not_none c.args.asked.now.record_in c.args.path c.requires.path in
+    let unmade = rw c.in_default.is at c.make.ensures in
     outcome_answered (IsPlanHosted c.args.plan.now hosts c.args.asked.now c.args.limits) _
-    (of_no_file c.requires.form some)
+    (of_no_file c.args.path c.requires.form c.requires.path unmade)
 
 pub returns-in-Err-clause-says : goal.returns-in-Err-clause-says
 returns-in-Err-clause-says g c =
@@ -40,12 +39,10 @@ returns-in_err-kept-clause-says g c =
 pub returns-clause-says : goal.returns-clause-says
 returns-clause-says g c =
     let hosts = g.H.Hosting.hosts c.args.self.now.hosting.now in
-    let done = ap (λ (a : Answer). a.status) c.in_ok-plain.ensures.is in
-    let given =
-    host_answered _ c.args.plan.now c.args.asked.now.with_stats c.in-Ok.hosted c.in_ok-plain.plain
-    c.in-Ok.ensures.gives c.in_ok-plain.ensures.is c.in_ok-plain.ensures.run in
-    let kept = rw c.in-Ok.ensures.hosting at c.in_ok-kept.ensures.is in
+    let is = c.in_ok-plain.ensures.is in
+    let run = rw is at c.in_ok-plain.ensures.run in
+    let kept = rw (c.in-Ok.ensures.hosting, is) at c.in_ok-kept.ensures.is in
     outcome_answered (IsPlanHosted c.args.plan.now hosts c.args.asked.now c.args.limits)
     c.in_ok-kept.kept
-    (of_record c.in_ok-plain.plain c.in_ok-kept.kept c.args.path c.requires.form c.requires.path done
-    given kept)
+    (of_record c.in-Ok.hosted c.in_ok-kept.kept c.args.path c.requires.form c.requires.path
+    c.in-Ok.ensures.gives run kept)
