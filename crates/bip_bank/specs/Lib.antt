@@ -6,3 +6,4 @@ pub mod Idleness
 pub mod Laws
 pub mod Opening
 pub mod Sharing
+pub mod Steps

@@ -42,11 +42,14 @@ pub enum Acted {
 /// used numbers, which the grants explain (docs/PROTOCOL.md, "Banks"). Contracts see what is kept
 /// of a bank's content. No call changes its plan or its base.
 pub trait Bank {
-    ghost use Rattle.bip_partition.specs.Plans.{IsFit};
+    ghost use Rattle.std.specs.Prelude.{◌≤◌, List, length};
+    ghost use Rattle.bip_model.specs.declared.numbering.InterId.{InterId};
+    ghost use Rattle.bip_partition.specs.Plans.{AreStations, IsFit};
     ghost use Rattle.bip_bank.specs.Banks.{CanWantMemory, DoesStep, IsActed, KeptBank, content_of};
     ghost use Rattle.bip_bank.specs.Banks.{with_request};
     ghost use Rattle.bip_bank.specs.Idleness.{IsIdleBecause};
     ghost use Rattle.bip_bank.specs.Sharing.{in_flight};
+    ghost use Rattle.bip_bank.specs.Steps.{AreIdle};
 
     ghost kept: { Self → KeptBank };
 
@@ -78,6 +81,18 @@ pub trait Bank {
     fn why_idle(&self, step: BankStep) -> Option<WhyIdle>
         ensures some { IfSome result (IsIdleBecause (content_of (kept self.now)) step) }
         ensures none { IfNone result (CanWantMemory (content_of (kept self.now)) step) };
+
+    /// A number up to which steps are idle from one on, by `step_at`: each of those between does
+    /// nothing, for a reason. So whoever looks for steps that do something can begin there; one
+    /// that a bank finds without asking about each step makes that cheap.
+    fn idle_until(&self, from: usize) -> usize
+        ensures onward { from ≤ result }
+        ensures idle { (list : List InterId)
+            → AreStations (content_of (kept self.now)).plan list
+            → AreIdle (content_of (kept self.now)) (length list) from result }
+    {
+        from
+    }
 
     /// The grants, in order of decision. While there are none, all used numbers are the base.
     fn grants(&self) -> &[Grant]

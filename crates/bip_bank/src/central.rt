@@ -1,5 +1,6 @@
 //! The central bank: one table decides all.
-ghost use Rattle.std.specs.Prelude.{◌≡◌, ◌<◌, [], IfErr, IfNone, IfOk, IfSome, OnErr, OnOk, length};
+ghost use Rattle.std.specs.Prelude.{◌≡◌, ◌<◌, ◌≤◌, [], IfErr, IfNone, IfOk, IfSome, List, OnErr, OnOk};
+ghost use Rattle.std.specs.Prelude.{length};
 ghost use Rattle.std.specs.Prelude.{slice_index_or};
 ghost use Rattle.bip_model.specs.Numbering.{last_number};
 ghost use Rattle.bip_bank.specs.Banks.{CanWantMemory, DoesStep, HasNextSerial, IsActed};
@@ -7,11 +8,14 @@ ghost use Rattle.bip_bank.specs.Banks.{WantsMemory, asked_nothing, content_of, w
 ghost use Rattle.bip_bank.specs.Central.{CannotKeep, IsFirstDecided, kept_central};
 ghost use Rattle.bip_bank.specs.Idleness.{IsIdleBecause};
 ghost use Rattle.bip_bank.specs.Sharing.{alone};
+ghost use Rattle.bip_bank.specs.Steps.{AreIdle};
+ghost use Rattle.bip_model.specs.declared.numbering.InterId.{InterId};
+ghost use Rattle.bip_partition.specs.Plans.{AreStations};
 ghost use Rattle.bip_bank.specs.declared.banks.BankStep.TheVariants.{Serve};
 
 use crate::{
-    Acted, Bank, BankStep, Queue, StationId, WhyIdle, first_table, interaction_at, is_asked_at,
-    no_requests, put_last,
+    Acted, Bank, BankStep, Queue, StationId, WhyIdle, first_asked, first_table, interaction_at,
+    is_asked_at, no_requests, put_last, step_count,
 };
 use bip_model::{Grant, Number, Request};
 use bip_partition::Plan;
@@ -138,6 +142,22 @@ impl<'p> Bank for Central<'p> {
             return None;
         }
         Some(WhyIdle::NothingOpen)
+    }
+
+    /// Of its steps only those that serve do anything, and of these those whose station is asked.
+    fn idle_until(&self, from: usize) -> usize
+        ensures onward { from ≤ result }
+        ensures idle { (list : List InterId)
+            → AreStations (content_of (kept_central self.now)).plan list
+            → AreIdle (content_of (kept_central self.now)) (length list) from result }
+    {
+        self.plan.recall();
+        let count = self.plan.stations().len();
+        let place = first_asked(self.plan, self.waiting.as_slice(), from);
+        if place < count {
+            return place;
+        }
+        from.max(step_count(count))
     }
 
     fn grants(&self) -> &[Grant] {

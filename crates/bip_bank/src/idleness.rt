@@ -1,5 +1,5 @@
 //! Why a step of a bank does nothing.
-ghost use Rattle.std.specs.Prelude.{◌≡◌, ◌↔◌, IsTrue, length};
+ghost use Rattle.std.specs.Prelude.{◌≡◌, ◌<◌, ◌≤◌, ◌↔◌, ℕ, IsTrue, length};
 ghost use Rattle.bip_bank.specs.Idleness.{IsAskedAt};
 
 use crate::{Queue, StationId, interaction_at};
@@ -48,4 +48,21 @@ pub fn is_asked_at(plan: &Plan, queues: &[Queue<Request>], station: StationId) -
         Some(inter) => queues[inter.0 as usize].first().is_some(),
         None => false,
     }
+}
+
+/// The first station, from a number on, whose interaction has an open request in its queue; behind
+/// all stations where there is none.
+pub fn first_asked(plan: &Plan, queues: &[Queue<Request>], from: usize) -> usize
+    requires { length queues.now ≡ length plan.now.model.interactions }
+    ensures onward { from ≤ result }
+    ensures between { (s : ℕ) → from ≤ s → s < result → ¬ IsAskedAt plan.now queues.now s }
+{
+    plan.recall();
+    let count = plan.stations().len();
+    for place in from..count {
+        if is_asked_at(plan, queues, StationId(place as u16)) {
+            return place;
+        }
+    }
+    from.max(count)
 }

@@ -1,6 +1,9 @@
 -- A ring: what serving a station and letting the token go leave of its content.
-use Rattle.std.proofs.Common.{◌≡◌, ℕ, ◌<◌, length, List, slice_get, Some, Result}
+use Rattle.std.proofs.Common.{◌≡◌, ℕ, ◌<◌, ◌≤◌, ◌+◌, ◌*◌, ◌-◌, ◌/◌, ◌%◌, length, List, slice_get}
+use Rattle.std.proofs.Common.{Some, Result}
 use Rattle.std.proofs.Common.{None, Option, Ok, Err, refl, ap, ◌∙◌, arith, inl, inr, subst, sym}
+use Rattle.std.proofs.Math.Nat.{div-add-mod}
+use Rattle.std.proofs.lemmas.Bool.{cases_eq, cases_lt}
 use Rattle.std.specs.Prelude.{IfErr, IfNone, IfOk, OnErr}
 use Rattle.std.specs.declared.alloc.AllocError.{AllocError}
 use Rattle.bip_model.specs.Numbering.{put}
@@ -12,23 +15,26 @@ use Rattle.bip_bank.specs.Decisions.Decision.TheVariants.{Granted, Refused}
 use Rattle.bip_bank.specs.Decisions.Decision.{Decision}
 use Rattle.bip_bank.proofs.CentralLemmas.{serves, served_steps}
 use Rattle.bip_bank.proofs.CentralLemmas.{with_parts}
+use Rattle.bip_bank.proofs.StepLemmas.{ask_at, pass_at, serve_at}
 use Rattle.bip_bank.specs.Banks.{BankContent, CanDecide, CanWantMemory, DoesStep, HasNextSerial}
 use Rattle.bip_bank.specs.Banks.{HasOldest, IsActed}
 use Rattle.bip_bank.specs.Banks.{WantsMemory, asked_nothing, content_of, with_decision}
 use Rattle.bip_bank.specs.Banks.{with_request}
 use Rattle.bip_bank.specs.Central.{IsFirstDecided, KeptCentral, kept_central}
 use Rattle.bip_bank.specs.Idleness.{IsAskedAt, IsIdleBecause}
-use Rattle.bip_bank.specs.Sharing.{Sharing, TakesToken, TokenPlace, alone, in_flight, ring, token_at}
-use Rattle.bip_bank.specs.Sharing.{token_to}
+use Rattle.bip_bank.specs.Sharing.{IsNextStation, Sharing, TakesToken, TokenPlace, alone, in_flight}
+use Rattle.bip_bank.specs.Sharing.{ring, token_at, token_to}
+use Rattle.bip_bank.specs.Steps.{step_at}
 use Rattle.bip_bank.specs.declared.banks.Acted.TheVariants.{Answered, Moved, Nothing}
 use Rattle.bip_bank.specs.declared.banks.Acted.{Acted}
 use Rattle.bip_bank.specs.declared.banks.BankStep.TheVariants.{Ask, Deliver, Pass, Serve}
 use Rattle.bip_bank.specs.declared.banks.BankStep.{BankStep}
 use Rattle.bip_bank.specs.declared.banks.StationId.{StationId}
-use Rattle.bip_bank.specs.declared.idleness.WhyIdle.TheVariants.{TokenElsewhere, TokenInFlight}
+use Rattle.bip_bank.specs.declared.idleness.WhyIdle.TheVariants.{NoneOfIt, NotNext, TokenElsewhere}
+use Rattle.bip_bank.specs.declared.idleness.WhyIdle.TheVariants.{TokenInFlight}
 use Rattle.bip_bank.specs.declared.idleness.WhyIdle.{WhyIdle}
-use Rattle.bip_ring.specs.Rings.{IsNewRing, IsRing, IsWithoutToken, KeepsToken, KeptRing, kept_ring}
-use Rattle.bip_ring.specs.Rings.{token_place}
+use Rattle.bip_ring.specs.Rings.{IsNewRing, IsRing, IsWithoutToken, KeepsToken, KeptRing}
+use Rattle.bip_ring.specs.Rings.{LeavesToken, kept_ring, token_place}
 use Rattle.bip_ring.specs.declared.places.Place.TheVariants.{At, To}
 use Rattle.bip_ring.specs.declared.places.Place.{Place}
 
@@ -261,3 +267,94 @@ pub ring_delivers : (r : KeptRing) (k : ℕ) → k < in_flight (ring r.count (to
     CanWantMemory (content_of (kept_ring r)) (Deliver k)
 ring_delivers r k within = let to = arrives_at r.count r.place k within in
     (ring r.count to.0, (to.0, to.1, refl))
+
+-- which steps leave the token alone
+
+rests_serving : (n : ℕ) (place : Place) (s : ℕ) → (token_place place ≡ token_at s → ⊥)
+    → (why : WhyIdle) × IsWithoutToken (ring n (token_place place)) s why
+rests_serving n (At h) s away' = (TokenElsewhere, λ same. away' (ap token_at same))
+rests_serving n (To h) s away' = (TokenInFlight, tt)
+
+-- a pair whose first station hasn't the token, or whose second isn't the next one
+rests_passing : (n : ℕ) (place : Place) (s t : ℕ)
+    → (token_place place ≡ token_at s → IsNextStation n s t → ⊥)
+    → (why : WhyIdle) × KeepsToken (ring n (token_place place)) s t why
+rests_passing n (To h) s t apart = (TokenInFlight, inl tt)
+rests_passing n (At h) s t apart = elim (cases_eq h.0 s) [
+  | inl same ↦ (NotNext, inr (refl, λ next. apart (ap token_at same) next))
+  | inr other ↦ (TokenElsewhere, inl other)
+]
+
+-- of a step by number: it serves another station, and doesn't hand the token on
+pub rests_at : (n : ℕ) (place : Place) (i : ℕ)
+    → (i < n → token_place place ≡ token_at i → ⊥)
+    → ((k : ℕ) → i ≡ n + k → token_place place ≡ token_at (k / n) → IsNextStation n (k / n) (k % n)
+    → ⊥)
+    → LeavesToken (ring n (token_place place)) (step_at n i)
+rests_at n place i serves passes = elim (cases_lt i n) [
+  | inl within ↦ subst (LeavesToken (ring n (token_place place))) (sym (serve_at n i within))
+      (rests_serving n place i (serves within))
+  | inr past ↦ elim (cases_lt (i - n) (n * n)) [
+    | inl inside ↦ subst (λ (j : ℕ). LeavesToken (ring n (token_place place)) (step_at n j))
+        (omega (arith, past))
+        (subst (LeavesToken (ring n (token_place place))) (sym (pass_at n (i - n) inside))
+        (rests_passing n place ((i - n) / n) ((i - n) % n)
+        (passes (i - n) (omega (arith, past)))))
+    | inr beyond ↦ subst (λ (j : ℕ). LeavesToken (ring n (token_place place)) (step_at n j))
+        (omega (arith, past, beyond))
+        (subst (LeavesToken (ring n (token_place place))) (sym (ask_at n (i - n - n * n))) tt)
+  ]
+]
+
+-- none has it to hand on, or serves with it, where it is in flight, or at no station
+pub rests_flying : (n i : ℕ) (to : StationId)
+    → LeavesToken (ring n (token_place (To to))) (step_at n i)
+rests_flying n i to = rests_at n (To to) i (λ within here. cc) (λ k is here next. cc)
+
+pub rests_outside : (n i : ℕ) (h : StationId) → n ≤ h.0
+    → LeavesToken (ring n (token_place (At h))) (step_at n i)
+rests_outside n i h outside = rests_at n (At h) i
+    (λ within here. let same : h.0 ≡ i = cc in omega (arith, within, outside, same))
+    (λ k is here next. let same : h.0 ≡ k / n = cc in
+    omega (arith, outside, same, next.station))
+
+-- those of the stations before its own leave it there
+pub rests_before : (n i : ℕ) (h : StationId) → i < h.0 → h.0 < n
+    → LeavesToken (ring n (token_place (At h))) (step_at n i)
+rests_before n i h before within = rests_at n (At h) i
+    (λ inside here. let same : h.0 ≡ i = cc in omega (arith, before, same))
+    (λ k is here next. omega (arith, is, before, within))
+
+-- but for two of them, all leave it with its station
+next_of : (n s t u : ℕ) → IsNextStation n s t → IsNextStation n s u → t ≡ u
+next_of n s t u one other = elim one.next [
+  | inl (below, is) ↦ elim other.next [
+    | inl (low, so) ↦ is ∙ sym so
+    | inr (last, so) ↦ absurd (omega (arith, below, last))
+  ]
+  | inr (last, is) ↦ elim other.next [
+    | inl (low, so) ↦ absurd (omega (arith, low, last))
+    | inr (end, so) ↦ is ∙ sym so
+  ]
+]
+
+pub rests_apart : (n i next : ℕ) (h : StationId) → IsNextStation n h.0 next → (i ≡ h.0 → ⊥)
+    → (i ≡ n + h.0 * n + next → ⊥) → LeavesToken (ring n (token_place (At h))) (step_at n i)
+rests_apart n i next h after other apart = rests_at n (At h) i
+    (λ within here. let same : h.0 ≡ i = cc in other (sym same))
+    (λ k is here so. let same : h.0 ≡ k / n = cc in
+    let last : k % n ≡ next = next_of n h.0 (k % n) next
+    (subst (λ (s : ℕ). IsNextStation n s (k % n)) (sym same) so) after in
+    let parts : n * (k / n) + k % n ≡ k = div-add-mod k n in
+    let whole : n * h.0 + next ≡ k =
+    ap (λ (s : ℕ). n * s + next) same ∙ ap (λ (t : ℕ). n * (k / n) + t) (sym last) ∙ parts in
+    apart (omega (arith, is, whole)))
+
+-- and so they are idle
+pub rests_idle : (r : KeptRing) (step : BankStep)
+    → LeavesToken (ring r.count (token_place r.place)) step
+    → (why : WhyIdle) × IsIdleBecause (content_of (kept_ring r)) step why
+rests_idle r (Deliver k) leaves = absurd leaves
+rests_idle r (Serve s) leaves = (leaves.0, away_idle r s leaves.0 leaves.1)
+rests_idle r (Pass s t) leaves = (leaves.0, kept_idle r s t leaves.0 leaves.1)
+rests_idle r (Ask s t) leaves = (NoneOfIt, tt)

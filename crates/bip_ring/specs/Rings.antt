@@ -1,11 +1,13 @@
 -- A token ring: the table travels in a token, and who has it decides.
-use Rattle.std.specs.Prelude.{◌≡◌, ◌⊎◌, ℕ, List, None, Option, Some, length}
+use Rattle.std.specs.Prelude.{◌≡◌, ◌⊎◌, ℕ, ⊤, List, None, Option, Some, length}
 use Rattle.bip_model.specs.declared.numbering.InterId.{InterId}
 use Rattle.bip_partition.specs.Plans.{AreStations, Planned}
 use Rattle.bip_bank.specs.Banks.{BankContent, KeptBank, asked_nothing}
 use Rattle.bip_bank.specs.Central.{IsCentral, KeptCentral, kept_central}
 use Rattle.bip_bank.specs.Idleness.{IsNotNext, IsTokenElsewhere, IsTokenFlying}
 use Rattle.bip_bank.specs.Sharing.{Sharing, TokenPlace, ring, token_at, token_to}
+use Rattle.bip_bank.specs.declared.banks.BankStep.TheVariants.{Ask, Deliver, Pass, Serve}
+use Rattle.bip_bank.specs.declared.banks.BankStep.{BankStep}
 use Rattle.bip_bank.specs.declared.idleness.WhyIdle.TheVariants.{NotNext, TokenElsewhere}
 use Rattle.bip_bank.specs.declared.idleness.WhyIdle.TheVariants.{TokenInFlight}
 use Rattle.bip_bank.specs.declared.idleness.WhyIdle.{WhyIdle}
@@ -61,3 +63,10 @@ IsWithoutToken x s why = ⊥
 
 abbrev pub KeepsToken : Sharing → ℕ → ℕ → WhyIdle → Type 0
 KeepsToken x s t why = IsWithoutToken x s why ⊎ (why ≡ NotNext) × IsNotNext x s t
+
+-- a step that doesn't deliver leaves the token alone, and serves nobody who has it
+abbrev pub LeavesToken : Sharing → BankStep → Type 0
+LeavesToken x (Deliver k) = ⊥
+LeavesToken x (Serve s) = (why : WhyIdle) × IsWithoutToken x s.0 why
+LeavesToken x (Pass s t) = (why : WhyIdle) × KeepsToken x s.0 t.0 why
+LeavesToken x (Ask s t) = ⊤

@@ -1,11 +1,13 @@
 //! Where a ring's token is, and where steps take it.
-ghost use Rattle.std.specs.Prelude.{◌≡◌, ◌↔◌, ℕ, IfNone, IfSome, IsTrue};
+ghost use Rattle.std.specs.Prelude.{◌≡◌, ◌<◌, ◌≤◌, ◌↔◌, ℕ, IfNone, IfSome, IsTrue};
 ghost use Rattle.bip_bank.specs.Sharing.{IsNextStation, TakesToken, TokenPlace, ring, token_at};
 ghost use Rattle.bip_bank.specs.Sharing.{token_to};
 ghost use Rattle.bip_bank.specs.declared.banks.BankStep.TheVariants.{Pass};
-ghost use Rattle.bip_ring.specs.Rings.{IsWithoutToken, KeepsToken, arrival_of, token_place};
+ghost use Rattle.bip_bank.specs.Steps.{step_at};
+ghost use Rattle.bip_ring.specs.Rings.{IsWithoutToken, KeepsToken, LeavesToken, arrival_of};
+ghost use Rattle.bip_ring.specs.Rings.{token_place};
 
-use bip_bank::{BankStep, StationId, WhyIdle};
+use bip_bank::{BankStep, StationId, WhyIdle, step_count};
 
 /// Where a token is: at a station, or in flight to one.
 #[derive(Clone, Copy, Debug, PartialEq, Eq)]
@@ -39,6 +41,14 @@ fn is_next(count: usize, station: StationId, next: StationId) -> bool
     }
 }
 
+/// The next one after a station of a ring of so many.
+fn next_station(count: usize, station: usize) -> usize
+    requires { station < count }
+    ensures { IsNextStation count station result }
+{
+    if station + 1 < count { station + 1 } else { 0 }
+}
+
 /// Why a station doesn't have the token, where it doesn't.
 pub(crate) fn why_away(place: Place, station: StationId) -> Option<WhyIdle>
     ensures some { (count : ℕ) → IfSome result
@@ -70,6 +80,30 @@ pub(crate) fn why_kept(
         return None;
     }
     Some(WhyIdle::NotNext)
+}
+
+/// A number up to which, from one on, the steps of a ring of so many stations leave its token alone
+/// and serve nobody who has it, by `step_at`. Of those that don't deliver there are two others: the
+/// one that serves the station that has it, and the one that hands it on to the next one.
+pub(crate) fn idle_until(place: Place, count: usize, from: usize) -> usize
+    requires few { count ≤ 65536 }
+    ensures onward { from ≤ result }
+    ensures idle { (i : ℕ) → from ≤ i → i < result
+        → LeavesToken (ring count (token_place place)) (step_at count i) }
+{
+    let all = step_count(count);
+    let holder = match place {
+        Place::At(holder) => holder.0 as usize,
+        Place::To(_) => return from.max(all),
+    };
+    if holder >= count {
+        return from.max(all);
+    }
+    if from <= holder {
+        return holder;
+    }
+    let pass = count + holder * count + next_station(count, holder);
+    if from <= pass { pass } else { from.max(all) }
 }
 
 /// Where a step takes the token of a ring of so many stations, if it takes it anywhere.

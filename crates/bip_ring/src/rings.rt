@@ -1,5 +1,9 @@
 //! The ring: a bank whose table travels in a token.
-ghost use Rattle.std.specs.Prelude.{◌≡◌, ◌<◌, IfErr, IfNone, IfOk, IfSome, OnErr, OnOk, length};
+ghost use Rattle.std.specs.Prelude.{◌≡◌, ◌<◌, ◌≤◌, IfErr, IfNone, IfOk, IfSome, List, OnErr, OnOk};
+ghost use Rattle.std.specs.Prelude.{length};
+ghost use Rattle.bip_model.specs.declared.numbering.InterId.{InterId};
+ghost use Rattle.bip_partition.specs.Plans.{AreStations};
+ghost use Rattle.bip_bank.specs.Steps.{AreIdle};
 ghost use Rattle.bip_model.specs.Numbering.{last_number};
 ghost use Rattle.bip_bank.specs.Banks.{CanWantMemory, DoesStep, HasNextSerial, IsActed};
 ghost use Rattle.bip_bank.specs.Banks.{WantsMemory, content_of, with_request};
@@ -7,7 +11,7 @@ ghost use Rattle.bip_bank.specs.Idleness.{IsIdleBecause};
 ghost use Rattle.bip_bank.specs.declared.banks.BankStep.TheVariants.{Serve};
 ghost use Rattle.bip_ring.specs.Rings.{IsNewRing, kept_ring};
 
-use crate::places::{is_at, moved, why_away, why_kept};
+use crate::places::{idle_until, is_at, moved, why_away, why_kept};
 use crate::{Place, Token};
 use bip_bank::{
     Acted, Bank, BankStep, Queue, StationId, WhyIdle, decide_first, interaction_at, is_asked_at,
@@ -184,6 +188,18 @@ impl<'p> Bank for Ring<'p> {
             BankStep::Deliver(_) => Some(WhyIdle::NothingThere),
             BankStep::Ask(_, _) => Some(WhyIdle::NoneOfIt),
         }
+    }
+
+    /// None but that which serves the station with the token does anything, and that which hands it
+    /// on to the next one; none at all while the token is in flight.
+    fn idle_until(&self, from: usize) -> usize
+        ensures onward { from ≤ result }
+        ensures idle { (list : List InterId)
+            → AreStations (content_of (kept_ring self.now)).plan list
+            → AreIdle (content_of (kept_ring self.now)) (length list) from result }
+    {
+        self.plan.recall();
+        idle_until(self.place, self.count, from)
     }
 
     fn grants(&self) -> &[Grant] {

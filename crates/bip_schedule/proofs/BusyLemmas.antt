@@ -1,9 +1,10 @@
 -- Which of the events of a kind have something to do.
 use Rattle.std.proofs.Common.{◌≡◌, ◌∙◌, ℕ, suc, zero, ◌<◌, ◌≤◌, ◌+◌, ◌-◌, ◌%◌, ◌++◌, ◌∷◌, []}
 use Rattle.std.proofs.Common.{IfNone, IfSome, List, None, Option, Some, Bool, ap, arith, cond}
-use Rattle.std.proofs.Common.{false}
+use Rattle.std.proofs.Common.{false, inl, inr}
 use Rattle.std.proofs.Common.{length, nat_lt, refl, subst, sym, true}
 use Rattle.std.proofs.lemmas.Bool.Decides.{nat_tests}
+use Rattle.std.proofs.lemmas.Bool.{cases_lt}
 use Rattle.std.proofs.lemmas.List.Elements.{All-cons, All-nil}
 use Rattle.std.proofs.lemmas.Nat.{mod_below}
 use Rattle.bip_bank.proofs.IdlenessLemmas.{no_reason}
@@ -21,7 +22,8 @@ use Rattle.bip_model.specs.declared.numbering.InterId.{InterId}
 use Rattle.bip_partition.specs.Plans.{AreStations, Planned}
 use Rattle.bip_partition.proofs.TableLemmas.{one_stations}
 use Rattle.bip_schedule.specs.Writing.{HasSpelling, HaveSpelling}
-use Rattle.bip_schedule.specs.Busy.{FindsNone, HaveWork, IsBusyAmong, IsDrawnOfKind, IsQuietKind}
+use Rattle.bip_schedule.specs.Busy.{AreWithoutWork, FindsNone, HaveWork, IsBusyAmong}
+use Rattle.bip_schedule.specs.Busy.{IsDrawnOfKind, IsQuietKind}
 use Rattle.bip_schedule.specs.Busy.{arrival_at, arriving, asked_at, asked_count, count_of_kind}
 use Rattle.bip_schedule.specs.Busy.{event_at, none_below, one_has, one_lacks}
 use Rattle.bip_schedule.specs.declared.busy.EventKind.TheVariants.{Mail, Step, Try}
@@ -43,6 +45,18 @@ module _ (w : WorldContent) (at : ℕ → Event) where
   one_less below busy e so here is =
       subst (λ (k : ℕ). HaveWork w at k busy) (omega arith)
       (one_lacks so (subst (HasNoWork w) here is))
+
+  -- none of some
+  pub none_between : (from to busy : ℕ) → from ≤ to → HaveWork w at from busy
+      → AreWithoutWork w at from to → HaveWork w at to busy
+  none_between from zero busy low so none =
+      subst (λ (k : ℕ). HaveWork w at k busy) (omega (arith, low)) so
+  none_between from (suc to) busy low so none = elim (cases_lt to from) [
+    | inl past ↦ subst (λ (k : ℕ). HaveWork w at k busy) (omega (arith, low, past)) so
+    | inr later ↦ one_lacks (none_between from to busy (omega (arith, later)) so
+        (λ i first last. none i first (omega (arith, last))))
+        (none to (omega (arith, later)) (omega arith))
+  ]
 
   -- all of them
   pub all_below : (below count busy : ℕ) → below ≡ count → HaveWork w at below busy

@@ -8,4 +8,3 @@ pub mod IdleLemmas
 pub mod LawLemmas
 pub mod LineLemmas
 pub mod SpellingLemmas
-pub mod StationLemmas

@@ -17,7 +17,7 @@ use Rattle.bip_model.specs.Texts.{is_comment, is_plain, words}
 use Rattle.bip_model.specs.declared.numbering.InterId.{InterId}
 use Rattle.bip_partition.specs.Plans.{AreStations, Planned}
 use Rattle.bip_replay.specs.Items.{ReadsBack}
-use Rattle.bip_schedule.proofs.StationLemmas.{place_of, station_declared}
+use Rattle.bip_bank.proofs.StationLemmas.{place_of, station_declared}
 use Rattle.bip_schedule.specs.Lines.{event_known, event_on, event_said, name_said, station_known}
 use Rattle.bip_schedule.specs.Writing.{HasSpelling, IsNamed, event_line, station_name, verb_of}
 use Rattle.bip_schedule.specs.Writing.{event_words}

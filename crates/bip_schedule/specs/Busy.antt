@@ -1,10 +1,9 @@
 -- Events by chance that have something to do: which one a word is, in a world.
-use Rattle.std.specs.Prelude.{◌≡◌, ◌⊎◌, ◌<◌, ◌≤◌, ◌+◌, ◌*◌, ◌/◌, ◌%◌, ◌-◌, ◌==◌, ℕ, suc, List, []}
+use Rattle.std.specs.Prelude.{◌≡◌, ◌⊎◌, ◌<◌, ◌≤◌, ◌+◌, ◌/◌, ◌%◌, ◌-◌, ◌==◌, ℕ, suc, List, []}
 use Rattle.std.specs.Prelude.{◌∷◌, if◌then◌else◌, length, nat_lt}
 use Rattle.bip_bank.specs.Sharing.{in_flight}
-use Rattle.bip_bank.specs.declared.banks.BankStep.TheVariants.{Ask, Deliver, Pass, Serve}
-use Rattle.bip_bank.specs.declared.banks.BankStep.{BankStep}
-use Rattle.bip_bank.specs.declared.banks.StationId.{StationId}
+use Rattle.bip_bank.specs.Steps.{step_at, step_count}
+use Rattle.bip_bank.specs.declared.banks.BankStep.TheVariants.{Deliver}
 use Rattle.bip_core.specs.Events.{HasNoWork, HasWork}
 use Rattle.bip_core.specs.Worlds.{WorldContent}
 use Rattle.bip_core.specs.declared.events.Event.TheVariants as event
@@ -15,20 +14,9 @@ use Rattle.bip_partition.specs.Plans.{AreStations, Planned}
 use Rattle.bip_schedule.specs.declared.busy.EventKind.TheVariants.{Mail, Step, Try}
 use Rattle.bip_schedule.specs.declared.busy.EventKind.{EventKind}
 
--- the pairs of so many stations, by number from 0: by the first one, then by the second
-abbrev pub pair_at : ℕ → ℕ → StationId × StationId
-pair_at n i = (record { 0 = i / n }, record { 0 = i % n })
-
--- the steps of a bank with so many stations, but for those that deliver, by number: those that
--- serve, by station; then those that pass, by pair; then those that ask, by pair
-abbrev pub step_at : ℕ → ℕ → BankStep
-step_at n i =
-    if nat_lt i n then Serve (record { 0 = i })
-    else if nat_lt (i - n) (n * n) then Pass (pair_at n (i - n)).0 (pair_at n (i - n)).1
-    else Ask (pair_at n (i - n - n * n)).0 (pair_at n (i - n - n * n)).1
-
 -- the events of a kind about which is asked, by number, and how many there are: of messages there
--- are none; tries by interaction, each by its class; and these steps
+-- are none; tries by interaction, each by its class; and the steps of the bank, but for those that
+-- deliver
 abbrev pub asked_at : Planned → ℕ → EventKind → ℕ → Event
 asked_at p n Mail i = event.Mail i
 asked_at p n Try i = event.Try (record { 0 = class_in p.classes i }) (record { 0 = i })
@@ -37,7 +25,7 @@ asked_at p n Step i = event.Bank (step_at n i)
 abbrev pub asked_count : Planned → ℕ → EventKind → ℕ
 asked_count p n Mail = 0
 asked_count p n Try = length p.model.interactions
-asked_count p n Step = n + n * n + n * n
+asked_count p n Step = step_count n
 
 -- how many events of a kind are arrivals: of what is in flight, or in flight inside the bank
 abbrev pub arriving : WorldContent → EventKind → ℕ
@@ -122,3 +110,11 @@ pub record FindsNone (w : WorldContent) (at : ℕ → Event) (count behind : ℕ
   pub found : ℕ
   pub all : HaveWork w at count found
   pub few : found ≤ behind
+
+-- of events, those with numbers from one on, below another one, have nothing to do
+abbrev pub AreWithoutWork : WorldContent → (ℕ → Event) → ℕ → ℕ → Type 0
+AreWithoutWork w at from to = (i : ℕ) → from ≤ i → i < to → HasNoWork w (at i)
+
+-- a plan has so many stations
+abbrev pub IsStationCount : Planned → ℕ → Type 0
+IsStationCount p n = (stations : List InterId) × AreStations p stations × (length stations ≡ n)

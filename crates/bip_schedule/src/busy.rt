@@ -6,14 +6,14 @@ ghost use Rattle.bip_core.specs.Events.{HasWork};
 ghost use Rattle.bip_core.specs.Worlds.{world_of};
 ghost use Rattle.bip_core.specs.declared.events.Event.TheVariants.{Bank};
 ghost use Rattle.bip_model.specs.declared.numbering.InterId.{InterId};
-ghost use Rattle.bip_schedule.specs.Busy.{FindsNone, HaveWork, IsBusyAmong, IsBusyDrawn};
+ghost use Rattle.bip_schedule.specs.Busy.{AreWithoutWork, FindsNone, HaveWork, IsBusyAmong};
+ghost use Rattle.bip_schedule.specs.Busy.{IsBusyDrawn, IsStationCount};
 ghost use Rattle.bip_schedule.specs.Busy.{IsDrawnOfKind, IsQuiet, IsQuietKind, arrival_at};
-ghost use Rattle.bip_schedule.specs.Busy.{arriving, asked_at, asked_count, kinds_of, pair_at};
-ghost use Rattle.bip_schedule.specs.Busy.{step_at};
+ghost use Rattle.bip_schedule.specs.Busy.{arriving, asked_at, asked_count, kinds_of};
 ghost use Rattle.bip_schedule.specs.Writing.{HasSpelling, HaveSpelling};
 ghost use Rattle.bip_schedule.specs.declared.busy.EventKind.TheVariants.{Try};
 
-use bip_bank::{Bank, BankStep, StationId};
+use bip_bank::{Bank, BankStep, step_at, step_count};
 use bip_core::{Event, World};
 use bip_model::InterId;
 use bip_partition::Plan;
@@ -73,6 +73,7 @@ fn take<'p, B: Bank>(
     number: u32,
 ) -> Option<Event>
     requires few { stations ≤ 65536 }
+    requires counted { IsStationCount (world_of world.now).plan stations }
     ensures some { IfSome result (λ e. MovesInOneWay (world_of world.now).bank.sharing
         → IsDrawnOfKind (world_of world.now) stations kind number e) }
     ensures none { IfNone result (MovesInOneWay (world_of world.now).bank.sharing
@@ -117,15 +118,19 @@ fn arrival_at(kind: EventKind, place: usize) -> Event
 /// How many events of a kind about which is asked have something to do.
 fn count_asked<'p, B: Bank>(world: &World<'p, B>, stations: usize, kind: EventKind) -> usize
     requires few { stations ≤ 65536 }
+    requires counted { IsStationCount (world_of world.now).plan stations }
     ensures { let p = (world_of world.now).plan
         in HaveWork (world_of world.now) (asked_at p stations kind) (asked_count p stations kind)
         result }
 {
+    let count = asked_count(world, stations, kind);
     let mut busy = 0;
-    for number in 0..asked_count(world, stations, kind) {
+    let mut number = idle_until(world, stations, kind, 0).min(count);
+    while number < count {
         if world.has_work(asked_at(world, stations, kind, number)) {
             busy += 1;
         }
+        number = idle_until(world, stations, kind, number + 1).min(count);
     }
     busy
 }
@@ -138,6 +143,7 @@ fn find_asked<'p, B: Bank>(
     before: usize,
 ) -> Option<Event>
     requires few { stations ≤ 65536 }
+    requires counted { IsStationCount (world_of world.now).plan stations }
     ensures some { let p = (world_of world.now).plan
         in IfSome result (IsBusyAmong (world_of world.now) (asked_at p stations kind)
         (asked_count p stations kind) before) }
@@ -147,8 +153,10 @@ fn find_asked<'p, B: Bank>(
     ensures spelled { (list : List InterId) → length list ≡ stations
         → IfSome result (HasSpelling (world_of world.now).plan list) }
 {
+    let count = asked_count(world, stations, kind);
     let mut left = before;
-    for number in 0..asked_count(world, stations, kind) {
+    let mut number = idle_until(world, stations, kind, 0).min(count);
+    while number < count {
         let event = asked_at(world, stations, kind, number);
         if world.has_work(event) {
             if left == 0 {
@@ -156,8 +164,30 @@ fn find_asked<'p, B: Bank>(
             }
             left -= 1;
         }
+        number = idle_until(world, stations, kind, number + 1).min(count);
     }
     None
+}
+
+/// A number up to which, from one on, none of a kind about which is asked has anything to do.
+fn idle_until<'p, B: Bank>(
+    world: &World<'p, B>,
+    stations: usize,
+    kind: EventKind,
+    from: usize,
+) -> usize
+    requires counted { IsStationCount (world_of world.now).plan stations }
+    ensures onward { from ≤ result }
+    ensures idle { let p = (world_of world.now).plan
+        in AreWithoutWork (world_of world.now) (asked_at p stations kind) from result }
+{
+    match kind {
+        EventKind::Step => {
+            world.recall();
+            world.bank().idle_until(from)
+        }
+        _ => from,
+    }
 }
 
 /// How many events of a kind there are about which is asked.
@@ -168,7 +198,7 @@ fn asked_count<'p, B: Bank>(world: &World<'p, B>, stations: usize, kind: EventKi
     match kind {
         EventKind::Mail => 0,
         EventKind::Try => world.plan().model().interactions().len(),
-        EventKind::Step => stations + stations * stations + stations * stations,
+        EventKind::Step => step_count(stations),
     }
 }
 
@@ -201,34 +231,4 @@ fn try_of(plan: &Plan, number: usize) -> Event
     plan.recall();
     let inter = InterId(number as u16);
     Event::Try(plan.class_of(inter), inter)
-}
-
-/// The step with a number of a bank with so many stations, but for those that deliver.
-fn step_at(stations: usize, number: usize) -> BankStep
-    requires few { stations ≤ 65536 }
-    requires within { number < stations + stations * stations + stations * stations }
-    ensures { result ≡ step_at stations number }
-{
-    let pairs = stations * stations;
-    if number < stations {
-        return BankStep::Serve(StationId(number as u16));
-    }
-    let behind = number - stations;
-    if behind < pairs {
-        let (from, to) = pair_at(stations, behind);
-        return BankStep::Pass(from, to);
-    }
-    let (from, to) = pair_at(stations, behind - pairs);
-    BankStep::Ask(from, to)
-}
-
-/// The pair of stations with a number: by the first one, then by the second.
-fn pair_at(stations: usize, number: usize) -> (StationId, StationId)
-    requires few { stations ≤ 65536 }
-    requires within { number < stations * stations }
-    ensures { result ≡ pair_at stations number }
-{
-    let from = (number / stations) as u16;
-    let to = (number % stations) as u16;
-    (StationId(from), StationId(to))
 }

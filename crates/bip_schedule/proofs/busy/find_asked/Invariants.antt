@@ -1,4 +1,4 @@
-use Rattle.std.proofs.Common.{ℕ, ◌≡◌, ◌+◌}
+use Rattle.std.proofs.Common.{ℕ, ◌≡◌, ◌≤◌, ◌+◌, ◌-◌}
 use Rattle.bip_core.specs.Worlds.{world_of}
 use Rattle.bip_schedule.specs.Busy.{HaveWork, asked_at}
 use Rattle.bip_schedule.proofs.busy.find_asked.Given as goal
@@ -9,3 +9,7 @@ invariant-loop-number g l =
     × HaveWork (world_of l.world) (asked_at (world_of l.world).plan l.stations l.kind) l.number
     found
     × (found + l.left ≡ l.before)
+    × (l.number ≤ l.count)
+
+abbrev pub decreases-loop-number : goal.decreases-loop-number
+decreases-loop-number g l = l.count - l.number

@@ -3,7 +3,6 @@ use Rattle.std.proofs.lemmas.Bool.Decides.{nat_tests}
 use Rattle.bip_core.specs.Worlds.{world_of}
 use Rattle.bip_schedule.proofs.BusyLemmas.{arrival_taken, none_of_asked, quiet_kind}
 use Rattle.bip_schedule.proofs.BusyLemmas.{taken_of_asked}
-use Rattle.bip_schedule.specs.Busy.{arriving}
 use Rattle.bip_schedule.proofs.busy.take.Goals as goal
 
 pub returns-then-busy-eq0-clause-none : goal.returns-then-busy-eq0-clause-none

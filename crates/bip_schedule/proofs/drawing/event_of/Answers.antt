@@ -1,5 +1,5 @@
 use Rattle.std.proofs.Common.{arith}
-use Rattle.bip_schedule.proofs.StationLemmas.{few_stations}
+use Rattle.bip_bank.proofs.StationLemmas.{few_stations}
 use Rattle.bip_schedule.proofs.drawing.event_of.Goals as goal
 
 pub step_of-requires : goal.step_of-requires

@@ -1,5 +1,5 @@
 use Rattle.std.proofs.Common.{rules, arith}
-use Rattle.bip_schedule.proofs.StationLemmas.{place-le}
+use Rattle.bip_bank.proofs.StationLemmas.{place-le}
 use Rattle.bip_schedule.proofs.lines.station_known.Goals as goal
 
 pub overflow_cast-result : goal.overflow_cast-result

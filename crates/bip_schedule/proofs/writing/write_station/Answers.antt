@@ -1,4 +1,4 @@
-use Rattle.bip_schedule.proofs.StationLemmas.{station_declared}
+use Rattle.bip_bank.proofs.StationLemmas.{station_declared}
 use Rattle.bip_schedule.proofs.writing.write_station.Goals as goal
 
 pub write_inter-requires : goal.write_inter-requires
