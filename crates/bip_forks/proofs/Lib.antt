@@ -10,6 +10,7 @@ pub mod RowLemmas
 pub mod ServeLemmas
 pub mod ServedLemmas
 pub mod SharingLemmas
+pub mod SideLemmas
 pub mod StationLemmas
 pub mod StepLemmas
 pub mod ViewLemmas

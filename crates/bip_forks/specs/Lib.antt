@@ -2,4 +2,5 @@ pub mod Kept
 pub mod Laws
 pub mod Machines
 pub mod Opening
+pub mod Sides
 pub mod Stations

@@ -7,6 +7,7 @@ mod laws;
 mod opening;
 mod sending;
 mod shares;
+mod sides;
 mod stations;
 
 pub use forks::Forks;

@@ -9,6 +9,7 @@ ghost use Rattle.bip_forks.specs.Opening.{IsFirstSide, IsFirstStation, IsListCom
 ghost use Rattle.bip_forks.specs.Opening.{IsNewStation, LacksStation, rows_with};
 
 use crate::shares::{Fork, Side, pair_of_stations};
+use crate::sides::Sides;
 use crate::stations::Station;
 use bip_bank::{StationId, interaction_at, numbered};
 use bip_model::{CompId, InterId, Number, Seq};
@@ -91,14 +92,14 @@ fn first_sides(
     number: StationId,
     inter: InterId,
     base: Number,
-) -> Result<Vec<Side>, AllocError>
+) -> Result<Sides, AllocError>
     requires known { All (λ (a : InterId). a.0 < length plan.now.model.interactions) inters.now }
     requires few { length inters.now ≤ 128 }
     requires here { inter.0 < length plan.now.model.interactions }
     ensures { IfOk result (λ sides. AreFirstSides plan.now base inters.now number.0 inter
-        (length inters.now) sides.items) }
+        (length inters.now) sides) }
 {
-    let mut sides = Vec::new(alloc);
+    let mut sides = Sides::new(alloc);
     for place in 0..inters.len() {
         let other = StationId(place as u16);
         sides.push(first_side(alloc, plan, number, inter, other, inters[place], base)?)?;

@@ -1,8 +1,9 @@
 //! What two stations share: a fork, and its request token.
-ghost use Rattle.std.specs.Prelude.{◌≡◌, ◌↔◌, IfSome, IfNone, IsTrue, None, Some, map, true};
-ghost use Rattle.std.specs.Prelude.{false};
+ghost use Rattle.std.specs.Prelude.{◌≡◌, ◌↔◌, IfErr, IfSome, IfNone, IsTrue, None, OnOk, Some, map};
+ghost use Rattle.std.specs.Prelude.{false, true};
 ghost use Rattle.bip_table.specs.Rows.{used_at};
-ghost use Rattle.bip_forks.specs.Stations.{AllLie, KeepsFork, KeepsRequestToken, LiesHere};
+ghost use Rattle.bip_forks.specs.Sides.{LacksFork, LacksToken};
+ghost use Rattle.bip_forks.specs.Stations.{KeepsFork, KeepsRequestToken, LiesHere};
 ghost use Rattle.bip_forks.specs.Stations.{MayAsk, MayPass};
 ghost use Rattle.bip_forks.specs.Stations.{other_of};
 ghost use Rattle.bip_forks.specs.Stations.{pair_of_stations, renumbered};
@@ -91,16 +92,9 @@ pub fn other_of(pair: Neighbours, station: StationId) -> Option<StationId>
     None
 }
 
-/// Whether a station has all its forks.
-pub(crate) fn has_all(sides: &[Side]) -> bool
-    ensures { IsTrue result ↔ AllLie sides.now }
-{
-    sides.iter().all(|side| side.lies())
-}
-
 impl Side {
     /// Whether the fork lies here, where one is shared.
-    fn lies(&self) -> bool
+    pub(crate) fn lies(&self) -> bool
         ensures { IsTrue result ↔ LiesHere self.now }
     {
         !self.shared || self.fork.is_some()
@@ -155,6 +149,48 @@ impl Side {
             return Some(WhyIdle::NoRequestToken);
         }
         None
+    }
+
+    /// Lets the request token go, where it can.
+    pub(crate) fn ask(&mut self) -> bool
+        ensures went { IsTrue result → MayAsk self.old
+            × (self.new ≡ record self.old { asked = false }) }
+        ensures stays { result ≡ false → (self.new ≡ self.old) × ¬ MayAsk self.old }
+    {
+        if !self.may_ask() {
+            return false;
+        }
+        self.asked = false;
+        true
+    }
+
+    /// Takes the request token, where the fork is shared and its token isn't here.
+    pub(crate) fn take_ask(&mut self) -> bool
+        ensures taken { IsTrue result → LacksToken self.old
+            × (self.new ≡ record self.old { asked = true }) }
+        ensures stays { result ≡ false → (self.new ≡ self.old) × ¬ LacksToken self.old }
+    {
+        if !self.shared || self.asked {
+            return false;
+        }
+        self.asked = true;
+        true
+    }
+
+    /// Lays the fork, clean or dirty, where it is shared and isn't here. Else it comes back, and all
+    /// stays as it was.
+    pub(crate) fn lay(&mut self, fork: Fork, clean: bool) -> Result<(), Fork>
+        ensures ok { OnOk result (LacksFork self.old
+            × (self.new ≡ record self.old { fork = Some fork; clean = clean })) }
+        ensures err { IfErr result (λ refused. (refused ≡ fork) × (self.new ≡ self.old)
+            × ¬ LacksFork self.old) }
+    {
+        if !self.shared || self.fork.is_some() {
+            return Err(fork);
+        }
+        self.fork = Some(fork);
+        self.clean = clean;
+        Ok(())
     }
 
     /// Lets the fork go, where it can.

@@ -11,7 +11,8 @@ ghost use Rattle.bip_forks.specs.Stations.{MayPass, other_of, pair_of_stations, 
 ghost use Rattle.bip_forks.specs.Stations.{rewritten};
 ghost use Rattle.bip_forks.specs.Stations.{rows_here, rows_in, side_with, with_fork, with_side_to};
 
-use crate::shares::{AskToken, Fork, Side, has_all, other_of, pair_of_stations};
+use crate::shares::{AskToken, Fork, other_of, pair_of_stations};
+use crate::sides::Sides;
 use bip_bank::{Queue, StationId, WhyIdle};
 use bip_model::{InterId, Request};
 use bip_table::{Decision, Row, Table, TableFault};
@@ -28,7 +29,7 @@ pub struct Station {
     inter: InterId,
     table: Table,
     waiting: Queue<Request>,
-    sides: Vec<Side>,
+    sides: Sides,
 }
 
 impl marker::Model for Station {
@@ -42,7 +43,7 @@ impl marker::Model for Station {
       inter = s.inter;
       table = s.table;
       waiting = s.waiting;
-      sides = s.sides.items;
+      sides = s.sides;
     } };
 
     ghost invariant = { λ s. s.table.journal ≡ [] };
@@ -56,7 +57,7 @@ impl Station {
         number: StationId,
         inter: InterId,
         table: Table,
-        sides: Vec<Side>,
+        sides: Sides,
     ) -> Station
         requires { table.journal ≡ [] }
         ensures { result ≡ record {
@@ -64,7 +65,7 @@ impl Station {
           inter = inter;
           table = table;
           waiting = [];
-          sides = sides.items;
+          sides = sides;
         } }
     {
         Station {
@@ -104,7 +105,7 @@ impl Station {
         ensures { IsTrue result ↔ (HasFirst self.now.waiting
             × MayAsk (side_with self.now other.0)) }
     {
-        match self.sides.get(other.0 as usize) {
+        match self.sides.get(other) {
             Some(side) => is_waiting(&self.waiting) && side.may_ask(),
             None => false,
         }
@@ -115,7 +116,7 @@ impl Station {
     pub fn may_pass(&self, other: StationId) -> bool
         ensures { IsTrue result ↔ MayPass (side_with self.now other.0) }
     {
-        match self.sides.get(other.0 as usize) {
+        match self.sides.get(other) {
             Some(side) => side.may_pass(),
             None => false,
         }
@@ -130,7 +131,7 @@ impl Station {
         if !is_waiting(&self.waiting) {
             return Some(WhyIdle::NothingOpen);
         }
-        match self.sides.get(other.0 as usize) {
+        match self.sides.get(other) {
             Some(side) => side.why_unasked(),
             None => Some(WhyIdle::NoFork),
         }
@@ -141,7 +142,7 @@ impl Station {
         ensures some { IfSome result (KeepsFork (side_with self.now other.0)) }
         ensures none { IfNone result (MayPass (side_with self.now other.0)) }
     {
-        match self.sides.get(other.0 as usize) {
+        match self.sides.get(other) {
             Some(side) => side.why_kept(),
             None => Some(WhyIdle::NoFork),
         }
@@ -155,7 +156,7 @@ impl Station {
         if !is_waiting(&self.waiting) {
             return Some(WhyIdle::NothingOpen);
         }
-        if !has_all(&self.sides) {
+        if !self.sides.has_all() {
             return Some(WhyIdle::Lacking);
         }
         None
@@ -171,10 +172,9 @@ impl Station {
         ensures none { IfNone result ((self.new ≡ self.old)
             × ¬ (HasFirst self.old.waiting × MayAsk (side_with self.old other.0))) }
     {
-        if !self.may_ask(other) {
+        if !is_waiting(&self.waiting) || !self.sides.ask(other) {
             return None;
         }
-        self.sides[other.0 as usize].asked = false;
         Some(AskToken {
             pair: pair_of_stations(self.number, other),
         })
@@ -189,11 +189,7 @@ impl Station {
         ensures none { IfNone result ((self.new ≡ self.old)
             × ¬ MayPass (side_with self.old other.0)) }
     {
-        let place = other.0 as usize;
-        if place >= self.sides.len() {
-            return None;
-        }
-        self.sides[place].pass()
+        self.sides.pass(other)
     }
 
     /// Takes a request token. One that isn't of a fork that this station shares, or is there
@@ -210,11 +206,9 @@ impl Station {
         let Some(other) = other_of(token.pair, self.number) else {
             return Err(token);
         };
-        let place = other.0 as usize;
-        if place >= self.sides.len() || !lacks_token(&self.sides[place]) {
+        if !self.sides.take_ask(other) {
             return Err(token);
         }
-        self.sides[place].asked = true;
         Ok(())
     }
 
@@ -256,21 +250,14 @@ impl Station {
         let Some(other) = other_of(fork.pair, self.number) else {
             return Err(fork);
         };
-        let place = other.0 as usize;
-        if place >= self.sides.len() || !lacks_fork(&self.sides[place]) {
-            return Err(fork);
-        }
-        let side = &mut self.sides[place];
-        side.fork = Some(fork);
-        side.clean = clean;
-        Ok(())
+        self.sides.lay(other, fork, clean)
     }
 
     /// Whether the station can serve: it has all its forks, and an open request.
     pub fn is_ready(&self) -> bool
         ensures { IsTrue result ↔ IsReadyToServe self.now }
     {
-        is_waiting(&self.waiting) && has_all(&self.sides)
+        is_waiting(&self.waiting) && self.sides.has_all()
     }
 
     /// Decides on the oldest open request, where the station has all its forks: by its rows raised
@@ -301,7 +288,7 @@ impl Station {
         let mut granted = self.table.cut(Vec::new(self.alloc));
         granted.clear();
         let _none = self.table.cut(granted);
-        write_all(&mut self.sides, self.table.rows());
+        self.sides.write_all(self.table.rows());
         match self.waiting.take_first() {
             Some(request) => Ok(Some((request, decision))),
             None => unreachable!(),
@@ -319,22 +306,8 @@ fn is_waiting(waiting: &Queue<Request>) -> bool
     }
 }
 
-/// Whether a fork is shared there that isn't here.
-fn lacks_fork(side: &Side) -> bool
-    ensures { IsTrue result ↔ (IsTrue side.now.shared × (side.now.fork ≡ None)) }
-{
-    side.shared && side.fork.is_none()
-}
-
-/// Whether a fork is shared there whose request token isn't here.
-fn lacks_token(side: &Side) -> bool
-    ensures { IsTrue result ↔ (IsTrue side.now.shared × (side.now.asked ≡ false)) }
-{
-    side.shared && !side.asked
-}
-
 /// Raises the rows of a table to the numbers of all forks that lie here.
-fn raise_all(table: &mut Table, sides: &[Side])
+fn raise_all(table: &mut Table, sides: &Sides)
     requires { table.old.journal ≡ [] }
     ensures used { used_at table.new.rows
         ≡ raised_by (rows_here sides.now) (has_row table.old.rows) (used_at table.old.rows) }
@@ -343,8 +316,9 @@ fn raise_all(table: &mut Table, sides: &[Side])
     ensures serial { table.new.serial ≡ table.old.serial }
     ensures room { table.new.room ≡ table.old.room }
 {
-    for side in sides {
-        raise_by(table, &side.fork);
+    let listed = sides.listed();
+    for shared in listed {
+        raise_by(table, &shared.side.fork);
     }
 }
 
@@ -376,14 +350,5 @@ fn raise_to(table: &mut Table, rows: &[Row])
 {
     for row in rows {
         table.raise(row.comp, row.used);
-    }
-}
-
-/// Writes the used numbers of a table into all forks, which are dirty then.
-fn write_all(sides: &mut Vec<Side>, rows: &[Row])
-    ensures { sides.new.items ≡ map (rewritten rows.now) sides.old.items }
-{
-    for place in 0..sides.len() {
-        sides[place].write(rows);
     }
 }

@@ -1,9 +1,6 @@
-use Rattle.std.proofs.Common.{◌≡◌, List, inr, refl, rules, sym, subst}
-use Rattle.bip_table.specs.Rows.{has_row, used_at}
+use Rattle.std.proofs.Common.{inr, refl, rules, sym, subst}
 use Rattle.bip_forks.proofs.StationLemmas.{IsUndecidedHere, raised_alone, row_unknown}
-use Rattle.bip_forks.specs.Stations.{AllLie, IsRaisedAlone, IsReadyToServe, KeptStation, raised_by}
-use Rattle.bip_forks.specs.Stations.{rows_here}
-use Rattle.bip_forks.specs.declared.shares.Side.{Side}
+use Rattle.bip_forks.specs.Stations.{AllLie, IsRaisedAlone, IsReadyToServe, KeptStation}
 use Rattle.bip_forks.proofs.stations.Station.serve.Goals as goal
 
 pub returns-in-Err-UnknownRow-clause-none : goal.returns-in-Err-UnknownRow-clause-none
@@ -14,18 +11,12 @@ returns-in-Err-UnknownRow-clause-none c =
       inter = c.self.inside.inter;
       table = c.self.inside.table;
       waiting = c.self.inside.waiting;
-      sides =
-          c.self.inside.sides.items;
+      sides = c.self.inside.sides;
     } in
     let later : KeptStation = record s { table = c.decide.new.self } in
-    let used : used_at c.raise_all.new.table.rows ≡ raised_by (rows_here c.self.inside.sides.items)
-    (has_row c.reserve_room.new.self.rows) (used_at c.reserve_room.new.self.rows) =
-    subst (λ (xs : List Side). used_at c.raise_all.new.table.rows ≡ raised_by (rows_here xs)
-    (has_row c.reserve_room.new.self.rows) (used_at c.reserve_room.new.self.rows))
-    c.deref.ensures.value c.raise_all.ensures.used in
     inr (subst (λ (x : KeptStation). IsRaisedAlone x later × IsUndecidedHere x) c.self.view_is (
       raised_alone s later c.reserve_room.new.self c.raise_all.new.table c.decide.new.self
-          c.reserve_room.ensures.kept used c.raise_all.ensures.tabled c.raise_all.ensures.serial
+          c.reserve_room.ensures.kept c.raise_all.ensures.used c.raise_all.ensures.tabled c.raise_all.ensures.serial
           c.in-Err-UnknownRow.ensures.left refl,
       row_unknown s c.in-Some.request.now c.reserve_room.new.self c.raise_all.new.table
           c.in-Err-UnknownRow.field-0-0

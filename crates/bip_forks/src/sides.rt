@@ -1,0 +1,194 @@
+//! What a station shares with each one, kept only of those with which it shares something.
+ghost use Rattle.std.specs.Prelude.{◌≡◌, ◌↔◌, ◌<◌, ℕ, [], ◌∷◌, ◌++◌, All, IfErr, IfNone, IfOk};
+ghost use Rattle.std.specs.Prelude.{IfSome, IsTrue, None, OnErr, OnOk, Some, false, length, map};
+ghost use Rattle.std.specs.Prelude.{slice_set, true};
+ghost use Rattle.bip_forks.specs.Sides.{IsListedWith, LacksFork, LacksToken};
+ghost use Rattle.bip_forks.specs.Sides.{listed_sides, side_among, with_side};
+ghost use Rattle.bip_forks.specs.Stations.{AllLie, LiesHere, MayAsk, MayPass, nothing_shared};
+ghost use Rattle.bip_forks.specs.Stations.{rewritten, rows_here};
+ghost use Rattle.bip_forks.specs.declared.sides.Shared.{Shared};
+
+use crate::shares::{Fork, Side};
+use bip_bank::StationId;
+use bip_table::Row;
+use std::alloc::{AllocError, Global};
+use std::marker;
+
+/// What a station shares with another one.
+#[derive(Drop)]
+pub(crate) struct Shared {
+    pub(crate) with: StationId,
+    pub(crate) side: Side,
+}
+
+/// What a station shares with each station, by number. It keeps how many there are, and what is
+/// shared, in order of their numbers. Contracts see a side of each station.
+#[derive(Drop)]
+pub(crate) struct Sides {
+    count: usize,
+    shared: Vec<Shared>,
+}
+
+impl marker::Model for Sides {
+    ghost use Rattle.std.specs.Prelude.{List};
+    ghost use Rattle.bip_forks.specs.declared.shares.Side.{Side};
+
+    ghost Value = { List Side };
+
+    ghost use Rattle.bip_forks.specs.Sides.{AreInOrder, sides_from};
+
+    ghost view = { λ s. sides_from s.count 0 s.shared.items };
+
+    ghost invariant = { λ s. AreInOrder 0 s.count s.shared.items };
+}
+
+impl Sides {
+    /// Of no station.
+    pub(crate) fn new(alloc: Global) -> Sides
+        ensures { result ≡ [] }
+    {
+        Sides {
+            count: 0,
+            shared: Vec::new(alloc),
+        }
+    }
+
+    /// Adds what is shared with the next station, which may be nothing. Without memory all stays as
+    /// it was.
+    pub(crate) fn push(&mut self, side: Side) -> Result<(), AllocError>
+        requires few { length self.old < 128 }
+        requires nothing { side.shared ≡ false → side ≡ nothing_shared }
+        ensures ok { OnOk result (self.new ≡ self.old ++ side ∷ []) }
+        ensures err { OnErr result (self.new ≡ self.old) }
+    {
+        if side.shared {
+            let with = StationId(self.count as u16);
+            self.shared.push(Shared { with, side })?;
+            self.count += 1;
+        } else {
+            self.count += 1;
+            drop(side);
+        }
+        Ok(())
+    }
+
+    /// What is shared with a station, where it is kept; else it is nothing.
+    pub(crate) fn get(&self, other: StationId) -> Option<&Side>
+        ensures some { IfSome result (λ side. side.now ≡ side_among self.now other.0) }
+        ensures none { IfNone result (side_among self.now other.0 ≡ nothing_shared) }
+    {
+        match place_with(&self.shared, other) {
+            Some(place) => Some(&self.shared[place].side),
+            None => None,
+        }
+    }
+
+    /// What is shared, in order of the stations' numbers.
+    pub(crate) fn listed(&self) -> &[Shared]
+        ensures { rows_here (listed_sides result.now) ≡ rows_here self.now }
+    {
+        self.shared.as_slice()
+    }
+
+    /// Whether all forks lie here.
+    pub(crate) fn has_all(&self) -> bool
+        ensures { IsTrue result ↔ AllLie self.now }
+    {
+        has_all(&self.shared)
+    }
+
+    /// Lets the request token of the fork shared with a station go, where it can.
+    pub(crate) fn ask(&mut self, other: StationId) -> bool
+        ensures went { IsTrue result → MayAsk (side_among self.old other.0)
+            × (self.new ≡ slice_set self.old other.0
+            (record (side_among self.old other.0) { asked = false })) }
+        ensures stays { result ≡ false → (self.new ≡ self.old)
+            × ¬ MayAsk (side_among self.old other.0) }
+    {
+        match place_with(&self.shared, other) {
+            Some(place) => self.shared[place].side.ask(),
+            None => false,
+        }
+    }
+
+    /// Lets the fork shared with a station go, where it can.
+    pub(crate) fn pass(&mut self, other: StationId) -> Option<Fork>
+        ensures some { IfSome result (λ fork. MayPass (side_among self.old other.0)
+            × ((side_among self.old other.0).fork ≡ Some fork)
+            × (self.new ≡ slice_set self.old other.0
+            (record (side_among self.old other.0) { fork = None }))) }
+        ensures none { IfNone result ((self.new ≡ self.old)
+            × ¬ MayPass (side_among self.old other.0)) }
+    {
+        match place_with(&self.shared, other) {
+            Some(place) => self.shared[place].side.pass(),
+            None => None,
+        }
+    }
+
+    /// Takes the request token of the fork shared with a station, where one is lacking.
+    pub(crate) fn take_ask(&mut self, other: StationId) -> bool
+        ensures taken { IsTrue result → LacksToken (side_among self.old other.0)
+            × (self.new ≡ slice_set self.old other.0
+            (record (side_among self.old other.0) { asked = true })) }
+        ensures stays { result ≡ false → (self.new ≡ self.old)
+            × ¬ LacksToken (side_among self.old other.0) }
+    {
+        match place_with(&self.shared, other) {
+            Some(place) => self.shared[place].side.take_ask(),
+            None => false,
+        }
+    }
+
+    /// Lays the fork shared with a station, clean or dirty, where one is lacking. Else it comes
+    /// back, and all stays as it was.
+    pub(crate) fn lay(&mut self, other: StationId, fork: Fork, clean: bool) -> Result<(), Fork>
+        ensures ok { OnOk result (LacksFork (side_among self.old other.0)
+            × (self.new ≡ slice_set self.old other.0
+            (record (side_among self.old other.0) { fork = Some fork; clean = clean }))) }
+        ensures err { IfErr result (λ refused. (refused ≡ fork) × (self.new ≡ self.old)
+            × ¬ LacksFork (side_among self.old other.0)) }
+    {
+        match place_with(&self.shared, other) {
+            Some(place) => self.shared[place].side.lay(fork, clean),
+            None => Err(fork),
+        }
+    }
+
+    /// Writes the used numbers of a table into all forks, which are dirty then.
+    pub(crate) fn write_all(&mut self, rows: &[Row])
+        ensures { self.new ≡ map (rewritten rows.now) self.old }
+    {
+        write_all(&mut self.shared, rows);
+    }
+}
+
+/// The place of what is shared with a station, if there is any.
+fn place_with(shared: &[Shared], other: StationId) -> Option<usize>
+    ensures some { IfSome result (IsListedWith shared.now other.0) }
+    ensures none { IfNone result ((k : ℕ) → ¬ IsListedWith shared.now other.0 k) }
+{
+    for (place, one) in shared.iter().enumerate() {
+        if one.with.0 == other.0 {
+            return Some(place);
+        }
+    }
+    None
+}
+
+/// Whether all forks that are shared lie here.
+fn has_all(shared: &[Shared]) -> bool
+    ensures { IsTrue result ↔ All (λ (x : Shared). LiesHere x.side) shared.now }
+{
+    shared.iter().all(|one| one.side.lies())
+}
+
+/// Writes the used numbers of a table into all forks that are shared.
+fn write_all(shared: &mut Vec<Shared>, rows: &[Row])
+    ensures { shared.new.items
+        ≡ map (λ (x : Shared). with_side (rewritten rows.now x.side) x) shared.old.items }
+{
+    for place in 0..shared.len() {
+        shared[place].side.write(rows);
+    }
+}
