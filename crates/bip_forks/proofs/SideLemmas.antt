@@ -1,15 +1,16 @@
 -- What a station shares with each one, where only what it shares is listed.
 use Rattle.std.proofs.Common.{◌≡◌, ◌≢◌, ℕ, zero, suc, ◌+◌, ◌<◌, ◌≤◌, List, [], ◌∷◌, ◌++◌, map}
 use Rattle.std.proofs.Common.{get_or, set, length, refl, sym, ap, ◌∙◌, subst, inl, inr, arith}
-use Rattle.std.specs.Prelude.{◌↔◌, All, Bool, Err, IfErr, IfNone, IfSome, None, Ok, OnOk, Option}
+use Rattle.std.specs.Prelude.{◌↔◌, ◌⊎◌, max, All, Bool, Err, IfErr, IfNone, IfSome, None, Ok, OnOk, Option}
 use Rattle.std.specs.Prelude.{Result, Some}
-use Rattle.std.proofs.lemmas.Bool.{false≢true}
+use Rattle.std.proofs.lemmas.Bool.{cases_lt, false≢true}
 use Rattle.std.proofs.lemmas.Bool.Decides.{eqb_tells}
 use Rattle.std.proofs.lemmas.List.{get_or_default, set-get_or}
 use Rattle.bip_table.specs.declared.rows.Row.{Row}
-use Rattle.bip_forks.specs.Sides.{AreInOrder, IsListedWith, listed_at, listed_sides, side_among}
-use Rattle.bip_forks.specs.Sides.{sides_from, with_side}
-use Rattle.bip_forks.specs.Sides.{LacksFork, no_one}
+use Rattle.bip_forks.specs.Sides.{ArePassed, IsFirstListed, IsNextNeighbour}
+use Rattle.bip_forks.specs.Sides.{AreByNumber, IsListedWith, listed_at, listed_sides, side_among}
+use Rattle.bip_forks.specs.Sides.{sides_from, with_other_side}
+use Rattle.bip_forks.specs.Sides.{LacksFork, nobody_shared}
 use Rattle.bip_forks.specs.Stations.{AllLie, LiesHere, MayPass, nothing_shared, rows_here, rows_in}
 use Rattle.bip_forks.specs.declared.shares.Fork.{Fork}
 use Rattle.bip_forks.specs.declared.shares.Side.{Side}
@@ -24,7 +25,7 @@ length-sides_from (suc count) at (x ∷ xs) = elim (eqb_tells x.with.0 at) [
 ]
 
 -- what is listed is within its bounds, and in order from any lower number on
-pub order_within : (from below : ℕ) (xs : List Shared) (k : ℕ) → AreInOrder from below xs
+pub order_within : (from below : ℕ) (xs : List Shared) (k : ℕ) → AreByNumber from below xs
     → k < length xs → (from ≤ (listed_at xs k).with.0) × ((listed_at xs k).with.0 < below)
 order_within from below [] k order within = absurd (omega arith)
 order_within from below (x ∷ xs) zero order within = (order.0, order.1)
@@ -32,23 +33,23 @@ order_within from below (x ∷ xs) (suc k) order within =
     let rest = order_within (suc x.with.0) below xs k order.2 (omega arith) in
     (omega (arith, order.0, rest.0), rest.1)
 
-order_later : (from at below : ℕ) (xs : List Shared) → AreInOrder from below xs → from ≡ at
-    → AreInOrder at below xs
-order_later from at below xs order same = subst (λ (n : ℕ). AreInOrder n below xs) same order
+order_later : (from at below : ℕ) (xs : List Shared) → AreByNumber from below xs → from ≡ at
+    → AreByNumber at below xs
+order_later from at below xs order same = subst (λ (n : ℕ). AreByNumber n below xs) same order
 
 -- past a gap, and past what is listed
-past_gap : (at below : ℕ) (x : Shared) (xs : List Shared) → AreInOrder at below (x ∷ xs)
-    → x.with.0 ≢ at → AreInOrder (suc at) below (x ∷ xs)
+past_gap : (at below : ℕ) (x : Shared) (xs : List Shared) → AreByNumber at below (x ∷ xs)
+    → x.with.0 ≢ at → AreByNumber (suc at) below (x ∷ xs)
 past_gap at below x xs order gap = (omega (arith, order.0), order.1, order.2)
 
-past_one : (at below : ℕ) (x : Shared) (xs : List Shared) → AreInOrder at below (x ∷ xs)
-    → x.with.0 ≡ at → AreInOrder (suc at) below xs
+past_one : (at below : ℕ) (x : Shared) (xs : List Shared) → AreByNumber at below (x ∷ xs)
+    → x.with.0 ≡ at → AreByNumber (suc at) below xs
 past_one at below x xs order here = order_later (suc x.with.0) (suc at) below xs order.2
     (ap suc here)
 
 -- the side at a listed number is what is listed there
 pub side_listed : (count at below : ℕ) (xs : List Shared) (t k : ℕ) (d : Side)
-    → below ≡ at + count → AreInOrder at below xs → k < length xs
+    → below ≡ at + count → AreByNumber at below xs → k < length xs
     → at + t ≡ (listed_at xs k).with.0
     → get_or (sides_from count at xs) t d ≡ (listed_at xs k).side
 side_listed zero at below xs t k d all order within is =
@@ -98,9 +99,9 @@ side_unlisted (suc count) at (x ∷ xs) (suc t) none = elim (eqb_tells x.with.0 
 
 -- another side in place of a listed one
 pub side_replaced : (count at below : ℕ) (xs : List Shared) (t k : ℕ) (y : Side)
-    → below ≡ at + count → AreInOrder at below xs → k < length xs
+    → below ≡ at + count → AreByNumber at below xs → k < length xs
     → at + t ≡ (listed_at xs k).with.0
-    → sides_from count at (set xs k (with_side y (listed_at xs k)))
+    → sides_from count at (set xs k (with_other_side y (listed_at xs k)))
     ≡ set (sides_from count at xs) t y
 side_replaced zero at below xs t k y all order within is =
     let bounds = order_within at below xs k order within in
@@ -132,7 +133,7 @@ side_replaced (suc count) at below (x ∷ xs) (suc t) (suc k) y all order within
     ]
 
 pub order_replaced : (from below : ℕ) (xs : List Shared) (k : ℕ) (y : Side)
-    → AreInOrder from below xs → AreInOrder from below (set xs k (with_side y (listed_at xs k)))
+    → AreByNumber from below xs → AreByNumber from below (set xs k (with_other_side y (listed_at xs k)))
 order_replaced from below [] k y order = order
 order_replaced from below (x ∷ xs) zero y order = order
 order_replaced from below (x ∷ xs) (suc k) y order =
@@ -141,7 +142,7 @@ order_replaced from below (x ∷ xs) (suc k) y order =
 -- each side changed
 pub sides_mapped : (f : Side → Side) (count at : ℕ) (xs : List Shared)
     → f nothing_shared ≡ nothing_shared
-    → sides_from count at (map (λ (x : Shared). with_side (f x.side) x) xs)
+    → sides_from count at (map (λ (x : Shared). with_other_side (f x.side) x) xs)
     ≡ map f (sides_from count at xs)
 sides_mapped f zero at xs none = refl
 sides_mapped f (suc count) at [] none =
@@ -154,15 +155,15 @@ sides_mapped f (suc count) at (x ∷ xs) none = elim (eqb_tells x.with.0 at) [
 ]
 
 pub order_mapped : (f : Side → Side) (from below : ℕ) (xs : List Shared)
-    → AreInOrder from below xs
-    → AreInOrder from below (map (λ (x : Shared). with_side (f x.side) x) xs)
+    → AreByNumber from below xs
+    → AreByNumber from below (map (λ (x : Shared). with_other_side (f x.side) x) xs)
 order_mapped f from below [] order = order
 order_mapped f from below (x ∷ xs) order =
     (order.0, order.1, order_mapped f (suc x.with.0) below xs order.2)
 
 -- one station more: with something shared, and with nothing
 pub side_added : (count at below : ℕ) (xs : List Shared) (x : Shared) → below ≡ at + count
-    → AreInOrder at below xs → x.with.0 ≡ below
+    → AreByNumber at below xs → x.with.0 ≡ below
     → sides_from (suc count) at (xs ++ x ∷ []) ≡ sides_from count at xs ++ x.side ∷ []
 side_added zero at below [] x all order is = elim (eqb_tells x.with.0 at) [
   | inl here ↦ rw here.0 refl
@@ -184,7 +185,7 @@ side_added (suc count) at below (y ∷ ys) x all order is = elim (eqb_tells y.wi
 ]
 
 pub none_added : (count at below : ℕ) (xs : List Shared) → below ≡ at + count
-    → AreInOrder at below xs
+    → AreByNumber at below xs
     → sides_from (suc count) at xs ≡ sides_from count at xs ++ nothing_shared ∷ []
 none_added zero at below [] all order = refl
 none_added zero at below (y ∷ ys) all order = absurd (omega (arith, order.0, order.1))
@@ -199,14 +200,14 @@ none_added (suc count) at below (y ∷ ys) all order = elim (eqb_tells y.with.0 
       (past_gap at below y ys order gap.1)))
 ]
 
-pub order_more : (from below : ℕ) (xs : List Shared) → AreInOrder from below xs
-    → AreInOrder from (suc below) xs
+pub order_more : (from below : ℕ) (xs : List Shared) → AreByNumber from below xs
+    → AreByNumber from (suc below) xs
 order_more from below [] order = omega (arith, order)
 order_more from below (x ∷ xs) order =
     (order.0, omega (arith, order.1), order_more (suc x.with.0) below xs order.2)
 
-pub order_added : (from below : ℕ) (xs : List Shared) (x : Shared) → AreInOrder from below xs
-    → x.with.0 ≡ below → AreInOrder from (suc below) (xs ++ x ∷ [])
+pub order_added : (from below : ℕ) (xs : List Shared) (x : Shared) → AreByNumber from below xs
+    → x.with.0 ≡ below → AreByNumber from (suc below) (xs ++ x ∷ [])
 order_added from below [] x order is =
     (omega (arith, order, is), omega (arith, is), omega (arith, is))
 order_added from below (y ∷ ys) x order is =
@@ -214,7 +215,7 @@ order_added from below (y ∷ ys) x order is =
 
 -- the rows of what is listed are those of all
 pub rows_listed : (count at below : ℕ) (xs : List Shared) → below ≡ at + count
-    → AreInOrder at below xs → rows_here (sides_from count at xs) ≡ rows_here (listed_sides xs)
+    → AreByNumber at below xs → rows_here (sides_from count at xs) ≡ rows_here (listed_sides xs)
 rows_listed zero at below [] all order = refl
 rows_listed zero at below (x ∷ xs) all order = absurd (omega (arith, order.0, order.1))
 rows_listed (suc count) at below [] all order =
@@ -259,18 +260,18 @@ all_from_listed P (suc count) at (x ∷ xs) none each (suc t) d within =
 pub record IsSideAt (count : ℕ) (xs : List Shared) (now : List Side) (t k : ℕ)
     (x : Shared) : Type 0 where
   pub read : x.side ≡ side_among now t
-  pub order : (y : Side) → AreInOrder 0 count (set xs k (with_side y x))
-  pub put : (y : Side) → sides_from count 0 (set xs k (with_side y x)) ≡ set now t y
+  pub order : (y : Side) → AreByNumber 0 count (set xs k (with_other_side y x))
+  pub put : (y : Side) → sides_from count 0 (set xs k (with_other_side y x)) ≡ set now t y
 
 pub side_at_place : (count : ℕ) (xs ys : List Shared) (now : List Side) (t k : ℕ) (x : Shared)
-    → AreInOrder 0 count xs → sides_from count 0 xs ≡ now → ys ≡ xs → IsListedWith ys t k
+    → AreByNumber 0 count xs → sides_from count 0 xs ≡ now → ys ≡ xs → IsListedWith ys t k
     → x ≡ get_or xs k x → IsSideAt count xs now t k x
 side_at_place count xs ys now t k x order view same here at = record {
   read = ap (λ (z : Shared). z.side) one ∙ (sym (side_listed count 0 count xs t k nothing_shared
       (omega arith) order within number) ∙ ap (λ (zs : List Side). side_among zs t) view);
-  order = λ y. subst (λ (z : Shared). AreInOrder 0 count (set xs k (with_side y z))) (sym one)
+  order = λ y. subst (λ (z : Shared). AreByNumber 0 count (set xs k (with_other_side y z))) (sym one)
       (order_replaced 0 count xs k y order);
-  put = λ y. ap (λ (z : Shared). sides_from count 0 (set xs k (with_side y z))) one
+  put = λ y. ap (λ (z : Shared). sides_from count 0 (set xs k (with_other_side y z))) one
       ∙ (side_replaced count 0 count xs t k y (omega arith) order within number
       ∙ ap (λ (zs : List Side). set zs t y) view);
 }
@@ -279,7 +280,7 @@ side_at_place count xs ys now t k x order view same here at = record {
     within = subst (λ (zs : List Shared). k < length zs) same here.0
 
     one : x ≡ listed_at xs k
-    one = at ∙ get_or_default xs k x no_one within
+    one = at ∙ get_or_default xs k x nobody_shared within
 
     number : 0 + t ≡ (listed_at xs k).with.0
     number = let e = subst (λ (zs : List Shared). (listed_at zs k).with.0 ≡ t) same here.1 in
@@ -296,7 +297,7 @@ nothing_at count xs ys now t view same none = ap (λ (zs : List Side). side_amon
 pub side_changed : (P : Side → Type 0) (f : Side → Side) (count : ℕ) (xs : List Shared)
     (now : List Side) (t k : ℕ) (x : Shared) (y : Side) → IsSideAt count xs now t k x
     → P x.side × (y ≡ f x.side) → P (side_among now t)
-    × (sides_from count 0 (set xs k (with_side y x)) ≡ set now t (f (side_among now t)))
+    × (sides_from count 0 (set xs k (with_other_side y x)) ≡ set now t (f (side_among now t)))
 side_changed P f count xs now t k x y at did = (
   subst P at.read did.0,
   at.put y ∙ ap (λ (s : Side). set now t s) (did.1 ∙ ap f at.read),
@@ -304,7 +305,7 @@ side_changed P f count xs now t k x y at did = (
 
 pub side_kept : (P : Side → Type 0) (count : ℕ) (xs : List Shared) (now : List Side) (t k : ℕ)
     (x : Shared) (y : Side) → IsSideAt count xs now t k x → (y ≡ x.side) × P x.side
-    → (sides_from count 0 (set xs k (with_side y x)) ≡ now) × P (side_among now t)
+    → (sides_from count 0 (set xs k (with_other_side y x)) ≡ now) × P (side_among now t)
 side_kept P count xs now t k x y at kept = (
   at.put y ∙ (ap (λ (s : Side). set now t s) (kept.0 ∙ at.read)
       ∙ set-get_or now t nothing_shared),
@@ -312,7 +313,7 @@ side_kept P count xs now t k x y at kept = (
 )
 
 -- all forks lie here just where those listed do
-pub lie_as : (count : ℕ) (xs ys : List Shared) (now : List Side) → AreInOrder 0 count xs
+pub lie_as : (count : ℕ) (xs ys : List Shared) (now : List Side) → AreByNumber 0 count xs
     → sides_from count 0 xs ≡ now → ys ≡ xs → All (λ (x : Shared). LiesHere x.side) ys ↔ AllLie now
 lie_as count xs ys now order view same = (
   λ each. subst AllLie view (λ t d within. all_from_listed LiesHere count 0 xs
@@ -320,7 +321,7 @@ lie_as count xs ys now order view same = (
       (subst (All (λ (x : Shared). LiesHere x.side)) same each) t d
       (omega (arith, within, length-sides_from count 0 xs))),
   λ all. subst (All (λ (x : Shared). LiesHere x.side)) (sym same) (λ k d within.
-      let one : get_or xs k d ≡ listed_at xs k = get_or_default xs k d no_one within in
+      let one : get_or xs k d ≡ listed_at xs k = get_or_default xs k d nobody_shared within in
       let t = (listed_at xs k).with.0 in
       let bounds = order_within 0 count xs k order within in
       let side : get_or (sides_from count 0 xs) t nothing_shared ≡ (listed_at xs k).side =
@@ -336,7 +337,7 @@ pub side_passed : (count : ℕ) (xs : List Shared) (now : List Side) (t k : ℕ)
     → IfSome r (λ fork. MayPass x.side × (x.side.fork ≡ Some fork)
     × (y ≡ record x.side { fork = None }))
     → IfSome r (λ fork. MayPass (side_among now t) × ((side_among now t).fork ≡ Some fork)
-    × (sides_from count 0 (set xs k (with_side y x))
+    × (sides_from count 0 (set xs k (with_other_side y x))
     ≡ set now t (record (side_among now t) { fork = None })))
 side_passed count xs now t k x y None at did = did
 side_passed count xs now t k x y (Some fork) at did =
@@ -347,7 +348,7 @@ side_passed count xs now t k x y (Some fork) at did =
 pub side_unpassed : (count : ℕ) (xs : List Shared) (now : List Side) (t k : ℕ) (x : Shared)
     (y : Side) (r : Option Fork) → IsSideAt count xs now t k x
     → IfNone r ((y ≡ x.side) × (MayPass x.side → ⊥))
-    → IfNone r ((sides_from count 0 (set xs k (with_side y x)) ≡ now)
+    → IfNone r ((sides_from count 0 (set xs k (with_other_side y x)) ≡ now)
     × (MayPass (side_among now t) → ⊥))
 side_unpassed count xs now t k x y None at kept =
     side_kept (λ (s : Side). MayPass s → ⊥) count xs now t k x y at kept
@@ -356,7 +357,7 @@ side_unpassed count xs now t k x y (Some fork) at kept = kept
 pub side_laid : (count : ℕ) (xs : List Shared) (now : List Side) (t k : ℕ) (x : Shared) (y : Side)
     (fork : Fork) (clean : Bool) (r : Result (Unit {0}) Fork) → IsSideAt count xs now t k x
     → OnOk r (LacksFork x.side × (y ≡ record x.side { fork = Some fork; clean = clean }))
-    → OnOk r (LacksFork (side_among now t) × (sides_from count 0 (set xs k (with_side y x))
+    → OnOk r (LacksFork (side_among now t) × (sides_from count 0 (set xs k (with_other_side y x))
     ≡ set now t (record (side_among now t) { fork = Some fork; clean = clean })))
 side_laid count xs now t k x y fork clean (Ok done) at did = side_changed LacksFork
     (λ (s : Side). record s { fork = Some fork; clean = clean }) count xs now t k x y at did
@@ -366,8 +367,95 @@ pub side_unlaid : (count : ℕ) (xs : List Shared) (now : List Side) (t k : ℕ)
     (fork : Fork) (r : Result (Unit {0}) Fork) → IsSideAt count xs now t k x
     → IfErr r (λ refused. (refused ≡ fork) × (y ≡ x.side) × (LacksFork x.side → ⊥))
     → IfErr r (λ refused. (refused ≡ fork)
-    × (sides_from count 0 (set xs k (with_side y x)) ≡ now) × (LacksFork (side_among now t) → ⊥))
+    × (sides_from count 0 (set xs k (with_other_side y x)) ≡ now) × (LacksFork (side_among now t) → ⊥))
 side_unlaid count xs now t k x y fork (Ok done) at kept = kept
 side_unlaid count xs now t k x y fork (Err back) at kept =
     let all = side_kept (λ (s : Side). LacksFork s → ⊥) count xs now t k x y at (kept.1, kept.2) in
     (kept.0, all.0, all.1)
+
+-- the next station at which something holds
+told_listed : (xs : List Shared) (t : ℕ)
+    → ((k : ℕ) × IsListedWith xs t k) ⊎ ((k : ℕ) → IsListedWith xs t k → ⊥)
+told_listed [] t = inr (λ k at. omega (arith, at.0))
+told_listed (x ∷ xs) t = elim (eqb_tells x.with.0 t) [
+  | inl here ↦ inl (zero, (omega arith, here.1))
+  | inr other ↦ elim (told_listed xs t) [
+    | inl later ↦ inl (suc later.0, (omega (arith, later.1.0), later.1.1))
+    | inr none ↦ inr (nowhere other.1 none)
+  ]
+]
+  where
+    nowhere : x.with.0 ≢ t → ((k : ℕ) → IsListedWith xs t k → ⊥) → (k : ℕ)
+        → IsListedWith (x ∷ xs) t k → ⊥
+    nowhere other none zero at = other at.1
+    nowhere other none (suc k) at = none k (omega (arith, at.0), at.1)
+
+order_rises : (from below : ℕ) (xs : List Shared) (j k : ℕ) → AreByNumber from below xs → j ≤ k
+    → k < length xs → (listed_at xs j).with.0 ≤ (listed_at xs k).with.0
+order_rises from below [] j k order less within = absurd (omega (arith, within))
+order_rises from below (x ∷ xs) zero zero order less within = omega arith
+order_rises from below (x ∷ xs) zero (suc k) order less within =
+    let rest = order_within (suc x.with.0) below xs k order.2 (omega (arith, within)) in
+    omega (arith, rest.0)
+order_rises from below (x ∷ xs) (suc j) zero order less within = absurd (omega (arith, less))
+order_rises from below (x ∷ xs) (suc j) (suc k) order less within =
+    order_rises (suc x.with.0) below xs j k order.2 (omega (arith, less)) (omega (arith, within))
+
+-- what is known of what is listed below a number is known of all sides below it
+passed_below : (Passed : Side → Type 0) (count : ℕ) (xs : List Shared) (from place next t : ℕ)
+    → AreByNumber 0 count xs → Passed nothing_shared → ArePassed Passed xs from place
+    → ((k : ℕ) → place ≤ k → k < length xs → next ≤ (listed_at xs k).with.0)
+    → from ≤ t → t < next → Passed (side_among (sides_from count 0 xs) t)
+passed_below Passed count xs from place next t order none passed later onward below =
+    elim (told_listed xs t) [
+      | inl listed ↦ subst Passed (sym (side_listed count 0 count xs t listed.0 nothing_shared
+          (omega arith) order listed.1.0 (omega (arith, listed.1.1))))
+          (passed listed.0 (before listed.0 listed.1) (omega (arith, onward, listed.1.1)))
+      | inr nowhere ↦ subst Passed (sym (side_unlisted count 0 xs t
+          (λ k within is. nowhere k (within, omega (arith, is))))) none
+    ]
+  where
+    before : (k : ℕ) → IsListedWith xs t k → k < place
+    before k at = elim (cases_lt k place) [
+      | inl less ↦ less
+      | inr past ↦
+          let high = later k (omega (arith, past)) at.0 in
+          absurd (omega (arith, high, below, at.1))
+    ]
+
+pub next_found : (Passed Holds : Side → Type 0) (count : ℕ) (xs ys : List Shared) (now : List Side)
+    (from place : ℕ) (x : Shared) → AreByNumber 0 count xs → sides_from count 0 xs ≡ now → ys ≡ xs
+    → Passed nothing_shared → IsFirstListed Passed Holds ys from place → x ≡ get_or xs place x
+    → IsNextNeighbour (λ t. Passed (side_among now t)) (λ t. Holds (side_among now t)) (length now) from
+    x.with.0
+next_found Passed Holds count xs ys now from place x order view same none first' at =
+    let first = subst (λ (zs : List Shared). IsFirstListed Passed Holds zs from place) same first' in
+    let one : x ≡ listed_at xs place = at ∙ get_or_default xs place x nobody_shared first.within in
+    let number : x.with.0 ≡ (listed_at xs place).with.0 = ap (λ (z : Shared). z.with.0) one in
+    let bounds = order_within 0 count xs place order first.within in
+    subst (λ (zs : List Side). IsNextNeighbour (λ t. Passed (side_among zs t))
+    (λ t. Holds (side_among zs t)) (length zs) from x.with.0) view (record {
+      onward = omega (arith, first.onward, number);
+      passed = λ t onward below. passed_below Passed count xs from place x.with.0 t order none
+          first.passed (λ k past within. let up = order_rises 0 count xs place k order past within in
+          omega (arith, up, number)) onward below;
+      found = inl (
+        omega (arith, bounds.1, number, length-sides_from count 0 xs),
+        subst Holds (sym (side_listed count 0 count xs x.with.0 place nothing_shared (omega arith)
+            order first.within (omega (arith, number)))) first.found,
+      );
+    })
+
+pub next_none : (Passed Holds : Side → Type 0) (count : ℕ) (xs ys : List Shared) (now : List Side)
+    (from next : ℕ) → AreByNumber 0 count xs → sides_from count 0 xs ≡ now → ys ≡ xs
+    → Passed nothing_shared → ArePassed Passed ys from (length ys) → next ≡ max from count
+    → IsNextNeighbour (λ t. Passed (side_among now t)) (λ t. Holds (side_among now t)) (length now) from next
+next_none Passed Holds count xs ys now from next order view same none passed' last =
+    let passed = subst (λ (zs : List Shared). ArePassed Passed zs from (length zs)) same passed' in
+    subst (λ (zs : List Side). IsNextNeighbour (λ t. Passed (side_among zs t))
+    (λ t. Holds (side_among zs t)) (length zs) from next) view (record {
+      onward = omega (arith, last);
+      passed = λ t onward below. passed_below Passed count xs from (length xs) next t order none
+          passed (λ k past within. absurd (omega (arith, past, within))) onward below;
+      found = inr (last ∙ ap (max from) (sym (length-sides_from count 0 xs)));
+    })

@@ -1,6 +1,6 @@
 -- One station: its oldest open request, and a table that can't decide on it.
 use Rattle.std.proofs.Common.{◌≡◌, ℕ, ◌<◌, Bool, List, [], ◌∷◌, Some, slice_get, ap, ◌∙◌, inl, inr}
-use Rattle.std.proofs.Common.{sym, subst, get_or, length, arith}
+use Rattle.std.proofs.Common.{sym, subst, get_or, length, max, arith}
 use Rattle.std.specs.Prelude.{Err}
 use Rattle.std.proofs.lemmas.Bool.{false≢true}
 use Rattle.std.proofs.lemmas.List.{get_or_default}
@@ -10,9 +10,13 @@ use Rattle.bip_model.specs.declared.numbering.CompId.{CompId}
 use Rattle.bip_table.specs.Reservations.{IsTableAnswer, KeptRows, end_of_serials}
 use Rattle.bip_table.specs.Rows.{has_row, used_at}
 use Rattle.bip_table.specs.declared.faults.TableFault.TheVariants.{UnknownRow}
+use Rattle.bip_bank.specs.declared.idleness.WhyIdle.TheVariants.{NothingOpen}
+use Rattle.bip_bank.specs.declared.idleness.WhyIdle.{WhyIdle}
 use Rattle.bip_forks.specs.Kept.{CanAnswer, no_station, station_at}
-use Rattle.bip_forks.specs.Stations.{AllLie, CannotAnswer, IsNotServed, IsRaisedAlone}
-use Rattle.bip_forks.specs.Stations.{IsReadyToServe, KeptStation, raised_by, rows_here}
+use Rattle.bip_forks.specs.Sides.{IsNextNeighbour, KeepsTokenSomehow, side_among}
+use Rattle.bip_forks.specs.Stations.{AllLie, AsksNothing, CannotAnswer, HasFirst, IsNotServed}
+use Rattle.bip_forks.specs.Stations.{IsRaisedAlone, IsReadyToServe, KeepsRequestToken, KeptStation}
+use Rattle.bip_forks.specs.Stations.{MayAsk, raised_by, rows_here, side_with}
 
 -- the first of a list, and the others
 pub first_there : (xs : List Request) (q : Request) → slice_get xs 0 ≡ Some q
@@ -87,3 +91,34 @@ undecided stations grants s y later can within at ready not few = elim not [
         wanted))
     by_table q rest oldest (inr (fresh, ended)) =
         omega (arith, few, can.serials s, ended, ap (λ (z : KeptStation). z.table.serial) here)
+
+-- the next station that one may ask
+abbrev pub IsNextToAsk : KeptStation → ℕ → ℕ → Type 0
+IsNextToAsk s from next = IsNextNeighbour (λ (t : ℕ). (why : WhyIdle) × AsksNothing s t why)
+    (λ (t : ℕ). HasFirst s.waiting × MayAsk (side_with s t)) (length s.sides) from next
+
+asks_nothing : (s : KeptStation) (t : ℕ) (why : WhyIdle) → KeepsRequestToken (side_with s t) why
+    → AsksNothing s t why
+asks_nothing s t NothingOpen keeps = absurd keeps
+asks_nothing s t why keeps = keeps
+
+pub next_to_ask : (s : KeptStation) (from next : ℕ) → HasFirst s.waiting
+    → IsNextNeighbour (λ (t : ℕ). KeepsTokenSomehow (side_among s.sides t))
+    (λ (t : ℕ). MayAsk (side_among s.sides t)) (length s.sides) from next → IsNextToAsk s from next
+next_to_ask s from next waits is = record {
+  onward = is.onward;
+  passed = λ t onward below. let why = is.passed t onward below in
+      (why.0, asks_nothing s t why.0 why.1);
+  found = elim is.found [
+    | inl here ↦ inl (here.0, (waits, here.1))
+    | inr none ↦ inr none
+  ];
+}
+
+pub none_to_ask : (s : KeptStation) (from next : ℕ) → (HasFirst s.waiting → ⊥)
+    → next ≡ max from (length s.sides) → IsNextToAsk s from next
+none_to_ask s from next not is = record {
+  onward = omega (arith, is);
+  passed = λ t onward below. (NothingOpen, not);
+  found = inr is;
+}

@@ -1,9 +1,10 @@
 //! What a station shares with each one, kept only of those with which it shares something.
-ghost use Rattle.std.specs.Prelude.{◌≡◌, ◌↔◌, ◌<◌, ℕ, [], ◌∷◌, ◌++◌, All, IfErr, IfNone, IfOk};
+ghost use Rattle.std.specs.Prelude.{◌≡◌, ◌↔◌, ◌<◌, ◌≤◌, ℕ, [], ◌∷◌, ◌++◌, All, IfErr, IfNone, IfOk};
 ghost use Rattle.std.specs.Prelude.{IfSome, IsTrue, None, OnErr, OnOk, Some, false, length, map};
 ghost use Rattle.std.specs.Prelude.{slice_set, true};
-ghost use Rattle.bip_forks.specs.Sides.{IsListedWith, LacksFork, LacksToken};
-ghost use Rattle.bip_forks.specs.Sides.{listed_sides, side_among, with_side};
+ghost use Rattle.bip_forks.specs.Sides.{ArePassed, IsFirstListed, IsListedWith, IsNextNeighbour};
+ghost use Rattle.bip_forks.specs.Sides.{KeepsForkSomehow, KeepsTokenSomehow, LacksFork, LacksToken};
+ghost use Rattle.bip_forks.specs.Sides.{listed_sides, side_among, with_other_side};
 ghost use Rattle.bip_forks.specs.Stations.{AllLie, LiesHere, MayAsk, MayPass, nothing_shared};
 ghost use Rattle.bip_forks.specs.Stations.{rewritten, rows_here};
 ghost use Rattle.bip_forks.specs.declared.sides.Shared.{Shared};
@@ -21,6 +22,38 @@ pub(crate) struct Shared {
     pub(crate) side: Side,
 }
 
+impl Shared {
+    /// Whether its number is from one on, and its fork can go.
+    fn can_pass(&self, from: usize) -> bool
+        ensures goes { IsTrue result → (from ≤ self.now.with.0) × MayPass self.now.side }
+        ensures stays { result ≡ false → from ≤ self.now.with.0
+            → KeepsForkSomehow self.now.side }
+    {
+        if (self.with.0 as usize) < from {
+            return false;
+        }
+        match self.side.why_kept() {
+            Some(_) => false,
+            None => true,
+        }
+    }
+
+    /// Whether its number is from one on, and its request token can go.
+    fn can_ask(&self, from: usize) -> bool
+        ensures goes { IsTrue result → (from ≤ self.now.with.0) × MayAsk self.now.side }
+        ensures stays { result ≡ false → from ≤ self.now.with.0
+            → KeepsTokenSomehow self.now.side }
+    {
+        if (self.with.0 as usize) < from {
+            return false;
+        }
+        match self.side.why_unasked() {
+            Some(_) => false,
+            None => true,
+        }
+    }
+}
+
 /// What a station shares with each station, by number. It keeps how many there are, and what is
 /// shared, in order of their numbers. Contracts see a side of each station.
 #[derive(Drop)]
@@ -35,11 +68,11 @@ impl marker::Model for Sides {
 
     ghost Value = { List Side };
 
-    ghost use Rattle.bip_forks.specs.Sides.{AreInOrder, sides_from};
+    ghost use Rattle.bip_forks.specs.Sides.{AreByNumber, sides_from};
 
     ghost view = { λ s. sides_from s.count 0 s.shared.items };
 
-    ghost invariant = { λ s. AreInOrder 0 s.count s.shared.items };
+    ghost invariant = { λ s. AreByNumber 0 s.count s.shared.items };
 }
 
 impl Sides {
@@ -80,6 +113,36 @@ impl Sides {
         match place_with(&self.shared, other) {
             Some(place) => Some(&self.shared[place].side),
             None => None,
+        }
+    }
+
+    /// How many stations there are.
+    pub(crate) fn len(&self) -> usize
+        ensures { result ≡ length self.now }
+    {
+        self.count
+    }
+
+    /// The next station from a number on to which the fork shared with it can go; where there is
+    /// none, how many stations there are, or that number where it is no lower.
+    pub(crate) fn next_pass(&self, from: usize) -> usize
+        ensures { IsNextNeighbour (λ (t : ℕ). KeepsForkSomehow (side_among self.now t))
+            (λ (t : ℕ). MayPass (side_among self.now t)) (length self.now) from result }
+    {
+        match first_to_pass(&self.shared, from) {
+            Some(place) => self.shared[place].with.0 as usize,
+            None => from.max(self.count),
+        }
+    }
+
+    /// The same of the request token.
+    pub(crate) fn next_ask(&self, from: usize) -> usize
+        ensures { IsNextNeighbour (λ (t : ℕ). KeepsTokenSomehow (side_among self.now t))
+            (λ (t : ℕ). MayAsk (side_among self.now t)) (length self.now) from result }
+    {
+        match first_to_ask(&self.shared, from) {
+            Some(place) => self.shared[place].with.0 as usize,
+            None => from.max(self.count),
         }
     }
 
@@ -176,6 +239,34 @@ fn place_with(shared: &[Shared], other: StationId) -> Option<usize>
     None
 }
 
+/// The first place with a number from one on whose fork can go.
+fn first_to_pass(shared: &[Shared], from: usize) -> Option<usize>
+    ensures some { IfSome result (IsFirstListed KeepsForkSomehow MayPass shared.now from) }
+    ensures none { IfNone result (ArePassed KeepsForkSomehow shared.now from
+        (length shared.now)) }
+{
+    for (place, one) in shared.iter().enumerate() {
+        if one.can_pass(from) {
+            return Some(place);
+        }
+    }
+    None
+}
+
+/// The first place with a number from one on whose request token can go.
+fn first_to_ask(shared: &[Shared], from: usize) -> Option<usize>
+    ensures some { IfSome result (IsFirstListed KeepsTokenSomehow MayAsk shared.now from) }
+    ensures none { IfNone result (ArePassed KeepsTokenSomehow shared.now from
+        (length shared.now)) }
+{
+    for (place, one) in shared.iter().enumerate() {
+        if one.can_ask(from) {
+            return Some(place);
+        }
+    }
+    None
+}
+
 /// Whether all forks that are shared lie here.
 fn has_all(shared: &[Shared]) -> bool
     ensures { IsTrue result ↔ All (λ (x : Shared). LiesHere x.side) shared.now }
@@ -186,7 +277,7 @@ fn has_all(shared: &[Shared]) -> bool
 /// Writes the used numbers of a table into all forks that are shared.
 fn write_all(shared: &mut Vec<Shared>, rows: &[Row])
     ensures { shared.new.items
-        ≡ map (λ (x : Shared). with_side (rewritten rows.now x.side) x) shared.old.items }
+        ≡ map (λ (x : Shared). with_other_side (rewritten rows.now x.side) x) shared.old.items }
 {
     for place in 0..shared.len() {
         shared[place].side.write(rows);

@@ -1,9 +1,11 @@
 //! One station: its table, its open requests, and what it shares.
 ghost use Rattle.std.specs.Prelude.{◌≡◌, ◌↔◌, ◌<◌, [], ◌∷◌, ◌++◌, IfErr, IfNone, IfOk, IfSome};
-ghost use Rattle.std.specs.Prelude.{IsTrue};
+ghost use Rattle.std.specs.Prelude.{IsTrue, ℕ};
 ghost use Rattle.std.specs.Prelude.{None, OnErr, OnOk, Some, false, length, map, true};
 ghost use Rattle.bip_table.specs.Rows.{has_row, used_at};
 ghost use Rattle.bip_bank.specs.declared.banks.StationId.{StationId};
+ghost use Rattle.bip_bank.specs.declared.idleness.WhyIdle.{WhyIdle};
+ghost use Rattle.bip_forks.specs.Sides.{IsNextNeighbour};
 ghost use Rattle.bip_forks.specs.Stations.{AsksNothing, CanTakeFork, CanTakeToken, HasFirst};
 ghost use Rattle.bip_forks.specs.Stations.{IsNotServed, IsUnserved, KeepsFork};
 ghost use Rattle.bip_forks.specs.Stations.{IsReadyToServe, IsServedHere, MayAsk};
@@ -145,6 +147,31 @@ impl Station {
         match self.sides.get(other) {
             Some(side) => side.why_kept(),
             None => Some(WhyIdle::NoFork),
+        }
+    }
+
+    /// The next station from a number on to which this one may send the fork that they share; where
+    /// there is none, how many stations there are, or that number where it is no lower. It sends
+    /// none to those between. It looks only at stations with which it shares a fork.
+    pub fn next_pass(&self, from: usize) -> usize
+        ensures { IsNextNeighbour (λ (t : ℕ). (why : WhyIdle) × KeepsFork (side_with self.now t) why)
+            (λ (t : ℕ). MayPass (side_with self.now t)) (length self.now.sides) from result }
+    {
+        self.sides.next_pass(from)
+    }
+
+    /// The next station from a number on that this one may ask for the fork that they share; where
+    /// there is none, how many stations there are, or that number where it is no lower. It asks none
+    /// of those between. It looks only at stations with which it shares a fork.
+    pub fn next_ask(&self, from: usize) -> usize
+        ensures { IsNextNeighbour (λ (t : ℕ). (why : WhyIdle) × AsksNothing self.now t why)
+            (λ (t : ℕ). HasFirst self.now.waiting × MayAsk (side_with self.now t))
+            (length self.now.sides) from result }
+    {
+        if is_waiting(&self.waiting) {
+            self.sides.next_ask(from)
+        } else {
+            from.max(self.sides.len())
         }
     }
 

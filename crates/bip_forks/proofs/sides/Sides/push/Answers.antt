@@ -8,16 +8,16 @@ use Rattle.bip_forks.specs.declared.sides.Shared.{Shared}
 use Rattle.bip_forks.proofs.sides.Sides.push.Goals as goal
 
 -- so many sides are few stations
-few_counted : (count : ℕ) (xs : List Shared) (now : List Side) → sides_from count 0 xs ≡ now
+count_few : (count : ℕ) (xs : List Shared) (now : List Side) → sides_from count 0 xs ≡ now
     → length now < 128 → count < 128
-few_counted count xs now view few =
+count_few count xs now view few =
     omega (arith, few, ap (λ (zs : List Side). length zs) view, length-sides_from count 0 xs)
 
 pub overflow_cast-with : goal.overflow_cast-with
 overflow_cast-with c =
     omega (
       arith,
-      few_counted c.self.inside.count c.self.inside.shared.items c.args.self.now
+      count_few c.self.inside.count c.self.inside.shared.items c.args.self.now
           c.self.view_is c.requires.few,
     )
 
@@ -25,7 +25,7 @@ pub overflow_add-self : goal.overflow_add-self
 overflow_add-self c =
     omega (
       arith,
-      few_counted c.self.inside.count c.self.inside.shared.items c.args.self.now
+      count_few c.self.inside.count c.self.inside.shared.items c.args.self.now
           c.self.view_is c.requires.few,
     )
 
@@ -33,7 +33,7 @@ pub overflow_add-self-else-side : goal.overflow_add-self-else-side
 overflow_add-self-else-side c =
     omega (
       arith,
-      few_counted c.self.inside.count c.self.inside.shared.items c.args.self.now
+      count_few c.self.inside.count c.self.inside.shared.items c.args.self.now
           c.self.view_is c.requires.few,
     )
 
