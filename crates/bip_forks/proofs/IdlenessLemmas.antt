@@ -1,14 +1,19 @@
 -- Why a step of forks does nothing, as a bank has it.
-use Rattle.std.proofs.Common.{◌≡◌, ℕ, ◌<◌, ◌≤◌, Bool, true, false, cond, length, map}
+use Rattle.std.proofs.Common.{◌≡◌, ℕ, zero, suc, ◌<◌, ◌≤◌, ◌+◌, ◌*◌, ◌-◌, ◌/◌, ◌%◌, Bool, true}
+use Rattle.std.proofs.Common.{false, cond, length, map}
 use Rattle.std.proofs.Common.{Option, None, Some, refl, sym, ap, ◌∙◌, subst, inl, inr, arith, slice_get}
 use Rattle.std.specs.Option.{option_map}
 use Rattle.std.specs.Prelude.{IfNone, IfSome}
+use Rattle.std.proofs.lemmas.Bool.{cases_lt}
 use Rattle.std.proofs.lemmas.List.{length-map}
+use Rattle.std.proofs.lemmas.Nat.{div-mul-add, div_below, mod-mul-add}
 use Rattle.std.proofs.lemmas.Option.{slice_get_cases}
 use Rattle.bip_table.specs.Rows.{used_at}
 use Rattle.bip_bank.specs.Banks.{BankContent, CanWantMemory, HasOldest, content_of}
 use Rattle.bip_bank.specs.ForkSharing.{ForkState, away, clean, dirty}
+use Rattle.bip_bank.proofs.StepLemmas.{ask_at, pass_at, serve_at}
 use Rattle.bip_bank.specs.Idleness.{IsIdleBecause}
+use Rattle.bip_bank.specs.Steps.{AreIdle, step_at, step_count}
 use Rattle.bip_bank.specs.declared.banks.Acted.TheVariants.{Moved}
 use Rattle.bip_bank.specs.declared.banks.BankStep.TheVariants.{Ask, Deliver, Pass, Serve}
 use Rattle.bip_bank.specs.declared.banks.BankStep.{BankStep}
@@ -23,11 +28,14 @@ use Rattle.bip_forks.proofs.ServedLemmas.{lying_of}
 use Rattle.bip_forks.proofs.SharingLemmas.{forks_bank, has_all_of, no_side, not_away, oldest_of}
 use Rattle.bip_forks.proofs.SharingLemmas.{side_is}
 use Rattle.bip_forks.proofs.ViewLemmas.{waiting_at}
-use Rattle.bip_forks.specs.Kept.{AppliesTo, IsIdleHere, IsKeptForks, KeptForks, kept_forks, lying}
+use Rattle.bip_forks.specs.Idleness.{AreIdleHere, IsIdleWith, IsUnservedHere}
+use Rattle.bip_forks.specs.Kept.{AppliesTo, ForkParts, IsIdleHere, IsKeptForks, KeptForks}
+use Rattle.bip_forks.specs.Kept.{kept_forks, lying}
 use Rattle.bip_forks.specs.Kept.{machine_of, sending_of, side_at, station_at}
 use Rattle.bip_forks.specs.Laws.{content, fork_state, parcel_of}
 use Rattle.bip_forks.specs.Machines.{ShareFork}
 use Rattle.bip_forks.specs.Stations.{AsksNothing, HasFirst, IsUnserved, KeepsFork}
+use Rattle.bip_forks.specs.declared.idleness.Turn.TheVariants as turn
 use Rattle.bip_forks.specs.declared.sending.Sent.{Sent}
 use Rattle.bip_forks.specs.declared.shares.Fork.{Fork}
 use Rattle.bip_forks.specs.declared.shares.Side.{Side}
@@ -162,3 +170,93 @@ pub acts_as : (k : KeptForks) (step : BankStep) (r : Option WhyIdle) → IsKeptF
     → IfNone r (AppliesTo k.parts step) → IfNone r (CanWantMemory (content_of (kept_forks k)) step)
 acts_as k step None is applies = can_act k step is applies
 acts_as k step (Some why) is applies = tt
+
+-- Which steps are idle, by number.
+
+-- pairs of a row that begins behind others
+row_at : (n row t k : ℕ) → t < n → k ≡ row * n + t → (k / n ≡ row) × (k % n ≡ t)
+row_at n row t k within is = (
+  ap (λ (j : ℕ). j / n) is ∙ div-mul-add row n t within,
+  ap (λ (j : ℕ). j % n) is ∙ mod-mul-add row n t within,
+)
+
+pub row_passed : (Idle : ℕ → ℕ → Type 0) (n row to bound from : ℕ) → bound ≤ n
+    → ((k : ℕ) → from ≤ k → k < row * n + to → Idle (k / n) (k % n))
+    → ((t : ℕ) → to ≤ t → t < bound → Idle row t)
+    → (k : ℕ) → from ≤ k → k < row * n + bound → Idle (k / n) (k % n)
+row_passed Idle n row to bound from short before here k low high =
+    elim (cases_lt k (row * n + to)) [
+      | inl first ↦ before k low first
+      | inr later ↦ let t : ℕ = k - row * n in
+          let at = row_at n row t k (omega (arith, later, high, short)) (omega (arith, later)) in
+          rw (at.0, at.1) (here t (omega (arith, later)) (omega (arith, later, high)))
+    ]
+
+some_of : (n k : ℕ) → k < n * n → 0 < n
+some_of zero k within = absurd (omega (arith, within))
+some_of (suc n) k within = omega arith
+
+-- all steps of stations: those that serve, then those that pass, then those that ask
+module _ (p : ForkParts) where
+  abbrev Count : ℕ
+  Count = length p.stations
+
+  pub serving_idle : (s : ℕ) → s < Count → IsUnservedHere p.stations s
+      → (why : WhyIdle) × IsIdleHere p (step_at Count s) why
+  serving_idle s within un =
+      subst (λ (step : BankStep). (why : WhyIdle) × IsIdleHere p step why)
+      (sym (serve_at Count s within)) (un.0, inl (within, un.1))
+
+  pub passing_idle : (k : ℕ) → k < Count * Count
+      → IsIdleWith turn.Pass p.stations (k / Count) (k % Count)
+      → (why : WhyIdle) × IsIdleHere p (step_at Count (Count + k)) why
+  passing_idle k within is =
+      subst (λ (step : BankStep). (why : WhyIdle) × IsIdleHere p step why)
+      (sym (pass_at Count k within)) is
+
+  pub asking_idle : (k : ℕ) → 0 < Count → k < Count * Count
+      → IsIdleWith turn.Ask p.stations (k / Count) (k % Count)
+      → (why : WhyIdle) × IsIdleHere p (step_at Count (Count + Count * Count + k)) why
+  asking_idle k some within is =
+      subst (λ (step : BankStep). (why : WhyIdle) × IsIdleHere p step why)
+      (sym (ask_at Count k)) (is.0, inl (div_below k Count Count some within, is.1))
+
+  -- those from a number on, below another, where of each kind those between are idle
+  pub steps_idle : (from to : ℕ) → to ≤ step_count Count
+      → ((s : ℕ) → from ≤ s → s < to → s < Count → IsUnservedHere p.stations s)
+      → ((k : ℕ) → from ≤ Count + k → Count + k < to → k < Count * Count
+      → IsIdleWith turn.Pass p.stations (k / Count) (k % Count))
+      → ((k : ℕ) → from ≤ Count + Count * Count + k → Count + Count * Count + k < to
+      → k < Count * Count → IsIdleWith turn.Ask p.stations (k / Count) (k % Count))
+      → AreIdleHere p from to
+  steps_idle from to all serving passing asking = λ i low high. elim (cases_lt i Count) [
+    | inl first ↦ serving_idle i first (serving i low high first)
+    | inr past ↦ elim (cases_lt i (Count + Count * Count)) [
+      | inl second ↦
+          let k : ℕ = i - Count in
+          let within : k < Count * Count = omega (arith, second, past) in
+          subst (λ (j : ℕ). (why : WhyIdle) × IsIdleHere p (step_at Count j) why)
+          (omega (arith, past))
+          (passing_idle k within
+          (passing k (omega (arith, low, past)) (omega (arith, high, past)) within))
+      | inr third ↦
+          let k : ℕ = i - (Count + Count * Count) in
+          let within : k < Count * Count = omega (arith, third, high, all) in
+          subst (λ (j : ℕ). (why : WhyIdle) × IsIdleHere p (step_at Count j) why)
+          (omega (arith, third))
+          (asking_idle k (any k within) within
+          (asking k (omega (arith, low, third)) (omega (arith, high, third)) within))
+    ]
+  ]
+    where
+      any : (k : ℕ) → k < Count * Count → 0 < Count
+      any k inside = some_of Count k inside
+
+-- as a bank has them
+pub idle_steps_as : (k : KeptForks) (n from to : ℕ) → IsKeptForks k → n ≡ length k.parts.stations
+    → AreIdleHere k.parts from to → AreIdle (content_of (kept_forks k)) n from to
+idle_steps_as k n from to is counted idle = λ i low high.
+    let here = idle i low high in
+    let step : BankStep = step_at (length k.parts.stations) i in
+    subst (λ (m : ℕ). (why : WhyIdle) × IsIdleBecause (content_of (kept_forks k)) (step_at m i) why)
+    (sym counted) (here.0, idle_as k step (Some here.0) is here.1)

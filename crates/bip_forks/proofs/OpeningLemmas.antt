@@ -1,5 +1,5 @@
 -- How forks begin: one more station, or side, and the machine that new stations are.
-use Rattle.std.proofs.Common.{◌≡◌, ℕ, ◌+◌, ◌<◌, ◌≤◌, true, get_or, length, map, List, [], ◌∷◌, ◌++◌}
+use Rattle.std.proofs.Common.{◌≡◌, ℕ, ◌+◌, ◌<◌, true, get_or, length, map, List, [], ◌∷◌, ◌++◌}
 use Rattle.std.proofs.Common.{refl, sym, ap, ◌∙◌, subst, inl, inr, arith}
 use Rattle.std.specs.Prelude.{◌↔◌, All, Contains, IsTrue}
 use Rattle.std.specs.List.Sorted.{IsStrictlyIncreasing}
@@ -7,7 +7,6 @@ use Rattle.std.proofs.lemmas.Bool.{cases_lt}
 use Rattle.std.proofs.lemmas.List.{get_or_append_left, get_or_push, length_push}
 use Rattle.std.proofs.lemmas.List.Elements.{Contains-get_or}
 use Rattle.std.proofs.lemmas.Option.{get_or_from_slice_get}
-use Rattle.bip_model.proofs.NumberingLemmas.{apart_from_rises, few_below, rises_from_increasing}
 use Rattle.bip_model.specs.Parts.{IsSystem}
 use Rattle.bip_model.specs.declared.numbering.CompId.{CompId}
 use Rattle.bip_model.specs.declared.numbering.InterId.{InterId}
@@ -24,22 +23,11 @@ use Rattle.bip_forks.specs.Opening.{IsFirstStation, IsListCommon, rows_with}
 use Rattle.bip_forks.specs.Stations.{KeptStation, nothing_shared}
 use Rattle.bip_forks.specs.declared.shares.Side.{Side}
 
--- a plan has few stations, of interactions that it knows
+-- stations are of interactions that a plan knows
 pub stations_known : (p : Planned) (inters : List InterId) → IsSystem p.model → AreStations p inters
     → All (λ (a : InterId). a.0 < length p.model.interactions) inters
 stations_known p inters valid listed = λ k d within. reserved_known p (get_or inters k d).0 valid
     ((listed.exact (get_or inters k d).0).0 (Contains-get_or inters k d within))
-
-pub few_stations : (p : Planned) (inters : List InterId) → IsSystem p.model → AreStations p inters
-    → length inters ≤ 128
-few_stations p inters valid listed = omega (
-  arith,
-  few_below (λ (a : InterId). a.0) (length p.model.interactions) inters
-      (apart_from_rises (map (λ (a : InterId). a.0) inters)
-      (rises_from_increasing (map (λ (a : InterId). a.0) inters) listed.rising))
-      (stations_known p inters valid listed),
-  valid.so_far.few_interactions,
-)
 
 -- none yet, and one more
 pub no_sides : (p : Planned) (base : ℕ) (inters : List InterId) (s : ℕ) (a : InterId)

@@ -1,6 +1,9 @@
 //! The forks: a bank of all stations.
-ghost use Rattle.std.specs.Prelude.{◌≡◌, ◌<◌, [], IfErr, IfNone, IfOk, IfSome, OnErr, OnOk, length};
-ghost use Rattle.std.specs.Prelude.{ℕ};
+ghost use Rattle.std.specs.Prelude.{◌≡◌, ◌<◌, ◌≤◌, [], IfErr, IfNone, IfOk, IfSome, List, OnErr, OnOk};
+ghost use Rattle.std.specs.Prelude.{length, ℕ};
+ghost use Rattle.bip_model.specs.declared.numbering.InterId.{InterId};
+ghost use Rattle.bip_partition.specs.Plans.{AreStations};
+ghost use Rattle.bip_bank.specs.Steps.{AreIdle};
 ghost use Rattle.bip_bank.specs.Banks.{CanWantMemory, DoesStep, IsActed, content_of, with_request};
 ghost use Rattle.bip_bank.specs.Idleness.{IsIdleBecause};
 ghost use Rattle.bip_model.specs.Numbering.{last_number};
@@ -9,7 +12,7 @@ ghost use Rattle.bip_forks.specs.Laws.{AreNew};
 ghost use Rattle.bip_forks.specs.Machines.{AreForks, IsForkStep, waiting_for};
 ghost use Rattle.bip_forks.specs.Opening.{IsNewForks};
 
-use crate::idleness::why_idle;
+use crate::idleness::{idle_until, why_idle};
 use crate::opening::first_stations;
 use crate::sending::{Sent, do_step};
 use crate::stations::Station;
@@ -140,6 +143,17 @@ impl<'p> Bank for Forks<'p> {
         ensures none { IfNone result (CanWantMemory (content_of (kept_forks self.now)) step) }
     {
         why_idle(&self.stations, self.flight.len(), step)
+    }
+
+    /// Of its stations only those with an open request are asked whether all their forks are here,
+    /// and of others only those with which they share a fork.
+    fn idle_until(&self, from: usize) -> usize
+        ensures onward { from ≤ result }
+        ensures idle { (list : List InterId)
+            → AreStations (content_of (kept_forks self.now)).plan list
+            → AreIdle (content_of (kept_forks self.now)) (length list) from result }
+    {
+        idle_until(&self.stations, from)
     }
 
     fn grants(&self) -> &[Grant] {

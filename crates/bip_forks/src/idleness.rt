@@ -1,11 +1,21 @@
 //! Why a step of forks does nothing.
-ghost use Rattle.std.specs.Prelude.{◌≡◌, List, IfNone, IfSome, length};
+ghost use Rattle.std.specs.Prelude.{◌≡◌, ◌<◌, ◌≤◌, ◌*◌, List, IfNone, IfSome, length, ℕ};
 ghost use Rattle.bip_model.specs.declared.grants.Grant.{Grant};
+ghost use Rattle.bip_forks.specs.Idleness.{AreIdleHere, AreIdlePairs, IsIdleTurn, IsIdleWith};
+ghost use Rattle.bip_forks.specs.Idleness.{IsUnservedHere};
 ghost use Rattle.bip_forks.specs.Kept.{AppliesTo, IsIdleHere, fork_parts};
 ghost use Rattle.bip_forks.specs.declared.sending.Sent.{Sent};
 
 use crate::stations::Station;
-use bip_bank::{BankStep, WhyIdle};
+use bip_bank::{BankStep, WhyIdle, step_count};
+
+/// What a station does with another one: it passes it the fork that they share, or asks it for that
+/// one.
+#[derive(Clone, Copy)]
+enum Turn {
+    Pass,
+    Ask,
+}
 
 /// Why a step doesn't apply to stations, where so many things are in flight; none where it does.
 pub(crate) fn why_idle(stations: &[Station], flight: usize, step: BankStep) -> Option<WhyIdle>
@@ -29,5 +39,81 @@ pub(crate) fn why_idle(stations: &[Station], flight: usize, step: BankStep) -> O
             Some(station) => station.why_unasked(to),
             None => Some(WhyIdle::NothingOpen),
         },
+    }
+}
+
+/// A number up to which, from one on, the steps of stations are idle, by `step_at`.
+pub(crate) fn idle_until(stations: &[Station], from: usize) -> usize
+    requires few { length stations.now ≤ 65536 }
+    ensures onward { from ≤ result }
+    ensures idle { (sent : List Sent) (gs : List Grant)
+        → AreIdleHere (fork_parts stations.now sent gs) from result }
+{
+    let count = stations.len();
+    let pairs = count * count;
+    let served = next_served(stations, from);
+    if served < count {
+        return served;
+    }
+    let passing = next_pair(stations, Turn::Pass, served - count);
+    if passing < pairs {
+        return count + passing;
+    }
+    let asking = next_pair(stations, Turn::Ask, passing - pairs);
+    if asking < pairs {
+        return count + pairs + asking;
+    }
+    from.max(step_count(count))
+}
+
+/// The next station, from a number on, that can be served; behind all where there is none.
+fn next_served(stations: &[Station], from: usize) -> usize
+    ensures onward { from ≤ result }
+    ensures least { (s : ℕ) → from ≤ s → length stations.now ≤ s → result ≤ s }
+    ensures passed { (s : ℕ) → from ≤ s → s < result → s < length stations.now
+        → IsUnservedHere stations.now s }
+{
+    let count = stations.len();
+    for place in from..count {
+        match stations[place].why_unserved() {
+            Some(_why) => {}
+            None => return place,
+        }
+    }
+    from.max(count)
+}
+
+/// The next pair of stations, from a number on, of which the first can take that turn with the
+/// second; behind all where there is none.
+fn next_pair(stations: &[Station], turn: Turn, from: usize) -> usize
+    requires few { length stations.now ≤ 65536 }
+    ensures onward { from ≤ result }
+    ensures least { (k : ℕ) → from ≤ k → length stations.now * length stations.now ≤ k
+        → result ≤ k }
+    ensures passed { AreIdlePairs (IsIdleWith turn stations.now) (length stations.now) from result }
+{
+    let count = stations.len();
+    if count == 0 {
+        return from;
+    }
+    let mut to = from % count;
+    for row in from / count..count {
+        let next = next_with(&stations[row], turn, to);
+        if next < count {
+            return row * count + next;
+        }
+        to = 0;
+    }
+    from.max(count * count)
+}
+
+/// The next station, from a number on, with which one can take that turn.
+fn next_with(station: &Station, turn: Turn, from: usize) -> usize
+    ensures onward { from ≤ result }
+    ensures passed { (t : ℕ) → from ≤ t → t < result → IsIdleTurn turn station.now t }
+{
+    match turn {
+        Turn::Pass => station.next_pass(from),
+        Turn::Ask => station.next_ask(from),
     }
 }

@@ -1,5 +1,5 @@
 use Rattle.std.proofs.Common.{◌≡◌, ◌∙◌, ◌++◌, ◌∷◌, [], ap, arith, rules, subst}
-use Rattle.bip_forks.proofs.OpeningLemmas.{few_stations}
+use Rattle.bip_bank.proofs.StationLemmas.{few_stations}
 use Rattle.bip_host.specs.Starting.{AreNeighbours}
 use Rattle.bip_host.proofs.NeighbourLemmas.{no_neighbour, one_neighbour}
 use Rattle.bip_host.proofs.starting_stations.neighbours.Goals as goal

@@ -1,5 +1,6 @@
 use Rattle.bip_forks.proofs.NewLemmas.{AreBegun, new_content, new_is, new_kept}
-use Rattle.bip_forks.proofs.OpeningLemmas.{few_stations, stations_known}
+use Rattle.bip_bank.proofs.StationLemmas.{few_stations}
+use Rattle.bip_forks.proofs.OpeningLemmas.{stations_known}
 use Rattle.bip_forks.proofs.forks.Forks.new.Goals as goal
 
 pub first_stations-requires-clause-known : goal.first_stations-requires-clause-known

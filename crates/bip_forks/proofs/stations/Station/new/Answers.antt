@@ -2,7 +2,8 @@ use Rattle.std.proofs.Common.{◌≡◌, ◌∙◌, ℕ, zero, suc, ◌<◌, ◌
 use Rattle.std.proofs.Common.{length, slice_get, subst, sym}
 use Rattle.std.proofs.lemmas.Option.{get_or_from_slice_get, slice_get_within}
 use Rattle.bip_model.specs.declared.numbering.InterId.{InterId}
-use Rattle.bip_forks.proofs.OpeningLemmas.{few_stations, stations_known}
+use Rattle.bip_bank.proofs.StationLemmas.{few_stations}
+use Rattle.bip_forks.proofs.OpeningLemmas.{stations_known}
 use Rattle.bip_forks.proofs.stations.Station.new.Goals as goal
 
 -- where nothing stands, the list has ended
