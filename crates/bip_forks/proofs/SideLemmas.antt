@@ -1,16 +1,15 @@
 -- What a station shares with each one, where only what it shares is listed.
 use Rattle.std.proofs.Common.{◌≡◌, ◌≢◌, ℕ, zero, suc, ◌+◌, ◌<◌, ◌≤◌, List, [], ◌∷◌, ◌++◌, map}
 use Rattle.std.proofs.Common.{get_or, set, length, refl, sym, ap, ◌∙◌, subst, inl, inr, arith}
-use Rattle.std.specs.Prelude.{◌↔◌, ◌⊎◌, max, All, Bool, Err, IfErr, IfNone, IfSome, None, Ok, OnOk, Option}
-use Rattle.std.specs.Prelude.{Result, Some}
+use Rattle.std.specs.Prelude.{◌↔◌, ◌⊎◌, max, All, Bool, Err, IfErr, IfNone, IfSome, None, Ok, OnOk}
+use Rattle.std.specs.Prelude.{Option, Result, Some}
 use Rattle.std.proofs.lemmas.Bool.{cases_lt, false≢true}
 use Rattle.std.proofs.lemmas.Bool.Decides.{eqb_tells}
 use Rattle.std.proofs.lemmas.List.{get_or_default, set-get_or}
 use Rattle.bip_table.specs.declared.rows.Row.{Row}
-use Rattle.bip_forks.specs.Sides.{ArePassed, IsFirstListed, IsNextNeighbour}
-use Rattle.bip_forks.specs.Sides.{AreByNumber, IsListedWith, listed_at, listed_sides, side_among}
-use Rattle.bip_forks.specs.Sides.{sides_from, with_other_side}
-use Rattle.bip_forks.specs.Sides.{LacksFork, nobody_shared}
+use Rattle.bip_forks.specs.Sides.{AreByNumber, ArePassed, IsFirstListed, IsListedWith}
+use Rattle.bip_forks.specs.Sides.{IsNextNeighbour, LacksFork, listed_at, listed_sides, nobody_shared}
+use Rattle.bip_forks.specs.Sides.{side_among, sides_from, with_other_side}
 use Rattle.bip_forks.specs.Stations.{AllLie, LiesHere, MayPass, nothing_shared, rows_here, rows_in}
 use Rattle.bip_forks.specs.declared.shares.Fork.{Fork}
 use Rattle.bip_forks.specs.declared.shares.Side.{Side}
@@ -133,7 +132,8 @@ side_replaced (suc count) at below (x ∷ xs) (suc t) (suc k) y all order within
     ]
 
 pub order_replaced : (from below : ℕ) (xs : List Shared) (k : ℕ) (y : Side)
-    → AreByNumber from below xs → AreByNumber from below (set xs k (with_other_side y (listed_at xs k)))
+    → AreByNumber from below xs
+    → AreByNumber from below (set xs k (with_other_side y (listed_at xs k)))
 order_replaced from below [] k y order = order
 order_replaced from below (x ∷ xs) zero y order = order
 order_replaced from below (x ∷ xs) (suc k) y order =
@@ -269,7 +269,8 @@ pub side_at_place : (count : ℕ) (xs ys : List Shared) (now : List Side) (t k :
 side_at_place count xs ys now t k x order view same here at = record {
   read = ap (λ (z : Shared). z.side) one ∙ (sym (side_listed count 0 count xs t k nothing_shared
       (omega arith) order within number) ∙ ap (λ (zs : List Side). side_among zs t) view);
-  order = λ y. subst (λ (z : Shared). AreByNumber 0 count (set xs k (with_other_side y z))) (sym one)
+  order = λ y. subst (λ (z : Shared). AreByNumber 0 count (set xs k (with_other_side y z)))
+      (sym one)
       (order_replaced 0 count xs k y order);
   put = λ y. ap (λ (z : Shared). sides_from count 0 (set xs k (with_other_side y z))) one
       ∙ (side_replaced count 0 count xs t k y (omega arith) order within number
@@ -367,7 +368,8 @@ pub side_unlaid : (count : ℕ) (xs : List Shared) (now : List Side) (t k : ℕ)
     (fork : Fork) (r : Result (Unit {0}) Fork) → IsSideAt count xs now t k x
     → IfErr r (λ refused. (refused ≡ fork) × (y ≡ x.side) × (LacksFork x.side → ⊥))
     → IfErr r (λ refused. (refused ≡ fork)
-    × (sides_from count 0 (set xs k (with_other_side y x)) ≡ now) × (LacksFork (side_among now t) → ⊥))
+    × (sides_from count 0 (set xs k (with_other_side y x)) ≡ now)
+    × (LacksFork (side_among now t) → ⊥))
 side_unlaid count xs now t k x y fork (Ok done) at kept = kept
 side_unlaid count xs now t k x y fork (Err back) at kept =
     let all = side_kept (λ (s : Side). LacksFork s → ⊥) count xs now t k x y at (kept.1, kept.2) in
@@ -390,7 +392,7 @@ told_listed (x ∷ xs) t = elim (eqb_tells x.with.0 t) [
     nowhere other none zero at = other at.1
     nowhere other none (suc k) at = none k (omega (arith, at.0), at.1)
 
-order_rises : (from below : ℕ) (xs : List Shared) (j k : ℕ) → AreByNumber from below xs → j ≤ k
+pub order_rises : (from below : ℕ) (xs : List Shared) (j k : ℕ) → AreByNumber from below xs → j ≤ k
     → k < length xs → (listed_at xs j).with.0 ≤ (listed_at xs k).with.0
 order_rises from below [] j k order less within = absurd (omega (arith, within))
 order_rises from below (x ∷ xs) zero zero order less within = omega arith
@@ -426,10 +428,11 @@ passed_below Passed count xs from place next t order none passed later onward be
 pub next_found : (Passed Holds : Side → Type 0) (count : ℕ) (xs ys : List Shared) (now : List Side)
     (from place : ℕ) (x : Shared) → AreByNumber 0 count xs → sides_from count 0 xs ≡ now → ys ≡ xs
     → Passed nothing_shared → IsFirstListed Passed Holds ys from place → x ≡ get_or xs place x
-    → IsNextNeighbour (λ t. Passed (side_among now t)) (λ t. Holds (side_among now t)) (length now) from
-    x.with.0
+    → IsNextNeighbour (λ t. Passed (side_among now t)) (λ t. Holds (side_among now t)) (length now)
+    from x.with.0
 next_found Passed Holds count xs ys now from place x order view same none first' at =
-    let first = subst (λ (zs : List Shared). IsFirstListed Passed Holds zs from place) same first' in
+    let first = subst (λ (zs : List Shared). IsFirstListed Passed Holds zs from place) same first'
+    in
     let one : x ≡ listed_at xs place = at ∙ get_or_default xs place x nobody_shared first.within in
     let number : x.with.0 ≡ (listed_at xs place).with.0 = ap (λ (z : Shared). z.with.0) one in
     let bounds = order_within 0 count xs place order first.within in
@@ -437,7 +440,8 @@ next_found Passed Holds count xs ys now from place x order view same none first'
     (λ t. Holds (side_among zs t)) (length zs) from x.with.0) view (record {
       onward = omega (arith, first.onward, number);
       passed = λ t onward below. passed_below Passed count xs from place x.with.0 t order none
-          first.passed (λ k past within. let up = order_rises 0 count xs place k order past within in
+          first.passed
+          (λ k past within. let up = order_rises 0 count xs place k order past within in
           omega (arith, up, number)) onward below;
       found = inl (
         omega (arith, bounds.1, number, length-sides_from count 0 xs),
@@ -449,7 +453,8 @@ next_found Passed Holds count xs ys now from place x order view same none first'
 pub next_none : (Passed Holds : Side → Type 0) (count : ℕ) (xs ys : List Shared) (now : List Side)
     (from next : ℕ) → AreByNumber 0 count xs → sides_from count 0 xs ≡ now → ys ≡ xs
     → Passed nothing_shared → ArePassed Passed ys from (length ys) → next ≡ max from count
-    → IsNextNeighbour (λ t. Passed (side_among now t)) (λ t. Holds (side_among now t)) (length now) from next
+    → IsNextNeighbour (λ t. Passed (side_among now t)) (λ t. Holds (side_among now t)) (length now)
+    from next
 next_none Passed Holds count xs ys now from next order view same none passed' last =
     let passed = subst (λ (zs : List Shared). ArePassed Passed zs from (length zs)) same passed' in
     subst (λ (zs : List Side). IsNextNeighbour (λ t. Passed (side_among zs t))
@@ -459,3 +464,38 @@ next_none Passed Holds count xs ys now from next order view same none passed' la
           passed (λ k past within. absurd (omega (arith, past, within))) onward below;
       found = inr (last ∙ ap (max from) (sym (length-sides_from count 0 xs)));
     })
+
+-- the number at a place, whatever else would be read there
+pub number_at : (xs : List Shared) (k : ℕ) (d : Shared) → k < length xs
+    → (get_or xs k d).with.0 ≡ (listed_at xs k).with.0
+number_at xs k d within =
+    ap (λ (z : Shared). z.with.0) (get_or_default xs k d nobody_shared within)
+
+-- what is known of the number at a place is known of those before it, or from it on
+pub lower_before : (below : ℕ) (xs : List Shared) (middle from : ℕ) (d : Shared)
+    → AreByNumber 0 below xs → middle < length xs → (get_or xs middle d).with.0 < from
+    → (k : ℕ) → k < middle + 1 → (listed_at xs k).with.0 < from
+lower_before below xs middle from d order within lower k before =
+    let up = order_rises 0 below xs k middle order (omega (arith, before)) within in
+    omega (arith, up, lower, number_at xs middle d within)
+
+pub higher_onward : (below : ℕ) (xs : List Shared) (middle from : ℕ) (d : Shared)
+    → AreByNumber 0 below xs → middle < length xs → from ≤ (get_or xs middle d).with.0
+    → (k : ℕ) → middle ≤ k → k < length xs → from ≤ (listed_at xs k).with.0
+higher_onward below xs middle from d order within higher k onward inside =
+    let up = order_rises 0 below xs middle k order onward inside in
+    omega (arith, up, higher, number_at xs middle d within)
+
+-- a number that doesn't stand at the first place that isn't lower stands nowhere
+pub nowhere_listed : (below : ℕ) (xs : List Shared) (t place : ℕ) → AreByNumber 0 below xs
+    → ((k : ℕ) → k < place → (listed_at xs k).with.0 < t)
+    → ((k : ℕ) → place ≤ k → k < length xs → t ≤ (listed_at xs k).with.0)
+    → (place < length xs → (listed_at xs place).with.0 ≡ t → ⊥) → (k : ℕ) → IsListedWith xs t k → ⊥
+nowhere_listed below xs t place order before onward other k at = elim (cases_lt k place) [
+  | inl less ↦ let low = before k less in omega (arith, low, at.1)
+  | inr past ↦
+      let inside : place < length xs = omega (arith, past, at.0) in
+      let high = onward place (omega arith) inside in
+      let up = order_rises 0 below xs place k order (omega (arith, past)) at.0 in
+      other inside (omega (arith, high, up, at.1))
+]

@@ -177,8 +177,8 @@ impl Side {
         true
     }
 
-    /// Lays the fork, clean or dirty, where it is shared and isn't here. Else it comes back, and all
-    /// stays as it was.
+    /// Lays the fork, clean or dirty, where it is shared and isn't here. Else it comes back, and
+    /// all stays as it was.
     pub(crate) fn lay(&mut self, fork: Fork, clean: bool) -> Result<(), Fork>
         ensures ok { OnOk result (LacksFork self.old
             × (self.new ≡ record self.old { fork = Some fork; clean = clean })) }

@@ -1,8 +1,9 @@
 //! What a station shares with each one, kept only of those with which it shares something.
-ghost use Rattle.std.specs.Prelude.{◌≡◌, ◌↔◌, ◌<◌, ◌≤◌, ℕ, [], ◌∷◌, ◌++◌, All, IfErr, IfNone, IfOk};
+ghost use Rattle.std.specs.Prelude.{◌≡◌, ◌↔◌, ◌<◌, ◌≤◌, ℕ, [], ◌∷◌, ◌++◌, All, IfErr, IfNone};
 ghost use Rattle.std.specs.Prelude.{IfSome, IsTrue, None, OnErr, OnOk, Some, false, length, map};
 ghost use Rattle.std.specs.Prelude.{slice_set, true};
-ghost use Rattle.bip_forks.specs.Sides.{ArePassed, IsFirstListed, IsListedWith, IsNextNeighbour};
+ghost use Rattle.bip_forks.specs.Sides.{AreByNumber, ArePassed, IsFirstListed, IsListedWith};
+ghost use Rattle.bip_forks.specs.Sides.{IsNextNeighbour, listed_at};
 ghost use Rattle.bip_forks.specs.Sides.{KeepsForkSomehow, KeepsTokenSomehow, LacksFork, LacksToken};
 ghost use Rattle.bip_forks.specs.Sides.{listed_sides, side_among, with_other_side};
 ghost use Rattle.bip_forks.specs.Stations.{AllLie, LiesHere, MayAsk, MayPass, nothing_shared};
@@ -23,30 +24,22 @@ pub(crate) struct Shared {
 }
 
 impl Shared {
-    /// Whether its number is from one on, and its fork can go.
-    fn can_pass(&self, from: usize) -> bool
-        ensures goes { IsTrue result → (from ≤ self.now.with.0) × MayPass self.now.side }
-        ensures stays { result ≡ false → from ≤ self.now.with.0
-            → KeepsForkSomehow self.now.side }
+    /// Whether its fork can go.
+    fn can_pass(&self) -> bool
+        ensures goes { IsTrue result → MayPass self.now.side }
+        ensures stays { result ≡ false → KeepsForkSomehow self.now.side }
     {
-        if (self.with.0 as usize) < from {
-            return false;
-        }
         match self.side.why_kept() {
             Some(_) => false,
             None => true,
         }
     }
 
-    /// Whether its number is from one on, and its request token can go.
-    fn can_ask(&self, from: usize) -> bool
-        ensures goes { IsTrue result → (from ≤ self.now.with.0) × MayAsk self.now.side }
-        ensures stays { result ≡ false → from ≤ self.now.with.0
-            → KeepsTokenSomehow self.now.side }
+    /// Whether its request token can go.
+    fn can_ask(&self) -> bool
+        ensures goes { IsTrue result → MayAsk self.now.side }
+        ensures stays { result ≡ false → KeepsTokenSomehow self.now.side }
     {
-        if (self.with.0 as usize) < from {
-            return false;
-        }
         match self.side.why_unasked() {
             Some(_) => false,
             None => true,
@@ -226,27 +219,52 @@ impl Sides {
     }
 }
 
+/// The first place with a number from one on, or how many places there are.
+fn first_from(shared: &[Shared], from: usize) -> usize
+    requires { (below : ℕ) × AreByNumber 0 below shared.now }
+    ensures within { result ≤ length shared.now }
+    ensures before { (k : ℕ) → k < result → (listed_at shared.now k).with.0 < from }
+    ensures onward { (k : ℕ) → result ≤ k → k < length shared.now
+        → from ≤ (listed_at shared.now k).with.0 }
+{
+    let mut low = 0;
+    let mut high = shared.len();
+    while low < high {
+        let middle = low + (high - low) / 2;
+        if (shared[middle].with.0 as usize) < from {
+            low = middle + 1;
+        } else {
+            high = middle;
+        }
+    }
+    low
+}
+
 /// The place of what is shared with a station, if there is any.
 fn place_with(shared: &[Shared], other: StationId) -> Option<usize>
+    requires { (below : ℕ) × AreByNumber 0 below shared.now }
     ensures some { IfSome result (IsListedWith shared.now other.0) }
     ensures none { IfNone result ((k : ℕ) → ¬ IsListedWith shared.now other.0 k) }
 {
-    for (place, one) in shared.iter().enumerate() {
-        if one.with.0 == other.0 {
-            return Some(place);
-        }
+    let place = first_from(shared, other.0 as usize);
+    if place >= shared.len() {
+        return None;
     }
-    None
+    if shared[place].with.0 != other.0 {
+        return None;
+    }
+    Some(place)
 }
 
 /// The first place with a number from one on whose fork can go.
 fn first_to_pass(shared: &[Shared], from: usize) -> Option<usize>
+    requires { (below : ℕ) × AreByNumber 0 below shared.now }
     ensures some { IfSome result (IsFirstListed KeepsForkSomehow MayPass shared.now from) }
     ensures none { IfNone result (ArePassed KeepsForkSomehow shared.now from
         (length shared.now)) }
 {
-    for (place, one) in shared.iter().enumerate() {
-        if one.can_pass(from) {
+    for place in first_from(shared, from)..shared.len() {
+        if shared[place].can_pass() {
             return Some(place);
         }
     }
@@ -255,12 +273,13 @@ fn first_to_pass(shared: &[Shared], from: usize) -> Option<usize>
 
 /// The first place with a number from one on whose request token can go.
 fn first_to_ask(shared: &[Shared], from: usize) -> Option<usize>
+    requires { (below : ℕ) × AreByNumber 0 below shared.now }
     ensures some { IfSome result (IsFirstListed KeepsTokenSomehow MayAsk shared.now from) }
     ensures none { IfNone result (ArePassed KeepsTokenSomehow shared.now from
         (length shared.now)) }
 {
-    for (place, one) in shared.iter().enumerate() {
-        if one.can_ask(from) {
+    for place in first_from(shared, from)..shared.len() {
+        if shared[place].can_ask() {
             return Some(place);
         }
     }

@@ -1,7 +1,7 @@
 //! One station: its table, its open requests, and what it shares.
 ghost use Rattle.std.specs.Prelude.{◌≡◌, ◌↔◌, ◌<◌, [], ◌∷◌, ◌++◌, IfErr, IfNone, IfOk, IfSome};
 ghost use Rattle.std.specs.Prelude.{IsTrue, ℕ};
-ghost use Rattle.std.specs.Prelude.{None, OnErr, OnOk, Some, false, length, map, true};
+ghost use Rattle.std.specs.Prelude.{None, OnErr, OnOk, Some, false, length, true};
 ghost use Rattle.bip_table.specs.Rows.{has_row, used_at};
 ghost use Rattle.bip_bank.specs.declared.banks.StationId.{StationId};
 ghost use Rattle.bip_bank.specs.declared.idleness.WhyIdle.{WhyIdle};
@@ -10,7 +10,6 @@ ghost use Rattle.bip_forks.specs.Stations.{AsksNothing, CanTakeFork, CanTakeToke
 ghost use Rattle.bip_forks.specs.Stations.{IsNotServed, IsUnserved, KeepsFork};
 ghost use Rattle.bip_forks.specs.Stations.{IsReadyToServe, IsServedHere, MayAsk};
 ghost use Rattle.bip_forks.specs.Stations.{MayPass, other_of, pair_of_stations, raised_by};
-ghost use Rattle.bip_forks.specs.Stations.{rewritten};
 ghost use Rattle.bip_forks.specs.Stations.{rows_here, rows_in, side_with, with_fork, with_side_to};
 
 use crate::shares::{AskToken, Fork, other_of, pair_of_stations};
@@ -154,15 +153,16 @@ impl Station {
     /// there is none, how many stations there are, or that number where it is no lower. It sends
     /// none to those between. It looks only at stations with which it shares a fork.
     pub fn next_pass(&self, from: usize) -> usize
-        ensures { IsNextNeighbour (λ (t : ℕ). (why : WhyIdle) × KeepsFork (side_with self.now t) why)
+        ensures { IsNextNeighbour
+            (λ (t : ℕ). (why : WhyIdle) × KeepsFork (side_with self.now t) why)
             (λ (t : ℕ). MayPass (side_with self.now t)) (length self.now.sides) from result }
     {
         self.sides.next_pass(from)
     }
 
     /// The next station from a number on that this one may ask for the fork that they share; where
-    /// there is none, how many stations there are, or that number where it is no lower. It asks none
-    /// of those between. It looks only at stations with which it shares a fork.
+    /// there is none, how many stations there are, or that number where it is no lower. It asks
+    /// none of those between. It looks only at stations with which it shares a fork.
     pub fn next_ask(&self, from: usize) -> usize
         ensures { IsNextNeighbour (λ (t : ℕ). (why : WhyIdle) × AsksNothing self.now t why)
             (λ (t : ℕ). HasFirst self.now.waiting × MayAsk (side_with self.now t))

@@ -1,4 +1,5 @@
-use Rattle.std.proofs.Common.{◌≡◌, ◌∙◌, ◌++◌, ◌∷◌, ◌<◌, ℕ, [], List, add-one, ap, arith, length, refl}
+use Rattle.std.proofs.Common.{◌≡◌, ◌∙◌, ◌++◌, ◌∷◌, ◌<◌, ℕ, [], List, add-one, ap, arith, length}
+use Rattle.std.proofs.Common.{refl}
 use Rattle.bip_forks.proofs.SideLemmas.{length-sides_from, none_added, order_added, order_more}
 use Rattle.bip_forks.proofs.SideLemmas.{side_added}
 use Rattle.bip_forks.specs.Sides.{sides_from}

@@ -16,7 +16,8 @@ returns-in-Err-UnknownRow-clause-none c =
     let later : KeptStation = record s { table = c.decide.new.self } in
     inr (subst (λ (x : KeptStation). IsRaisedAlone x later × IsUndecidedHere x) c.self.view_is (
       raised_alone s later c.reserve_room.new.self c.raise_all.new.table c.decide.new.self
-          c.reserve_room.ensures.kept c.raise_all.ensures.used c.raise_all.ensures.tabled c.raise_all.ensures.serial
+          c.reserve_room.ensures.kept c.raise_all.ensures.used c.raise_all.ensures.tabled
+          c.raise_all.ensures.serial
           c.in-Err-UnknownRow.ensures.left refl,
       row_unknown s c.in-Some.request.now c.reserve_room.new.self c.raise_all.new.table
           c.in-Err-UnknownRow.field-0-0
