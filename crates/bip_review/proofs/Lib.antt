@@ -1,3 +1,4 @@
+pub mod DrawingLemmas
 pub mod ReasonLemmas
 pub mod StationLemmas
 pub mod WritingLemmas

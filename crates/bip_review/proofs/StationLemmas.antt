@@ -1,9 +1,10 @@
--- No station is alone, and what its line says.
+-- No station is alone, and what is said of its conflicts.
 use Rattle.std.proofs.Common.{◌≡◌, ◌≢◌, ℕ, ◌+◌, ◌<◌, ◌≤◌, true, eqb, List, [], ◌∷◌, ◌++◌}
 use Rattle.std.proofs.Common.{length, get_or, refl, ap, sym, ◌∙◌, subst, arith, append-nil}
 use Rattle.std.proofs.Common.{inl, inr, eqb-true}
 use Rattle.std.specs.Prelude.{Contains, codes, slice_index_or}
 use Rattle.std.proofs.lemmas.Bool.{cases_Bool, eqb-false, false≢true}
+use Rattle.std.specs.List.{flat_map}
 use Rattle.std.proofs.lemmas.List.{map_push}
 use Rattle.std.proofs.lemmas.List.Concat.{flat_map-append}
 use Rattle.std.proofs.lemmas.List.Elements.{Contains-get_or}
@@ -24,8 +25,9 @@ use Rattle.bip_partition.proofs.ListedLemmas.{exact_in_all, none_below, one_has,
 use Rattle.bip_partition.proofs.TableLemmas.{reserved_known}
 use Rattle.bip_partition.proofs.TouchLemmas.{touches_known}
 use Rattle.bip_review.specs.Writing.{AddsConflicts, AddsLine, AddsLines, ConflictsWith}
-use Rattle.bip_review.specs.Writing.{IsLineOfStation, IsStationLine, StationShown, names_text}
-use Rattle.bip_review.specs.Writing.{one_more, station_text}
+use Rattle.bip_review.specs.Writing.{IsLineOfStation, IsListConflicting, IsStationLine}
+use Rattle.bip_review.specs.Writing.{IsStationShown, StationShown, names_text, one_more}
+use Rattle.bip_review.specs.Writing.{station_text}
 use Rattle.bip_review.proofs.WritingLemmas.{joined}
 
 -- what moves a component with a row is in conflict with another one that touches it
@@ -103,27 +105,26 @@ pub station_reserved : (p : Planned) (stations : List InterId) (s : ℕ) (d : In
 station_reserved p stations s d listed within = (listed.exact (get_or stations s d).0).0
     (Contains-get_or stations s d within)
 
--- the names of the interactions below a bound that are in conflict, behind a text
-pub record AddsConflictsBelow (p : Planned) (a bound : ℕ) (old new : List ℕ) : Type 0 where
+-- what is spelled of the interactions below a bound that are in conflict, behind a text
+pub record AddsConflictsBelow (p : Planned) (spell : ℕ → List ℕ) (a bound : ℕ)
+    (old new : List ℕ) : Type 0 where
   pub list : List InterId
   pub below : IsListBelow (λ (b : InterId). b.0) inter (ConflictsWith p a) bound list
-  pub added : new ≡ old ++ names_text p.model.interaction_names (numbers_in list)
+  pub added : new ≡ old ++ flat_map spell (numbers_in list)
 
-pub no_conflict : (p : Planned) (a : ℕ) (old : List ℕ) → AddsConflictsBelow p a 0 old old
-no_conflict p a old = record {
+pub no_conflict : (p : Planned) (spell : ℕ → List ℕ) (a : ℕ) (old : List ℕ)
+    → AddsConflictsBelow p spell a 0 old old
+no_conflict p spell a old = record {
   list = [];
   below = none_below (λ (b : InterId). b.0) inter (λ n. refl) (λ x. refl) (ConflictsWith p a);
   added = sym (append-nil old);
 }
 
 -- one more of them
-pub one_conflict : (p : Planned) (a n : ℕ) (old mid new : List ℕ)
-    → AddsConflictsBelow p a n old mid → ConflictsWith p a n
-    → new ≡ mid ++ spaced (name_in p.model.interaction_names n)
-    → AddsConflictsBelow p a (n + 1) old new
-one_conflict p a n old mid new h is more =
-    let names = p.model.interaction_names in
-    let spell : ℕ → List ℕ = λ k. spaced (name_in names k) in
+pub one_conflict : (p : Planned) (spell : ℕ → List ℕ) (a n : ℕ) (old mid new : List ℕ)
+    → AddsConflictsBelow p spell a n old mid → ConflictsWith p a n → new ≡ mid ++ spell n
+    → AddsConflictsBelow p spell a (n + 1) old new
+one_conflict p spell a n old mid new h is more =
     let one : spell n ++ [] ≡ spell n = append-nil (spell n) in
     record {
       list = h.list ++ inter n ∷ [];
@@ -131,14 +132,15 @@ one_conflict p a n old mid new h is more =
           n h.list h.below is;
       added = rw (map_push (λ (b : InterId). b.0) h.list (inter n))
           (rw (flat_map-append spell (numbers_in h.list) (n ∷ []))
-          (rw one (joined old (names_text names (numbers_in h.list)) mid (spell n) new h.added
+          (rw one (joined old (flat_map spell (numbers_in h.list)) mid (spell n) new h.added
           more)));
     }
 
 -- one more that isn't
-pub other_skipped : (p : Planned) (a n : ℕ) (old mid : List ℕ) → AddsConflictsBelow p a n old mid
-    → (¬ ConflictsWith p a n) → AddsConflictsBelow p a (n + 1) old mid
-other_skipped p a n old mid h isnt = record {
+pub other_skipped : (p : Planned) (spell : ℕ → List ℕ) (a n : ℕ) (old mid : List ℕ)
+    → AddsConflictsBelow p spell a n old mid → (¬ ConflictsWith p a n)
+    → AddsConflictsBelow p spell a (n + 1) old mid
+other_skipped p spell a n old mid h isnt = record {
   list = h.list;
   below = one_lacks (λ (b : InterId). b.0) inter (λ k. refl) (λ x. refl) (ConflictsWith p a) n
       h.list h.below isnt;
@@ -146,18 +148,24 @@ other_skipped p a n old mid h isnt = record {
 }
 
 -- all interactions were asked
-pub all_conflicts : (p : Planned) (a n : ℕ) (old new : List ℕ) → IsSystem p.model
-    → length p.model.interactions ≤ n → AddsConflictsBelow p a n old new
-    → AddsConflicts p a old new
-all_conflicts p a n old new valid all h = record {
-  conflicts = h.list;
-  holds = record {
-    rising = h.below.rising;
-    exact = exact_in_all (λ (b : InterId). b.0) inter (λ k. refl) (λ x. refl) (ConflictsWith p a)
-        n h.list h.below (λ b is. omega (arith, reserved_known p b valid is.station, all));
-  };
-  added = h.added;
+pub all_conflicts : (p : Planned) (spell : ℕ → List ℕ) (a n : ℕ) (old new : List ℕ)
+    → IsSystem p.model → length p.model.interactions ≤ n
+    → (h : AddsConflictsBelow p spell a n old new) → IsListConflicting p a h.list
+all_conflicts p spell a n old new valid all h = record {
+  rising = h.below.rising;
+  exact = exact_in_all (λ (b : InterId). b.0) inter (λ k. refl) (λ x. refl) (ConflictsWith p a)
+      n h.list h.below (λ b is. omega (arith, reserved_known p b valid is.station, all));
 }
+
+-- what is shown of a station is true, since it isn't alone
+pub station_shown : (p : Planned) (a : ℕ) (list : List InterId) → IsPlanned p → IsReserved p a
+    → IsListConflicting p a list → IsStationShown p a (record { conflicts = list })
+station_shown p a list planned reserved is =
+    let other = crowded p planned a reserved.comp reserved.tabled reserved.touched in
+    record {
+      conflicts = is;
+      some = some_where list (inter other.0) ((is.exact other.0).1 other.1);
+    }
 
 -- a line of a station, of its parts
 pub station_line : (p : Planned) (a : ℕ) (old t1 t2 t3 t4 new : List ℕ)
@@ -176,15 +184,11 @@ station_line p a old t1 t2 t3 t4 new planned reserved e1 e2 e3 more e5 =
     let w2 = joined t2 word t3 (names ++ line_feed ∷ []) new e3 w3 in
     let w1 = joined t1 name t2 (word ++ (names ++ line_feed ∷ [])) new e2 w2 in
     let shown : StationShown = record { conflicts = more.conflicts } in
-    let other = crowded p planned a reserved.comp reserved.tabled reserved.touched in
     record {
       line = station_text p a shown;
       holds = record {
         shown = shown;
-        holds = record {
-          conflicts = more.holds;
-          some = some_where more.conflicts (inter other.0) ((more.holds.exact other.0).1 other.1);
-        };
+        holds = station_shown p a more.conflicts planned reserved more.holds;
         spelled = refl;
       };
       added = joined old (codes "station") t1 (name ++ (word ++ (names ++ line_feed ∷ []))) new e1

@@ -119,7 +119,7 @@ fn write_conflicts(text: &mut Vec<u8>, plan: &Plan, inter: InterId) -> Result<()
     Ok(())
 }
 
-fn conflicts_with(plan: &Plan, inter: InterId, other: InterId) -> bool
+pub(crate) fn conflicts_with(plan: &Plan, inter: InterId, other: InterId) -> bool
     ensures { IsTrue result ↔ ConflictsWith plan.now inter.0 other.0 }
 {
     if other == inter || !plan.reserved(other) {

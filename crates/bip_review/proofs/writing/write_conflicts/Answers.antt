@@ -1,20 +1,30 @@
-use Rattle.std.proofs.Common.{length, refl, ap, arith}
+use Rattle.std.proofs.Common.{ℕ, List, length, refl, ap, arith}
 use Rattle.std.proofs.lemmas.Bool.{false≢true}
+use Rattle.bip_model.specs.Naming.{name_in}
+use Rattle.bip_model.specs.Texts.{spaced}
+use Rattle.bip_partition.specs.Plans.{Planned}
 use Rattle.bip_review.proofs.StationLemmas.{all_conflicts, no_conflict, one_conflict, other_skipped}
 use Rattle.bip_review.proofs.writing.write_conflicts.Goals as goal
 
+-- the name of an interaction, as write_inter_name writes it
+abbrev spell : Planned → ℕ → List ℕ
+spell p n = spaced (name_in p.model.interaction_names n)
+
 pub loop-number-init : goal.loop-number-init
-loop-number-init c = no_conflict c.args.plan.now c.args.inter.0 c.args.text.now.items
+loop-number-init c = no_conflict c.args.plan.now (spell c.args.plan.now)
+    c.args.inter.0 c.args.text.now.items
 
 pub loop-number-preserved : goal.loop-number-preserved
 loop-number-preserved c = elim c.if-conflicts_with.branch [
   | goal.then-conflicts_with+in_ok-write_inter_name w ↦
-      rw w.text-is (one_conflict c.args.plan.now c.args.inter.0 c.loop-number.number
+      rw w.text-is (one_conflict c.args.plan.now (spell c.args.plan.now)
+      c.args.inter.0 c.loop-number.number
       c.args.text.now.items c.loop-number.text.items w.write_inter_name.new.text.items
       c.loop-number.invariant (w.if-conflicts_with.ensures.0 refl)
       w.in_ok-write_inter_name.ensures)
   | goal.else-conflicts_with w ↦
-      rw w.text-is (other_skipped c.args.plan.now c.args.inter.0 c.loop-number.number
+      rw w.text-is (other_skipped c.args.plan.now (spell c.args.plan.now)
+      c.args.inter.0 c.loop-number.number
       c.args.text.now.items c.loop-number.text.items c.loop-number.invariant
       (λ is. false≢true (w.if-conflicts_with.ensures.1 is)))
 ]
@@ -22,6 +32,12 @@ loop-number-preserved c = elim c.if-conflicts_with.branch [
 pub returns : goal.returns
 returns c =
     let all = rw c.model.ensures at c.interactions-number-end.ensures.interactions in
-    all_conflicts c.args.plan.now c.args.inter.0 c.loop-number.number c.args.text.now.items
-    c.loop-number.text.items (rw c.model.ensures at c.interactions-number-end.ensures.valid)
-    (omega (arith, c.loop-number-test.false, ap length all)) c.loop-number.invariant
+    let each = c.loop-number.invariant in
+    record {
+      conflicts = each.list;
+      holds = all_conflicts c.args.plan.now (spell c.args.plan.now)
+          c.args.inter.0 c.loop-number.number c.args.text.now.items c.loop-number.text.items
+          (rw c.model.ensures at c.interactions-number-end.ensures.valid)
+          (omega (arith, c.loop-number-test.false, ap length all)) each;
+      added = each.added;
+    }
