@@ -1,7 +1,7 @@
 -- The answer to a replay: the one that the text of a model, the text of a trace and a base have.
 -- The answer to a check: the one that the text of a model has.
 use Rattle.std.specs.Prelude.{◌≡◌, ◌≢◌, ◌++◌, ℕ, Bool, false, true, List, [], length, ⊤}
-use Rattle.std.specs.Prelude.{Result, Ok, Err}
+use Rattle.std.specs.Prelude.{None, Result, Ok, Err}
 use Rattle.bip_explain.specs.Explanations.{Telling, Tells}
 use Rattle.bip_explain.specs.Steps.{TellsStep}
 use Rattle.bip_explain.specs.Traces.{IsTraceReasonOf, MayKeepTrace, trace_parts}
@@ -46,11 +46,13 @@ code_of NotARun = 4
 
 -- an answer on standard output, and no complaint
 abbrev pub saying : Status → List ℕ → Answer
-saying status output = record { status = status; output = output; complaint = [] }
+saying status output =
+    record { status = status; output = output; complaint = []; file = None }
 
 -- a complaint, and nothing on standard output
 abbrev pub complaining : Status → List ℕ → Answer
-complaining status complaint = record { status = status; output = []; complaint = complaint }
+complaining status complaint =
+    record { status = status; output = []; complaint = complaint; file = None }
 
 -- a fault of a line that says no grant of the model
 abbrev pub SaysNoGrant : ReplayFault → Type 0

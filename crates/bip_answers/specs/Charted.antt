@@ -118,7 +118,12 @@ pub data IsPictured (m : System) (classes : Partition) (shown : Shown) (grants :
   fitting : (chart : Chart) → count_shown shown grants ≤ most_rows
       → IsChartOf m classes shown grants verdict chart
       → IsPictured m classes shown grants verdict
-      (record { status = verdict.status; output = chart_of chart; complaint = verdict.output })
+      (record {
+        status = verdict.status;
+        output = chart_of chart;
+        complaint = verdict.output;
+        file = None;
+      })
   too_long : most_rows < count_shown shown grants
       → IsPictured m classes shown grants verdict (complaining Refused (chart_refusal most_rows))
 

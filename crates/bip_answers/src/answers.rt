@@ -59,13 +59,21 @@ impl Status {
     }
 }
 
-/// The answer to a command: its status, and what it writes on standard output and on standard
-/// error.
+/// A text that is kept in the file that a path names.
+#[derive(Drop)]
+pub struct FileText {
+    pub path: Seq<u8>,
+    pub text: Seq<u8>,
+}
+
+/// The answer to a command: its status; what it writes on standard output and on standard error;
+/// and what it keeps in a file, if anything.
 #[derive(Drop)]
 pub struct Answer {
     pub status: Status,
     pub output: Seq<u8>,
     pub complaint: Seq<u8>,
+    pub file: Option<FileText>,
 }
 
 /// The answer to the check of a model's text: the counts of its plan, and behind them the plan
@@ -280,6 +288,7 @@ pub fn said(alloc: Global, status: Status, output: Vec<u8>) -> Answer
         status,
         output: Seq::of(output),
         complaint: Seq::of(Vec::new(alloc)),
+        file: None,
     }
 }
 
@@ -291,5 +300,6 @@ pub fn complained(alloc: Global, status: Status, complaint: Vec<u8>) -> Answer
         status,
         output: Seq::of(Vec::new(alloc)),
         complaint: Seq::of(complaint),
+        file: None,
     }
 }

@@ -222,6 +222,7 @@ fn answer_begun(
         status: verdict.status,
         output: Seq::of(picture),
         complaint: verdict.output,
+        file: None,
     })
 }
 

@@ -10,8 +10,9 @@ mod views;
 mod wording;
 
 pub use answers::{
-    Answer, PlanOrRefusal, Status, answer_check, answer_fault, complained, plan_text, said,
+    Answer, FileText, PlanOrRefusal, Status, answer_check, answer_fault, complained, plan_text,
+    said,
 };
 pub use charted::Shown;
-pub use renderings::{Rendering, answer_rendering};
+pub use renderings::{Rendering, answer_drawing, answer_rendering};
 pub use views::View;

@@ -1,13 +1,14 @@
-//! What a model is rendered as: its drawing, and its canonical text.
-ghost use Rattle.std.specs.Prelude.{◌≡◌, IfOk};
+//! What a model is rendered as: its drawing, its canonical text, and the drawing of its plan.
+ghost use Rattle.std.specs.Prelude.{◌≡◌, IfOk, true};
 ghost use Rattle.bip_model.specs.Partitions.{AreClassesOf};
-ghost use Rattle.bip_answers.specs.Renderings.{IsRenderingAnswer, rendering_of};
+ghost use Rattle.bip_answers.specs.Renderings.{IsDrawn, IsRenderingAnswer, rendering_of};
 
-use crate::answers::{Answer, Status, answer_fault, said};
+use crate::answers::{Answer, PlanOrRefusal, Status, answer_fault, plan_text, said};
 use bip_draw::draw_model;
 use bip_explain::Explanation;
 use bip_model::{Classes, Model};
 use bip_reader::{read_model, write_model};
+use bip_review::draw_plan;
 use std::alloc::{AllocError, Global};
 
 /// What a model can be rendered as.
@@ -34,6 +35,42 @@ pub fn answer_rendering(
     };
     let text = render(alloc, rendering, &system, &classes)?;
     Ok(said(alloc, Status::Done, text))
+}
+
+/// The answer to the drawing of a model's text: that rendering, or the drawing of its plan where
+/// that is asked for, in the language of Graphviz; or what keeps it from having one. The only error
+/// is want of memory.
+pub fn answer_drawing(
+    alloc: Global,
+    explanation: &mut Explanation,
+    model: &[u8],
+    with_plan: bool,
+) -> Result<Answer, AllocError>
+    ensures { IfOk result (IsDrawn model.now with_plan) }
+{
+    if with_plan {
+        answer_plan_drawing(alloc, explanation, model)
+    } else {
+        answer_rendering(alloc, explanation, Rendering::Drawing, model)
+    }
+}
+
+// The same of its plan.
+fn answer_plan_drawing(
+    alloc: Global,
+    explanation: &mut Explanation,
+    model: &[u8],
+) -> Result<Answer, AllocError>
+    ensures { IfOk result (IsDrawn model.now true) }
+{
+    match plan_text(alloc, explanation, model)? {
+        PlanOrRefusal::Plan(plan) => {
+            let drawing = draw_plan(alloc, &plan)?;
+            drop(plan);
+            Ok(said(alloc, Status::Done, drawing))
+        }
+        PlanOrRefusal::Refusal(answer) => Ok(answer),
+    }
 }
 
 // The rendering of a model and its classes.

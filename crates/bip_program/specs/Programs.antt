@@ -96,7 +96,9 @@ check_command =
     (path (codes "model") ∷ flag (codes "plan") ∷ flag (codes "explain") ∷ [])
 
 abbrev pub draw_command : Shape
-draw_command = with_arguments (codes "draw") (path (codes "model") ∷ flag (codes "explain") ∷ [])
+draw_command =
+    with_arguments (codes "draw")
+    (path (codes "model") ∷ flag (codes "plan") ∷ flag (codes "explain") ∷ [])
 
 abbrev pub replay_command : Shape
 replay_command = with_arguments (codes "replay")

@@ -134,7 +134,11 @@ ports and transitions, a box in its class's colour for each interaction, with an
 of its ports, and a dashed edge from an interaction to one of higher priority. `dot` makes a
 picture of it:
 
-    bipr draw MODEL | dot -Tsvg > model.svg";
+    bipr draw MODEL | dot -Tsvg > model.svg
+
+With --plan it draws what the partition comes to: a cluster for each class, with two borders
+for each interaction that asks the third layer; the components, filled where they have a row;
+dashed edges to those that are looked at, and edges between interactions that share a fork.";
 
 const REPLAY_ABOUT: &str = "Says whether a trace is a run of a model";
 
@@ -393,7 +397,7 @@ fn check<'a>(alloc: Global) -> Result<Command<'a>, AllocError>
 fn draw<'a>(alloc: Global) -> Result<Command<'a>, AllocError>
     ensures { IfOk result (HasShape draw_command) }
 {
-    let arguments = vec![in alloc; model(alloc), explain(alloc)]?;
+    let arguments = vec![in alloc; model(alloc), drawn_plan(alloc), explain(alloc)]?;
     command(alloc, "draw", DRAW_ABOUT, DRAW_HELP, arguments)
 }
 
@@ -704,6 +708,13 @@ fn plan<'a>(alloc: Global) -> Arg<'a>
     ensures { HasRule (flag (codes "plan")) result }
 {
     flag(alloc, "plan").help("write the plan behind the counts, line by line")
+}
+
+// The option that draws the plan.
+fn drawn_plan<'a>(alloc: Global) -> Arg<'a>
+    ensures { HasRule (flag (codes "plan")) result }
+{
+    flag(alloc, "plan").help("draw the plan: classes, rows, conflicts, and the order of a ring")
 }
 
 // The option that tells what is counted.

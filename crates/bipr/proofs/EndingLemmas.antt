@@ -1,9 +1,11 @@
 -- What is said of a command that has an answer, or was stopped.
 use Rattle.std.proofs.Common.{◌≡◌, arith, inl, inr, ℕ, Bool, false, true, List, [], Result, Ok, Err}
-use Rattle.std.proofs.Common.{refl, sym, subst}
+use Rattle.std.proofs.Common.{None, Option, Some, refl, sym, subst}
 use Rattle.std.specs.Result.{IsErrAnd}
 use Rattle.bipr.specs.Endings.{AllOutcomes, AllOutcomesTelling, Ends, EndsExplaining, EndsTelling}
-use Rattle.bipr.specs.Endings.{IsOutcome, explaining}
+use Rattle.bipr.specs.Endings.{IsEnd, IsKept, IsOutcome, Keeping, explaining, nothing_kept, unkept}
+use Rattle.bipr.specs.Endings.{unwritten, written}
+use Rattle.bip_answers.specs.declared.answers.FileText.{FileText}
 use Rattle.bipr.specs.Streams.{Put, Puts, none_put, nothing}
 use Rattle.bip_answers.specs.declared.answers.Status.{Status}
 use Rattle.bip_answers.specs.declared.answers.Status.TheVariants.{Done, Refused, BadCommandLine}
@@ -78,14 +80,36 @@ outcomes_quiet writes before after given P same all =
     subst (λ s. AllOutcomesTelling writes before s given P) (sym same)
     (record { told = []; on_the_way = none_put; outcomes = all })
 
+-- an end for which nothing is kept is one whatever keeps files
+kept_anyhow : (keeps : Keeping) (file : Option FileText) (is_kept : Bool)
+    → IsKept nothing_kept file is_kept → IsKept keeps file is_kept
+kept_anyhow keeps None is_kept is = is
+kept_anyhow keeps (Some file) is_kept is = absurd is
+
+pub end_keeping : (says : List ℕ → Bool → Type 0) (keeps : Keeping)
+    (complains : List ℕ → Bool → Type 0) (answer : Answer) (status : Status)
+    → IsEnd says nothing_kept complains answer status → IsEnd says keeps complains answer status
+end_keeping says keeps complains answer _ (written is_told out kept complained) =
+    written is_told out (kept_anyhow keeps answer.file true kept) complained
+end_keeping says keeps complains answer _ (unkept is_told out kept complained) =
+    unkept is_told out (kept_anyhow keeps answer.file false kept) complained
+end_keeping says keeps complains answer _ (unwritten is_told out complained) =
+    unwritten is_told out complained
+
+pub ends_keeping : (may : Answer → Type 0) (says : List ℕ → Bool → Type 0) (keeps : Keeping)
+    (complains : List ℕ → Bool → Type 0) (status : Status)
+    → Ends may says nothing_kept complains status → Ends may says keeps complains status
+ends_keeping may says keeps complains status ends =
+    (ends.0, ends.1, end_keeping says keeps complains ends.0 status ends.2)
+
 -- a command that tells nothing on its way
 pub ends_quietly : {S : Type 0} (may : Answer → Type 0) (may_telling : List Put → Answer → Type 0)
-    (says : List ℕ → Bool → Type 0) (writes : S → List ℕ → Bool → S → Type 0) (before after : S)
-    (status : Status)
-    → Ends may says (Puts writes before after) status
+    (says : List ℕ → Bool → Type 0) (keeps : Keeping) (writes : S → List ℕ → Bool → S → Type 0)
+    (before after : S) (status : Status)
+    → Ends may says keeps (Puts writes before after) status
     → ((answer : Answer) → may answer → may_telling [] answer)
-    → EndsTelling may_telling says writes before after status
-ends_quietly may may_telling says writes before after status ends turn =
+    → EndsTelling may_telling says keeps writes before after status
+ends_quietly may may_telling says keeps writes before after status ends turn =
     record {
       told = [];
       middle = before;
@@ -95,12 +119,12 @@ ends_quietly may may_telling says writes before after status ends turn =
 
 -- one that does, and then ends with its answer or with what stopped it
 pub ends_telling : {S : Type 0} (may_telling : List Put → Answer → Type 0)
-    (says : List ℕ → Bool → Type 0) (writes : S → List ℕ → Bool → S → Type 0)
+    (says : List ℕ → Bool → Type 0) (keeps : Keeping) (writes : S → List ℕ → Bool → S → Type 0)
     (before middle after : S) (given : Result Answer Stop) (status : Status)
     → AllOutcomesTelling writes before middle given may_telling
-    → Ends (IsOutcome given) says (Puts writes middle after) status
-    → EndsTelling may_telling says writes before after status
-ends_telling may_telling says writes before middle after given status all ends =
+    → Ends (IsOutcome given) says keeps (Puts writes middle after) status
+    → EndsTelling may_telling says keeps writes before after status
+ends_telling may_telling says keeps writes before middle after given status all ends =
     record {
       told = all.told;
       middle = middle;
@@ -132,11 +156,11 @@ explaining-none NotARun = refl
 
 -- a command that isn't asked to explain
 pub ends_unexplained : {S : Type 0} (may : Bool → List Put → Answer → Type 0)
-    (says : List ℕ → Bool → Type 0) (writes : S → List ℕ → Bool → S → Type 0) (before after : S)
-    (status : Status)
-    → EndsTelling (may false) says writes before after status
-    → EndsExplaining may says writes before after status
-ends_unexplained may says writes before after status ends =
+    (says : List ℕ → Bool → Type 0) (keeps : Keeping) (writes : S → List ℕ → Bool → S → Type 0)
+    (before after : S) (status : Status)
+    → EndsTelling (may false) says keeps writes before after status
+    → EndsExplaining may says keeps writes before after status
+ends_unexplained may says keeps writes before after status ends =
     record {
       is_asked = false;
       last = after;

@@ -10,10 +10,11 @@ use Rattle.bip_schedule.specs.declared.drawing.Draws.{Draws}
 use Rattle.bipr.specs.Draws.{draw_name}
 use Rattle.bip_program.specs.Asked.{IsFlagAsked, IsNumberAsked, MayAskNumber}
 use Rattle.bipr.specs.Resolvers.{resolver_name, tables_name}
+use Rattle.bipr.specs.declared.commands.canon.CanonArguments.{CanonArguments}
 use Rattle.bipr.specs.declared.commands.chart.ChartArguments.{ChartArguments}
 use Rattle.bipr.specs.declared.commands.check.CheckArguments.{CheckArguments}
+use Rattle.bipr.specs.declared.commands.draw.DrawArguments.{DrawArguments}
 use Rattle.bipr.specs.declared.commands.explore.ExploreArguments.{ExploreArguments}
-use Rattle.bipr.specs.declared.commands.render.RenderArguments.{RenderArguments}
 use Rattle.bipr.specs.declared.commands.replay.ReplayArguments.{ReplayArguments}
 use Rattle.bipr.specs.declared.commands.replay.VerdictArguments.{VerdictArguments}
 use Rattle.bipr.specs.declared.commands.run.RunArguments.{RunArguments}
@@ -50,9 +51,14 @@ pub record IsCheckAsked (values : List Row) (arguments : CheckArguments) : Type 
   pub model : first_of (codes "model") values ≡ Some arguments.model.now
   pub plan : IsFlagAsked values (codes "plan") arguments.with_plan
 
--- the values behind `draw` or `canon` ask
-pub record IsRenderAsked (values : List Row) (arguments : RenderArguments) : Type 0 where
+-- the values behind `canon` ask
+pub record IsCanonAsked (values : List Row) (arguments : CanonArguments) : Type 0 where
   pub model : first_of (codes "model") values ≡ Some arguments.model.now
+
+-- the values behind `draw` ask
+pub record IsDrawingAsked (values : List Row) (arguments : DrawArguments) : Type 0 where
+  pub model : first_of (codes "model") values ≡ Some arguments.model.now
+  pub plan : IsFlagAsked values (codes "plan") arguments.with_plan
 
 -- the values behind `replay` or `chart` ask of a replay: the paths are the first values of their
 -- arguments

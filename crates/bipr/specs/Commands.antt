@@ -6,12 +6,11 @@ use Rattle.std.specs.declared.io.Error as io_error
 use Rattle.clap.specs.Words.{Row, Text}
 use Rattle.clap.specs.declared.error.Error.{Error}
 use Rattle.bip_host.specs.declared.hosts.Limits.{Limits}
-use Rattle.bip_partition.specs.Plans.{Planned}
 use Rattle.bip_answers.specs.Answers.{IsAnswer, IsCheckShowing, IsRefusedModel, code_of}
 use Rattle.bip_answers.specs.Charted.{AreRowsDisordered, AreRowsInOrder, IsChartAnswer}
 use Rattle.bip_program.specs.Asked.{IsExplainAsked}
-use Rattle.bipr.specs.CommandLine.{AreStepsAsked, IsChartAsked, IsCheckAsked}
-use Rattle.bipr.specs.CommandLine.{IsExploreAsked, IsRenderAsked, IsRunAsked, IsSeedAsked}
+use Rattle.bipr.specs.CommandLine.{AreStepsAsked, IsCanonAsked, IsChartAsked, IsCheckAsked}
+use Rattle.bipr.specs.CommandLine.{IsDrawingAsked, IsExploreAsked, IsRunAsked, IsSeedAsked}
 use Rattle.bipr.specs.CommandLine.{IsVerdictAsked, IsWalkAsked}
 use Rattle.bipr.specs.Endings.{Ends, EndsExplaining}
 use Rattle.bipr.specs.Explored.{IsExploreAnswer}
@@ -20,7 +19,7 @@ use Rattle.bipr.specs.Loading.{IsModelText, IsNoModel, IsPlannedText, OfPlan, Of
 use Rattle.bipr.specs.Loading.{Silently}
 use Rattle.bip_program.specs.Programs.{IsNoParse, IsParse, Parsed}
 use Rattle.bipr.specs.Refusals.{IsErrorAnswer, IsWordsAnswer}
-use Rattle.bip_answers.specs.Renderings.{IsRenderingAnswer}
+use Rattle.bip_answers.specs.Renderings.{IsDrawn, IsRenderingAnswer}
 use Rattle.bipr.specs.Resolvers.{NeedsCentral}
 use Rattle.bipr.specs.Scheduled.{IsScheduleAnswered}
 use Rattle.bipr.specs.Seeds.{IsSeedAnswer}
@@ -34,10 +33,11 @@ use Rattle.bip_answers.specs.declared.answers.Answer.{Answer}
 use Rattle.bip_answers.specs.declared.answers.Status.{Status}
 use Rattle.bipr.specs.declared.commands.Command.{Command}
 use Rattle.bipr.specs.declared.commands.Command.TheVariants as command
+use Rattle.bipr.specs.declared.commands.canon.CanonArguments.{CanonArguments}
 use Rattle.bipr.specs.declared.commands.chart.ChartArguments.{ChartArguments}
 use Rattle.bipr.specs.declared.commands.check.CheckArguments.{CheckArguments}
+use Rattle.bipr.specs.declared.commands.draw.DrawArguments.{DrawArguments}
 use Rattle.bipr.specs.declared.commands.explore.ExploreArguments.{ExploreArguments}
-use Rattle.bipr.specs.declared.commands.render.RenderArguments.{RenderArguments}
 use Rattle.bipr.specs.declared.commands.replay.ReplayArguments.{ReplayArguments}
 use Rattle.bipr.specs.declared.commands.replay.VerdictArguments.{VerdictArguments}
 use Rattle.bipr.specs.declared.commands.run.RunArguments.{RunArguments}
@@ -45,8 +45,7 @@ use Rattle.bipr.specs.declared.commands.seed.SeedArguments.{SeedArguments}
 use Rattle.bipr.specs.declared.commands.steps.StepsArguments.{StepsArguments}
 use Rattle.bipr.specs.declared.commands.walk.WalkArguments.{WalkArguments}
 use Rattle.bipr.specs.declared.inputs.InputFault.{InputFault}
-use Rattle.bip_answers.specs.declared.renderings.Rendering.{Rendering}
-use Rattle.bip_answers.specs.declared.renderings.Rendering.TheVariants.{Canonical, Drawing}
+use Rattle.bip_answers.specs.declared.renderings.Rendering.TheVariants.{Canonical}
 use Rattle.bipr.specs.declared.walked.Walks.{Walks}
 
 -- Below, reading the text that a path names may give what `gives` says, and running the nodes of a
@@ -58,11 +57,17 @@ abbrev pub IsCheck : (List ℕ → Result (List ℕ) InputFault → Type 0) → 
 IsCheck gives asked =
     OfText gives asked.model.now (λ model. Silently (IsCheckShowing model asked.with_plan))
 
--- the drawing, or the canonical text
-abbrev pub IsRender : Rendering → (List ℕ → Result (List ℕ) InputFault → Type 0) → RenderArguments
-    → List Put → Answer → Type 0
-IsRender rendering gives asked =
-    OfText gives asked.model.now (λ model. Silently (IsRenderingAnswer rendering model))
+-- the canonical text
+abbrev pub IsCanon : (List ℕ → Result (List ℕ) InputFault → Type 0) → CanonArguments → List Put
+    → Answer → Type 0
+IsCanon gives asked =
+    OfText gives asked.model.now (λ model. Silently (IsRenderingAnswer Canonical model))
+
+-- the drawing, of the model or of its plan
+abbrev pub IsDraw : (List ℕ → Result (List ℕ) InputFault → Type 0) → DrawArguments → List Put
+    → Answer → Type 0
+IsDraw gives asked =
+    OfText gives asked.model.now (λ model. Silently (IsDrawn model asked.with_plan))
 
 -- what may be answered to a model's text and a trace's, where this answers both
 abbrev pub IsReplayBy : (List ℕ → List ℕ → Answer → Type 0)
@@ -177,11 +182,10 @@ pub data IsAnsweredTo {A : Type 0} (asks : A → Type 0) (does : A → List Put 
 abbrev pub IsSaidTo : Command → List Row → (List ℕ → Result (List ℕ) InputFault → Type 0)
     → Hosts → List Put → Answer → Type 0
 IsSaidTo command.Canon values gives hosts =
-    IsAnsweredTo (IsRenderAsked values) (IsRender Canonical gives)
+    IsAnsweredTo (IsCanonAsked values) (IsCanon gives)
 IsSaidTo command.Chart values gives hosts = IsAnsweredTo (IsChartAsked values) (IsChart gives)
 IsSaidTo command.Check values gives hosts = IsAnsweredTo (IsCheckAsked values) (IsCheck gives)
-IsSaidTo command.Draw values gives hosts =
-    IsAnsweredTo (IsRenderAsked values) (IsRender Drawing gives)
+IsSaidTo command.Draw values gives hosts = IsAnsweredTo (IsDrawingAsked values) (IsDraw gives)
 IsSaidTo command.Replay values gives hosts =
     IsAnsweredTo (IsVerdictAsked values) (IsReplayShowing gives)
 IsSaidTo command.Steps values gives hosts = IsAnsweredTo (AreStepsAsked values) (IsSteps gives)
@@ -224,10 +228,11 @@ pub data IsProgramEnd {S : Type 0} (asks : Result (List Text) io_error.Error →
     (says : List ℕ → Bool → Type 0)
     (writes : S → List ℕ → Bool → S → Type 0) (before after : S) (status : Status) : Type 0 where
   wordless : (error : io_error.Error) → asks (Err error)
-      → Ends (IsWordsAnswer error) says (Puts writes before after) status
+      → Ends (IsWordsAnswer error) says hosts.keeps (Puts writes before after) status
       → IsProgramEnd asks gives hosts says writes before after status
   worded : (words : List Text) → asks (Ok words)
-      → EndsExplaining (IsCarriedOut words gives hosts) says writes before after status
+      → EndsExplaining (IsCarriedOut words gives hosts) says hosts.keeps writes before after
+      status
       → IsProgramEnd asks gives hosts says writes before after status
 
 -- the code with which the process ends is that of a status with which the program may end

@@ -1,6 +1,6 @@
 -- How a command ends: what is written of its answer, and its status.
 use Rattle.std.specs.Prelude.{◌≡◌, ◌⊎◌, ℕ, Bool, false, true, List, [], ◌∷◌, Result, Ok, Err}
-use Rattle.std.specs.Prelude.{◌≤◌, length}
+use Rattle.std.specs.Prelude.{◌≤◌, None, Option, Some, length}
 use Rattle.std.specs.List.{list_all}
 use Rattle.bip_explain.specs.Explanations.{is_shown}
 use Rattle.bip_answers.specs.Answers.{complaining}
@@ -8,6 +8,7 @@ use Rattle.bipr.specs.Stops.{answer_of_stop, out_of_memory, unread_text, unwritt
 use Rattle.bipr.specs.Streams.{Put, Puts, PutsEach}
 use Rattle.bip_answers.specs.Wording.{complaint_text}
 use Rattle.bip_answers.specs.declared.answers.Answer.{Answer}
+use Rattle.bip_answers.specs.declared.answers.FileText.{FileText}
 use Rattle.bip_answers.specs.declared.answers.Status.{Status}
 use Rattle.bip_answers.specs.declared.answers.Status.TheVariants.{Done, Refused}
 use Rattle.bipr.specs.declared.stops.Stop.TheVariants as stop
@@ -18,31 +19,50 @@ abbrev pub told_status : Bool → Status → Status
 told_status false Done = Refused
 told_status is_told status = status
 
+-- what becomes of texts that are kept in files, by their paths: all of one is out there, or not
+abbrev pub Keeping : Type 1
+Keeping = List ℕ → List ℕ → Bool → Type 0
+
+-- whether all that is to be kept in a file, if anything is, is out there
+abbrev pub IsKept : Keeping → Option FileText → Bool → Type 0
+IsKept keeps None is_kept = is_kept ≡ true
+IsKept keeps (Some file) is_kept = keeps file.path file.text is_kept
+
+-- nothing is kept in any file
+abbrev pub nothing_kept : Keeping
+nothing_kept path text is_kept = ⊥
+
 -- the end of a command that has an answer, by what was put on standard output and on standard error
-pub data IsEnd (says complains : List ℕ → Bool → Type 0) (answer : Answer) : Status → Type 0 where
-  -- the output is out, and then the complaint, or the report, was put; where that isn't out, the
-  -- status alone tells
-  written : (is_told : Bool) → says answer.output true → complains answer.complaint is_told
-      → IsEnd says complains answer (told_status is_told answer.status)
-  -- the output isn't out, and that is complained of
+-- and what was kept in a file
+pub data IsEnd (says : List ℕ → Bool → Type 0) (keeps : Keeping)
+    (complains : List ℕ → Bool → Type 0) (answer : Answer) : Status → Type 0 where
+  -- the output is out, then what is kept in a file, and then the complaint, or the report, was put;
+  -- where that isn't out, the status alone tells
+  written : (is_told : Bool) → says answer.output true → IsKept keeps answer.file true
+      → complains answer.complaint is_told
+      → IsEnd says keeps complains answer (told_status is_told answer.status)
+  -- the output is out, and not all that is kept in a file, and that is complained of
+  unkept : (is_told : Bool) → says answer.output true → IsKept keeps answer.file false
+      → complains unwritten_text is_told → IsEnd says keeps complains answer Refused
+  -- the output isn't out, and that is complained of: nothing is kept in a file
   unwritten : (is_told : Bool) → says answer.output false → complains unwritten_text is_told
-      → IsEnd says complains answer Refused
+      → IsEnd says keeps complains answer Refused
 
 -- the end of a command with one of these answers
-abbrev pub Ends : (Answer → Type 0) → (List ℕ → Bool → Type 0) → (List ℕ → Bool → Type 0)
-    → Status → Type 0
-Ends may_answer says complains status =
-    (answer : Answer) × may_answer answer × IsEnd says complains answer status
+abbrev pub Ends : (Answer → Type 0) → (List ℕ → Bool → Type 0) → Keeping
+    → (List ℕ → Bool → Type 0) → Status → Type 0
+Ends may_answer says keeps complains status =
+    (answer : Answer) × may_answer answer × IsEnd says keeps complains answer status
 
 -- the end of a command that tells lines on its way: these were put on standard error, and then the
 -- command ended with an answer that it may have with them
 pub record EndsTelling {S : Type 0} (may_answer : List Put → Answer → Type 0)
-    (says : List ℕ → Bool → Type 0) (writes : S → List ℕ → Bool → S → Type 0) (before after : S)
-    (status : Status) : Type 0 where
+    (says : List ℕ → Bool → Type 0) (keeps : Keeping) (writes : S → List ℕ → Bool → S → Type 0)
+    (before after : S) (status : Status) : Type 0 where
   pub told : List Put
   pub middle : S
   pub on_the_way : PutsEach writes before told middle
-  pub ends : Ends (may_answer told) says (Puts writes middle after) status
+  pub ends : Ends (may_answer told) says keeps (Puts writes middle after) status
 
 -- the line of what is said of a fault
 abbrev pub why_line : List ℕ → List ℕ
@@ -62,11 +82,11 @@ Explains writes before after status why =
 -- the end of a command that may be asked to explain: it ended, and then a fault was explained, by
 -- 480 bytes at most that a terminal shows as they are; where that isn't asked, nothing more was put
 pub record EndsExplaining {S : Type 0} (may_answer : Bool → List Put → Answer → Type 0)
-    (says : List ℕ → Bool → Type 0) (writes : S → List ℕ → Bool → S → Type 0) (before after : S)
-    (status : Status) : Type 0 where
+    (says : List ℕ → Bool → Type 0) (keeps : Keeping) (writes : S → List ℕ → Bool → S → Type 0)
+    (before after : S) (status : Status) : Type 0 where
   pub is_asked : Bool
   pub last : S
-  pub ends : EndsTelling (may_answer is_asked) says writes before last status
+  pub ends : EndsTelling (may_answer is_asked) says keeps writes before last status
   pub why : List ℕ
   pub shown : list_all is_shown why ≡ true
   pub short : length why ≤ 480

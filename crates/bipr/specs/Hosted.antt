@@ -108,7 +108,7 @@ pub data IsPlanHosted (p : Planned) (hosts : Hosts) (asked : RunArguments) (limi
       → asked.record_in ≡ Some path → hosts.gives p asked.form limits (Ok given)
       → IsRunOf p.model 0 (text_of p.model given.report.grants.items)
       (length given.report.grants.items)
-      → IsRecorded p asked.form.resolver (hosts.keeps path.now) given
+      → IsRecorded p asked.form.resolver path.now given
       (reporting (text_of p.model given.report.grants.items) (stats_told asked.with_stats given))
       answer → IsPlanHosted p hosts asked limits answer
   -- that file isn't made, and nothing is run; or memory is out for the record

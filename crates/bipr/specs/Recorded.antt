@@ -1,5 +1,5 @@
 -- The record of a run of threads: a schedule that does it again.
-use Rattle.std.specs.Prelude.{Bool, Err, List, Some, codes, false, length, true, ℕ, ◌<◌, ◌≡◌, ◌≢◌}
+use Rattle.std.specs.Prelude.{Err, List, Some, codes, length, ℕ, ◌<◌, ◌≡◌, ◌≢◌}
 use Rattle.std.specs.Prelude.{◌≤◌}
 use Rattle.bip_answers.specs.Wording.{complaint_text}
 use Rattle.bip_answers.specs.declared.answers.Answer.{Answer}
@@ -12,7 +12,7 @@ use Rattle.bip_record.specs.Records.{AreNoRecordOf, IsRecordOf}
 use Rattle.bip_record.specs.declared.recorder.RecordFault.TheVariants.{TooLong as NotesTooLong}
 use Rattle.bipr.specs.Inputs.{most_bytes}
 use Rattle.bipr.specs.Resolvers.{IsSharedAtFirst}
-use Rattle.bipr.specs.Stops.{long_schedule_text, unwritten_text}
+use Rattle.bipr.specs.Stops.{long_schedule_text}
 use Rattle.bipr.specs.declared.hosted.Hosted.{Hosted}
 use Rattle.bipr.specs.declared.recorded.Unkept.{Unkept}
 use Rattle.bipr.specs.declared.recorded.Unkept.TheVariants.{Elsewhere, Lost, TooLong}
@@ -26,6 +26,10 @@ IsRecord p resolver trace schedule =
 -- the trace that was answered, with another status and complaint
 abbrev pub instead : Answer → Status → List ℕ → Answer
 instead plain status complaint = record plain { status = status; complaint = complaint }
+
+-- an answer with a text to keep in the file that a path names
+abbrev pub keeping : Answer → List ℕ → List ℕ → Answer
+keeping plain path text = record plain { file = Some (record { path = path; text = text }) }
 
 -- messages were lost for want of memory
 abbrev pub messages_lost_text : List ℕ
@@ -49,27 +53,22 @@ LeadElsewhere p resolver trace =
     × AreNoRecordOf p sharing events trace
 
 -- what may be answered where a host gave this, whose run has this answer, and its record is to be
--- kept
-pub data IsRecorded (p : Planned) (resolver : Resolver) (keeps : List ℕ → Bool → Type 0)
-    (given : Hosted) (plain : Answer) : Answer → Type 0 where
-  -- a record of its trace is kept
-  kept : (schedule : List ℕ) → given.report.lost ≡ 0 → IsRecord p resolver plain.output schedule
-      → length schedule ≤ most_bytes → keeps schedule true
-      → IsRecorded p resolver keeps given plain plain
-  -- not all of it is out
-  unkept : (schedule : List ℕ) → given.report.lost ≡ 0
+-- kept in the file that a path names
+pub data IsRecorded (p : Planned) (resolver : Resolver) (path : List ℕ) (given : Hosted)
+    (plain : Answer) : Answer → Type 0 where
+  -- a record of its trace is kept there
+  recorded : (schedule : List ℕ) → given.report.lost ≡ 0
       → IsRecord p resolver plain.output schedule → length schedule ≤ most_bytes
-      → keeps schedule false
-      → IsRecorded p resolver keeps given plain (instead plain Refused unwritten_text)
+      → IsRecorded p resolver path given plain (keeping plain path schedule)
   -- it is too long
   too_long : given.report.lost ≡ 0 → IsTooLong p resolver given plain.output
-      → IsRecorded p resolver keeps given plain (instead plain Refused long_schedule_text)
+      → IsRecorded p resolver path given plain (instead plain Refused long_schedule_text)
   -- messages were lost for want of memory
   lost : given.report.lost ≢ 0
-      → IsRecorded p resolver keeps given plain (instead plain Refused messages_lost_text)
+      → IsRecorded p resolver path given plain (instead plain Refused messages_lost_text)
   -- what threads did leads elsewhere
   elsewhere : given.report.lost ≡ 0 → LeadElsewhere p resolver plain.output
-      → IsRecorded p resolver keeps given plain (instead plain NotARun other_run_text)
+      → IsRecorded p resolver path given plain (instead plain NotARun other_run_text)
 
 -- What contracts of private functions say.
 
@@ -87,11 +86,6 @@ IsWhyUnkept p resolver given trace TooLong =
 IsWhyUnkept p resolver given trace Lost = given.report.lost ≢ 0
 IsWhyUnkept p resolver given trace Elsewhere =
     (given.report.lost ≡ 0) × LeadElsewhere p resolver trace
-
--- the answer where all of a record is out or not
-abbrev pub answer_kept : Answer → Bool → Answer
-answer_kept plain true = plain
-answer_kept plain false = instead plain Refused unwritten_text
 
 -- the answer where there is no record
 abbrev pub answer_unkept : Answer → Unkept → Answer

@@ -27,7 +27,8 @@ use Rattle.bipr.specs.declared.resolvers.Resolver.{Resolver}
 
 -- a trace on standard output, and a report on standard error
 abbrev pub reporting : List ℕ → List ℕ → Answer
-reporting trace report = record { status = Done; output = trace; complaint = report }
+reporting trace report =
+    record { status = Done; output = trace; complaint = report; file = None }
 
 -- the events of a schedule lead from the new world of a plan above a base, whose bank is the
 -- resolver's, to one with this trace, and this is their report; the trace is that of a run of the

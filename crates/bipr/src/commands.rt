@@ -8,10 +8,11 @@ ghost use Rattle.bip_program.specs.Programs.{IsParse, parsed_of};
 ghost use Rattle.bipr.specs.Streams.{Puts};
 ghost use Rattle.bipr.specs.declared.stops.Stop.TheVariants.{BaseOutOfRange};
 
+pub mod canon;
 pub mod chart;
 pub mod check;
+pub mod draw;
 pub mod explore;
-pub mod render;
 pub mod replay;
 pub mod run;
 pub mod seed;
@@ -26,14 +27,15 @@ use crate::refusals::answer_error;
 use crate::resolvers::{HOSTED_TABLES, RESOLVERS};
 use crate::stops::{NO_MEMORY, Stop};
 use crate::streams::Stream;
-use bip_answers::{Answer, Rendering, Status};
+use bip_answers::{Answer, Status};
 use bip_explain::Explanation;
 use bip_program::{Choices, is_explained, program};
+use canon::CanonArguments;
 use chart::ChartArguments;
 use check::CheckArguments;
 use clap::ArgMatches;
+use draw::DrawArguments;
 use explore::ExploreArguments;
-use render::RenderArguments;
 use replay::VerdictArguments;
 use run::RunArguments;
 use seed::SeedArguments;
@@ -109,8 +111,8 @@ impl<R: Threads + Wait + Clock + Sync, I: Inputs, H: Hosting, O: Stream, E: Stre
     pub fn carry_out(&mut self, words: &[String]) -> Status
         ensures { EndsExplaining (IsCarriedOut (map string_bytes words.now)
             (I.gives self.old.inputs.now) (H.hosts self.old.hosting.now))
-            (Puts O.writes self.old.output self.new.output) E.writes self.old.errors
-            self.new.errors result }
+            (Puts O.writes self.old.output self.new.output)
+            (H.hosts self.old.hosting.now).keeps E.writes self.old.errors self.new.errors result }
     {
         let Ok(program) = program(self.alloc, CHOICES) else {
             return self.complain(Status::NoMemory, NO_MEMORY);
@@ -118,8 +120,9 @@ impl<R: Threads + Wait + Clock + Sync, I: Inputs, H: Hosting, O: Stream, E: Stre
         match program.try_get_matches_from(words) {
             Ok(matches) => self.carry_out_parsed(&matches),
             Err(error) => {
+                let hosting = self.hosting;
                 let answer = answer_error(self.alloc, &error);
-                self.end(answer)
+                self.end(hosting, answer)
             }
         }
     }
@@ -129,13 +132,14 @@ impl<R: Threads + Wait + Clock + Sync, I: Inputs, H: Hosting, O: Stream, E: Stre
     fn carry_out_parsed(&mut self, matches: &ArgMatches<'_>) -> Status
         ensures { (words : _) → IsParse words (parsed_of matches.now) → EndsExplaining
             (IsCarriedOut words (I.gives self.old.inputs.now) (H.hosts self.old.hosting.now))
-            (Puts O.writes self.old.output self.new.output) E.writes self.old.errors
-            self.new.errors result }
+            (Puts O.writes self.old.output self.new.output)
+            (H.hosts self.old.hosting.now).keeps E.writes self.old.errors self.new.errors result }
     {
         let is_asked = is_explained(matches);
         self.explanation = Explanation::new(is_asked);
+        let hosting = self.hosting;
         let answer = self.answer(matches);
-        let status = self.end(answer);
+        let status = self.end(hosting, answer);
         if is_asked {
             self.explain(status);
         }
@@ -163,14 +167,10 @@ impl<R: Threads + Wait + Clock + Sync, I: Inputs, H: Hosting, O: Stream, E: Stre
         ensures output { self.new.output ≡ self.old.output }
     {
         match command_named(name) {
-            Some(Command::Canon) => {
-                self.render(Rendering::Canonical, &asked(RenderArguments::read(behind))?)
-            }
+            Some(Command::Canon) => self.canon(&asked(CanonArguments::read(behind))?),
             Some(Command::Chart) => self.chart(&asked(ChartArguments::read(behind))?),
             Some(Command::Check) => self.check(&asked(CheckArguments::read(behind))?),
-            Some(Command::Draw) => {
-                self.render(Rendering::Drawing, &asked(RenderArguments::read(behind))?)
-            }
+            Some(Command::Draw) => self.draw(&asked(DrawArguments::read(behind))?),
             Some(Command::Replay) => self.replay(&asked(VerdictArguments::read(behind))?),
             Some(Command::Steps) => self.steps(&asked(StepsArguments::read(behind))?),
             Some(Command::Explore) => self.explore(&asked(ExploreArguments::read(behind))?),

@@ -1,13 +1,16 @@
 //! How a command ends: what it writes of its answer, and its status.
-ghost use Rattle.std.specs.Prelude.{◌≡◌, ◌≤◌, length, Err, true};
+ghost use Rattle.std.specs.Prelude.{◌≡◌, ◌≤◌, length, Bool, Err, None, true};
 ghost use Rattle.std.specs.List.{list_all};
 ghost use Rattle.bip_explain.specs.Explanations.{is_shown};
-ghost use Rattle.bipr.specs.Endings.{Ends, Explains, IsEnd, IsOutcome, IsUnread, told_status};
-ghost use Rattle.bipr.specs.Endings.{explaining, why_line};
+ghost use Rattle.bipr.specs.Endings.{Ends, Explains, IsEnd, IsKept, IsOutcome, IsUnread, explaining};
+ghost use Rattle.bipr.specs.Endings.{nothing_kept, told_status, why_line};
 ghost use Rattle.bip_explain.specs.declared.explanations.TheConstants.{MOST_BYTES};
 ghost use Rattle.bip_answers.specs.Answers.{complaining};
+ghost use Rattle.bip_answers.specs.declared.answers.Status.TheVariants.{Refused};
+ghost use Rattle.bipr.specs.Stops.{unwritten_text};
 ghost use Rattle.bipr.specs.Streams.{Puts};
 
+use crate::hosting::Hosting;
 use crate::invocations::Invocation;
 use crate::stops::{
     BAD_BASE, BAD_LIMITS, BAD_RANGE, BAD_RECORD, BAD_SEEDS, CANNOT_WRITE, NO_MEMORY, NO_THREAD,
@@ -16,48 +19,74 @@ use crate::stops::{
 use crate::streams::{Stream, put};
 use crate::wording::seed_verdict;
 use arrayvec::ArrayVec;
-use bip_answers::{Answer, Status};
+use bip_answers::{Answer, FileText, Status};
 use bip_explain::MOST_BYTES;
 
 /// How many bytes the line has at most that explains a fault.
 const MOST_OF_LINE: usize = 512;
 
-impl<R, I, H, O: Stream, E: Stream> Invocation<'_, R, I, H, O, E> {
+impl<R, I, H: Hosting, O: Stream, E: Stream> Invocation<'_, R, I, H, O, E> {
     /// Ends a command with its answer, or with what stopped it: the output stands on standard
-    /// output, and then the complaint on standard error, each in one write (docs/ANSWERS.md,
-    /// "Endings").
-    pub fn end(&mut self, answer: Result<Answer, Stop<'_>>) -> Status
+    /// output, then what it keeps in a file there, by this hosting, and then the complaint on
+    /// standard error, each in one write (docs/ANSWERS.md, "Endings").
+    pub fn end(&mut self, hosting: &H, answer: Result<Answer, Stop<'_>>) -> Status
         ensures { Ends (IsOutcome answer.entry) (Puts O.writes self.old.output self.new.output)
-            (Puts E.writes self.old.errors self.new.errors) result }
+            (H.hosts hosting.now).keeps (Puts E.writes self.old.errors self.new.errors) result }
     {
         match answer {
-            Ok(answer) => {
-                let (said, complaint) = (answer.output.as_slice(), answer.complaint.as_slice());
-                self.end_texts(answer.status, said, complaint)
-            }
+            Ok(answer) => self.end_answered(hosting, &answer),
             Err(why) => self.end_stopped(&why),
         }
     }
 
-    // Ends a command whose answer has this status and these texts.
-    fn end_texts(&mut self, status: Status, said: &[u8], complaint: &[u8]) -> Status
+    // Ends a command that has an answer.
+    fn end_answered(&mut self, hosting: &H, answer: &Answer) -> Status
         ensures { IsEnd (Puts O.writes self.old.output self.new.output)
-            (Puts E.writes self.old.errors self.new.errors)
-            (record { status = status; output = said.now; complaint = complaint.now }) result }
+            (H.hosts hosting.now).keeps (Puts E.writes self.old.errors self.new.errors) answer.now
+            result }
+    {
+        if !put(&mut self.output, answer.output.as_slice()) {
+            return self.refuse_to_write(b"standard output took not all of the answer");
+        }
+        if !keep(hosting, self.record.take(), &answer.file) {
+            return self.refuse_to_write(b"the file took not all of its text");
+        }
+        let is_out = put(&mut self.errors, answer.complaint.as_slice());
+        told_status(is_out, answer.status)
+    }
+
+    // Ends a command with these texts, which keeps nothing in a file.
+    fn end_texts(&mut self, status: Status, said: &[u8], complaint: &[u8]) -> Status
+        ensures { IsEnd (Puts O.writes self.old.output self.new.output) nothing_kept
+            (Puts E.writes self.old.errors self.new.errors) (record {
+              status = status;
+              output = said.now;
+              complaint = complaint.now;
+              file = None;
+            }) result }
     {
         if !put(&mut self.output, said) {
-            self.explanation
-                .say_instead(b"standard output took not all of the answer");
-            put(&mut self.errors, CANNOT_WRITE);
-            return Status::Refused;
+            return self.refuse_to_write(b"standard output took not all of the answer");
         }
         let is_out = put(&mut self.errors, complaint);
         told_status(is_out, status)
     }
 
+    // Ends a command whose answer can't be written, and explains why.
+    fn refuse_to_write(&mut self, why: &[u8]) -> Status
+        ensures status { result ≡ Refused }
+        ensures complained { (is_told : Bool)
+            × Puts E.writes self.old.errors self.new.errors unwritten_text is_told }
+        ensures output { self.new.output ≡ self.old.output }
+    {
+        self.explanation.say_instead(why);
+        put(&mut self.errors, CANNOT_WRITE);
+        Status::Refused
+    }
+
     fn end_stopped(&mut self, why: &Stop<'_>) -> Status
         ensures { Ends (IsOutcome (Err why.now)) (Puts O.writes self.old.output self.new.output)
-            (Puts E.writes self.old.errors self.new.errors) result }
+            nothing_kept (Puts E.writes self.old.errors self.new.errors) result }
     {
         match *why {
             Stop::CannotRead(path) => self.end_unread(path),
@@ -86,7 +115,7 @@ impl<R, I, H, O: Stream, E: Stream> Invocation<'_, R, I, H, O, E> {
 
     fn end_unread(&mut self, path: &str) -> Status
         ensures { Ends (IsUnread path.now) (Puts O.writes self.old.output self.new.output)
-            (Puts E.writes self.old.errors self.new.errors) result }
+            nothing_kept (Puts E.writes self.old.errors self.new.errors) result }
     {
         match unread_text(self.alloc, path) {
             Ok(complaint) => self.complain(Status::Refused, complaint.as_slice()),
@@ -100,7 +129,7 @@ impl<R, I, H, O: Stream, E: Stream> Invocation<'_, R, I, H, O, E> {
 
     /// Ends a command with a complaint alone.
     pub fn complain(&mut self, status: Status, complaint: &[u8]) -> Status
-        ensures { IsEnd (Puts O.writes self.old.output self.new.output)
+        ensures { IsEnd (Puts O.writes self.old.output self.new.output) nothing_kept
             (Puts E.writes self.old.errors self.new.errors) (complaining status complaint.now)
             result }
     {
@@ -118,6 +147,16 @@ impl<R, I, H, O: Stream, E: Stream> Invocation<'_, R, I, H, O, E> {
     {
         let line = explaining(status, self.explanation.as_bytes());
         put(&mut self.errors, line.as_slice());
+    }
+}
+
+/// Keeps what an answer does in the file that was made for it, and says whether all of that is out.
+fn keep<H: Hosting>(hosting: &H, record: Option<H::Record>, file: &Option<FileText>) -> bool
+    ensures { IsKept (H.hosts hosting.now).keeps file.now result }
+{
+    match file {
+        Some(file) => hosting.keep(file.path.as_slice(), record, file.text.as_slice()),
+        None => true,
     }
 }
 

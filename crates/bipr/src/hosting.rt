@@ -33,8 +33,9 @@ pub trait Hosting {
     fn make(&self, path: &str) -> Option<Self::Record>
         ensures { (hosts self.now).makes path.now (is_some result) };
 
-    /// Writes a text into the file that was made for a path, and says whether all of it is out.
-    fn keep(&self, path: &str, record: Self::Record, text: &[u8]) -> bool
+    /// Writes a text into the file that was made for a path, and says whether all of it is out: it
+    /// is not where none was made.
+    fn keep(&self, path: &[u8], record: Option<Self::Record>, text: &[u8]) -> bool
         ensures { (hosts self.now).keeps path.now text.now result };
 
     /// Runs the nodes of a plan in a form that it can have, with limits, in threads that share the
@@ -81,8 +82,13 @@ impl<F: Files> Hosting for Threaded<'_, F> {
         File::create(self.files, path).ok()
     }
 
-    fn keep(&self, _path: &str, mut record: F::File, text: &[u8]) -> bool {
-        put(&mut record, text)
+    fn keep(&self, _path: &[u8], record: Option<F::File>, text: &[u8]) -> bool
+        ensures { threaded.keeps _path.now text.now result }
+    {
+        match record {
+            Some(mut record) => put(&mut record, text),
+            None => false,
+        }
     }
 
     fn host<R: Threads + Wait + Clock + Sync>(

@@ -50,6 +50,7 @@ fn main(rt: HostRuntime) -> ExitCode {
         alloc: rt.alloc(),
         inputs: &Sources::new(&rt),
         hosting: &Threaded::new(&rt),
+        record: None,
         explanation: Explanation::new(false),
         output: io::writer(&rt),
         errors: rt.stderr(),

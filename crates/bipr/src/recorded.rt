@@ -6,7 +6,7 @@ ghost use Rattle.bip_host.specs.Seats.{CanHave};
 ghost use Rattle.bipr.specs.Endings.{AllOutcomes};
 ghost use Rattle.bipr.specs.Hosted.{IsPlanHosted};
 ghost use Rattle.bipr.specs.Recorded.{IsRecord, IsRecordKept, IsRecorded, IsWhyUnkept};
-ghost use Rattle.bipr.specs.Recorded.{LeadElsewhere, answer_kept, answer_unkept, instead};
+ghost use Rattle.bipr.specs.Recorded.{LeadElsewhere, answer_unkept, instead, keeping};
 ghost use Rattle.bipr.specs.Resolvers.{IsSharedAtFirst, kind_named};
 
 use crate::commands::run::RunArguments;
@@ -15,8 +15,8 @@ use crate::hosting::Hosting;
 use crate::inputs::MOST_BYTES;
 use crate::invocations::Invocation;
 use crate::resolvers::Resolver;
-use crate::stops::{CANNOT_WRITE, LOST, OTHER_RUN, SCHEDULE_TOO_LONG, Stop};
-use bip_answers::{Answer, Status};
+use crate::stops::{LOST, OTHER_RUN, SCHEDULE_TOO_LONG, Stop};
+use bip_answers::{Answer, FileText, Status};
 use bip_bank::{Bank, Central};
 use bip_forks::Forks;
 use bip_host::{Limits, NodeAct};
@@ -31,8 +31,8 @@ use std::time::Clock;
 
 impl<R: Threads + Wait + Clock + Sync, I, H: Hosting, O, E> Invocation<'_, R, I, H, O, E> {
     /// The answer to running the nodes of a plan as threads, whose run is recorded in the file that
-    /// a path names: that of the run, where a record of its trace is kept. The file is made before
-    /// threads are started (docs/ANSWERS.md, "Answers").
+    /// a path names: that of the run, with a record of its trace to keep there. The file is made
+    /// before threads are started (docs/ANSWERS.md, "Answers").
     pub fn answer_recorded<'a>(
         &mut self,
         plan: &Plan,
@@ -53,46 +53,33 @@ impl<R: Threads + Wait + Clock + Sync, I, H: Hosting, O, E> Invocation<'_, R, I,
                 .say(b"the file for the record can't be made");
             return Err(Stop::CannotWrite);
         };
+        self.record = Some(record);
         let hosted = match self.host(plan, asked, limits, true) {
             Ok(hosted) => hosted,
-            Err(why) => {
-                drop(record);
-                return Err(why);
-            }
+            Err(why) => return Err(why),
         };
-        let plain = answer_hosted(self.alloc, plan, &hosted, asked.with_stats)?;
-        let resolver = asked.form.resolver;
-        let kept = self.keep_record(plan, resolver, &hosted, plain, path, record)?;
-        Ok(kept)
+        let (alloc, resolver) = (self.alloc, asked.form.resolver);
+        let plain = answer_hosted(alloc, plan, &hosted, asked.with_stats)?;
+        let answer = answer_with_record(alloc, plan, resolver, &hosted, plain, path)?;
+        Ok(answer)
     }
+}
 
-    // Keeps the record of a run that has this answer, in the file that was made for a path: that
-    // answer then, or its trace with what is wrong. The only error is want of memory.
-    fn keep_record(
-        &mut self,
-        plan: &Plan,
-        resolver: Resolver,
-        hosted: &Hosted,
-        plain: Answer,
-        path: &str,
-        record: H::Record,
-    ) -> Result<Answer, AllocError>
-        ensures is { IfOk result (IsRecorded plan.now resolver
-            ((H.hosts self.old.hosting.now).keeps path.now) hosted.now plain) }
-        ensures errors { self.new.errors ≡ self.old.errors }
-        ensures output { self.new.output ≡ self.old.output }
-    {
-        let (alloc, hosting) = (self.alloc, self.hosting);
-        match make_record(alloc, plan, resolver, hosted, plain.output.as_slice())? {
-            Ok(schedule) => {
-                let is_out = hosting.keep(path, record, schedule.as_slice());
-                answer_kept(alloc, plain, is_out)
-            }
-            Err(why) => {
-                drop(record);
-                answer_unkept(alloc, plain, why)
-            }
-        }
+// The answer of a run, which has this one where it isn't recorded, with the record of its trace to
+// keep in the file that a path names; else with what is wrong. The only error is want of memory.
+fn answer_with_record(
+    alloc: Global,
+    plan: &Plan,
+    resolver: Resolver,
+    hosted: &Hosted,
+    plain: Answer,
+    path: &str,
+) -> Result<Answer, AllocError>
+    ensures { IfOk result (IsRecorded plan.now resolver path.now hosted.now plain) }
+{
+    match make_record(alloc, plan, resolver, hosted, plain.output.as_slice())? {
+        Ok(schedule) => answer_keeping(alloc, plain, path, schedule),
+        Err(why) => answer_unkept(alloc, plain, why),
     }
 }
 
@@ -107,14 +94,26 @@ enum Unkept {
     Elsewhere,
 }
 
-// The answer of a run whose record was put into its file, where all of it is out or not.
-fn answer_kept(alloc: Global, plain: Answer, is_out: bool) -> Result<Answer, AllocError>
-    ensures { IfOk result (λ answer. answer ≡ answer_kept plain is_out) }
+// An answer with a text to keep in the file that a path names.
+fn answer_keeping(
+    alloc: Global,
+    plain: Answer,
+    path: &str,
+    text: Vec<u8>,
+) -> Result<Answer, AllocError>
+    ensures { IfOk result (λ answer. answer ≡ keeping plain path.now text.items) }
 {
-    if is_out {
-        return Ok(plain);
-    }
-    answer_instead(alloc, plain, Status::Refused, CANNOT_WRITE)
+    let path = Vec::from_slice(alloc, path.as_bytes())?;
+    let file = FileText {
+        path: Seq::of(path),
+        text: Seq::of(text),
+    };
+    Ok(Answer {
+        status: plain.status,
+        output: plain.output,
+        complaint: plain.complaint,
+        file: Some(file),
+    })
 }
 
 // The answer of a run that isn't recorded.
@@ -142,6 +141,7 @@ fn answer_instead(
         status,
         output: plain.output,
         complaint: Seq::of(complaint),
+        file: plain.file,
     })
 }
 

@@ -1,8 +1,9 @@
 //! Command lines that ask for nothing.
-ghost use Rattle.bipr.specs.Endings.{AllOutcomes, Ends};
+ghost use Rattle.bipr.specs.Endings.{AllOutcomes, Ends, nothing_kept};
 ghost use Rattle.bipr.specs.Refusals.{IsErrorAnswer, IsWordsAnswer};
 ghost use Rattle.bipr.specs.Streams.{Puts};
 
+use crate::hosting::Hosting;
 use crate::invocations::Invocation;
 use crate::stops::{NO_MEMORY, Stop};
 use crate::streams::Stream;
@@ -16,11 +17,11 @@ const BAD_COMMAND_LINE: &[u8] = b"bipr: bad command line\n";
 
 const NO_TEXT: &[u8] = b"bipr: bad command line\nerror: an argument is not UTF-8\n";
 
-impl<R, I, H, O: Stream, E: Stream> Invocation<'_, R, I, H, O, E> {
+impl<R, I, H: Hosting, O: Stream, E: Stream> Invocation<'_, R, I, H, O, E> {
     /// The words of the command line can't be had: there is no memory, or one is no text.
     pub fn refuse_words(&mut self, error: &io::Error) -> Status
         ensures { Ends (IsWordsAnswer error.now) (Puts O.writes self.old.output self.new.output)
-            (Puts E.writes self.old.errors self.new.errors) result }
+            nothing_kept (Puts E.writes self.old.errors self.new.errors) result }
     {
         if error.kind() == io::ErrorKind::OutOfMemory {
             return self.complain(Status::NoMemory, NO_MEMORY);

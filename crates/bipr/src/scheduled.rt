@@ -262,5 +262,6 @@ pub fn reported(trace: Vec<u8>, report: Vec<u8>) -> Answer
         status: Status::Done,
         output: Seq::of(trace),
         complaint: Seq::of(report),
+        file: None,
     }
 }

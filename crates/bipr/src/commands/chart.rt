@@ -9,6 +9,7 @@ ghost use Rattle.bipr.specs.Commands.{IsChart};
 ghost use Rattle.bipr.specs.Endings.{AllOutcomesTelling};
 
 use crate::commands::replay::{ReplayArguments, answer_viewed};
+use crate::hosting::Hosting;
 use crate::inputs::Inputs;
 use crate::invocations::Invocation;
 use crate::stops::Stop;
@@ -39,7 +40,7 @@ impl<'p> ChartArguments<'p> {
     }
 }
 
-impl<R, I: Inputs, H, O, E: Stream> Invocation<'_, R, I, H, O, E> {
+impl<R, I: Inputs, H: Hosting, O, E: Stream> Invocation<'_, R, I, H, O, E> {
     /// Draws the run with which the trace begins that the second path names, of the model that the
     /// first path names: the picture, and beside it the verdict on the trace (docs/ANSWERS.md, "The
     /// chart that is asked for").

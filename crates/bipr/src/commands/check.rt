@@ -6,6 +6,7 @@ ghost use Rattle.bipr.specs.CommandLine.{IsCheckAsked};
 ghost use Rattle.bipr.specs.Commands.{IsCheck};
 ghost use Rattle.bipr.specs.Endings.{AllOutcomesTelling};
 
+use crate::hosting::Hosting;
 use crate::inputs::Inputs;
 use crate::invocations::Invocation;
 use crate::loading::load;
@@ -34,7 +35,7 @@ impl<'p> CheckArguments<'p> {
     }
 }
 
-impl<R, I: Inputs, H, O, E: Stream> Invocation<'_, R, I, H, O, E> {
+impl<R, I: Inputs, H: Hosting, O, E: Stream> Invocation<'_, R, I, H, O, E> {
     /// Counts what the plan has of the model that the path names, and shows it where that is asked
     /// for (docs/ANSWERS.md, "The check that is asked for").
     pub fn check<'p>(&mut self, asked: &CheckArguments<'p>) -> Result<Answer, Stop<'p>>

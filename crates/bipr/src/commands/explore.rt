@@ -8,6 +8,7 @@ ghost use Rattle.bipr.specs.Endings.{AllOutcomesTelling};
 
 use crate::command_line::{draws_asked, resolver_asked};
 use crate::explored::answer_explore;
+use crate::hosting::Hosting;
 use crate::inputs::Inputs;
 use crate::invocations::Invocation;
 use crate::loading::load;
@@ -52,7 +53,7 @@ impl<'p> ExploreArguments<'p> {
     }
 }
 
-impl<R: Threads + Clock + Sync, I: Inputs, H, O, E: Stream> Invocation<'_, R, I, H, O, E> {
+impl<R: Threads + Clock + Sync, I: Inputs, H: Hosting, O, E: Stream> Invocation<'_, R, I, H, O, E> {
     /// Explores the plan of the model that the path names by so many seeds, with the resolver's
     /// bank, and tells progress on standard error where that is asked for, and what the seeds come
     /// to (docs/ANSWERS.md, "The exploring that is asked for").

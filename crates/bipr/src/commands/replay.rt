@@ -9,6 +9,7 @@ ghost use Rattle.bipr.specs.Endings.{AllOutcomes, AllOutcomesTelling};
 ghost use Rattle.bip_answers.specs.Views.{IsViewed, verdict_view};
 
 use crate::command_line::base_asked;
+use crate::hosting::Hosting;
 use crate::inputs::Inputs;
 use crate::invocations::Invocation;
 use crate::loading::{load, parts};
@@ -62,7 +63,7 @@ impl<'p> VerdictArguments<'p> {
     }
 }
 
-impl<R, I: Inputs, H, O, E: Stream> Invocation<'_, R, I, H, O, E> {
+impl<R, I: Inputs, H: Hosting, O, E: Stream> Invocation<'_, R, I, H, O, E> {
     /// Replays the trace that the second path names on the model that the first path names. The
     /// trace is read only where the model's text is one; where both paths are standard input, that
     /// has both texts (docs/ANSWERS.md, "The replay that is asked for").

@@ -7,6 +7,7 @@ ghost use Rattle.bipr.specs.Commands.{IsSeedWritten};
 ghost use Rattle.bipr.specs.Endings.{AllOutcomesTelling};
 
 use crate::command_line::{draws_asked, resolver_asked};
+use crate::hosting::Hosting;
 use crate::inputs::Inputs;
 use crate::invocations::Invocation;
 use crate::loading::load;
@@ -43,7 +44,7 @@ impl<'p> SeedArguments<'p> {
     }
 }
 
-impl<R, I: Inputs, H, O, E: Stream> Invocation<'_, R, I, H, O, E> {
+impl<R, I: Inputs, H: Hosting, O, E: Stream> Invocation<'_, R, I, H, O, E> {
     /// Writes the events that are drawn from a seed, in the new world of the model that the path
     /// names, with the resolver's bank, as a schedule (docs/ANSWERS.md, "The seed that is asked
     /// for").

@@ -8,6 +8,7 @@ ghost use Rattle.bipr.specs.Commands.{IsSteps};
 ghost use Rattle.bipr.specs.Endings.{AllOutcomesTelling};
 
 use crate::command_line::{base_asked, resolver_asked};
+use crate::hosting::Hosting;
 use crate::inputs::Inputs;
 use crate::invocations::Invocation;
 use crate::loading::{load, parts};
@@ -46,7 +47,7 @@ impl<'p> StepsArguments<'p> {
     }
 }
 
-impl<R, I: Inputs, H, O, E: Stream> Invocation<'_, R, I, H, O, E> {
+impl<R, I: Inputs, H: Hosting, O, E: Stream> Invocation<'_, R, I, H, O, E> {
     /// Runs the events of the schedule that the second path names from the new world of the model
     /// that the first path names, with the resolver's bank: the trace, and their report beside it.
     /// Where that is asked for, each event is told on standard error when it is done. The schedule

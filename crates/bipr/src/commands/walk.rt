@@ -10,6 +10,7 @@ ghost use Rattle.bipr.specs.Loading.{OfPlan, OfText, Silently};
 ghost use Rattle.bipr.specs.Walked.{IsWalkAnswer};
 
 use crate::command_line::base_asked;
+use crate::hosting::Hosting;
 use crate::inputs::Inputs;
 use crate::invocations::Invocation;
 use crate::loading::load;
@@ -49,7 +50,7 @@ impl<'p> WalkArguments<'p> {
     }
 }
 
-impl<R, I: Inputs, H, O, E: Stream> Invocation<'_, R, I, H, O, E> {
+impl<R, I: Inputs, H: Hosting, O, E: Stream> Invocation<'_, R, I, H, O, E> {
     /// Walks the model that the path names: writes the trace of a run of the model itself, each of
     /// whose grants is drawn among those that can be next, or what the walks of many seeds come to
     /// (docs/ANSWERS.md, "The walks that are asked for").

@@ -1,4 +1,4 @@
-use Rattle.std.proofs.Common.{◌≡◌, ◌<◌, ◌≤◌, ◌∙◌, ℕ, List, [], ap, arith, subst, sym}
+use Rattle.std.proofs.Common.{◌≡◌, ◌<◌, ◌≤◌, ◌∙◌, ℕ, List, [], None, ap, arith, subst, sym}
 use Rattle.std.proofs.lemmas.Result.{IfOk-weaker}
 use Rattle.bip_draw.specs.Ends.{AddsRunnable}
 use Rattle.bip_model.specs.declared.grants.Grant.{Grant}
@@ -56,5 +56,10 @@ returns c = λ grants counted drawn.
     } in
     subst (λ (output : List ℕ).
     IsPictured m classes shown grants verdict
-    (record { status = verdict.status; output = output; complaint = verdict.output }))
+    (record {
+      status = verdict.status;
+      output = output;
+      complaint = verdict.output;
+      file = None;
+    }))
     (sym (c.of.ensures ∙ same)) (fitting chart fits is)

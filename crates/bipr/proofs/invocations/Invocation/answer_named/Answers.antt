@@ -34,7 +34,7 @@ returns-in_ok-asked-in-Some-Canon-clause-says g c =
     carried g.E.Stream.writes _ _ _ _ _ _ command.Canon _
     (at_name c.in-Some-Canon.field-0-is c.in-Some-Canon.ensures.some)
     (asked_for g.E.Stream.writes _ _ _ _ _ c.read.result _ c.read.ensures
-    c.in_ok-asked-in-Some-Canon.ensures.ok c.render.ensures.says)
+    c.in_ok-asked-in-Some-Canon.ensures.ok c.canon.ensures.says)
 
 pub returns-in_err-asked-in-Some-Chart-clause-says :
     goal.returns-in_err-asked-in-Some-Chart-clause-says
@@ -87,7 +87,7 @@ returns-in_ok-asked-in-Some-Draw-clause-says g c =
     carried g.E.Stream.writes _ _ _ _ _ _ command.Draw _
     (at_name c.in-Some-Draw.field-0-is c.in-Some-Draw.ensures.some)
     (asked_for g.E.Stream.writes _ _ _ _ _ c.read-in-Some-Draw.result _ c.read-in-Some-Draw.ensures
-    c.in_ok-asked-in-Some-Draw.ensures.ok c.render-in-Some-Draw.ensures.says)
+    c.in_ok-asked-in-Some-Draw.ensures.ok c.draw.ensures.says)
 
 pub returns-in_err-asked-in-Some-Replay-clause-says :
     goal.returns-in_err-asked-in-Some-Replay-clause-says

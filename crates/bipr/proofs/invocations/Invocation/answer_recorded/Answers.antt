@@ -28,21 +28,21 @@ returns-in_err-plain-clause-says g c =
     (IsPlanHosted c.args.plan.now hosts c.args.asked.now c.args.limits) c.from_residual.ensures.1
     (record_lacking c.requires.form some)
 
-pub returns-in_err-kept-clause-says : goal.returns-in_err-kept-clause-says
-returns-in_err-kept-clause-says g c =
+pub returns-in_err-answer-clause-says : goal.returns-in_err-answer-clause-says
+returns-in_err-answer-clause-says g c =
     let hosts = g.H.Hosting.hosts c.args.self.now.hosting.now in
     let some = some_not_none c.args.asked.now.record_in c.args.path c.requires.path in
-    outcome_lacking c.from_residual-in_err-kept.result
+    outcome_lacking c.from_residual-in_err-answer.result
     (IsPlanHosted c.args.plan.now hosts c.args.asked.now c.args.limits)
-    c.from_residual-in_err-kept.ensures.1 (record_lacking c.requires.form some)
+    c.from_residual-in_err-answer.ensures.1 (record_lacking c.requires.form some)
 
 pub returns-clause-says : goal.returns-clause-says
 returns-clause-says g c =
     let hosts = g.H.Hosting.hosts c.args.self.now.hosting.now in
     let is = c.in_ok-plain.ensures.is in
     let run = rw is at c.in_ok-plain.ensures.run in
-    let kept = rw (c.in-Ok.ensures.hosting, is) at c.in_ok-kept.ensures.is in
+    let recorded = rw is at c.in_ok-answer.ensures in
     outcome_answered (IsPlanHosted c.args.plan.now hosts c.args.asked.now c.args.limits)
-    c.in_ok-kept.kept
-    (of_record c.in-Ok.hosted c.in_ok-kept.kept c.args.path c.requires.form c.requires.path
-    c.in-Ok.ensures.gives run kept)
+    c.in_ok-answer.answer
+    (of_record c.in-Ok.hosted c.in_ok-answer.answer c.args.path c.requires.form c.requires.path
+    c.in-Ok.ensures.gives run recorded)

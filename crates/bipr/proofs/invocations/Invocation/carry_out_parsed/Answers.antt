@@ -13,7 +13,7 @@ returns-then-is_asked g c = λ words says.
     rw c.explain.ensures.output (record {
       is_asked = true;
       last = _;
-      ends = ends_telling _ _ g.E.Stream.writes _ _ _ c.answer-answer.result c.end-status.result
+      ends = ends_telling _ _ _ g.E.Stream.writes _ _ _ c.answer-answer.result c.end-status.result
           (outcomes_weaker g.E.Stream.writes _ _ c.answer-answer.result _ _
           c.answer-answer.ensures.says
           (λ told answer by. parsed said true told answer says asked by))
@@ -32,8 +32,8 @@ returns-else-is_asked g c = λ words says.
     let said = parsed_of c.args.matches.now in
     let asked : IsExplainAsked said false =
     rw c.if-is_asked.false at c.is_explained-is_asked.ensures in
-    ends_unexplained (IsCarriedOut words gives hosts) _ g.E.Stream.writes _ _ _
-    (ends_telling (IsCarriedOut words gives hosts false) _ g.E.Stream.writes _ _ _
+    ends_unexplained (IsCarriedOut words gives hosts) _ _ g.E.Stream.writes _ _ _
+    (ends_telling (IsCarriedOut words gives hosts false) _ _ g.E.Stream.writes _ _ _
     c.answer-answer.result c.end-status.result
     (outcomes_weaker g.E.Stream.writes _ _ c.answer-answer.result _ _ c.answer-answer.ensures.says
     (λ told answer by. parsed said false told answer says asked by))

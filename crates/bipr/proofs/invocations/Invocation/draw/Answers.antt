@@ -1,0 +1,25 @@
+use Rattle.std.proofs.Common.{refl}
+use Rattle.bip_answers.specs.Renderings.{IsDrawn}
+use Rattle.bipr.specs.Loading.{Silently}
+use Rattle.bipr.proofs.EndingLemmas.{outcome_answered}
+use Rattle.bipr.proofs.LoadingLemmas.{quietly_said, text_lacking, text_said, text_stopped}
+use Rattle.bipr.proofs.invocations.Invocation.draw.Goals as goal
+
+pub returns-in_err-text-clause-says : goal.returns-in_err-text-clause-says
+returns-in_err-text-clause-says g c =
+    text_stopped g.E.Stream.writes _ c.from_residual.result _ _ _ _ c.from_residual.ensures.1
+    c.in_err-text.ensures.unread
+
+pub returns-in_err-answer_drawing-clause-says : goal.returns-in_err-answer_drawing-clause-says
+returns-in_err-answer_drawing-clause-says g c =
+    text_lacking g.E.Stream.writes _ c.from_residual-in_err-answer_drawing.result _ _ _
+    c.from_residual-in_err-answer_drawing.ensures.1
+
+pub returns-clause-says : goal.returns-clause-says
+returns-clause-says g c =
+    let shows = IsDrawn c.in_ok-text.text c.args.asked.now.with_plan in
+    text_said g.E.Stream.writes _ _ _ _ _ c.in_ok-text.text
+    (λ model. Silently (IsDrawn model c.args.asked.now.with_plan)) c.in_ok-text.ensures.read
+    (quietly_said g.E.Stream.writes _ _ _ shows refl
+    (outcome_answered shows c.in_ok-answer_drawing.field-0
+    (rw (← c.as_slice-text.ensures) c.in_ok-answer_drawing.ensures)))
