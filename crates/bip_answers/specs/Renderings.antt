@@ -31,11 +31,11 @@ pub data IsRenderingAnswer (rendering : Rendering) (model : List ℕ) : Answer �
       → IsRenderingAnswer rendering model (complaining Refused (model_refusal fault))
 
 -- the answer to the drawing of a model's text, or of its plan where that is asked for
-pub data IsDrawn (model : List ℕ) : Bool → Answer → Type 0 where
+pub data IsDrawingShowing (model : List ℕ) : Bool → Answer → Type 0 where
   of_model : (answer : Answer) → IsRenderingAnswer Drawing model answer
-      → IsDrawn model false answer
+      → IsDrawingShowing model false answer
   -- the text has a plan, and what is drawn is true of it
   of_plan : (p : Planned) (text : List ℕ) → HasPlan model p → IsPlanDrawing p text
-      → IsDrawn model true (saying Done text)
+      → IsDrawingShowing model true (saying Done text)
   -- it has none
-  planless : (answer : Answer) → IsRefusedModel model answer → IsDrawn model true answer
+  planless : (answer : Answer) → IsRefusedModel model answer → IsDrawingShowing model true answer

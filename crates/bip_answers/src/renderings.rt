@@ -1,7 +1,7 @@
 //! What a model is rendered as: its drawing, its canonical text, and the drawing of its plan.
 ghost use Rattle.std.specs.Prelude.{◌≡◌, IfOk, true};
 ghost use Rattle.bip_model.specs.Partitions.{AreClassesOf};
-ghost use Rattle.bip_answers.specs.Renderings.{IsDrawn, IsRenderingAnswer, rendering_of};
+ghost use Rattle.bip_answers.specs.Renderings.{IsDrawingShowing, IsRenderingAnswer, rendering_of};
 
 use crate::answers::{Answer, PlanOrRefusal, Status, answer_fault, plan_text, said};
 use bip_draw::draw_model;
@@ -46,7 +46,7 @@ pub fn answer_drawing(
     model: &[u8],
     with_plan: bool,
 ) -> Result<Answer, AllocError>
-    ensures { IfOk result (IsDrawn model.now with_plan) }
+    ensures { IfOk result (IsDrawingShowing model.now with_plan) }
 {
     if with_plan {
         answer_plan_drawing(alloc, explanation, model)
@@ -61,7 +61,7 @@ fn answer_plan_drawing(
     explanation: &mut Explanation,
     model: &[u8],
 ) -> Result<Answer, AllocError>
-    ensures { IfOk result (IsDrawn model.now true) }
+    ensures { IfOk result (IsDrawingShowing model.now true) }
 {
     match plan_text(alloc, explanation, model)? {
         PlanOrRefusal::Plan(plan) => {

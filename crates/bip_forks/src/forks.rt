@@ -1,6 +1,6 @@
 //! The forks: a bank of all stations.
-ghost use Rattle.std.specs.Prelude.{◌≡◌, ◌<◌, ◌≤◌, [], IfErr, IfNone, IfOk, IfSome, List, OnErr, OnOk};
-ghost use Rattle.std.specs.Prelude.{length, ℕ};
+ghost use Rattle.std.specs.Prelude.{◌≡◌, ◌<◌, ◌≤◌, [], IfErr, IfNone, IfOk, IfSome, List, OnErr};
+ghost use Rattle.std.specs.Prelude.{OnOk, length, ℕ};
 ghost use Rattle.bip_model.specs.declared.numbering.InterId.{InterId};
 ghost use Rattle.bip_partition.specs.Plans.{AreStations};
 ghost use Rattle.bip_bank.specs.Steps.{AreIdle};

@@ -121,15 +121,15 @@ abbrev pub station_inter : List InterId → ℕ → ℕ
 station_inter stations s = slice_index (numbers_in stations) s
 
 -- the label of a station has its number below the name of its interaction
-abbrev pub number_text : Planned → List InterId → ℕ → List ℕ
-number_text p stations s =
+abbrev pub station_label : Planned → List InterId → ℕ → List ℕ
+station_label p stations s =
     node_name (codes "i") (station_inter stations s)
     ++ (codes " [label=\"" ++ (name_in p.model.interaction_names (station_inter stations s)
     ++ (codes "\\nstation " ++ (decimal s ++ codes "\"];\n"))))
 
 -- the numbers of all stations, which are the order of the ring
 abbrev pub numbers_text : Planned → List InterId → List ℕ
-numbers_text p stations = flat_map (number_text p stations) (range_with_len 0 (length stations))
+numbers_text p stations = flat_map (station_label p stations) (range_with_len 0 (length stations))
 
 -- how all is drawn
 unfoldable pub plan_front : List ℕ

@@ -12,7 +12,7 @@ ghost use Rattle.bip_review.specs.Drawing.{borders_text, class_cluster, componen
 ghost use Rattle.bip_review.specs.Drawing.{conflict_text, conflicts_text, edge_from, edges_text};
 ghost use Rattle.bip_review.specs.Drawing.{ellipse_text, interaction_box, label_of, looked_edge};
 ghost use Rattle.bip_review.specs.Drawing.{member_text, members_text, moved_edge, node_name};
-ghost use Rattle.bip_review.specs.Drawing.{number_text, numbers_text, plan_front};
+ghost use Rattle.bip_review.specs.Drawing.{station_label, numbers_text, plan_front};
 ghost use Rattle.bip_review.specs.Writing.{AreLooks, IsComponentShown, IsInteractionShown};
 ghost use Rattle.bip_review.specs.Writing.{IsListConflicting, Look};
 
@@ -266,7 +266,7 @@ fn number_station(
     requires known { slice_index (numbers_in stations.now) number
         < length plan.now.model.interactions }
     ensures { OnOk result
-        (text.new.items ≡ text.old.items ++ number_text plan.now stations.now number) }
+        (text.new.items ≡ text.old.items ++ station_label plan.now stations.now number) }
 {
     let inter = stations[number];
     write_node(text, b"i", inter.0)?;

@@ -116,5 +116,5 @@ abbrev pub AreWithoutWork : WorldContent → (ℕ → Event) → ℕ → ℕ →
 AreWithoutWork w at from to = (i : ℕ) → from ≤ i → i < to → HasNoWork w (at i)
 
 -- a plan has so many stations
-abbrev pub IsStationCount : Planned → ℕ → Type 0
-IsStationCount p n = (stations : List InterId) × AreStations p stations × (length stations ≡ n)
+abbrev pub HasStationCount : Planned → ℕ → Type 0
+HasStationCount p n = (stations : List InterId) × AreStations p stations × (length stations ≡ n)

@@ -7,7 +7,7 @@ ghost use Rattle.bip_core.specs.Worlds.{world_of};
 ghost use Rattle.bip_core.specs.declared.events.Event.TheVariants.{Bank};
 ghost use Rattle.bip_model.specs.declared.numbering.InterId.{InterId};
 ghost use Rattle.bip_schedule.specs.Busy.{AreWithoutWork, FindsNone, HaveWork, IsBusyAmong};
-ghost use Rattle.bip_schedule.specs.Busy.{IsBusyDrawn, IsStationCount};
+ghost use Rattle.bip_schedule.specs.Busy.{IsBusyDrawn, HasStationCount};
 ghost use Rattle.bip_schedule.specs.Busy.{IsDrawnOfKind, IsQuiet, IsQuietKind, arrival_at};
 ghost use Rattle.bip_schedule.specs.Busy.{arriving, asked_at, asked_count, kinds_of};
 ghost use Rattle.bip_schedule.specs.Writing.{HasSpelling, HaveSpelling};
@@ -73,7 +73,7 @@ fn take<'p, B: Bank>(
     number: u32,
 ) -> Option<Event>
     requires few { stations ≤ 65536 }
-    requires counted { IsStationCount (world_of world.now).plan stations }
+    requires counted { HasStationCount (world_of world.now).plan stations }
     ensures some { IfSome result (λ e. MovesInOneWay (world_of world.now).bank.sharing
         → IsDrawnOfKind (world_of world.now) stations kind number e) }
     ensures none { IfNone result (MovesInOneWay (world_of world.now).bank.sharing
@@ -118,7 +118,7 @@ fn arrival_at(kind: EventKind, place: usize) -> Event
 /// How many events of a kind about which is asked have something to do.
 fn count_asked<'p, B: Bank>(world: &World<'p, B>, stations: usize, kind: EventKind) -> usize
     requires few { stations ≤ 65536 }
-    requires counted { IsStationCount (world_of world.now).plan stations }
+    requires counted { HasStationCount (world_of world.now).plan stations }
     ensures { let p = (world_of world.now).plan
         in HaveWork (world_of world.now) (asked_at p stations kind) (asked_count p stations kind)
         result }
@@ -143,7 +143,7 @@ fn find_asked<'p, B: Bank>(
     before: usize,
 ) -> Option<Event>
     requires few { stations ≤ 65536 }
-    requires counted { IsStationCount (world_of world.now).plan stations }
+    requires counted { HasStationCount (world_of world.now).plan stations }
     ensures some { let p = (world_of world.now).plan
         in IfSome result (IsBusyAmong (world_of world.now) (asked_at p stations kind)
         (asked_count p stations kind) before) }
@@ -176,7 +176,7 @@ fn idle_until<'p, B: Bank>(
     kind: EventKind,
     from: usize,
 ) -> usize
-    requires counted { IsStationCount (world_of world.now).plan stations }
+    requires counted { HasStationCount (world_of world.now).plan stations }
     ensures onward { from ≤ result }
     ensures idle { let p = (world_of world.now).plan
         in AreWithoutWork (world_of world.now) (asked_at p stations kind) from result }

@@ -3,7 +3,7 @@ use Rattle.std.proofs.Common.{◌≡◌, arith, inl, inr, ℕ, Bool, false, true
 use Rattle.std.proofs.Common.{None, Option, Some, refl, sym, subst}
 use Rattle.std.specs.Result.{IsErrAnd}
 use Rattle.bipr.specs.Endings.{AllOutcomes, AllOutcomesTelling, Ends, EndsExplaining, EndsTelling}
-use Rattle.bipr.specs.Endings.{IsEnd, IsKept, IsOutcome, Keeping, explaining, nothing_kept, unkept}
+use Rattle.bipr.specs.Endings.{IsEnd, IsFileKept, IsOutcome, Keeping, explaining, nothing_kept, unkept}
 use Rattle.bipr.specs.Endings.{unwritten, written}
 use Rattle.bip_answers.specs.declared.answers.FileText.{FileText}
 use Rattle.bipr.specs.Streams.{Put, Puts, none_put, nothing}
@@ -82,7 +82,7 @@ outcomes_quiet writes before after given P same all =
 
 -- an end for which nothing is kept is one whatever keeps files
 kept_anyhow : (keeps : Keeping) (file : Option FileText) (is_kept : Bool)
-    → IsKept nothing_kept file is_kept → IsKept keeps file is_kept
+    → IsFileKept nothing_kept file is_kept → IsFileKept keeps file is_kept
 kept_anyhow keeps None is_kept is = is
 kept_anyhow keeps (Some file) is_kept is = absurd is
 

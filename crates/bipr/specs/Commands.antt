@@ -19,7 +19,7 @@ use Rattle.bipr.specs.Loading.{IsModelText, IsNoModel, IsPlannedText, OfPlan, Of
 use Rattle.bipr.specs.Loading.{Silently}
 use Rattle.bip_program.specs.Programs.{IsNoParse, IsParse, Parsed}
 use Rattle.bipr.specs.Refusals.{IsErrorAnswer, IsWordsAnswer}
-use Rattle.bip_answers.specs.Renderings.{IsDrawn, IsRenderingAnswer}
+use Rattle.bip_answers.specs.Renderings.{IsDrawingShowing, IsRenderingAnswer}
 use Rattle.bipr.specs.Resolvers.{NeedsCentral}
 use Rattle.bipr.specs.Scheduled.{IsScheduleAnswered}
 use Rattle.bipr.specs.Seeds.{IsSeedAnswer}
@@ -67,7 +67,7 @@ IsCanon gives asked =
 abbrev pub IsDraw : (List ℕ → Result (List ℕ) InputFault → Type 0) → DrawArguments → List Put
     → Answer → Type 0
 IsDraw gives asked =
-    OfText gives asked.model.now (λ model. Silently (IsDrawn model asked.with_plan))
+    OfText gives asked.model.now (λ model. Silently (IsDrawingShowing model asked.with_plan))
 
 -- what may be answered to a model's text and a trace's, where this answers both
 abbrev pub IsReplayBy : (List ℕ → List ℕ → Answer → Type 0)

@@ -24,9 +24,9 @@ abbrev pub Keeping : Type 1
 Keeping = List ℕ → List ℕ → Bool → Type 0
 
 -- whether all that is to be kept in a file, if anything is, is out there
-abbrev pub IsKept : Keeping → Option FileText → Bool → Type 0
-IsKept keeps None is_kept = is_kept ≡ true
-IsKept keeps (Some file) is_kept = keeps file.path file.text is_kept
+abbrev pub IsFileKept : Keeping → Option FileText → Bool → Type 0
+IsFileKept keeps None is_kept = is_kept ≡ true
+IsFileKept keeps (Some file) is_kept = keeps file.path file.text is_kept
 
 -- nothing is kept in any file
 abbrev pub nothing_kept : Keeping
@@ -38,11 +38,11 @@ pub data IsEnd (says : List ℕ → Bool → Type 0) (keeps : Keeping)
     (complains : List ℕ → Bool → Type 0) (answer : Answer) : Status → Type 0 where
   -- the output is out, then what is kept in a file, and then the complaint, or the report, was put;
   -- where that isn't out, the status alone tells
-  written : (is_told : Bool) → says answer.output true → IsKept keeps answer.file true
+  written : (is_told : Bool) → says answer.output true → IsFileKept keeps answer.file true
       → complains answer.complaint is_told
       → IsEnd says keeps complains answer (told_status is_told answer.status)
   -- the output is out, and not all that is kept in a file, and that is complained of
-  unkept : (is_told : Bool) → says answer.output true → IsKept keeps answer.file false
+  unkept : (is_told : Bool) → says answer.output true → IsFileKept keeps answer.file false
       → complains unwritten_text is_told → IsEnd says keeps complains answer Refused
   -- the output isn't out, and that is complained of: nothing is kept in a file
   unwritten : (is_told : Bool) → says answer.output false → complains unwritten_text is_told

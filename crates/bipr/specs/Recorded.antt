@@ -41,7 +41,8 @@ other_run_text = complaint_text (codes "not the same run")
 
 -- a run of threads has too long a record: what they did took too much to note, or a record is
 -- longer than any text that is read
-pub data IsTooLong (p : Planned) (resolver : Resolver) (given : Hosted) (trace : List ℕ) : Type 0 where
+pub data IsTooLong (p : Planned) (resolver : Resolver) (given : Hosted) (trace : List ℕ)
+    : Type 0 where
   unnoted : given.notes ≡ Some (Err NotesTooLong) → IsTooLong p resolver given trace
   unreadable : (schedule : List ℕ) → IsRecord p resolver trace schedule
       → most_bytes < length schedule → IsTooLong p resolver given trace

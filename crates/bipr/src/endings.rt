@@ -2,8 +2,8 @@
 ghost use Rattle.std.specs.Prelude.{◌≡◌, ◌≤◌, length, Bool, Err, None, true};
 ghost use Rattle.std.specs.List.{list_all};
 ghost use Rattle.bip_explain.specs.Explanations.{is_shown};
-ghost use Rattle.bipr.specs.Endings.{Ends, Explains, IsEnd, IsKept, IsOutcome, IsUnread, explaining};
-ghost use Rattle.bipr.specs.Endings.{nothing_kept, told_status, why_line};
+ghost use Rattle.bipr.specs.Endings.{Ends, Explains, IsEnd, IsFileKept, IsOutcome, IsUnread};
+ghost use Rattle.bipr.specs.Endings.{explaining, nothing_kept, told_status, why_line};
 ghost use Rattle.bip_explain.specs.declared.explanations.TheConstants.{MOST_BYTES};
 ghost use Rattle.bip_answers.specs.Answers.{complaining};
 ghost use Rattle.bip_answers.specs.declared.answers.Status.TheVariants.{Refused};
@@ -152,7 +152,7 @@ impl<R, I, H: Hosting, O: Stream, E: Stream> Invocation<'_, R, I, H, O, E> {
 
 /// Keeps what an answer does in the file that was made for it, and says whether all of that is out.
 fn keep<H: Hosting>(hosting: &H, record: Option<H::Record>, file: &Option<FileText>) -> bool
-    ensures { IsKept (H.hosts hosting.now).keeps file.now result }
+    ensures { IsFileKept (H.hosts hosting.now).keeps file.now result }
 {
     match file {
         Some(file) => hosting.keep(file.path.as_slice(), record, file.text.as_slice()),

@@ -2,7 +2,7 @@ use Rattle.std.proofs.Common.{◌<◌, ℕ, get_or, length, subst, sym}
 use Rattle.std.proofs.lemmas.List.{get_or-map}
 use Rattle.bip_model.specs.declared.numbering.InterId.{InterId}
 use Rattle.bip_partition.proofs.TableLemmas.{reserved_known}
-use Rattle.bip_review.specs.Drawing.{number_text}
+use Rattle.bip_review.specs.Drawing.{station_label}
 use Rattle.bip_review.proofs.DrawingLemmas.{one_number}
 use Rattle.bip_review.proofs.StationLemmas.{station_reserved}
 use Rattle.bip_review.proofs.drawing.number_stations.Goals as goal
@@ -20,6 +20,6 @@ number_station-requires-clause-known c =
 
 pub loop-number-preserved : goal.loop-number-preserved
 loop-number-preserved c =
-    one_number (number_text c.args.plan.now c.args.stations.now)
+    one_number (station_label c.args.plan.now c.args.stations.now)
     c.loop-number.number c.args.text.now.items c.loop-number.text.items
     c.number_station.new.text.items c.loop-number.invariant c.in_ok-number_station.ensures

@@ -1,5 +1,5 @@
 use Rattle.std.proofs.Common.{refl}
-use Rattle.bip_answers.specs.Renderings.{IsDrawn}
+use Rattle.bip_answers.specs.Renderings.{IsDrawingShowing}
 use Rattle.bipr.specs.Loading.{Silently}
 use Rattle.bipr.proofs.EndingLemmas.{outcome_answered}
 use Rattle.bipr.proofs.LoadingLemmas.{quietly_said, text_lacking, text_said, text_stopped}
@@ -17,9 +17,9 @@ returns-in_err-answer_drawing-clause-says g c =
 
 pub returns-clause-says : goal.returns-clause-says
 returns-clause-says g c =
-    let shows = IsDrawn c.in_ok-text.text c.args.asked.now.with_plan in
+    let shows = IsDrawingShowing c.in_ok-text.text c.args.asked.now.with_plan in
     text_said g.E.Stream.writes _ _ _ _ _ c.in_ok-text.text
-    (λ model. Silently (IsDrawn model c.args.asked.now.with_plan)) c.in_ok-text.ensures.read
+    (λ model. Silently (IsDrawingShowing model c.args.asked.now.with_plan)) c.in_ok-text.ensures.read
     (quietly_said g.E.Stream.writes _ _ _ shows refl
     (outcome_answered shows c.in_ok-answer_drawing.field-0
     (rw (← c.as_slice-text.ensures) c.in_ok-answer_drawing.ensures)))
