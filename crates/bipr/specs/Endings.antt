@@ -36,7 +36,7 @@ nothing_kept path text is_kept = ⊥
 -- and what was kept in a file
 pub data IsEnd (says : List ℕ → Bool → Type 0) (keeps : Keeping)
     (complains : List ℕ → Bool → Type 0) (answer : Answer) : Status → Type 0 where
-  -- the output is out, then what is kept in a file, and then the complaint, or the report, was put;
+  -- the output is out, and so is what is kept in a file; the complaint, or the report, was put, and
   -- where that isn't out, the status alone tells
   written : (is_told : Bool) → says answer.output true → IsFileKept keeps answer.file true
       → complains answer.complaint is_told
@@ -44,7 +44,7 @@ pub data IsEnd (says : List ℕ → Bool → Type 0) (keeps : Keeping)
   -- the output is out, and not all that is kept in a file, and that is complained of
   unkept : (is_told : Bool) → says answer.output true → IsFileKept keeps answer.file false
       → complains unwritten_text is_told → IsEnd says keeps complains answer Refused
-  -- the output isn't out, and that is complained of: nothing is kept in a file
+  -- the output isn't out, and that is complained of
   unwritten : (is_told : Bool) → says answer.output false → complains unwritten_text is_told
       → IsEnd says keeps complains answer Refused
 
