@@ -1,16 +1,19 @@
 -- How forks begin: one more station, or side, and the machine that new stations are.
-use Rattle.std.proofs.Common.{◌≡◌, ℕ, ◌+◌, ◌<◌, true, get_or, length, map, List, [], ◌∷◌, ◌++◌}
+use Rattle.std.proofs.Common.{◌≡◌, ℕ, ◌+◌, ◌<◌, ◌≤◌, true, get_or, length, map, List, [], ◌∷◌, ◌++◌}
 use Rattle.std.proofs.Common.{refl, sym, ap, ◌∙◌, subst, inl, inr, arith}
 use Rattle.std.specs.Prelude.{◌↔◌, All, Contains, IsTrue}
 use Rattle.std.specs.List.Sorted.{IsStrictlyIncreasing}
-use Rattle.std.proofs.lemmas.Bool.{cases_lt}
-use Rattle.std.proofs.lemmas.List.{get_or_append_left, get_or_push, length_push}
+use Rattle.std.proofs.lemmas.Bool.{cases_lt, cases_order}
+use Rattle.std.proofs.lemmas.List.{get_or_append_left, get_or_default, get_or_push, length_push}
 use Rattle.std.proofs.lemmas.List.Elements.{Contains-get_or}
 use Rattle.std.proofs.lemmas.Option.{get_or_from_slice_get}
 use Rattle.bip_model.specs.Parts.{IsSystem}
 use Rattle.bip_model.specs.declared.numbering.CompId.{CompId}
 use Rattle.bip_model.specs.declared.numbering.InterId.{InterId}
+use Rattle.bip_model.proofs.ListLemmas.{below_later}
+use Rattle.bip_partition.proofs.ListedLemmas.{exact_in_all, none_below, one_has, one_lacks}
 use Rattle.bip_partition.proofs.TableLemmas.{reserved_known}
+use Rattle.bip_partition.specs.Tables.{IsListBelow, comp}
 use Rattle.bip_partition.specs.Plans.{AreStations, Planned}
 use Rattle.bip_table.specs.Rows.{has_row, row_components, rows_of, used_at}
 use Rattle.bip_table.specs.declared.rows.Row.{Row}
@@ -120,3 +123,109 @@ common_of both base comps rows is same = subst (IsCommon both base) (sym same) (
   );
   numbers = λ c row. used_listed base comps c row;
 })
+
+-- the components that two interactions both touch, of one's list up to a place: they are below a
+-- bound, which what stands there reaches
+pub record AreCommonBefore (both : ℕ → Type 0) (own : List CompId) (place : ℕ)
+    (list : List CompId) : Type 0 where
+  pub bound : ℕ
+  pub listed : IsListBelow (λ (c : CompId). c.0) comp both bound list
+  pub before : (j : ℕ) → j < place → (get_or own j (comp 0)).0 < bound
+  pub behind : (j : ℕ) → place ≤ j → j < length own → bound ≤ (get_or own j (comp 0)).0
+
+module _ (both : ℕ → Type 0) (own : List CompId)
+    (rising : IsStrictlyIncreasing (map (λ (c : CompId). c.0) own))
+    (only : (n : ℕ) → both n → Contains own (comp n)) where
+  pub none_common : AreCommonBefore both own 0 []
+  none_common = record {
+    bound = 0;
+    listed = none_below (λ (c : CompId). c.0) comp (λ n. refl) (λ x. refl) both;
+    before = λ j below. absurd (omega (arith, below));
+    behind = λ j low within. omega arith;
+  }
+
+  module _ (place : ℕ) (list : List CompId) (within : place < length own)
+      (so : AreCommonBefore both own place list) where
+    abbrev Here : CompId
+    Here = get_or own place (comp 0)
+
+    after : (j : ℕ) → place + 1 ≤ j → j < length own → Here.0 + 1 ≤ (get_or own j (comp 0)).0
+    after j low inside =
+        omega (
+          arith,
+          below_later (λ (c : CompId). c.0) own rising place j (comp 0)
+              (omega (arith, low)) inside,
+        )
+
+    -- what stands between is not touched
+    apart : (m : ℕ) → so.bound ≤ m → m < Here.0 → both m → ⊥
+    apart m low high has =
+        let at = only m has in
+        let is : get_or own at.0 (comp 0) ≡ comp m =
+        get_or_default own at.0 (comp 0) (comp m) at.1 ∙ at.2 in
+        let number : (get_or own at.0 (comp 0)).0 ≡ m = ap (λ (c : CompId). c.0) is in
+        elim (cases_order at.0 place) [
+          | inl same ↦ omega (
+            arith,
+            high,
+            number,
+            ap (λ (j : ℕ). (get_or own j (comp 0)).0) same,
+          )
+          | inr (inl first) ↦ omega (arith, low, number, so.before at.0 first)
+          | inr (inr later) ↦ omega (
+            arith,
+            high,
+            number,
+            after at.0 (omega (arith, later)) at.1,
+          )
+        ]
+
+    reached : IsListBelow (λ (c : CompId). c.0) comp both Here.0 list
+    reached = record {
+      rising = so.listed.rising;
+      exact = λ m. (
+        λ at. let is = (so.listed.exact m).0 at in
+            (omega (arith, is.0, so.behind place (omega arith) within), is.1),
+        λ is. elim (cases_lt m so.bound) [
+          | inl low ↦ (so.listed.exact m).1 (low, is.1)
+          | inr past ↦ absurd (apart m (omega (arith, past)) is.0 is.1)
+        ],
+      );
+    }
+
+    next_before : (j : ℕ) → j < place + 1 → (get_or own j (comp 0)).0 < Here.0 + 1
+    next_before j low = elim (cases_lt j place) [
+      | inl first ↦ omega (arith, so.before j first, so.behind place (omega arith) within)
+      | inr past ↦ let same : place ≡ j = omega (arith, low, past) in
+          subst (λ (k : ℕ). (get_or own k (comp 0)).0 < Here.0 + 1) same (omega arith)
+    ]
+
+    pub one_common : both Here.0 → AreCommonBefore both own (place + 1) (list ++ Here ∷ [])
+    one_common has = record {
+      bound = Here.0 + 1;
+      listed = one_has (λ (c : CompId). c.0) comp (λ n. refl) (λ x. refl) both Here.0 list reached
+          has;
+      before = next_before;
+      behind = after;
+    }
+
+    pub one_apart : (both Here.0 → ⊥) → AreCommonBefore both own (place + 1) list
+    one_apart lacks = record {
+      bound = Here.0 + 1;
+      listed = one_lacks (λ (c : CompId). c.0) comp (λ n. refl) (λ x. refl) both Here.0 list
+          reached lacks;
+      before = next_before;
+      behind = after;
+    }
+
+  pub all_common : (place : ℕ) (list : List CompId) → length own ≤ place
+      → AreCommonBefore both own place list → IsListCommon both list
+  all_common place list all so = record {
+    rising = so.listed.rising;
+    exact = exact_in_all (λ (c : CompId). c.0) comp (λ n. refl) (λ x. refl) both so.bound list
+        so.listed
+        (λ n has. let at = only n has in
+        let is : get_or own at.0 (comp 0) ≡ comp n =
+        get_or_default own at.0 (comp 0) (comp n) at.1 ∙ at.2 in
+        subst (λ (c : CompId). c.0 < so.bound) is (so.before at.0 (omega (arith, at.1, all))));
+  }

@@ -2,15 +2,20 @@
 use Rattle.std.proofs.Common.{◌≡◌, ◌≢◌, ℕ, zero, suc, ◌+◌, ◌<◌, ◌≤◌, List, [], ◌∷◌, ◌++◌, map}
 use Rattle.std.proofs.Common.{get_or, set, length, refl, sym, ap, ◌∙◌, subst, inl, inr, arith}
 use Rattle.std.specs.Prelude.{◌↔◌, ◌⊎◌, max, All, Bool, Err, IfErr, IfNone, IfSome, None, Ok, OnOk}
-use Rattle.std.specs.Prelude.{Option, Result, Some}
+use Rattle.std.specs.Prelude.{Option, Result, Some, false, true}
 use Rattle.std.proofs.lemmas.Bool.{cases_lt, false≢true}
 use Rattle.std.proofs.lemmas.Bool.Decides.{eqb_tells}
 use Rattle.std.proofs.lemmas.List.{get_or_default, set-get_or}
 use Rattle.bip_table.specs.declared.rows.Row.{Row}
+use Rattle.bip_bank.specs.declared.idleness.WhyIdle.TheVariants.{ForkClean, ForkElsewhere, ForkHere}
+use Rattle.bip_bank.specs.declared.idleness.WhyIdle.TheVariants.{NoFork, NoRequestToken}
+use Rattle.bip_bank.specs.declared.idleness.WhyIdle.TheVariants.{NotAskedFor}
 use Rattle.bip_forks.specs.Sides.{AreByNumber, ArePassed, IsFirstListed, IsListedWith}
+use Rattle.bip_forks.specs.Sides.{KeepsForkSomehow, KeepsTokenSomehow}
 use Rattle.bip_forks.specs.Sides.{IsNextNeighbour, LacksFork, listed_at, listed_sides, nobody_shared}
 use Rattle.bip_forks.specs.Sides.{side_among, sides_from, with_other_side}
-use Rattle.bip_forks.specs.Stations.{AllLie, LiesHere, MayPass, nothing_shared, rows_here, rows_in}
+use Rattle.bip_forks.specs.Stations.{AllLie, LiesHere, MayAsk, MayPass, nothing_shared}
+use Rattle.bip_forks.specs.Stations.{rows_here, rows_in}
 use Rattle.bip_forks.specs.declared.shares.Fork.{Fork}
 use Rattle.bip_forks.specs.declared.shares.Side.{Side}
 use Rattle.bip_forks.specs.declared.sides.Shared.{Shared}
@@ -499,3 +504,25 @@ nowhere_listed below xs t place order before onward other k at = elim (cases_lt 
       let up = order_rises 0 below xs place k order (omega (arith, past)) at.0 in
       other inside (omega (arith, high, up, at.1))
 ]
+
+-- what can't go is kept for a reason
+pub fork_stays : (side : Side) → (MayPass side → ⊥) → KeepsForkSomehow side
+fork_stays side never = by_parts side.shared side.clean side.asked side.fork refl refl refl refl
+  where
+    by_parts : (shared clean asked : Bool) (fork : Option Fork) → side.shared ≡ shared
+        → side.clean ≡ clean → side.asked ≡ asked → side.fork ≡ fork → KeepsForkSomehow side
+    by_parts false clean asked fork s c a f = (NoFork, s)
+    by_parts true clean asked None s c a f = (ForkElsewhere, (s, f))
+    by_parts true true asked (Some fork) s c a f = (ForkClean, (s, c, (fork, f)))
+    by_parts true false false (Some fork) s c a f = (NotAskedFor, (s, a))
+    by_parts true false true (Some fork) s c a f = absurd (never (a, c, (fork, f)))
+
+pub token_stays : (side : Side) → (MayAsk side → ⊥) → KeepsTokenSomehow side
+token_stays side never = by_parts side.shared side.asked side.fork refl refl refl
+  where
+    by_parts : (shared asked : Bool) (fork : Option Fork) → side.shared ≡ shared
+        → side.asked ≡ asked → side.fork ≡ fork → KeepsTokenSomehow side
+    by_parts false asked fork s a f = (NoFork, s)
+    by_parts true asked (Some fork) s a f = (ForkHere, (s, (fork, f)))
+    by_parts true false None s a f = (NoRequestToken, (s, a))
+    by_parts true true None s a f = absurd (never (a, f))

@@ -177,23 +177,14 @@ fn list_common(
     requires other { other.0 < length plan.now.model.interactions }
     ensures { IfOk result (IsListCommon (BothTouch plan.now inter.0 other.0)) }
 {
+    let (own, others) = (plan.touches(inter), plan.touches(other));
     let mut list = Seq::of(Vec::new(alloc));
-    for number in 0..plan.model().components().len() {
-        let comp = CompId(number as u16);
-        if is_common(plan, inter, other, comp) {
-            list.push(comp)?;
+    for comp in own {
+        if is_among(others, *comp) {
+            list.push(*comp)?;
         }
     }
     Ok(list)
-}
-
-/// Whether two interactions both touch a component.
-fn is_common(plan: &Plan, inter: InterId, other: InterId, comp: CompId) -> bool
-    requires one { inter.0 < length plan.now.model.interactions }
-    requires other { other.0 < length plan.now.model.interactions }
-    ensures { IsTrue result ↔ BothTouch plan.now inter.0 other.0 comp.0 }
-{
-    is_among(plan.touches(inter), comp) && is_among(plan.touches(other), comp)
 }
 
 /// Whether a component is among others.

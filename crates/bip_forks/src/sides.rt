@@ -29,10 +29,7 @@ impl Shared {
         ensures goes { IsTrue result → MayPass self.now.side }
         ensures stays { result ≡ false → KeepsForkSomehow self.now.side }
     {
-        match self.side.why_kept() {
-            Some(_) => false,
-            None => true,
-        }
+        self.side.may_pass()
     }
 
     /// Whether its request token can go.
@@ -40,10 +37,7 @@ impl Shared {
         ensures goes { IsTrue result → MayAsk self.now.side }
         ensures stays { result ≡ false → KeepsTokenSomehow self.now.side }
     {
-        match self.side.why_unasked() {
-            Some(_) => false,
-            None => true,
-        }
+        self.side.may_ask()
     }
 }
 

@@ -1,46 +1,45 @@
-use Rattle.std.proofs.Common.{length, ap, subst, arith, refl}
+use Rattle.std.proofs.Common.{refl}
 use Rattle.std.proofs.lemmas.Bool.{false≢true}
-use Rattle.bip_model.specs.Parts.{IsSystem}
-use Rattle.bip_model.specs.declared.numbering.CompId.{CompId}
-use Rattle.bip_model.specs.declared.parts.System.{System}
-use Rattle.bip_partition.proofs.ListedLemmas.{exact_in_all, none_below, one_has, one_lacks}
-use Rattle.bip_partition.proofs.TouchLemmas.{touched_known}
+use Rattle.std.proofs.lemmas.List.Elements.{Contains-get_or}
 use Rattle.bip_partition.specs.Tables.{comp}
 use Rattle.bip_forks.specs.Opening.{BothTouch}
+use Rattle.bip_forks.proofs.OpeningLemmas.{all_common, none_common, one_apart, one_common}
 use Rattle.bip_forks.proofs.opening.list_common.Goals as goal
-use Rattle.bip_forks.proofs.opening.list_common.Goals.{else-is_common, then-is_common+in_ok-push}
+use Rattle.bip_forks.proofs.opening.list_common.Goals.{else-is_among, then-is_among+in_ok-push}
 
-pub loop-number-init : goal.loop-number-init
-loop-number-init c = rw (c.of-list.ensures, c.new.ensures.items)
-    (none_below (λ (d : CompId). d.0) comp (λ n. refl) (λ x. refl)
-    (BothTouch c.args.plan.now c.args.inter.0 c.args.other.0))
+pub loop-comp-init : goal.loop-comp-init
+loop-comp-init c =
+    let both = BothTouch c.args.plan.now c.args.inter.0 c.args.other.0 in
+    let touched = c.touches-own.ensures.touches in
+    rw (c.of-list.ensures, c.new.ensures.items)
+    (none_common both c.touches-own.result.now touched.rising
+    (λ n has. (touched.exact n).1 has.0))
 
-pub loop-number-preserved : goal.loop-number-preserved
-loop-number-preserved c = elim c.if-is_common.branch [
-  | then-is_common+in_ok-push w ↦
-      rw (w.list-is, w.in_ok-push.ensures.ok)
-      (one_has (λ (d : CompId). d.0) comp (λ n. refl) (λ x. refl)
-      (BothTouch c.args.plan.now c.args.inter.0 c.args.other.0) c.loop-number.number
-      c.loop-number.list c.loop-number.invariant (w.if-is_common.ensures.0 refl))
-  | else-is_common w ↦
-      rw w.list-is (one_lacks (λ (d : CompId). d.0) comp (λ n. refl) (λ x. refl)
-      (BothTouch c.args.plan.now c.args.inter.0 c.args.other.0) c.loop-number.number
-      c.loop-number.list c.loop-number.invariant
-      (λ has. false≢true (w.if-is_common.ensures.1 has)))
-]
+pub loop-comp-preserved : goal.loop-comp-preserved
+loop-comp-preserved c =
+    let both = BothTouch c.args.plan.now c.args.inter.0 c.args.other.0 in
+    let touched = c.touches-own.ensures.touches in
+    let others = c.touches-others.ensures.touches in
+    let own = c.touches-own.result.now in
+    let place = c.loop-comp.comp-index in
+    elim c.if-is_among.branch [
+      | then-is_among+in_ok-push w ↦
+          rw (w.list-is, w.in_ok-push.ensures.ok)
+          (one_common both own touched.rising (λ n has. (touched.exact n).1 has.0) place
+          c.loop-comp.list c.loop-comp-test.true c.loop-comp.invariant (
+            (touched.exact _).0 (Contains-get_or own place (comp 0) c.loop-comp-test.true),
+            (others.exact _).0 (w.if-is_among.ensures.0 refl),
+          ))
+      | else-is_among w ↦
+          rw w.list-is
+          (one_apart both own touched.rising (λ n has. (touched.exact n).1 has.0) place
+          c.loop-comp.list c.loop-comp-test.true c.loop-comp.invariant
+          (λ has. false≢true (w.if-is_among.ensures.1 ((others.exact _).1 has.1))))
+    ]
 
 pub returns : goal.returns
-returns c = record {
-  rising = c.loop-number.invariant.rising;
-  exact = exact_in_all (λ (d : CompId). d.0) comp (λ n. refl) (λ x. refl)
-      (BothTouch c.args.plan.now c.args.inter.0 c.args.other.0) c.loop-number.number
-      c.loop-number.list c.loop-number.invariant
-      (λ n both. omega (
-        arith,
-        touched_known c.args.plan.now.model c.args.inter.0 n (subst IsSystem
-            c.model.ensures c.components-number-end.ensures.valid) both.0,
-        c.loop-number-test.false,
-        ap length c.components-number-end.ensures.components,
-        ap (λ (m : System). length m.components) c.model.ensures,
-      ));
-}
+returns c =
+    let both = BothTouch c.args.plan.now c.args.inter.0 c.args.other.0 in
+    let touched = c.touches-own.ensures.touches in
+    all_common both c.touches-own.result.now touched.rising (λ n has. (touched.exact n).1 has.0)
+    c.loop-comp.comp-index c.loop-comp.list c.loop-comp-test.false c.loop-comp.invariant

@@ -1,8 +1,7 @@
-use Rattle.bip_model.specs.declared.numbering.CompId.{CompId}
-use Rattle.bip_partition.specs.Tables.{IsListBelow, comp}
 use Rattle.bip_forks.specs.Opening.{BothTouch}
+use Rattle.bip_forks.proofs.OpeningLemmas.{AreCommonBefore}
 use Rattle.bip_forks.proofs.opening.list_common.Given as goal
 
-abbrev pub invariant-loop-number : goal.invariant-loop-number
-invariant-loop-number l = IsListBelow (λ (c : CompId). c.0) comp
-    (BothTouch l.plan l.inter.0 l.other.0) l.number l.list
+abbrev pub invariant-loop-comp : goal.invariant-loop-comp
+invariant-loop-comp l =
+    AreCommonBefore (BothTouch l.plan l.fn.inter.0 l.fn.other.0) l.own l.comp-index l.list
