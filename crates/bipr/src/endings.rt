@@ -151,11 +151,11 @@ impl<R, I, H: Hosting, O: Stream, E: Stream> Invocation<'_, R, I, H, O, E> {
 }
 
 /// Keeps what an answer does in the file that was made for it, and says whether all of that is out.
-fn keep<H: Hosting>(hosting: &H, record: Option<H::Record>, file: &Option<FileText>) -> bool
+fn keep<H: Hosting>(hosting: &H, made: Option<H::Record>, file: &Option<FileText>) -> bool
     ensures { IsFileKept (H.hosts hosting.now).keeps file.now result }
 {
     match file {
-        Some(file) => hosting.keep(file.path.as_slice(), record, file.text.as_slice()),
+        Some(file) => hosting.keep(file.path.as_slice(), made, file.text.as_slice()),
         None => true,
     }
 }
