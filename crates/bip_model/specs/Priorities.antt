@@ -1,12 +1,13 @@
 -- Priorities: what stands above what, and the tables of it.
-use Rattle.std.specs.Prelude.{◌≡◌, ◌↔◌, ℕ, ◌<◌, ◌==◌, ◌||◌, ◌&&◌, not, Bool, List, [], length, map}
-use Rattle.std.specs.Prelude.{filter, Contains, slice_index_or}
+use Rattle.std.specs.Prelude.{◌≡◌, ◌↔◌, ℕ, ◌<◌, ◌==◌, ◌||◌, ◌&&◌, Bool, List, [], length, map}
+use Rattle.std.specs.Prelude.{All, filter, Contains, slice_index_or, ◌≤◌}
 use Rattle.std.specs.Prelude.{◌∷◌, nat_lt, IsTrue, ⊤, if◌then◌else◌}
 use Rattle.std.specs.List.{list_all, range_with_len}
 use Rattle.std.specs.List.Sorted.{IsStrictlyIncreasing}
 use Rattle.bip_model.specs.Sets.{has}
 use Rattle.bip_model.specs.declared.numbering.InterId.{InterId}
 use Rattle.bip_model.specs.declared.parts.Pair.{Pair}
+use Rattle.bip_model.specs.declared.priorities.Above.{Above}
 
 -- the interaction of a number
 abbrev pub inter : ℕ → InterId
@@ -59,9 +60,19 @@ pub record AreListsAbove (pairs : List Pair) (count : ℕ) (lists : List (List I
     pub each : length lists ≡ count
     pub list : (a : ℕ) → a < count → IsListAbove pairs a (slice_index_or lists a [])
 
--- whether a pair leads from an interaction, or from one in a set, to one outside of the set
-abbrev pub leads : ℕ → ℕ → Pair → Bool
-leads a set p = ((p.low.0 == a) || has set p.low.0) && not (has set p.high.0)
+-- of so many interactions, with their declared pairs, each one's set is of those above it
+pub record IsClosed (above : Above) : Type 0 where
+  pub few : above.count ≤ 128
+  pub known : All (IsPairOf above.count) above.pairs.now
+  pub each : length above.sets ≡ 128
+  pub set : (a b : ℕ) → a < above.count
+      → IsTrue (has (slice_index_or above.sets a 0) b) ↔ HasAbove above.pairs.now a b
+
+-- for each interaction the set of those that declared pairs lead to from it
+pub record AreDeclaredAbove (pairs : List Pair) (sets : List ℕ) : Type 0 where
+  pub each : length sets ≡ 128
+  pub set : (a b : ℕ) → a < 128
+      → IsTrue (has (slice_index_or sets a 0) b) ↔ Contains pairs (pair a b)
 
 -- the interactions in a set, in order of their numbers
 abbrev pub inters_in : ℕ → ℕ → List InterId

@@ -7,7 +7,7 @@ ghost use Rattle.bip_model.specs.Naming.{same_text};
 
 use crate::parts::System;
 use crate::places::places_of_each;
-use crate::priorities::{is_cyclic, lists_above};
+use crate::priorities::Above;
 use crate::{BuildFault, CompId, Component, InterId, Interaction, LocId, Name, Pair, PortId, Seq};
 use std::alloc::Global;
 use std::marker;
@@ -52,10 +52,11 @@ impl Model {
     {
         let pairs = system.priorities.as_slice();
         let count = system.interactions.len() as u16;
-        if is_cyclic(count, pairs) {
+        let closed = Above::of(count, pairs);
+        if closed.is_cyclic() {
             return Err(BuildFault::PriorityCycle);
         }
-        let Ok(above) = lists_above(alloc, count, pairs) else {
+        let Ok(above) = closed.lists(alloc) else {
             return Err(BuildFault::Memory);
         };
         let Ok(looks) = system.lists_looked_at(alloc, above.as_slice()) else {

@@ -1,57 +1,65 @@
 //! Priorities: which interactions stand above which. They are closed when a model is built.
-ghost use Rattle.std.specs.Prelude.{◌≡◌, ◌≤◌, ◌↔◌, ℕ, IsTrue, All, IfOk, find};
+ghost use Rattle.std.specs.Prelude.{◌≡◌, ◌<◌, ◌≤◌, ◌↔◌, ℕ, IsTrue, All, IfOk, List, length};
 ghost use Rattle.bip_model.specs.Sets.{has};
-ghost use Rattle.bip_model.specs.Priorities.{AreListsAbove, HasAbove, IsCyclic, IsListAbove};
-ghost use Rattle.bip_model.specs.Priorities.{IsPairOf, inters_in, leads};
+ghost use Rattle.bip_model.specs.Priorities.{AreDeclaredAbove, AreListsAbove, HasAbove, IsClosed};
+ghost use Rattle.bip_model.specs.Priorities.{IsCyclic, IsPairOf, inters_in};
+ghost use Rattle.bip_model.specs.declared.parts.Pair.{Pair};
 
-use crate::sets::{has_inter, with_inter};
+use crate::parts::MOST_INTERACTIONS;
+use crate::sets::{has_inter, joined, lowest_outside, with_inter};
 use crate::{InterId, Pair, Seq};
 use std::alloc::{AllocError, Global};
 
-/// Whether some interaction of so many stands above itself.
-pub(crate) fn is_cyclic(count: u16, pairs: &[Pair]) -> bool
-    requires few { count ≤ 128 }
-    requires known { All (IsPairOf count) pairs.now }
-    ensures { IsTrue result ↔ IsCyclic pairs.now }
-{
-    for number in 0..count {
-        let inter = InterId(number);
-        if has_inter(set_above(pairs, inter), inter) {
-            return true;
+/// Of so many interactions, between which pairs are declared, for each the set of those above it.
+#[derive(Drop)]
+pub(crate) struct Above<'p> {
+    count: u16,
+    pairs: &'p [Pair],
+    sets: [u128; MOST_INTERACTIONS],
+}
+
+impl<'p> Above<'p> {
+    /// Closes the pairs, once for all that is asked of it.
+    pub fn of(count: u16, pairs: &'p [Pair]) -> Above<'p>
+        requires few { count ≤ 128 }
+        requires known { All (IsPairOf count) pairs.now }
+        ensures closed { IsClosed result }
+        ensures pairs { result.pairs.now ≡ pairs.now }
+        ensures count { result.count ≡ count }
+    {
+        let declared = declared_above(pairs);
+        let mut sets = [0; MOST_INTERACTIONS];
+        for number in 0..count {
+            sets[number as usize] = set_above(&declared, InterId(number));
         }
+        Above { count, pairs, sets }
     }
-    false
-}
 
-/// For each of so many interactions in turn those above it, in order of their numbers.
-pub(crate) fn lists_above(
-    alloc: Global,
-    count: u16,
-    pairs: &[Pair],
-) -> Result<Seq<Seq<InterId>>, AllocError>
-    requires few { count ≤ 128 }
-    requires known { All (IsPairOf count) pairs.now }
-    ensures { IfOk result (λ lists. AreListsAbove pairs.now count lists) }
-{
-    let mut lists = Seq::of(Vec::new(alloc));
-    for number in 0..count {
-        let list = list_above(alloc, count, pairs, InterId(number))?;
-        lists.push(Seq::of(list))?;
+    /// Whether some interaction stands above itself.
+    pub fn is_cyclic(&self) -> bool
+        requires { IsClosed self.now }
+        ensures { IsTrue result ↔ IsCyclic self.now.pairs.now }
+    {
+        for number in 0..self.count {
+            if has_inter(self.sets[number as usize], InterId(number)) {
+                return true;
+            }
+        }
+        false
     }
-    Ok(lists)
-}
 
-fn list_above(
-    alloc: Global,
-    count: u16,
-    pairs: &[Pair],
-    inter: InterId,
-) -> Result<Vec<InterId>, AllocError>
-    requires few { count ≤ 128 }
-    requires known { All (IsPairOf count) pairs.now }
-    ensures { IfOk result (λ list. IsListAbove pairs.now inter.0 list.items) }
-{
-    inters_in(alloc, count, set_above(pairs, inter))
+    /// For each interaction in turn those above it, in order of their numbers.
+    pub fn lists(&self, alloc: Global) -> Result<Seq<Seq<InterId>>, AllocError>
+        requires { IsClosed self.now }
+        ensures { IfOk result (AreListsAbove self.now.pairs.now self.now.count) }
+    {
+        let mut lists = Seq::of(Vec::new(alloc));
+        for number in 0..self.count {
+            let list = inters_in(alloc, self.count, self.sets[number as usize])?;
+            lists.push(Seq::of(list))?;
+        }
+        Ok(lists)
+    }
 }
 
 /// The interactions in a set, in order of their numbers.
@@ -65,24 +73,31 @@ fn inters_in(alloc: Global, count: u16, set: u128) -> Result<Vec<InterId>, Alloc
         .collect(alloc)
 }
 
-/// The set of the interactions above one.
-fn set_above(pairs: &[Pair], inter: InterId) -> u128
+/// For each interaction the set of those that declared pairs lead to from it.
+fn declared_above(pairs: &[Pair]) -> [u128; MOST_INTERACTIONS]
     requires { All (IsPairOf 128) pairs.now }
-    ensures { (b : ℕ) → IsTrue (has result b) ↔ HasAbove pairs.now inter.0 b }
+    ensures { AreDeclaredAbove pairs.now result }
 {
-    let mut set = 0u128;
-    while let Some(pair) = next_pair(pairs, inter, set) {
-        set = with_inter(set, pair.high);
+    let mut sets = [0; MOST_INTERACTIONS];
+    for pair in pairs {
+        let low = pair.low.0 as usize;
+        sets[low] = with_inter(sets[low], pair.high);
     }
-    set
+    sets
 }
 
-/// A pair that leads from an interaction, or from one in the set, to one outside of the set.
-fn next_pair(pairs: &[Pair], inter: InterId, set: u128) -> Option<Pair>
-    requires { All (IsPairOf 128) pairs.now }
-    ensures { result ≡ find (leads inter.0 set) pairs.now }
+/// The set of the interactions above one: those that declared pairs lead to from it, and from each
+/// that is in the set.
+fn set_above(declared: &[u128; MOST_INTERACTIONS], inter: InterId) -> u128
+    requires { inter.0 < 128 }
+    ensures { (pairs : List Pair) → AreDeclaredAbove pairs declared.now
+        → (b : ℕ) → IsTrue (has result b) ↔ HasAbove pairs inter.0 b }
 {
-    pairs.iter().copied().find(|pair| {
-        (pair.low == inter || has_inter(set, pair.low)) && !has_inter(set, pair.high)
-    })
+    let mut set = declared[inter.0 as usize];
+    let mut gone_on = 0u128;
+    while let Some(next) = lowest_outside(set, gone_on) {
+        set = joined(set, declared[next.0 as usize]);
+        gone_on = with_inter(gone_on, next);
+    }
+    set
 }

@@ -43,6 +43,22 @@ pub fn lowest_inter(set: u128) -> Option<InterId>
     Some(InterId(set.trailing_zeros() as u16))
 }
 
+/// Two sets in one.
+pub(crate) fn joined(set: u128, other: u128) -> u128
+    ensures { (b : ℕ) → has result b ≡ (has set b || has other b) }
+{
+    set | other
+}
+
+/// The lowest interaction that is in a set and not in another one.
+pub(crate) fn lowest_outside(set: u128, other: u128) -> Option<InterId>
+    ensures some { IfSome result (λ a. (has set a.0 ≡ true) × (has other a.0 ≡ false)) }
+    ensures within { IfSome result (λ a. a.0 < 128) }
+    ensures none { IfNone result ((b : ℕ) → has set b ≡ true → has other b ≡ true) }
+{
+    lowest_inter(set & !other)
+}
+
 /// Whether a port is in a set, as that of an offer; false for numbers that no port has.
 pub fn has_port(ports: u16, port: PortId) -> bool
     ensures { result ≡ has ports port.0 }

@@ -1,28 +1,19 @@
-use Rattle.std.proofs.Common.{◌<◌, arith}
-use Rattle.bip_model.proofs.AboveLemmas.{IsNext-found, IsWithin-more, all_within, high-found}
+use Rattle.bip_model.proofs.AboveLemmas.{all_gone_on, gone_on_first, gone_on_more}
 use Rattle.bip_model.proofs.priorities.set_above.Goals as goal
 
-pub with_inter-set-requires : goal.with_inter-set-requires
-with_inter-set-requires c = high-found 128 c.args.pairs.now c.args.inter.0 c.loop-pair.set
-    c.in-Some.pair c.requires c.in-Some.ensures
+pub loop-next-init : goal.loop-next-init
+loop-next-init c = λ pairs are. gone_on_first pairs c.args.inter.0 _
+    (λ b. are.set c.args.inter.0 b c.requires)
 
-pub loop-pair-smaller : goal.loop-pair-smaller
-loop-pair-smaller c =
-    let next = IsNext-found c.args.pairs.now c.args.inter.0 c.loop-pair.set c.in-Some.pair
-    c.in-Some.ensures c.loop-pair.invariant in
-    let more : c.loop-pair.set < c.with_inter-set.result = c.with_inter-set.ensures.more next.out in
-    omega arith
-
-pub loop-pair-preserved : goal.loop-pair-preserved
-loop-pair-preserved c =
-    let next = IsNext-found c.args.pairs.now c.args.inter.0 c.loop-pair.set c.in-Some.pair
-    c.in-Some.ensures c.loop-pair.invariant in
-    IsWithin-more c.args.pairs.now c.args.inter.0 c.loop-pair.set c.with_inter-set.result
-    c.in-Some.pair.high.0 c.loop-pair.invariant next c.with_inter-set.ensures.has
+pub loop-next-preserved : goal.loop-next-preserved
+loop-next-preserved c = λ pairs are. gone_on_more pairs c.args.inter.0 c.loop-next.set
+    c.loop-next.gone_on c.in-Some.next.0 _ _ _ (c.loop-next.invariant pairs are)
+    c.in-Some.ensures.some.0 (λ b. are.set c.in-Some.next.0 b c.in-Some.ensures.within)
+    c.joined-set.ensures c.with_inter-gone_on.ensures.has
 
 pub returns : goal.returns
-returns c =
-    λ b. (
-      c.loop-pair.invariant b,
-      all_within c.args.pairs.now c.args.inter.0 c.loop-pair.set c.in_default.ensures b,
-    )
+returns c = λ pairs are b. (
+  (c.loop-next.invariant pairs are).within b,
+  all_gone_on pairs c.args.inter.0 c.loop-next.set c.loop-next.gone_on
+      (c.loop-next.invariant pairs are) c.in_default.ensures.none b,
+)
