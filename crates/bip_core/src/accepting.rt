@@ -16,6 +16,7 @@ ghost use Rattle.bip_core.specs.declared.accepting.DropFault.{DropFault};
 
 use bip_frame::{Frame, FrameFault, NotifyFrame, OfferFrame, ReserveFrame, read};
 use bip_model::{Cause, ClassId, CompId, Component, InterId, Reasons, Reply, Request, Want, Why};
+use bip_observe::are_ports;
 use bip_partition::Plan;
 use std::fmt;
 use thiserror::Error;
@@ -293,11 +294,4 @@ fn count_told(notify: &NotifyFrame<'_>) -> usize
 {
     let vars = notify.vars();
     vars.len() / 4
-}
-
-/// Whether no port is on from a number on.
-fn are_ports(ports: u16, count: usize) -> bool
-    ensures { IsTrue result ↔ ((p : ℕ) → has ports p ≡ true → p < count) }
-{
-    16 <= count || ports >> count == 0
 }

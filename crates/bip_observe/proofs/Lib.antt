@@ -3,6 +3,7 @@ pub mod ExcludeLemmas
 pub mod KeptLemmas
 pub mod LackLemmas
 pub mod OfferLemmas
+pub mod PortLemmas
 pub mod ReasonLemmas
 pub mod ShowLemmas
 pub mod VerdictLemmas

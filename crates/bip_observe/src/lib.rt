@@ -8,5 +8,5 @@ mod verdicts;
 
 pub use because::reasons;
 pub use laws::{offer_laws, verdict_laws};
-pub use offers::{Offers, Receipt};
+pub use offers::{Offers, Receipt, are_ports};
 pub use verdicts::{Verdict, decide, lacking_above};

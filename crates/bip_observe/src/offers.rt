@@ -8,7 +8,7 @@ ghost use Rattle.bip_model.specs.Numbering.{last_number};
 ghost use Rattle.bip_model.specs.Sets.{has};
 ghost use Rattle.bip_observe.specs.Offers.{nothing_held, observed};
 
-use bip_model::{ClassId, CompId, Component, Number, Offer, PortId, Seq, has_port};
+use bip_model::{ClassId, CompId, Component, Number, Offer, Seq};
 use bip_partition::Plan;
 use std::alloc::{AllocError, Global};
 use std::marker;
@@ -217,14 +217,9 @@ fn can_make(component: &Component, offer: &Offer) -> bool
         && are_ports(offer.ports, component.ports.len())
 }
 
-/// Whether no port is on from a number on.
-fn are_ports(ports: u16, count: usize) -> bool
+/// Whether no port is on from a number on: so no component with as many ports lacks one.
+pub fn are_ports(ports: u16, count: usize) -> bool
     ensures { IsTrue result ↔ ((p : ℕ) → has ports p ≡ true → p < count) }
 {
-    for port in count..16 {
-        if has_port(ports, PortId(port as u8)) {
-            return false;
-        }
-    }
-    true
+    16 <= count || ports >> count == 0
 }
