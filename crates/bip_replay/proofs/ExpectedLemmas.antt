@@ -2,7 +2,7 @@
 use Rattle.std.proofs.Common.{◌≡◌, ℕ, ◌+◌, ◌<◌, ◌≤◌, Bool, true, false, not, ◌||◌, eqb, eqb-true}
 use Rattle.std.proofs.Common.{eq-eqb, List, [], ◌∷◌, ◌++◌, length, map, take, get_or, Option, None}
 use Rattle.std.proofs.Common.{Some, refl, sym, ◌∙◌, inl, inr, arith}
-use Rattle.std.specs.Prelude.{◌↔◌, All, codes, if◌then◌else◌, MatchOption, IfSome}
+use Rattle.std.specs.Prelude.{◌↔◌, All, codes, MatchOption, IfSome}
 use Rattle.std.specs.Fmt.{decimal}
 use Rattle.std.specs.List.{AllByRecursion, AllZip, IsDistinct, flat_map, list_any}
 use Rattle.std.specs.List.Sorted.{IsPermutation, IsStrictlyIncreasing}
@@ -36,7 +36,7 @@ use Rattle.bip_model.specs.Numbering.{by_number}
 use Rattle.bip_model.specs.Parties.{AreParties, IsWanted, SeeAll, is_moving, is_seeing}
 use Rattle.bip_model.specs.Parts.{IsInteraction, IsSystem, Participant, components_in}
 use Rattle.bip_model.specs.Steps.{IsListLookedAt, moves, participants_of}
-use Rattle.bip_model.specs.Texts.{is_comment, is_plain, spaced, words, words_said}
+use Rattle.bip_model.specs.Texts.{is_plain, spaced, words}
 use Rattle.bip_model.specs.Wants.{is_moved}
 use Rattle.bip_model.specs.declared.grants.Grant.{Grant}
 use Rattle.bip_model.specs.declared.numbering.CompId.{CompId}
@@ -48,7 +48,8 @@ use Rattle.bip_model.specs.declared.wants.Want.{Want}
 use Rattle.bip_replay.proofs.GrantLemmas.{line_reads}
 use Rattle.bip_replay.proofs.NamedLemmas.{comp_of}
 use Rattle.bip_replay.specs.Expected.{BeginsWith, BeginsWithWants, Expects, HasNextWord}
-use Rattle.bip_replay.specs.Expected.{IsInterName, SaysExpected, comps_of, next_word}
+use Rattle.bip_replay.specs.Expected.{IsInterName, IsPlainBefore, TakesWants, comps_of}
+use Rattle.bip_replay.specs.Expected.{next_word}
 use Rattle.bip_replay.specs.Laws.{IsGrantLine, IsNameOf, Spells}
 use Rattle.bip_replay.specs.Runs.{HasNextNumber, Standing}
 use Rattle.bip_replay.specs.Writing.{behind_see}
@@ -448,40 +449,25 @@ expects_as_written p line name rest a inter is wants =
     wants.few inter.named
     (is ∙ rw wants.begins (simp (flat_map-append, append_assoc, append-nil)))
 
--- a line that says a grant has no bad byte, and these words
-words_of : (line : List ℕ) (said : List (List ℕ)) (name : List ℕ) (behind : List (List ℕ))
-    → words_said line ≡ Some said → said ≡ codes "grant" ∷ name ∷ behind → (is_plain line ≡ true)
-    × (words line ≡ codes "grant" ∷ name ∷ behind)
-words_of line said name behind read says = elim (cases_Bool (is_plain line)) [
-  | inl plain ↦ (plain, by_comment (is_comment (words line)) refl (rw plain at read))
-  | inr bad ↦ absurd (let never = rw bad at read in cc)
-]
-  where
-    by_comment : (b : Bool) → is_comment (words line) ≡ b
-        → Some (if is_comment (words line) then [] else words line) ≡ Some said
-        → words line ≡ codes "grant" ∷ name ∷ behind
-    by_comment true is kept = absurd (let none = rw is at kept in let two = says in cc)
-    by_comment false is kept = let same = rw is at kept in let its = says in cc
-
 -- a line that says an expected grant in any order reads as it
-pub expects_as_said : (p : Standing) (line : List ℕ) (said : List (List ℕ)) (a : ℕ)
-    → words_said line ≡ Some said → SaysExpected p said a → Expects p line a
-expects_as_said p line said a read is =
-    let wants = is.wants in
+pub expects_as_said : (p : Standing) (line name text rest : List ℕ) (a : ℕ)
+    → IsInterName p.model name a → words line ≡ codes "grant" ∷ name ∷ words text
+    → IsPlainBefore line text → TakesWants p a text rest → words rest ≡ []
+    → is_plain rest ≡ true → Expects p line a
+expects_as_said p line name text rest a inter says plain wants none over =
     let comps = comps_of (participants_of p.model a) in
-    let line_words = words_of line said is.name (words is.text) read is.says in
-    expects p a wants.looks is.named.valid (omega (
+    expects p a wants.looks inter.valid (omega (
       arith,
-      slice_get_within p.model.interaction_names a is.name is.named.named.known,
-      is.named.valid.so_far.interactions_named,
+      slice_get_within p.model.interaction_names a name inter.named.known,
+      inter.valid.so_far.interactions_named,
     )) wants.listed
     (All-permutation (HasNextWord p) wants.moved comps
     (IsPermutation-sym comps wants.moved wants.all_moved) wants.moves)
     (All-permutation (HasNextWord p) wants.seen wants.looks
     (IsPermutation-sym wants.looks wants.seen wants.all_seen) wants.sees)
-    line is.name wants.moved wants.seen wants.few is.named.named wants.all_moved wants.all_seen
-    line_words.0
-    (line_words.1 ∙ rw (wants.says, is.ends) (simp append-nil))
+    line name wants.moved wants.seen wants.few inter.named wants.all_moved wants.all_seen
+    (plain (wants.plain over))
+    (says ∙ rw (wants.says, none) (simp append-nil))
 
 -- one participant more, and one more that is looked at
 pub more_participants : (p : Standing) (qs : List Participant) (i : ℕ) (d : Participant)

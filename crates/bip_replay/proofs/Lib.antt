@@ -1,8 +1,11 @@
 pub mod ExpectedLemmas
 pub mod FaultLawLemmas
 pub mod FaultLemmas
+pub mod FollowerLemmas
+pub mod FrontLemmas
 pub mod GrantLemmas
 pub mod ItemLemmas
+pub mod KeptWordLemmas
 pub mod LineByLineLemmas
 pub mod NamedLemmas
 pub mod NextLemmas

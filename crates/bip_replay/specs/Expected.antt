@@ -3,15 +3,15 @@
 use Rattle.std.specs.Fmt.{decimal}
 use Rattle.std.specs.List.{flat_map, list_any}
 use Rattle.std.specs.List.Sorted.{IsPermutation}
-use Rattle.std.specs.Prelude.{All, Bool, List, Ok, Some, [], codes, length, map, slice_get}
-use Rattle.std.specs.Prelude.{slice_index, ℕ}
+use Rattle.std.specs.Prelude.{All, Bool, IsTrue, List, Ok, Some, [], length, map, slice_get}
+use Rattle.std.specs.Prelude.{slice_index, true, ℕ, ◌⊎◌}
 use Rattle.std.specs.Prelude.{◌+◌, ◌++◌, ◌<◌, ◌==◌, ◌∷◌, ◌≡◌, ◌≤◌}
 use Rattle.bip_model.specs.Naming.{IsName, name_in}
 use Rattle.bip_model.specs.Numbering.{last_number}
 use Rattle.bip_model.specs.Parties.{AreParties, SeeAll}
 use Rattle.bip_model.specs.Parts.{IsSystem, Participant}
 use Rattle.bip_model.specs.Steps.{IsListLookedAt, participants_of}
-use Rattle.bip_model.specs.Texts.{spaced, words}
+use Rattle.bip_model.specs.Texts.{is_blank, is_plain, spaced, words}
 use Rattle.bip_model.specs.declared.grants.Grant.{Grant}
 use Rattle.bip_model.specs.declared.numbering.CompId.{CompId}
 use Rattle.bip_model.specs.declared.parts.System.{System}
@@ -84,11 +84,32 @@ pub record BeginsWithWants (p : Standing) (a : ℕ) (text rest : List ℕ) : Typ
   pub moved : All (HasNextWord p) (comps_of (participants_of p.model a))
   pub seen : All (HasNextWord p) looks
 
+-- a word ends before a text
+abbrev pub IsApart : List ℕ → Type 0
+IsApart text = (text ≡ []) ⊎ IsTrue (is_blank (slice_index text 0))
+
+-- a text is blanks and the rest
+pub record IsBehindBlanks (text rest : List ℕ) : Type 0 where
+  pub blanks : List ℕ
+  pub all : All (λ b. IsTrue (is_blank b)) blanks
+  pub is : text ≡ blanks ++ rest
+
+-- a text is a component's word, which ends there, and the rest
+pub record BeginsWithWord (p : Standing) (comp : CompId) (text rest : List ℕ) : Type 0 where
+  pub begins : text ≡ next_word p comp ++ rest
+  pub ends : IsApart rest
+  pub known : HasNextWord p comp
+
+-- a text is plain where what is left of it is
+abbrev pub IsPlainBefore : List ℕ → List ℕ → Type 0
+IsPlainBefore text rest = is_plain rest ≡ true → is_plain text ≡ true
+
 -- the words of a text begin with those of components, in any order, and the rest follows
 pub record TakesWords (p : Standing) (comps : List CompId) (text rest : List ℕ) : Type 0 where
   pub taken : List CompId
   pub all : IsPermutation comps taken
   pub says : words text ≡ map (next_word p) taken ++ words rest
+  pub plain : IsPlainBefore text rest
   pub known : All (HasNextWord p) taken
 
 -- its first word is that of one of these components, without which the others are left
@@ -97,6 +118,7 @@ pub record TakesNextWord (p : Standing) (comps left : List CompId) (text rest : 
   pub comp : CompId
   pub all : IsPermutation comps (comp ∷ left)
   pub says : words text ≡ next_word p comp ∷ words rest
+  pub plain : IsPlainBefore text rest
   pub known : HasNextWord p comp
 
 -- the words of a text begin with what is expected behind an interaction, in any order
@@ -110,23 +132,13 @@ pub record TakesWants (p : Standing) (a : ℕ) (text rest : List ℕ) : Type 0 w
   pub all_seen : IsPermutation looks seen
   pub says : words text
       ≡ map (next_word p) moved ++ (behind_see (map (next_word p) seen) ++ words rest)
+  pub plain : IsPlainBefore text rest
   pub moves : All (HasNextWord p) moved
   pub sees : All (HasNextWord p) seen
 
--- the words of a line are those of a grant that is expected of an interaction, in any order
-pub record SaysExpected (p : Standing) (said : List (List ℕ)) (a : ℕ) : Type 0 where
-  pub name : List ℕ
-  pub text : List ℕ
-  pub rest : List ℕ
-  pub says : said ≡ codes "grant" ∷ name ∷ words text
-  pub named : IsInterName p.model name a
-  pub wants : TakesWants p a text rest
-  pub ends : words rest ≡ []
-
--- the component at a place is the one whose word this is
-pub record IsNextAmong (p : Standing) (comps : List CompId) (place : ℕ) (word : List ℕ) :
+-- the component at a place is the one with whose word a text begins
+pub record IsNextAmong (p : Standing) (comps : List CompId) (place : ℕ) (text rest : List ℕ) :
     Type 0 where
   pub comp : CompId
   pub at : slice_get comps place ≡ Some comp
-  pub says : word ≡ next_word p comp
-  pub known : HasNextWord p comp
+  pub word : BeginsWithWord p comp text rest

@@ -2,6 +2,7 @@ pub mod Book
 pub mod Expected
 pub mod Faults
 pub mod Items
+pub mod KeptWords
 pub mod Laws
 pub mod Lines
 pub mod Replays

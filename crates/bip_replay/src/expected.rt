@@ -8,6 +8,8 @@ ghost use Rattle.bip_replay.specs.Expected.{comps_of, next_word};
 ghost use Rattle.bip_replay.specs.Runs.{standing_of};
 
 use crate::Position;
+use crate::followers::Follower;
+use crate::fronts::strip;
 use crate::guesses::Guesses;
 use bip_model::{CompId, InterId, MOST_WANTS, PortId};
 use itoa::Buffer;
@@ -16,12 +18,15 @@ use itoa::Buffer;
 /// which can be right all the same.
 pub(crate) fn read_spelled(
     guesses: &mut Guesses,
-    position: &Position<'_>,
+    position: &Follower<'_>,
     line: &[u8],
 ) -> Option<InterId>
     ensures { IfSome result (λ a. Expects (standing_of position.now) line.now a.0) }
 {
     let (name, wants) = split_name(strip(line, b"grant ")?)?;
+    if name.is_empty() {
+        return None;
+    }
     let inter = guesses.find(position.model(), name)?;
     let rest = strip_wants(position, inter, wants)?;
     if !rest.is_empty() {
@@ -39,7 +44,7 @@ fn split_name(text: &[u8]) -> Option<(&[u8], &[u8])>
 }
 
 /// What follows the wants that are expected behind an interaction.
-fn strip_wants<'t>(position: &Position<'_>, inter: InterId, text: &'t [u8]) -> Option<&'t [u8]>
+fn strip_wants<'t>(position: &Follower<'_>, inter: InterId, text: &'t [u8]) -> Option<&'t [u8]>
     requires { inter.0 < length position.now.model.interactions }
     ensures { IfSome result (λ rest.
         BeginsWithWants (standing_of position.now) inter.0 text.now rest.now) }
@@ -58,8 +63,9 @@ fn strip_wants<'t>(position: &Position<'_>, inter: InterId, text: &'t [u8]) -> O
 }
 
 /// What follows participants by the numbers of their next moves.
+#[inline(never)]
 fn strip_moved<'t>(
-    position: &Position<'_>,
+    position: &Follower<'_>,
     participants: &[(CompId, PortId)],
     text: &'t [u8],
 ) -> Option<&'t [u8]>
@@ -76,7 +82,8 @@ fn strip_moved<'t>(
 }
 
 /// What follows components by the numbers of their next moves.
-fn strip_seen<'t>(position: &Position<'_>, looks: &[CompId], text: &'t [u8]) -> Option<&'t [u8]>
+#[inline(never)]
+fn strip_seen<'t>(position: &Follower<'_>, looks: &[CompId], text: &'t [u8]) -> Option<&'t [u8]>
     requires { All (λ (c : CompId). c.0 < length position.now.model.component_names) looks.now }
     ensures { IfSome result (λ rest.
         BeginsWith (standing_of position.now) looks.now text.now rest.now) }
@@ -89,16 +96,18 @@ fn strip_seen<'t>(position: &Position<'_>, looks: &[CompId], text: &'t [u8]) -> 
 }
 
 /// What follows a component by the number of its next move.
-fn strip_next<'t>(position: &Position<'_>, comp: CompId, text: &'t [u8]) -> Option<&'t [u8]>
+#[inline(always)]
+fn strip_next<'t>(position: &Follower<'_>, comp: CompId, text: &'t [u8]) -> Option<&'t [u8]>
     requires { comp.0 < length position.now.model.component_names }
     ensures { IfSome result (λ rest.
         BeginsWith (standing_of position.now) (comp ∷ []) text.now rest.now) }
 {
-    strip_word(position, comp, strip(text, b" ")?)
+    position.strip_word(comp, strip(text, b" ")?)
 }
 
-/// What follows a component by the number of its next move, without a space before.
-pub(crate) fn strip_word<'t>(
+/// What follows a component by the number of its next move, which is spelled anew.
+#[inline(never)]
+pub(crate) fn strip_anew<'t>(
     position: &Position<'_>,
     comp: CompId,
     text: &'t [u8],
@@ -112,11 +121,4 @@ pub(crate) fn strip_word<'t>(
     let rest = strip(strip(text, name)?, b":")?;
     let number = position.used(comp).checked_add(1)?;
     strip(rest, Buffer::new().format(number).as_bytes())
-}
-
-/// What follows the front of a text.
-fn strip<'t>(text: &'t [u8], front: &[u8]) -> Option<&'t [u8]>
-    ensures { IfSome result (λ rest. text.now ≡ front.now ++ rest.now) }
-{
-    text.strip_prefix(front)
 }

@@ -6,6 +6,7 @@ ghost use Rattle.bip_replay.specs.Runs.{StandsAfter, standing_of};
 ghost use Rattle.bip_replay.specs.Replays.{IsFirstFault, IsReplayFault, IsRunOf, IsRunTo, Takes};
 
 use crate::expected::read_spelled;
+use crate::followers::Follower;
 use crate::guesses::Guesses;
 use crate::reordered::read_reordered;
 use crate::rooms::Room;
@@ -53,7 +54,7 @@ pub fn replay_to<'m>(
 
 // The same from the start of a run, which takes no memory.
 fn replay_from<'m>(
-    mut position: Position<'m>,
+    position: Position<'m>,
     room: &mut Room,
     text: &[u8],
 ) -> Result<(Position<'m>, u64), (u64, ReplayFault)>
@@ -63,15 +64,16 @@ fn replay_from<'m>(
     ensures fault { IfErr result (λ e.
         IsFirstFault position.entry.model position.entry.base text.now e.0 e.1) }
 {
+    let mut follower = Follower::of(position);
     let mut guesses = Guesses::new();
     let mut count = 0;
     for (number, line) in NumberedLines::of(text) {
-        match take_line(&mut position, &mut guesses, room, line) {
+        match take_line(&mut follower, &mut guesses, room, line) {
             Ok(found) => count += u64::from(found),
             Err(fault) => return Err((number, fault)),
         }
     }
-    Ok((position, count))
+    Ok((follower.into_position(), count))
 }
 
 // What is told of line 1 where there is no memory to start with: its own fault, if the line has
@@ -90,7 +92,7 @@ fn told_without_memory(room: &mut Room, model: &Model, text: &[u8]) -> ReplayFau
 
 // Goes on by the grant of a line: whether it has one, or why the trace stops there.
 fn take_line(
-    position: &mut Position<'_>,
+    position: &mut Follower<'_>,
     guesses: &mut Guesses,
     room: &mut Room,
     line: &[u8],
@@ -110,7 +112,7 @@ fn take_line(
 
 // The interaction of a line that is an expected grant, found without reading the line; none of any
 // other line, which can be right all the same.
-fn read_expected(guesses: &mut Guesses, position: &Position<'_>, line: &[u8]) -> Option<InterId>
+fn read_expected(guesses: &mut Guesses, position: &Follower<'_>, line: &[u8]) -> Option<InterId>
     ensures { IfSome result (λ a. Expects (standing_of position.now) line.now a.0) }
 {
     match read_spelled(guesses, position, line) {

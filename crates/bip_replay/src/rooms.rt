@@ -11,12 +11,13 @@ use bip_model::{MOST_WANTS, Model, Want};
 /// Room for the wants of a line, used again for each line. It is kept in place, and takes no
 /// memory.
 #[derive(Drop)]
-pub(crate) struct Room {
+pub struct Room {
     named: ArrayVec<NamedWant, MOST_WANTS>,
     wants: ArrayVec<Want, MOST_WANTS>,
 }
 
 impl Room {
+    /// Room of which nothing is used.
     pub fn new() -> Room {
         Room {
             named: ArrayVec::new(),
@@ -24,7 +25,8 @@ impl Room {
         }
     }
 
-    /// The grant of a line, with its wants by component; none of a line that says nothing.
+    /// The grant of a line, with its wants by component; none of a line that says nothing; or the
+    /// line's fault (docs/DEFINITIONS.md, "Traces").
     pub fn read<'r>(
         &'r mut self,
         model: &Model,

@@ -1,5 +1,5 @@
-use Rattle.std.proofs.Common.{◌<◌, arith, length, rules, subst}
-use Rattle.std.specs.Prelude.{All}
+use Rattle.std.proofs.Common.{◌≡◌, ◌<◌, arith, length, rules, subst}
+use Rattle.std.specs.Prelude.{All, codes}
 use Rattle.std.proofs.lemmas.Bool.Decides.{nat_tests}
 use Rattle.bip_model.proofs.ListLemmas.{empty_is}
 use Rattle.bip_model.specs.Steps.{participants_of}
@@ -43,8 +43,10 @@ returns c =
     let moved = rw c.model-model.ensures at (rw c.participants-participants.ensures.participants at
     (rw c.comps_of.ensures at c.in_ok-rest.ensures)) in
     let some : 0 < length c.looks-looks.result.now = grind (arith, nat_tests) in
+    let see : c.in_ok-see.see.now ≡ codes "see" = search rules in
     some_weaker _ _ c.take_words-2.result (λ rest looks. takes_wants
     (standing_of c.args.position.now) c.args.inter.0 c.looks-looks.result.now c.args.text.now
     c.in_ok-rest.rest.now c.in_ok-see.rest.now rest.now
     (rw c.model-model.ensures at c.looks-looks.ensures.looks) (omega (arith, few)) moved
-    (search rules) (rw c.list_of.ensures at looks) some) c.take_words-2.ensures
+    (search rules) (rw see at c.in_ok-see.ensures.whole) (rw c.list_of.ensures at looks) some)
+    c.take_words-2.ensures

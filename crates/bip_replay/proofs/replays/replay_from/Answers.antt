@@ -6,8 +6,8 @@ use Rattle.bip_replay.proofs.replays.replay_from.Goals as goal
 
 pub loop-number-init : goal.loop-number-init
 loop-number-init c = rw c.into_iter-number-iterator.ensures.into_iter_gives
-    (rw c.of-number-items.ensures (so_far-none c.args.position.model c.args.position.base
-    c.args.text.now (standing_of c.args.position) c.requires))
+    (rw (c.of-number-items.ensures, c.of-follower.ensures) (so_far-none c.args.position.model
+    c.args.position.base c.args.text.now (standing_of c.args.position) c.requires))
 
 pub overflow_add-count : goal.overflow_add-count
 overflow_add-count c =
@@ -21,10 +21,10 @@ loop-number-preserved c =
     c.in-Ok.ensures)
 
 pub returns-in-Err-clause-fault : goal.returns-in-Err-clause-fault
-returns-in-Err-clause-fault c = so_far-fault _ _ _ _ _ _ _ _ (standing_of c.loop-number.position)
+returns-in-Err-clause-fault c = so_far-fault _ _ _ _ _ _ _ _ (standing_of c.loop-number.follower)
     (standing_of c.take_line.new.position) c.in-Err.fault c.loop-number.invariant
     c.in-Some.ensures.steps c.in-Err.ensures
 
 pub returns-clause-run : goal.returns-clause-run
-returns-clause-run c = so_far-end _ _ _ (standing_of c.loop-number.position) _ _
-    c.loop-number.invariant c.in-None.ensures.steps.0
+returns-clause-run c = rw c.into_position.ensures (so_far-end _ _ _
+    (standing_of c.loop-number.follower) _ _ c.loop-number.invariant c.in-None.ensures.steps.0)
