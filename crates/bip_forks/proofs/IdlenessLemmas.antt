@@ -35,7 +35,7 @@ use Rattle.bip_forks.specs.Kept.{machine_of, sending_of, side_at, station_at}
 use Rattle.bip_forks.specs.Laws.{content, fork_state, parcel_of}
 use Rattle.bip_forks.specs.Machines.{ShareFork}
 use Rattle.bip_forks.specs.Stations.{AsksNothing, HasFirst, IsUnserved, KeepsFork}
-use Rattle.bip_forks.specs.declared.idleness.Turn.TheVariants as turn
+use Rattle.bip_forks.specs.declared.exchanges.Exchange.TheVariants as exchange
 use Rattle.bip_forks.specs.declared.sending.Sent.{Sent}
 use Rattle.bip_forks.specs.declared.shares.Fork.{Fork}
 use Rattle.bip_forks.specs.declared.shares.Side.{Side}
@@ -208,14 +208,14 @@ module _ (p : ForkParts) where
       (sym (serve_at Count s within)) (un.0, inl (within, un.1))
 
   pub passing_idle : (k : ℕ) → k < Count * Count
-      → IsIdleWith turn.Pass p.stations (k / Count) (k % Count)
+      → IsIdleWith exchange.Pass p.stations (k / Count) (k % Count)
       → (why : WhyIdle) × IsIdleHere p (step_at Count (Count + k)) why
   passing_idle k within is =
       subst (λ (step : BankStep). (why : WhyIdle) × IsIdleHere p step why)
       (sym (pass_at Count k within)) is
 
   pub asking_idle : (k : ℕ) → 0 < Count → k < Count * Count
-      → IsIdleWith turn.Ask p.stations (k / Count) (k % Count)
+      → IsIdleWith exchange.Ask p.stations (k / Count) (k % Count)
       → (why : WhyIdle) × IsIdleHere p (step_at Count (Count + Count * Count + k)) why
   asking_idle k some within is =
       subst (λ (step : BankStep). (why : WhyIdle) × IsIdleHere p step why)
@@ -225,9 +225,9 @@ module _ (p : ForkParts) where
   pub steps_idle : (from to : ℕ) → to ≤ step_count Count
       → ((s : ℕ) → from ≤ s → s < to → s < Count → IsUnservedHere p.stations s)
       → ((k : ℕ) → from ≤ Count + k → Count + k < to → k < Count * Count
-      → IsIdleWith turn.Pass p.stations (k / Count) (k % Count))
+      → IsIdleWith exchange.Pass p.stations (k / Count) (k % Count))
       → ((k : ℕ) → from ≤ Count + Count * Count + k → Count + Count * Count + k < to
-      → k < Count * Count → IsIdleWith turn.Ask p.stations (k / Count) (k % Count))
+      → k < Count * Count → IsIdleWith exchange.Ask p.stations (k / Count) (k % Count))
       → AreIdleHere p from to
   steps_idle from to all serving passing asking = λ i low high. elim (cases_lt i Count) [
     | inl first ↦ serving_idle i first (serving i low high first)

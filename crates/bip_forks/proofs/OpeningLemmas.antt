@@ -3,7 +3,7 @@ use Rattle.std.proofs.Common.{◌≡◌, ℕ, ◌+◌, ◌<◌, ◌≤◌, true,
 use Rattle.std.proofs.Common.{refl, sym, ap, ◌∙◌, subst, inl, inr, arith}
 use Rattle.std.specs.Prelude.{◌↔◌, All, Contains, IsTrue}
 use Rattle.std.specs.List.Sorted.{IsStrictlyIncreasing}
-use Rattle.std.proofs.lemmas.Bool.{cases_lt, cases_order}
+use Rattle.std.proofs.lemmas.Bool.{cases_lt, cases_order, false≢true}
 use Rattle.std.proofs.lemmas.List.{get_or_append_left, get_or_default, get_or_push, length_push}
 use Rattle.std.proofs.lemmas.List.Elements.{Contains-get_or}
 use Rattle.std.proofs.lemmas.Option.{get_or_from_slice_get}
@@ -14,15 +14,15 @@ use Rattle.bip_model.proofs.ListLemmas.{below_later}
 use Rattle.bip_partition.proofs.ListedLemmas.{exact_in_all, none_below, one_has, one_lacks}
 use Rattle.bip_partition.proofs.TableLemmas.{reserved_known}
 use Rattle.bip_partition.specs.Tables.{IsListBelow, comp}
-use Rattle.bip_partition.specs.Plans.{AreStations, Planned}
+use Rattle.bip_partition.specs.Plans.{AreStations, IsListTouched, Planned}
 use Rattle.bip_table.specs.Rows.{has_row, row_components, rows_of, used_at}
 use Rattle.bip_table.specs.declared.rows.Row.{Row}
 use Rattle.bip_bank.proofs.CentralLemmas.{listed_row}
 use Rattle.bip_bank.proofs.UsedLemmas.{used_first}
 use Rattle.bip_forks.proofs.SharingLemmas.{map_twice}
 use Rattle.bip_forks.specs.Kept.{no_station}
-use Rattle.bip_forks.specs.Opening.{AreFirstSides, AreFirstStations, IsCommon, IsFirstSide}
-use Rattle.bip_forks.specs.Opening.{IsFirstStation, IsListCommon, rows_with}
+use Rattle.bip_forks.specs.Opening.{AreFirstSides, AreFirstStations, BothTouch, IsCommon, IsFirstSide}
+use Rattle.bip_forks.specs.Opening.{IsFirstStation, IsListCommon, SharedByPlan, rows_with}
 use Rattle.bip_forks.specs.Stations.{KeptStation, nothing_shared}
 use Rattle.bip_forks.specs.declared.shares.Side.{Side}
 
@@ -91,6 +91,17 @@ one_station p base inters d count stations st are within is = record {
   ];
 }
 
+-- two stations that share nothing
+pub nothing_first : (p : Planned) (base s a t b : ℕ) → (SharedByPlan p s a t b → ⊥)
+    → IsFirstSide p base s a t b nothing_shared
+nothing_first p base s a t b not = record {
+  shared = (λ is. absurd (false≢true is), λ is. absurd (not is));
+  clean = refl;
+  asked = (λ is. absurd (false≢true is), λ is. absurd (false≢true is.0));
+  away = λ none. refl;
+  fork = λ is low. absurd (false≢true is);
+}
+
 -- rows of listed components
 pub listed_rows : (base : ℕ) (comps : List CompId)
     → row_components (rows_with base comps) ≡ map (λ (c : CompId). c.0) comps
@@ -113,7 +124,7 @@ used_listed : (base : ℕ) (comps : List CompId) (c : ℕ) → has_row (rows_wit
 used_listed base comps c = subst (λ (rows : List Row). has_row rows c ≡ true
     → used_at rows c ≡ base) (rows_same base comps) (used_first base comps c)
 
-pub common_of : (both : ℕ → Type 0) (base : ℕ) (comps : List CompId) (rows : List Row)
+common_of : (both : ℕ → Type 0) (base : ℕ) (comps : List CompId) (rows : List Row)
     → IsListCommon both comps → rows ≡ rows_with base comps → IsCommon both base rows
 common_of both base comps rows is same = subst (IsCommon both base) (sym same) (record {
   rising = subst IsStrictlyIncreasing (sym (listed_rows base comps)) is.rising;
@@ -136,7 +147,7 @@ pub record AreCommonBefore (both : ℕ → Type 0) (own : List CompId) (place : 
 module _ (both : ℕ → Type 0) (own : List CompId)
     (rising : IsStrictlyIncreasing (map (λ (c : CompId). c.0) own))
     (only : (n : ℕ) → both n → Contains own (comp n)) where
-  pub none_common : AreCommonBefore both own 0 []
+  none_common : AreCommonBefore both own 0 []
   none_common = record {
     bound = 0;
     listed = none_below (λ (c : CompId). c.0) comp (λ n. refl) (λ x. refl) both;
@@ -200,7 +211,7 @@ module _ (both : ℕ → Type 0) (own : List CompId)
           subst (λ (k : ℕ). (get_or own k (comp 0)).0 < Here.0 + 1) same (omega arith)
     ]
 
-    pub one_common : both Here.0 → AreCommonBefore both own (place + 1) (list ++ Here ∷ [])
+    one_common : both Here.0 → AreCommonBefore both own (place + 1) (list ++ Here ∷ [])
     one_common has = record {
       bound = Here.0 + 1;
       listed = one_has (λ (c : CompId). c.0) comp (λ n. refl) (λ x. refl) both Here.0 list reached
@@ -209,7 +220,7 @@ module _ (both : ℕ → Type 0) (own : List CompId)
       behind = after;
     }
 
-    pub one_apart : (both Here.0 → ⊥) → AreCommonBefore both own (place + 1) list
+    one_apart : (both Here.0 → ⊥) → AreCommonBefore both own (place + 1) list
     one_apart lacks = record {
       bound = Here.0 + 1;
       listed = one_lacks (λ (c : CompId). c.0) comp (λ n. refl) (λ x. refl) both Here.0 list
@@ -218,7 +229,7 @@ module _ (both : ℕ → Type 0) (own : List CompId)
       behind = after;
     }
 
-  pub all_common : (place : ℕ) (list : List CompId) → length own ≤ place
+  all_common : (place : ℕ) (list : List CompId) → length own ≤ place
       → AreCommonBefore both own place list → IsListCommon both list
   all_common place list all so = record {
     rising = so.listed.rising;
@@ -229,3 +240,124 @@ module _ (both : ℕ → Type 0) (own : List CompId)
         get_or_default own at.0 (comp 0) (comp n) at.1 ∙ at.2 in
         subst (λ (c : CompId). c.0 < so.bound) is (so.before at.0 (omega (arith, at.1, all))));
   }
+
+-- of others, in order, which of them a component is, where those before a place are lower, and the
+-- one there isn't
+stands_among : (others : List CompId) (here : CompId) (next : ℕ)
+    → IsStrictlyIncreasing (map (λ (c : CompId). c.0) others)
+    → ((k : ℕ) → k < next → k < length others → (get_or others k (comp 0)).0 < here.0)
+    → (next < length others → here.0 ≤ (get_or others next (comp 0)).0)
+    → ((next < length others) × ((get_or others next (comp 0)).0 ≡ here.0)) ↔ Contains others here
+stands_among others here next rising lower reached = (
+  λ at. subst (Contains others) (same_comp (get_or others next (comp 0)) here at.1)
+      (Contains-get_or others next (comp 0) at.0),
+  λ has. found has.0 has.1 (ap (λ (c : CompId). c.0)
+      (get_or_default others has.0 (comp 0) here has.1 ∙ has.2)),
+)
+  where
+    same_comp : (c d : CompId) → c.0 ≡ d.0 → c ≡ d
+    same_comp c d e = ap (λ (n : ℕ). comp n) e
+
+    found : (m : ℕ) → m < length others → (get_or others m (comp 0)).0 ≡ here.0
+        → (next < length others) × ((get_or others next (comp 0)).0 ≡ here.0)
+    found m within is = elim (cases_order m next) [
+      | inl same ↦ (
+        omega (arith, same, within),
+        subst (λ (j : ℕ). (get_or others j (comp 0)).0 ≡ here.0) same is,
+      )
+      | inr (inl first) ↦ absurd (omega (arith, lower m first within, is))
+      | inr (inr later) ↦
+          let inside : next < length others = omega (arith, later, within) in
+          let up = below_later (λ (c : CompId). c.0) others rising next m (comp 0) later within in
+          absurd (omega (arith, up, reached inside, is))
+    ]
+
+-- rows of what two interactions both touch, of one's list up to a place; of the other one's list
+-- those before another place are lower than what is left
+pub record AreRowsBefore (both : ℕ → Type 0) (base : ℕ) (own others : List CompId)
+    (place passed : ℕ) (rows : List Row) : Type 0 where
+  pub list : List CompId
+  pub listed : rows ≡ rows_with base list
+  pub common : AreCommonBefore both own place list
+  pub lower : (k j : ℕ) → k < passed → k < length others → place ≤ j → j < length own
+      → (get_or others k (comp 0)).0 < (get_or own j (comp 0)).0
+
+one_listed : (base : ℕ) (list : List CompId) (c : CompId)
+    → rows_with base (list ++ c ∷ []) ≡ rows_with base list ++ record { used = base; comp = c } ∷ []
+one_listed base [] c = refl
+one_listed base (d ∷ ds) c =
+    ap (λ (rows : List Row). record { used = base; comp = d } ∷ rows) (one_listed base ds c)
+
+module _ (p : Planned) (a b base : ℕ) (own others : List CompId) (mine : IsListTouched p.model a own)
+    (theirs : IsListTouched p.model b others) where
+  abbrev Both : ℕ → Type 0
+  Both = BothTouch p a b
+
+  only : (n : ℕ) → Both n → Contains own (comp n)
+  only n has = (mine.exact n).1 has.0
+
+  pub no_rows : AreRowsBefore Both base own others 0 0 []
+  no_rows = record {
+    list = [];
+    listed = refl;
+    common = none_common Both own mine.rising only;
+    lower = λ k j below. absurd (omega (arith, below));
+  }
+
+  module _ (place passed next : ℕ) (rows : List Row) (within : place < length own)
+      (so : AreRowsBefore Both base own others place passed rows)
+      (lower : (k : ℕ) → passed ≤ k → k < next → k < length others
+      → (get_or others k (comp 0)).0 < (get_or own place (comp 0)).0)
+      (reached : next < length others
+      → (get_or own place (comp 0)).0 ≤ (get_or others next (comp 0)).0) where
+    abbrev Next : CompId
+    Next = get_or own place (comp 0)
+
+    all_lower : (k : ℕ) → k < next → k < length others → (get_or others k (comp 0)).0 < Next.0
+    all_lower k below inside = elim (cases_lt k passed) [
+      | inl first ↦ so.lower k place first inside (omega arith) within
+      | inr past ↦ lower k (omega (arith, past)) below inside
+    ]
+
+    rest_lower : (k j : ℕ) → k < next → k < length others → place + 1 ≤ j → j < length own
+        → (get_or others k (comp 0)).0 < (get_or own j (comp 0)).0
+    rest_lower k j below inside past behind =
+        omega (
+          arith,
+          all_lower k below inside,
+          below_later (λ (c : CompId). c.0) own mine.rising place j (comp 0)
+              (omega (arith, past)) behind,
+        )
+
+    stands : ((next < length others) × ((get_or others next (comp 0)).0 ≡ Next.0))
+        ↔ Contains others Next
+    stands = stands_among others Next next theirs.rising all_lower reached
+
+    pub one_row : ((next < length others) × ((get_or others next (comp 0)).0 ≡ Next.0))
+        → AreRowsBefore Both base own others (place + 1) next
+        (rows ++ record { used = base; comp = Next } ∷ [])
+    one_row at = record {
+      list = so.list ++ Next ∷ [];
+      listed = ap (λ (rs : List Row). rs ++ record { used = base; comp = Next } ∷ []) so.listed
+          ∙ sym (one_listed base so.list Next);
+      common = one_common Both own mine.rising only place so.list within so.common (
+        (mine.exact Next.0).0 (Contains-get_or own place (comp 0) within),
+        (theirs.exact Next.0).0 (stands.0 at),
+      );
+      lower = rest_lower;
+    }
+
+    pub no_row : ((next < length others) × ((get_or others next (comp 0)).0 ≡ Next.0) → ⊥)
+        → AreRowsBefore Both base own others (place + 1) next rows
+    no_row not = record {
+      list = so.list;
+      listed = so.listed;
+      common = one_apart Both own mine.rising only place so.list within so.common
+          (λ has. not (stands.1 ((theirs.exact Next.0).1 has.1)));
+      lower = rest_lower;
+    }
+
+  pub all_rows : (place passed : ℕ) (rows : List Row) → length own ≤ place
+      → AreRowsBefore Both base own others place passed rows → IsCommon Both base rows
+  all_rows place passed rows all so = common_of Both base so.list rows
+      (all_common Both own mine.rising only place so.list all so.common) so.listed

@@ -12,6 +12,9 @@ use Rattle.bip_bank.specs.declared.idleness.WhyIdle.TheVariants.{NoFork, NoReque
 use Rattle.bip_bank.specs.declared.idleness.WhyIdle.TheVariants.{NotAskedFor}
 use Rattle.bip_forks.specs.Sides.{AreByNumber, ArePassed, IsFirstListed, IsListedWith}
 use Rattle.bip_forks.specs.Sides.{KeepsForkSomehow, KeepsTokenSomehow}
+use Rattle.bip_forks.specs.Exchanges.{StaysSomehow}
+use Rattle.bip_forks.specs.declared.exchanges.Exchange.{Exchange}
+use Rattle.bip_forks.specs.declared.exchanges.Exchange.TheVariants as exchange
 use Rattle.bip_forks.specs.Sides.{IsNextNeighbour, LacksFork, listed_at, listed_sides, nobody_shared}
 use Rattle.bip_forks.specs.Sides.{side_among, sides_from, with_other_side}
 use Rattle.bip_forks.specs.Stations.{AllLie, LiesHere, MayAsk, MayPass, nothing_shared}
@@ -526,3 +529,14 @@ token_stays side never = by_parts side.shared side.asked side.fork refl refl ref
     by_parts true asked (Some fork) s a f = (ForkHere, (s, (fork, f)))
     by_parts true false None s a f = (NoRequestToken, (s, a))
     by_parts true true None s a f = absurd (never (a, f))
+
+-- of what isn't shared nothing can go
+pub nothing_stays : (e : Exchange) → StaysSomehow e nothing_shared
+nothing_stays exchange.Pass = (NoFork, refl)
+nothing_stays exchange.Ask = (NoFork, refl)
+
+-- so many sides are few stations
+pub count_few : (count : ℕ) (xs : List Shared) (now : List Side) → sides_from count 0 xs ≡ now
+    → length now < 128 → count < 128
+count_few count xs now view few =
+    omega (arith, few, ap (λ (zs : List Side). length zs) view, length-sides_from count 0 xs)

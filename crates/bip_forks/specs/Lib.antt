@@ -1,3 +1,4 @@
+pub mod Exchanges
 pub mod Idleness
 pub mod Kept
 pub mod Laws

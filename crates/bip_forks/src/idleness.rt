@@ -1,21 +1,14 @@
 //! Why a step of forks does nothing.
 ghost use Rattle.std.specs.Prelude.{◌≡◌, ◌<◌, ◌≤◌, ◌*◌, List, IfNone, IfSome, length, ℕ};
 ghost use Rattle.bip_model.specs.declared.grants.Grant.{Grant};
-ghost use Rattle.bip_forks.specs.Idleness.{AreIdleHere, AreIdlePairs, IsIdleTurn, IsIdleWith};
-ghost use Rattle.bip_forks.specs.Idleness.{IsUnservedHere};
+ghost use Rattle.bip_forks.specs.Idleness.{AreIdleHere, AreIdlePairs, IsIdleExchange};
+ghost use Rattle.bip_forks.specs.Idleness.{IsIdleWith, IsUnservedHere};
 ghost use Rattle.bip_forks.specs.Kept.{AppliesTo, IsIdleHere, fork_parts};
 ghost use Rattle.bip_forks.specs.declared.sending.Sent.{Sent};
 
+use crate::exchanges::Exchange;
 use crate::stations::Station;
 use bip_bank::{BankStep, WhyIdle, step_count};
-
-/// What a station does with another one: it passes it the fork that they share, or asks it for that
-/// one.
-#[derive(Clone, Copy)]
-enum Turn {
-    Pass,
-    Ask,
-}
 
 /// Why a step doesn't apply to stations, where so many things are in flight; none where it does.
 pub(crate) fn why_idle(stations: &[Station], flight: usize, step: BankStep) -> Option<WhyIdle>
@@ -55,11 +48,11 @@ pub(crate) fn idle_until(stations: &[Station], from: usize) -> usize
     if served < count {
         return served;
     }
-    let passing = next_pair(stations, Turn::Pass, served - count);
+    let passing = next_pair(stations, Exchange::Pass, served - count);
     if passing < pairs {
         return count + passing;
     }
-    let asking = next_pair(stations, Turn::Ask, passing - pairs);
+    let asking = next_pair(stations, Exchange::Ask, passing - pairs);
     if asking < pairs {
         return count + pairs + asking;
     }
@@ -83,14 +76,15 @@ fn next_served(stations: &[Station], from: usize) -> usize
     from.max(count)
 }
 
-/// The next pair of stations, from a number on, of which the first can take that turn with the
+/// The next pair of stations, from a number on, of which the first can make that exchange with the
 /// second; behind all where there is none.
-fn next_pair(stations: &[Station], turn: Turn, from: usize) -> usize
+fn next_pair(stations: &[Station], exchange: Exchange, from: usize) -> usize
     requires few { length stations.now ≤ 65536 }
     ensures onward { from ≤ result }
     ensures least { (k : ℕ) → from ≤ k → length stations.now * length stations.now ≤ k
         → result ≤ k }
-    ensures passed { AreIdlePairs (IsIdleWith turn stations.now) (length stations.now) from result }
+    ensures passed { AreIdlePairs (IsIdleWith exchange stations.now) (length stations.now) from
+        result }
 {
     let count = stations.len();
     if count == 0 {
@@ -98,7 +92,7 @@ fn next_pair(stations: &[Station], turn: Turn, from: usize) -> usize
     }
     let mut to = from % count;
     for row in from / count..count {
-        let next = next_with(&stations[row], turn, to);
+        let next = next_with(&stations[row], exchange, to);
         if next < count {
             return row * count + next;
         }
@@ -107,13 +101,13 @@ fn next_pair(stations: &[Station], turn: Turn, from: usize) -> usize
     from.max(count * count)
 }
 
-/// The next station, from a number on, with which one can take that turn.
-fn next_with(station: &Station, turn: Turn, from: usize) -> usize
+/// The next station, from a number on, with which one can make that exchange.
+fn next_with(station: &Station, exchange: Exchange, from: usize) -> usize
     ensures onward { from ≤ result }
-    ensures passed { (t : ℕ) → from ≤ t → t < result → IsIdleTurn turn station.now t }
+    ensures passed { (t : ℕ) → from ≤ t → t < result → IsIdleExchange exchange station.now t }
 {
-    match turn {
-        Turn::Pass => station.next_pass(from),
-        Turn::Ask => station.next_ask(from),
+    match exchange {
+        Exchange::Pass => station.next_pass(from),
+        Exchange::Ask => station.next_ask(from),
     }
 }

@@ -1,6 +1,7 @@
 //! Dining philosophers: stations that share forks, each with a table of its own.
 #![tactic(auto)]
 
+mod exchanges;
 mod forks;
 mod idleness;
 mod laws;

@@ -1,12 +1,12 @@
 //! How forks begin: each station at first, and what it shares.
-ghost use Rattle.std.specs.Prelude.{◌≡◌, ◌↔◌, ◌<◌, ◌≤◌, All, Contains, IfNone, IfOk, IfSome};
-ghost use Rattle.std.specs.Prelude.{IsTrue, length, map};
+ghost use Rattle.std.specs.Prelude.{◌≡◌, ◌↔◌, ◌<◌, ◌≤◌, ℕ, All, IfNone, IfOk, IfSome, IsTrue, length};
+ghost use Rattle.std.specs.Prelude.{slice_index_or, true};
 ghost use Rattle.bip_model.specs.Numbering.{last_number};
 ghost use Rattle.bip_model.specs.declared.numbering.CompId.{CompId};
 ghost use Rattle.bip_model.specs.declared.numbering.InterId.{InterId};
 ghost use Rattle.bip_forks.specs.Opening.{AreFirstSides, AreFirstStations, BothTouch, IsCommon};
-ghost use Rattle.bip_forks.specs.Opening.{IsFirstSide, IsFirstStation, IsListCommon};
-ghost use Rattle.bip_forks.specs.Opening.{IsNewStation, LacksStation, rows_with};
+ghost use Rattle.bip_forks.specs.Opening.{IsFirstSide, IsFirstStation, IsNewStation, LacksStation};
+ghost use Rattle.bip_forks.specs.Opening.{SharedByPlan};
 
 use crate::shares::{Fork, Side, pair_of_stations};
 use crate::sides::Sides;
@@ -102,13 +102,30 @@ fn first_sides(
     let mut sides = Sides::new(alloc);
     for place in 0..inters.len() {
         let other = StationId(place as u16);
-        sides.push(first_side(alloc, plan, number, inter, other, inters[place], base)?)?;
+        if share(plan, number, inter, other, inters[place]) {
+            sides.push(first_side(alloc, plan, number, inter, other, inters[place], base)?)?;
+        } else {
+            sides.push_nothing();
+        }
     }
     Ok(sides)
 }
 
-/// What a station has at first of what it shares with another one: where their interactions are in
-/// conflict, the fork, dirty, with the base for numbers, if the other one is higher; else its
+/// Whether two stations share a fork, by their interactions.
+fn share(
+    plan: &Plan,
+    number: StationId,
+    inter: InterId,
+    other: StationId,
+    other_inter: InterId,
+) -> bool
+    ensures { IsTrue result ↔ SharedByPlan plan.now number.0 inter.0 other.0 other_inter.0 }
+{
+    number.0 != other.0 && plan.conflict(inter, other_inter)
+}
+
+/// What a station has at first of what it shares with another one, where their interactions are in
+/// conflict: the fork, dirty, with the base for numbers, if the other one is higher; else its
 /// request token.
 fn first_side(
     alloc: Global,
@@ -121,10 +138,11 @@ fn first_side(
 ) -> Result<Side, AllocError>
     requires one { inter.0 < length plan.now.model.interactions }
     requires other { other_inter.0 < length plan.now.model.interactions }
-    ensures { IfOk result (IsFirstSide plan.now base number.0 inter.0 other.0 other_inter.0) }
+    requires shared { SharedByPlan plan.now number.0 inter.0 other.0 other_inter.0 }
+    ensures side { IfOk result (IsFirstSide plan.now base number.0 inter.0 other.0 other_inter.0) }
+    ensures shared { IfOk result (λ side. side.shared ≡ true) }
 {
-    let shared = number.0 != other.0 && plan.conflict(inter, other_inter);
-    let fork = if shared && number.0 < other.0 {
+    let fork = if number.0 < other.0 {
         Some(Fork {
             pair: pair_of_stations(number, other),
             rows: common_rows(alloc, plan, inter, other_inter, base)?,
@@ -133,10 +151,10 @@ fn first_side(
         None
     };
     Ok(Side {
-        shared,
+        shared: true,
         fork,
         clean: false,
-        asked: shared && other.0 < number.0,
+        asked: other.0 < number.0,
     })
 }
 
@@ -152,44 +170,43 @@ fn common_rows(
     requires other { other.0 < length plan.now.model.interactions }
     ensures { IfOk result (IsCommon (BothTouch plan.now inter.0 other.0) base) }
 {
-    let comps = list_common(alloc, plan, inter, other)?;
-    Ok(Seq::of(rows_with(alloc, comps.as_slice(), base)?))
-}
-
-/// A row of each of these components, with a number.
-fn rows_with(alloc: Global, comps: &[CompId], used: Number) -> Result<Vec<Row>, AllocError>
-    ensures { IfOk result (λ rows. rows.items ≡ rows_with used comps.now) }
-{
-    comps
-        .iter()
-        .map(|comp| Row { used, comp: *comp })
-        .collect(alloc)
-}
-
-/// The components that two interactions both touch, by number.
-fn list_common(
-    alloc: Global,
-    plan: &Plan,
-    inter: InterId,
-    other: InterId,
-) -> Result<Seq<CompId>, AllocError>
-    requires one { inter.0 < length plan.now.model.interactions }
-    requires other { other.0 < length plan.now.model.interactions }
-    ensures { IfOk result (IsListCommon (BothTouch plan.now inter.0 other.0)) }
-{
     let (own, others) = (plan.touches(inter), plan.touches(other));
-    let mut list = Seq::of(Vec::new(alloc));
+    let mut rows = Seq::of(Vec::new(alloc));
+    // what of the others is lower than all that is left of its own
+    let mut passed = 0;
     for comp in own {
-        if is_among(others, *comp) {
-            list.push(*comp)?;
+        passed = first_not_lower(others, passed, *comp);
+        if stands_at(others, passed, *comp) {
+            rows.push(Row {
+                used: base,
+                comp: *comp,
+            })?;
         }
     }
-    Ok(list)
+    Ok(rows)
 }
 
-/// Whether a component is among others.
-fn is_among(comps: &[CompId], comp: CompId) -> bool
-    ensures { IsTrue result ↔ Contains comps.now comp }
+/// The first place, from one on, at which no lower component than this one stands; behind all where
+/// there is none.
+fn first_not_lower(comps: &[CompId], from: usize, comp: CompId) -> usize
+    ensures onward { from ≤ result }
+    ensures lower { (k : ℕ) → from ≤ k → k < result → k < length comps.now
+        → (slice_index_or comps.now k (record { 0 = 0 })).0 < comp.0 }
+    ensures reached { result < length comps.now
+        → comp.0 ≤ (slice_index_or comps.now result (record { 0 = 0 })).0 }
 {
-    comps.iter().any(|other| other.0 == comp.0)
+    for place in from..comps.len() {
+        if comps[place].0 >= comp.0 {
+            return place;
+        }
+    }
+    from.max(comps.len())
+}
+
+/// Whether a component stands at a place.
+fn stands_at(comps: &[CompId], place: usize, comp: CompId) -> bool
+    ensures { IsTrue result ↔ ((place < length comps.now)
+        × ((slice_index_or comps.now place (record { 0 = 0 })).0 ≡ comp.0)) }
+{
+    place < comps.len() && comps[place].0 == comp.0
 }

@@ -4,12 +4,14 @@ ghost use Rattle.std.specs.Prelude.{IfSome, IsTrue, None, OnErr, OnOk, Some, fal
 ghost use Rattle.std.specs.Prelude.{slice_set, true};
 ghost use Rattle.bip_forks.specs.Sides.{AreByNumber, ArePassed, IsFirstListed, IsListedWith};
 ghost use Rattle.bip_forks.specs.Sides.{IsNextNeighbour, listed_at};
-ghost use Rattle.bip_forks.specs.Sides.{KeepsForkSomehow, KeepsTokenSomehow, LacksFork, LacksToken};
+ghost use Rattle.bip_forks.specs.Exchanges.{Goes, StaysSomehow};
+ghost use Rattle.bip_forks.specs.Sides.{LacksFork, LacksToken};
 ghost use Rattle.bip_forks.specs.Sides.{listed_sides, side_among, with_other_side};
 ghost use Rattle.bip_forks.specs.Stations.{AllLie, LiesHere, MayAsk, MayPass, nothing_shared};
 ghost use Rattle.bip_forks.specs.Stations.{rewritten, rows_here};
 ghost use Rattle.bip_forks.specs.declared.sides.Shared.{Shared};
 
+use crate::exchanges::Exchange;
 use crate::shares::{Fork, Side};
 use bip_bank::StationId;
 use bip_table::Row;
@@ -24,20 +26,15 @@ pub(crate) struct Shared {
 }
 
 impl Shared {
-    /// Whether its fork can go.
-    fn can_pass(&self) -> bool
-        ensures goes { IsTrue result → MayPass self.now.side }
-        ensures stays { result ≡ false → KeepsForkSomehow self.now.side }
+    /// Whether its fork, or its request token, can go.
+    fn goes(&self, exchange: Exchange) -> bool
+        ensures goes { IsTrue result → Goes exchange self.now.side }
+        ensures stays { result ≡ false → StaysSomehow exchange self.now.side }
     {
-        self.side.may_pass()
-    }
-
-    /// Whether its request token can go.
-    fn can_ask(&self) -> bool
-        ensures goes { IsTrue result → MayAsk self.now.side }
-        ensures stays { result ≡ false → KeepsTokenSomehow self.now.side }
-    {
-        self.side.may_ask()
+        match exchange {
+            Exchange::Pass => self.side.may_pass(),
+            Exchange::Ask => self.side.may_ask(),
+        }
     }
 }
 
@@ -73,23 +70,24 @@ impl Sides {
         }
     }
 
-    /// Adds what is shared with the next station, which may be nothing. Without memory all stays as
-    /// it was.
+    /// Adds what is shared with the next station. Without memory all stays as it was.
     pub(crate) fn push(&mut self, side: Side) -> Result<(), AllocError>
-        requires few { length self.old < 128 }
-        requires nothing { side.shared ≡ false → side ≡ nothing_shared }
+        requires { length self.old < 128 }
         ensures ok { OnOk result (self.new ≡ self.old ++ side ∷ []) }
         ensures err { OnErr result (self.new ≡ self.old) }
     {
-        if side.shared {
-            let with = StationId(self.count as u16);
-            self.shared.push(Shared { with, side })?;
-            self.count += 1;
-        } else {
-            self.count += 1;
-            drop(side);
-        }
+        let with = StationId(self.count as u16);
+        self.shared.push(Shared { with, side })?;
+        self.count += 1;
         Ok(())
+    }
+
+    /// Adds that nothing is shared with the next station.
+    pub(crate) fn push_nothing(&mut self)
+        requires { length self.old < 128 }
+        ensures { self.new ≡ self.old ++ nothing_shared ∷ [] }
+    {
+        self.count += 1;
     }
 
     /// What is shared with a station, where it is kept; else it is nothing.
@@ -110,24 +108,14 @@ impl Sides {
         self.count
     }
 
-    /// The next station from a number on to which the fork shared with it can go; where there is
-    /// none, how many stations there are, or that number where it is no lower.
-    pub(crate) fn next_pass(&self, from: usize) -> usize
-        ensures { IsNextNeighbour (λ (t : ℕ). KeepsForkSomehow (side_among self.now t))
-            (λ (t : ℕ). MayPass (side_among self.now t)) (length self.now) from result }
+    /// The next station from a number on to which the fork, or the request token, shared with it
+    /// can go; where there is none, how many stations there are, or that number where it is no
+    /// lower.
+    pub(crate) fn next_neighbour(&self, exchange: Exchange, from: usize) -> usize
+        ensures { IsNextNeighbour (λ (t : ℕ). StaysSomehow exchange (side_among self.now t))
+            (λ (t : ℕ). Goes exchange (side_among self.now t)) (length self.now) from result }
     {
-        match first_to_pass(&self.shared, from) {
-            Some(place) => self.shared[place].with.0 as usize,
-            None => from.max(self.count),
-        }
-    }
-
-    /// The same of the request token.
-    pub(crate) fn next_ask(&self, from: usize) -> usize
-        ensures { IsNextNeighbour (λ (t : ℕ). KeepsTokenSomehow (side_among self.now t))
-            (λ (t : ℕ). MayAsk (side_among self.now t)) (length self.now) from result }
-    {
-        match first_to_ask(&self.shared, from) {
+        match first_that_goes(&self.shared, exchange, from) {
             Some(place) => self.shared[place].with.0 as usize,
             None => from.max(self.count),
         }
@@ -250,30 +238,16 @@ fn place_with(shared: &[Shared], other: StationId) -> Option<usize>
     Some(place)
 }
 
-/// The first place with a number from one on whose fork can go.
-fn first_to_pass(shared: &[Shared], from: usize) -> Option<usize>
+/// The first place with a number from one on whose fork, or request token, can go.
+fn first_that_goes(shared: &[Shared], exchange: Exchange, from: usize) -> Option<usize>
     requires { (below : ℕ) × AreByNumber 0 below shared.now }
-    ensures some { IfSome result (IsFirstListed KeepsForkSomehow MayPass shared.now from) }
-    ensures none { IfNone result (ArePassed KeepsForkSomehow shared.now from
+    ensures some { IfSome result (IsFirstListed (StaysSomehow exchange) (Goes exchange) shared.now
+        from) }
+    ensures none { IfNone result (ArePassed (StaysSomehow exchange) shared.now from
         (length shared.now)) }
 {
     for place in first_from(shared, from)..shared.len() {
-        if shared[place].can_pass() {
-            return Some(place);
-        }
-    }
-    None
-}
-
-/// The first place with a number from one on whose request token can go.
-fn first_to_ask(shared: &[Shared], from: usize) -> Option<usize>
-    requires { (below : ℕ) × AreByNumber 0 below shared.now }
-    ensures some { IfSome result (IsFirstListed KeepsTokenSomehow MayAsk shared.now from) }
-    ensures none { IfNone result (ArePassed KeepsTokenSomehow shared.now from
-        (length shared.now)) }
-{
-    for place in first_from(shared, from)..shared.len() {
-        if shared[place].can_ask() {
+        if shared[place].goes(exchange) {
             return Some(place);
         }
     }

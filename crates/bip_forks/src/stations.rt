@@ -12,6 +12,7 @@ ghost use Rattle.bip_forks.specs.Stations.{IsReadyToServe, IsServedHere, MayAsk}
 ghost use Rattle.bip_forks.specs.Stations.{MayPass, other_of, pair_of_stations, raised_by};
 ghost use Rattle.bip_forks.specs.Stations.{rows_here, rows_in, side_with, with_fork, with_side_to};
 
+use crate::exchanges::Exchange;
 use crate::shares::{AskToken, Fork, other_of, pair_of_stations};
 use crate::sides::Sides;
 use bip_bank::{Queue, StationId, WhyIdle};
@@ -157,7 +158,7 @@ impl Station {
             (λ (t : ℕ). (why : WhyIdle) × KeepsFork (side_with self.now t) why)
             (λ (t : ℕ). MayPass (side_with self.now t)) (length self.now.sides) from result }
     {
-        self.sides.next_pass(from)
+        self.sides.next_neighbour(Exchange::Pass, from)
     }
 
     /// The next station from a number on that this one may ask for the fork that they share; where
@@ -169,7 +170,7 @@ impl Station {
             (length self.now.sides) from result }
     {
         if is_waiting(&self.waiting) {
-            self.sides.next_ask(from)
+            self.sides.next_neighbour(Exchange::Ask, from)
         } else {
             from.max(self.sides.len())
         }

@@ -7,4 +7,4 @@ invariant-loop-row l =
     (l.to < l.count)
     × (l.from ≤ l.row * l.count + l.to)
     × ((k : ℕ) → l.from ≤ k → k < l.row * l.count + l.to
-    → IsIdleWith l.turn l.stations (k / l.count) (k % l.count))
+    → IsIdleWith l.exchange l.stations (k / l.count) (k % l.count))

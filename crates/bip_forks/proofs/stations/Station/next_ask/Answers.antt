@@ -13,9 +13,9 @@ returns-then-is_waiting c =
       waiting = c.self.inside.waiting;
       sides = c.self.inside.sides;
     } in
-    subst (λ (z : KeptStation). IsNextToAsk z c.args.from c.next_ask.result) c.self.view_is
-    (next_to_ask s c.args.from c.next_ask.result (c.is_waiting.ensures.0 c.if-is_waiting.true)
-    c.next_ask.ensures)
+    subst (λ (z : KeptStation). IsNextToAsk z c.args.from c.next_neighbour.result) c.self.view_is
+    (next_to_ask s c.args.from c.next_neighbour.result (c.is_waiting.ensures.0 c.if-is_waiting.true)
+    c.next_neighbour.ensures)
 
 pub returns-else-is_waiting : goal.returns-else-is_waiting
 returns-else-is_waiting c =

@@ -7,5 +7,5 @@ use Rattle.bip_forks.proofs.stations.Station.next_pass.Goals as goal
 pub returns : goal.returns
 returns c = subst (λ (s : KeptStation). IsNextNeighbour
     (λ (t : ℕ). (why : WhyIdle) × KeepsFork (side_with s t) why)
-    (λ (t : ℕ). MayPass (side_with s t)) (length s.sides) c.args.from c.next_pass.result)
-    c.self.view_is c.next_pass.ensures
+    (λ (t : ℕ). MayPass (side_with s t)) (length s.sides) c.args.from c.next_neighbour.result)
+    c.self.view_is c.next_neighbour.ensures
