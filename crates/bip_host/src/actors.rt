@@ -101,6 +101,9 @@ pub trait Hands<A: Actor> {
     /// How many grants were drawn with them from a word table.
     ghost drawn: { Self → ℕ };
 
+    /// Whether a message is there. Nothing is received by looking, and no room made for it.
+    fn has_message(&mut self) -> bool;
+
     /// The next message, if there is one.
     fn receive<R: Wait>(&mut self, rt: &R) -> Option<A::Heard>;
 
@@ -160,13 +163,20 @@ pub fn run_actor<A: Actor + Drop, H: Hands<A> + Drop, R: Wait>(
 
 /// Makes a turn, and says what it came to.
 fn make_turn<A: Actor, H: Hands<A>, R: Wait>(rt: &R, actor: &mut A, hands: &mut H) -> Turn {
-    match hands.receive(rt) {
-        Some(message) => hear(rt, actor, hands, Some(message)),
-        None => match actor.idle() {
-            Some(turn) => turn,
-            None => hear(rt, actor, hands, None),
-        },
+    if hands.has_message() {
+        return hear_next(rt, actor, hands);
     }
+    match actor.idle() {
+        Some(turn) => turn,
+        None => hear(rt, actor, hands, None),
+    }
+}
+
+/// Lets an actor hear the next message. Only a turn that has one pays for its room.
+#[inline(never)]
+fn hear_next<A: Actor, H: Hands<A>, R: Wait>(rt: &R, actor: &mut A, hands: &mut H) -> Turn {
+    let heard = hands.receive(rt);
+    hear(rt, actor, hands, heard)
 }
 
 /// Lets an actor hear at most one message, and does what it wants then. Only a turn that may want

@@ -2,7 +2,7 @@
 ghost use Rattle.std.specs.Prelude.{◌≡◌, None, Some};
 
 use crate::actors::Actor;
-use crate::rests::Rest;
+use crate::rests::{Rest, Strides};
 use std::sync::atomic::{AtomicU64, Ordering};
 
 /// After how many turns one behind another that did nothing a thread is quiet.
@@ -60,7 +60,7 @@ pub struct Watch<'h> {
     /// How many turns did nothing since one did something, as far as that matters.
     idle: u32,
     is_quiet: bool,
-    rest: Rest,
+    rest: Rest<'h>,
 }
 
 impl<'h> Watch<'h> {
@@ -73,12 +73,12 @@ impl<'h> Watch<'h> {
             counted_in: None,
             idle: 0,
             is_quiet: false,
-            rest: Rest::patient(),
+            rest: Rest::beside(None),
         }
     }
 
     /// Of a thread that counts.
-    pub(crate) fn counted(aim: Option<&'h Aim>, rest: Rest) -> Watch<'h>
+    pub(crate) fn counted(aim: Option<&'h Aim>, strides: Option<&'h Strides>) -> Watch<'h>
         ensures { (result.aim ≡ aim.entry) × (result.counted_in ≡ aim.entry) }
     {
         if let Some(aim) = aim {
@@ -89,12 +89,12 @@ impl<'h> Watch<'h> {
             counted_in: aim,
             idle: 0,
             is_quiet: false,
-            rest,
+            rest: Rest::beside(strides),
         }
     }
 
     /// Of a thread that does all for those that count.
-    pub(crate) fn beside(aim: Option<&'h Aim>, rest: Rest) -> Watch<'h>
+    pub(crate) fn beside(aim: Option<&'h Aim>, strides: Option<&'h Strides>) -> Watch<'h>
         ensures { (result.aim ≡ aim.entry) × (result.counted_in ≡ None) }
     {
         Watch {
@@ -102,7 +102,7 @@ impl<'h> Watch<'h> {
             counted_in: None,
             idle: 0,
             is_quiet: false,
-            rest,
+            rest: Rest::beside(strides),
         }
     }
 
@@ -157,8 +157,9 @@ impl Drop for Watch<'_> {
             counted_in,
             idle: _,
             is_quiet,
-            rest: _,
+            rest,
         } = self;
+        rest.leave();
         if let Some(aim) = counted_in {
             if !is_quiet {
                 aim.fall_quiet();

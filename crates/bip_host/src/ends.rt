@@ -62,6 +62,14 @@ impl<'h, M: Drop> Intake<'h, M> {
         Intake { inbox, reader }
     }
 
+    /// Whether there was none at one moment of the call: its reader has got nothing by that.
+    pub(crate) fn is_empty(&mut self) -> bool
+        ensures { got_by self.new.reader ≡ got_by self.old.reader }
+    {
+        let Intake { inbox, reader } = self;
+        inbox.is_empty(reader)
+    }
+
     /// The next message, if there is one: its reader has got it.
     pub(crate) fn receive<R: Wait>(&mut self, rt: &R) -> Option<M>
         ensures { MatchOption result (got_by self.new.reader ≡ got_by self.old.reader)

@@ -1,5 +1,5 @@
 //! What actors of a host hear with and act with: inboxes, the third layer, the locked book, a gate.
-ghost use Rattle.std.specs.Prelude.{◌≡◌};
+ghost use Rattle.std.specs.Prelude.{◌≡◌, None};
 ghost use Rattle.bip_host.specs.Addressed.{IsPostedTo};
 ghost use Rattle.bip_host.specs.Classes.{ClassFits};
 ghost use Rattle.bip_host.specs.Components.{ComponentFits};
@@ -36,6 +36,12 @@ pub(crate) struct ComponentHands<'h> {
 
 impl<'h, 'p> Hands<ComponentActor<'p>> for ComponentHands<'h> {
     ghost drawn = { λ _. 0 };
+
+    fn has_message(&mut self) -> bool
+        ensures { IsGot self.old.intake None self.new.intake }
+    {
+        !self.intake.is_empty()
+    }
 
     fn receive<R: Wait>(&mut self, rt: &R) -> Option<Notify>
         ensures { IsGot self.old.intake result self.new.intake }
@@ -77,6 +83,12 @@ impl<'h, 'm, 'g, 'p, L: Ledger, G: Gate> Hands<ClassActor<'p>>
     ghost use Rattle.bip_host.specs.Layers.{drawn_with};
 
     ghost drawn = { λ hands. drawn_with hands.layer };
+
+    fn has_message(&mut self) -> bool
+        ensures { IsGot self.old.intake None self.new.intake }
+    {
+        !self.intake.is_empty()
+    }
 
     fn receive<R: Wait>(&mut self, rt: &R) -> Option<ToClass>
         ensures { IsGot self.old.intake result self.new.intake }
@@ -140,6 +152,12 @@ impl<'h, 'm> StationHands<'h, 'm> {
 impl<'h, 'm> Hands<RingActor> for StationHands<'h, 'm> {
     ghost drawn = { λ _. 0 };
 
+    fn has_message(&mut self) -> bool
+        ensures { IsGot self.old.intake None self.new.intake }
+    {
+        !self.intake.is_empty()
+    }
+
     fn receive<R: Wait>(&mut self, rt: &R) -> Option<ToStation>
         ensures { IsGot self.old.intake result self.new.intake }
     {
@@ -163,6 +181,12 @@ impl<'h, 'm> Hands<RingActor> for StationHands<'h, 'm> {
 
 impl<'h, 'm> Hands<ForkActor> for StationHands<'h, 'm> {
     ghost drawn = { λ _. 0 };
+
+    fn has_message(&mut self) -> bool
+        ensures { IsGot self.old.intake None self.new.intake }
+    {
+        !self.intake.is_empty()
+    }
 
     fn receive<R: Wait>(&mut self, rt: &R) -> Option<ToStation>
         ensures { IsGot self.old.intake result self.new.intake }

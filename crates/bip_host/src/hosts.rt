@@ -23,7 +23,7 @@ use crate::layers::StationLayers;
 use crate::mailboxes::LooseEnds;
 use crate::messages::{ToClass, ToStation};
 use crate::nodes::Nodes;
-use crate::rests::Rest;
+use crate::rests::Strides;
 use crate::starting::{
     Commons, class_mailboxes, component_mailboxes, start_classes, start_components,
 };
@@ -298,6 +298,7 @@ fn open_commons<L: Ledger>(
                 offers,
                 notices,
                 shares,
+                strides: Strides::new(),
             };
             let ends = HostEnds {
                 offers: offer_ends,
@@ -365,7 +366,8 @@ fn run_nodes<L: Ledger + Send + Sync, G: Gate + Sync, R: Threads + Wait + Sync>(
     ensures { IfOk result (AreTotalsOf asked) }
 {
     let nodes = start_nodes(alloc, plan, asked.kind, commons, ends, gate)?;
-    run_threads(rt, alloc, nodes, asked, commons.book.aim(), gate)
+    let aim = commons.book.aim();
+    run_threads(rt, alloc, nodes, asked, aim, &commons.strides, gate)
 }
 
 /// The ends of all inboxes of a host, which aren't handed out yet, and by what its table is asked.
@@ -458,6 +460,7 @@ fn run_threads<'h, 'p, 'm, 'g, L: Ledger + Send + Sync, G: Gate + Sync, R: Threa
     nodes: Nodes<'h, 'p, 'm, 'g, L, G>,
     asked: Asked,
     aim: Option<&'h Aim>,
+    strides: &'h Strides,
     gate: &'g G,
 ) -> Result<Totals, AllocError>
     requires kind { kind_of nodes.stations ≡ asked.kind }
@@ -465,10 +468,7 @@ fn run_threads<'h, 'p, 'm, 'g, L: Ledger + Send + Sync, G: Gate + Sync, R: Threa
     ensures { IfOk result (AreTotalsOf asked) }
 {
     let nodes = nodes.into_list(alloc)?;
-    let rest = match aim {
-        Some(_) => Rest::among(rt, nodes.len()),
-        None => Rest::patient(),
-    };
+    strides.begin(nodes.len());
     thread::scope(
         thread::scope_env(),
         rt,
@@ -477,7 +477,7 @@ fn run_threads<'h, 'p, 'm, 'g, L: Ledger + Send + Sync, G: Gate + Sync, R: Threa
         {
             let turns = asked.limits.turns;
             // Who starts them counts too, until all are started.
-            let starting = Watch::counted(aim, rest);
+            let starting = Watch::counted(aim, None);
             let mut running = match Vec::with_capacity(alloc, nodes.len()) {
                 Ok(running) => running,
                 Err(refused) => {
@@ -487,7 +487,7 @@ fn run_threads<'h, 'p, 'm, 'g, L: Ledger + Send + Sync, G: Gate + Sync, R: Threa
                 }
             };
             for node in nodes {
-                let watch = node.watch(aim, rest);
+                let watch = node.watch(aim, strides);
                 match scope.spawn_with(AtMost { turns }, move || node.run(rt, turns, watch, gate)) {
                     Ok(handle) => running.push(handle)?,
                     Err(refused) => {

@@ -11,7 +11,7 @@ use crate::gates::Gate;
 use crate::hands::{ClassHands, ComponentHands, StationHands};
 use crate::hosts::Kind;
 use crate::noting::{NotingClass, NotingComponent, NotingStation};
-use crate::rests::Rest;
+use crate::rests::Strides;
 use crate::rings::RingActor;
 use std::alloc::{AllocError, Global};
 use std::sync::Wait;
@@ -44,14 +44,15 @@ pub(crate) enum Node<'h, 'p, 'm, 'g, L: Ledger, G> {
 }
 
 impl<'h, 'p, 'm, 'g, L: Ledger, G: Gate> Node<'h, 'p, 'm, 'g, L, G> {
-    /// What its thread sees of an aim, where it gives way so. Stations don't count: a ring's token
-    /// goes round all the time, and what else they do is for a class whose request is open.
-    pub(crate) fn watch(&self, aim: Option<&'h Aim>, rest: Rest) -> Watch<'h> {
+    /// What its thread sees of an aim, beside threads that make such turns. Stations don't count: a
+    /// ring's token goes round all the time, and what else they do is for a class whose request is
+    /// open.
+    pub(crate) fn watch(&self, aim: Option<&'h Aim>, strides: &'h Strides) -> Watch<'h> {
         match self {
-            Node::Component(..) => Watch::counted(aim, rest),
-            Node::Class(..) => Watch::counted(aim, rest),
-            Node::Ring(..) => Watch::beside(aim, rest),
-            Node::Forks(..) => Watch::beside(aim, rest),
+            Node::Component(..) => Watch::counted(aim, Some(strides)),
+            Node::Class(..) => Watch::counted(aim, Some(strides)),
+            Node::Ring(..) => Watch::beside(aim, Some(strides)),
+            Node::Forks(..) => Watch::beside(aim, Some(strides)),
         }
     }
 

@@ -1,5 +1,5 @@
 //! Hands that tell a gate what their node does.
-ghost use Rattle.std.specs.Prelude.{◌≡◌};
+ghost use Rattle.std.specs.Prelude.{◌≡◌, None};
 ghost use Rattle.bip_host.specs.Addressed.{IsPostedTo};
 ghost use Rattle.bip_host.specs.Classes.{ClassFits};
 ghost use Rattle.bip_host.specs.Components.{ComponentFits};
@@ -35,6 +35,12 @@ pub(crate) struct NotingComponent<'h, 'g, G> {
 
 impl<'h, 'g, 'p, G: Gate> Hands<ComponentActor<'p>> for NotingComponent<'h, 'g, G> {
     ghost drawn = { λ _. 0 };
+
+    fn has_message(&mut self) -> bool
+        ensures { IsGot self.old.hands.intake None self.new.hands.intake }
+    {
+        !self.hands.intake.is_empty()
+    }
 
     fn receive<R: Wait>(&mut self, rt: &R) -> Option<Notify>
         ensures { IsGot self.old.hands.intake result self.new.hands.intake }
@@ -151,6 +157,12 @@ impl<'h, 'm, 'g, 'p, L: Ledger, G: Gate> Hands<ClassActor<'p>>
     ghost use Rattle.bip_host.specs.Layers.{drawn_with};
 
     ghost drawn = { λ noting. drawn_with noting.hands.layer };
+
+    fn has_message(&mut self) -> bool
+        ensures { IsGot self.old.hands.intake None self.new.hands.intake }
+    {
+        !self.hands.intake.is_empty()
+    }
 
     fn receive<R: Wait>(&mut self, rt: &R) -> Option<ToClass>
         ensures { IsGot self.old.hands.intake result self.new.hands.intake }
@@ -298,6 +310,12 @@ fn is_done(answer: &StationAnswer) -> bool {
 impl<'h, 'm, 'g, G: Gate> Hands<RingActor> for NotingStation<'h, 'm, 'g, G> {
     ghost drawn = { λ _. 0 };
 
+    fn has_message(&mut self) -> bool
+        ensures { IsGot self.old.hands.intake None self.new.hands.intake }
+    {
+        !self.hands.intake.is_empty()
+    }
+
     fn receive<R: Wait>(&mut self, rt: &R) -> Option<ToStation>
         ensures { IsGot self.old.hands.intake result self.new.hands.intake }
     {
@@ -320,6 +338,12 @@ impl<'h, 'm, 'g, G: Gate> Hands<RingActor> for NotingStation<'h, 'm, 'g, G> {
 
 impl<'h, 'm, 'g, G: Gate> Hands<ForkActor> for NotingStation<'h, 'm, 'g, G> {
     ghost drawn = { λ _. 0 };
+
+    fn has_message(&mut self) -> bool
+        ensures { IsGot self.old.hands.intake None self.new.hands.intake }
+    {
+        !self.hands.intake.is_empty()
+    }
 
     fn receive<R: Wait>(&mut self, rt: &R) -> Option<ToStation>
         ensures { IsGot self.old.hands.intake result self.new.hands.intake }

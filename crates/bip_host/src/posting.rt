@@ -56,6 +56,16 @@ impl<M: Drop> Inbox<M> {
             .push_as::<Putting, R>(rt, &mut writer.pass, message)
     }
 
+    /// Whether nothing stood in it at one moment of the call. Looking takes nothing and makes no
+    /// room for a message; its reader has got as much as before, and put as little.
+    pub fn is_empty(&self, reader: &mut Reader<M>) -> bool
+        requires { IsReaderOf self.now reader.old }
+        ensures of { IsReaderOf self.now reader.new }
+        ensures same { reader.new.pass.me.view.client ≡ reader.old.pass.me.view.client }
+    {
+        self.queue.is_empty_as::<Taking>(&mut reader.pass)
+    }
+
     /// Takes the first message, by the inbox's reader: that one has got it then, after all that it
     /// got before. Where there is none, it has got nothing more. What it gets was put, by
     /// `inbox_laws`.

@@ -16,6 +16,7 @@ use crate::keepers::{BookKeeper, BookLock};
 use crate::layers::{Layers, ThirdLayer};
 use crate::mailboxes::Mailbox;
 use crate::messages::{ToClass, ToStation};
+use crate::rests::Strides;
 use crate::tables::CommonTable;
 use crate::waiting::WaitingBook;
 use bip_model::{ClassId, CompId, InterId, Notify};
@@ -35,6 +36,8 @@ pub(crate) struct Commons<'m, L: Ledger> {
     pub(crate) notices: Vec<Inbox<Notify>>,
     /// By station: what its class asks it, and stations hand on to it.
     pub(crate) shares: Vec<Inbox<ToStation>>,
+    /// How many turns they make.
+    pub(crate) strides: Strides,
 }
 
 impl<'m, L: Ledger> Commons<'m, L> {
@@ -46,12 +49,14 @@ impl<'m, L: Ledger> Commons<'m, L> {
             offers,
             notices,
             shares,
+            strides,
         } = self;
         // By calls: what is let go without takes the prover long (CONTRIBUTING, "Proving").
         drop(table);
         drop(offers);
         drop(notices);
         drop(shares);
+        drop(strides);
         book.into_book()
     }
 }

@@ -270,19 +270,32 @@ pub(super) struct Fake<'d, 'm, M> {
     heard: Queue<Option<M>>,
 }
 
-impl<'d, 'm, M> Fake<'d, 'm, M> {
+impl<'d, 'm, M: Drop> Fake<'d, 'm, M> {
     pub(super) fn at(desk: &'d mut Desk<'m>, heard: Queue<Option<M>>) -> Fake<'d, 'm, M> {
         Fake { desk, heard }
     }
 
-    fn hear(&mut self) -> Option<M> {
+    /// Begins a turn, and says whether it has a message.
+    fn begin(&mut self) -> bool {
         self.desk.turn();
+        if let Some(Some(_)) = self.heard.first() {
+            return true;
+        }
+        let _none = self.heard.take_first();
+        false
+    }
+
+    fn hear(&mut self) -> Option<M> {
         self.heard.take_first()?
     }
 }
 
 impl<'d, 'm, 'p> Hands<ComponentActor<'p>> for Fake<'d, 'm, Notify> {
     ghost drawn = { λ _. 0 };
+
+    fn has_message(&mut self) -> bool {
+        self.begin()
+    }
 
     fn receive<W: Wait>(&mut self, _rt: &W) -> Option<Notify> {
         self.hear()
@@ -304,6 +317,10 @@ impl<'d, 'm, 'p> Hands<ComponentActor<'p>> for Fake<'d, 'm, Notify> {
 
 impl<'d, 'm, 'p> Hands<ClassActor<'p>> for Fake<'d, 'm, ToClass> {
     ghost drawn = { λ _. 0 };
+
+    fn has_message(&mut self) -> bool {
+        self.begin()
+    }
 
     fn receive<W: Wait>(&mut self, _rt: &W) -> Option<ToClass> {
         self.hear()
@@ -350,6 +367,10 @@ impl<'d, 'm> Fake<'d, 'm, ToStation> {
 impl<'d, 'm> Hands<RingActor> for Fake<'d, 'm, ToStation> {
     ghost drawn = { λ _. 0 };
 
+    fn has_message(&mut self) -> bool {
+        self.begin()
+    }
+
     fn receive<W: Wait>(&mut self, _rt: &W) -> Option<ToStation> {
         self.hear()
     }
@@ -369,6 +390,10 @@ impl<'d, 'm> Hands<RingActor> for Fake<'d, 'm, ToStation> {
 
 impl<'d, 'm> Hands<ForkActor> for Fake<'d, 'm, ToStation> {
     ghost drawn = { λ _. 0 };
+
+    fn has_message(&mut self) -> bool {
+        self.begin()
+    }
 
     fn receive<W: Wait>(&mut self, _rt: &W) -> Option<ToStation> {
         self.hear()
