@@ -7,4 +7,5 @@ pub mod FollowLemmas
 pub mod IdleLemmas
 pub mod LawLemmas
 pub mod LineLemmas
+pub mod ScheduleLemmas
 pub mod SpellingLemmas

@@ -1,23 +1,21 @@
 -- Schedules that are followed line by line.
-use Rattle.std.specs.Prelude.{Err, List, Ok, Option, Result, ℕ, ◌≡◌}
-use Rattle.bip_partition.specs.Plans.{Planned}
-use Rattle.bip_replay.specs.declared.faults.LineFault.TheVariants as line_fault
-use Rattle.bip_replay.specs.declared.faults.LineFault.{LineFault}
-use Rattle.bip_replay.specs.declared.faults.TraceFault.TheVariants.{Memory, Syntax, Unknown}
-use Rattle.bip_replay.specs.declared.faults.TraceFault.{TraceFault}
+use Rattle.std.specs.Prelude.{List, Ok, take, ℕ, ◌-◌, ◌≡◌}
+use Rattle.bip_core.specs.Runs.{IsRunOfEvents}
+use Rattle.bip_core.specs.Worlds.{WorldContent}
+use Rattle.bip_core.specs.declared.events.Event.{Event}
+use Rattle.bip_core.specs.declared.runs.Report.{Report}
+use Rattle.bip_model.specs.Texts.{lines}
+use Rattle.bip_model.specs.declared.numbering.InterId.{InterId}
+use Rattle.bip_partition.specs.Plans.{AreStations, Planned}
+use Rattle.bip_replay.specs.Items.{items_from}
+use Rattle.bip_schedule.specs.Lines.{event_on}
 
--- a text, and the plan for which it is a schedule
-pub record ScheduleText : Type 0 where
-  pub plan : Planned
-  pub text : List ℕ
-
--- What contracts of private functions say.
-
--- a line says an item or nothing, or has this fault
-abbrev pub IsLineTested :
-    {X : Type 0} → (List ℕ → Result (Option X) LineFault) → List ℕ
-    → Result (Unit {0}) TraceFault → Type 0
-IsLineTested {X} says line (Ok u) = (said : Option X) × (says line ≡ Ok said)
-IsLineTested says line (Err Syntax) = says line ≡ Err line_fault.Syntax
-IsLineTested says line (Err Unknown) = says line ≡ Err line_fault.Unknown
-IsLineTested says line (Err Memory) = ⊥
+-- the events of the lines before the one with this number lead from one world to another
+pub record IsFollowedUntil (p : Planned) (text : List ℕ) (number : ℕ) (w v : WorldContent)
+    : Type 0 where
+  pub stations : List InterId
+  pub are : AreStations p stations
+  pub events : List Event
+  pub reads : items_from (event_on p stations) 1 (take (number - 1) (lines text)) ≡ Ok events
+  pub report : Report
+  pub ran : IsRunOfEvents events w v report

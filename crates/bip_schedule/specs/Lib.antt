@@ -2,6 +2,7 @@ pub mod Busy
 pub mod Drawing
 pub mod Exploring
 pub mod Following
+pub mod Known
 pub mod Laws
 pub mod Lines
 pub mod Schedules
