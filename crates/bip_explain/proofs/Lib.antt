@@ -3,6 +3,7 @@ pub mod FormLemmas
 pub mod FrontLemmas
 pub mod GrantLemmas
 pub mod HindranceLemmas
+pub mod LaterLemmas
 pub mod LimitLemmas
 pub mod LineLemmas
 pub mod PartyLemmas

@@ -153,6 +153,34 @@ stands_last text line m (Inside c) none so = record {
       [ inl h ↦ so.stays n above h | inr h ↦ rw (none n h) refl ];
 }
 
+-- of the lines in front of one, where it stands
+so_far : (text : List ℕ) (m : ℕ) (standing : Standing) → IsStandingAt text m standing
+    → StandsSoFar text (m + 1) m standing
+so_far text m First at = at
+so_far text m Outside at = record {
+  saying = at.saying;
+  before = let h = at.before in omega arith;
+  says = at.says;
+  ended = λ n below begins. let e = at.ended n below begins in (
+    e.0,
+    e.1,
+    let h = e.2 in omega arith,
+    e.3,
+  );
+}
+so_far text m (Inside c) at = record {
+  begun = at.begun;
+  before = let h = at.before in omega arith;
+  begins = at.begins;
+  stays = at.stays;
+}
+
+-- the line behind one that stands so
+pub stands_next : (text : List ℕ) (m : ℕ) (old new : Standing) → IsStandingAt text m old
+    → StandsBehind old (words_at text m) new → IsStandingAt text (m + 1) new
+stands_next text m old new at behind = stands_there text (m + 1) (m + 1) new (omega arith)
+    (stands_behind text (m + 1) m old new (omega arith) (so_far text m old at) behind)
+
 -- a line that stands inside a component stands nowhere else
 pub not_first : (text : List ℕ) (line : ℕ) (component : List ℕ) → IsStandingAt text line First
     → ¬ IsInside text line component

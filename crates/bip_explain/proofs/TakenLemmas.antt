@@ -28,7 +28,6 @@ use Rattle.bip_reader.specs.Writing.{pair_word, relation_word, sign_word, words_
 use Rattle.bip_reader.proofs.SpelledLemmas.{name_no_mark, pair_no_mark, pair_read}
 use Rattle.bip_reader.proofs.SpellingLemmas.{IsUnmarked, pair_is, same_word, unmarked}
 use Rattle.bip_explain.specs.Expected.{after_word, can_end, takes_all}
-use Rattle.bip_model.specs.Texts.{words}
 use Rattle.bip_explain.proofs.WantedLemmas.{behind}
 use Rattle.bip_explain.specs.Words.{is_pair, is_relation, is_sign, is_term, is_variable}
 use Rattle.bip_explain.specs.declared.expected.Expected.{Expected}

@@ -1,5 +1,5 @@
 -- Words that are taken one by one are a line of the grammar: the lines of each form.
-use Rattle.std.proofs.Common.{◌≡◌, inl, inr, ℕ, ◌<◌, ◌||◌, true, false, List}
+use Rattle.std.proofs.Common.{◌≡◌, inl, inr, ℕ, ◌||◌, true, List}
 use Rattle.std.proofs.Common.{[], ◌∷◌, ◌++◌, length, map, Option, None, Some, refl, sym}
 use Rattle.std.proofs.Common.{ap, ◌∙◌, subst}
 use Rattle.std.specs.Prelude.{All, codes, is_some}
@@ -24,8 +24,8 @@ use Rattle.bip_explain.specs.Forms.{IsFormReason, IsWantedThere}
 use Rattle.bip_explain.specs.declared.forms.FormReason.{FormReason}
 use Rattle.bip_explain.specs.declared.forms.FormReason.TheVariants.{Byte, Word, End as LineEnd}
 use Rattle.bip_explain.proofs.WantedLemmas.{behind}
-use Rattle.bip_explain.specs.Models.{IsModelLine, IsStatedAt, behind_inside, behind_keyword}
-use Rattle.bip_explain.specs.Models.{behind_outside, spelling_behind, states_something}
+use Rattle.bip_explain.specs.Keywords.{IsModelLine, IsStatedAt, behind_inside, behind_keyword}
+use Rattle.bip_explain.specs.Keywords.{behind_outside, spelling_behind, states_something}
 use Rattle.bip_explain.specs.Words.{is_pair}
 use Rattle.bip_explain.specs.declared.expected.Expected.{Expected}
 use Rattle.bip_explain.specs.declared.expected.Expected.TheVariants.{Grant, Granted, FirstMoved}

@@ -51,8 +51,8 @@ use Rattle.bip_model.specs.Texts.{words}
 use Rattle.bip_explain.specs.Forms.{IsFormReason, IsNoLine, LeadsTo, NoLineBegins}
 use Rattle.bip_explain.specs.Placed.{IsPlacedOn}
 use Rattle.bip_explain.specs.declared.placed.Placed.{Placed}
-use Rattle.bip_explain.specs.Models.{behind_inside, behind_keyword, behind_outside, spelling_behind}
-use Rattle.bip_explain.specs.Models.{states_something}
+use Rattle.bip_explain.specs.Keywords.{behind_inside, behind_keyword, behind_outside}
+use Rattle.bip_explain.specs.Keywords.{spelling_behind, states_something}
 use Rattle.bip_explain.specs.declared.forms.FormReason.{FormReason}
 use Rattle.bip_explain.specs.declared.forms.FormReason.TheVariants.{Byte, Word, End as LineEnd}
 use Rattle.bip_explain.specs.declared.scopes.Standing.{Standing}

@@ -1,6 +1,6 @@
 -- What the lines of a text begin with, and so declare.
 use Rattle.std.specs.Prelude.{◌≡◌, ℕ, ◌<◌, Bool, false, ◌&&◌, ◌||◌, IsTrue, codes, List, [], ◌∷◌}
-use Rattle.std.specs.Prelude.{true, nat_le, if◌then◌else◌, ◌⊎◌, ◌++◌, Option, None, Some}
+use Rattle.std.specs.Prelude.{true, nat_le, if◌then◌else◌, ◌⊎◌, ◌++◌}
 use Rattle.bip_model.specs.Texts.{numbered_lines}
 use Rattle.bip_model.specs.Naming.{same_text}
 use Rattle.bip_model.specs.Texts.{line_at}
@@ -41,13 +41,6 @@ HasLineWith text line keyword name = (n : ℕ) × (n < line) × IsLineWith text 
 abbrev pub NoLineWith : List ℕ → ℕ → List ℕ → List ℕ → Type 0
 NoLineWith text line keyword name =
     (n : ℕ) → n < line → begins_with keyword name (said_words (line_at text n)) ≡ false
-
--- a line that is told to begin with these two words stands behind one; where none is told no line
--- behind it does
-abbrev pub IsLaterLine : List ℕ → ℕ → List ℕ → List ℕ → Option ℕ → Type 0
-IsLaterLine text number keyword name None =
-    (n : ℕ) → number < n → begins_with keyword name (said_words (line_at text n)) ≡ false
-IsLaterLine text number keyword name (Some n) = (number < n) × IsLineWith text n keyword name
 
 -- words begin a component
 abbrev pub begins_component : List (List ℕ) → Bool

@@ -12,6 +12,7 @@ use Rattle.bip_explain.specs.Explanations.{marked, placed_parts}
 use Rattle.bip_model.specs.Texts.{line_at}
 use Rattle.bip_explain.specs.Placed.{IsWordAt, first_four, said_words}
 use Rattle.bip_explain.specs.declared.ends.EndReason.{EndReason}
+use Rattle.bip_explain.specs.declared.ends.PriorityPath.{PriorityPath}
 use Rattle.bip_explain.specs.declared.ends.SaidPriority.{SaidPriority}
 use Rattle.bip_explain.specs.declared.placed.Placed.{Placed}
 use Rattle.bip_explain.specs.declared.ends.EndReason.TheVariants.{NoLocation, NoEnd, NoComponent}
@@ -47,22 +48,26 @@ IsMemberBefore line placed =
     (column : ℕ) × (column < placed.column) × IsMemberAt line column placed.word.now
 
 -- words say a priority: `priority LOW < HIGH`
-abbrev pub SaysPriority : List (List ℕ) → SaidPriority → Type 0
-SaysPriority ws said =
+abbrev pub SaysPriority : List (List ℕ) → List ℕ → List ℕ → Type 0
+SaysPriority ws low high =
     (keyword : List ℕ) × (below : List ℕ) × IsTrue (same_text keyword (codes "priority"))
-    × (first_four ws ≡ Some (keyword, said.low.now, below, said.high.now))
+    × (first_four ws ≡ Some (keyword, low, below, high))
 
 -- a line of a text says it
 abbrev pub IsSaidIn : List ℕ → SaidPriority → Type 0
-IsSaidIn text said = (n : ℕ) × SaysPriority (said_words (line_at text n)) said
+IsSaidIn text said = SaysPriority (said_words (line_at text said.line)) said.low.now said.high.now
 
--- an interaction stands above another in a text: a line says so, or says that it stands above one
--- which does
-pub data IsAboveIn (text : List ℕ) (low : List ℕ) : List ℕ → Type 0 where
-  at_once : (said : SaidPriority) → IsSaidIn text said → said.low.now ≡ low
-      → IsAboveIn text low said.high.now
-  in_turn : (said : SaidPriority) → IsSaidIn text said → IsAboveIn text low said.low.now
-      → IsAboveIn text low said.high.now
+-- lines of a text lead up from an interaction to another one: each says a priority, the first one
+-- of the interaction, and each of what the line in front of it puts above
+abbrev pub LeadUp : List ℕ → List ℕ → List ℕ → List ℕ → Type 0
+LeadUp text low [] high = low ≡ high
+LeadUp text low (n ∷ ns) high =
+    (next : List ℕ) × SaysPriority (said_words (line_at text n)) low next
+    × LeadUp text next ns high
+
+-- lines put an interaction above another, or above itself: some lead up to it
+abbrev pub PutAbove : List ℕ → List ℕ → List ℕ → List ℕ → Type 0
+PutAbove text low ns high = ¬ (ns ≡ []) × LeadUp text low ns high
 
 -- words declare a location: `loc NAME`
 abbrev pub declares_location : List (List ℕ) → Bool
@@ -104,9 +109,9 @@ IsComplete text number =
 
 -- a reason is true of a text whose line with this number is at fault: the line ends a component
 -- that has no location; down to the line the component isn't ended, none is begun, or nothing is
--- said; lines put the interaction above itself; a line declares it, and no class has it; the word
--- that is told stands on the line that is told, at its column, in a class, and so it does in a line
--- before, or before it
+-- said; the lines that are told put the interaction above itself; a line declares it, and no class
+-- has it; the word that is told stands on the line that is told, at its column, in a class, and so
+-- it does in a line before, or before it
 abbrev pub IsEndReason : List ℕ → ℕ → EndReason → Type 0
 IsEndReason text number (NoLocation component) =
     (ends_component (said_words (line_at text number)) ≡ true)
@@ -116,7 +121,7 @@ IsEndReason text number NoComponent =
     (n : ℕ) → n < number + 1 → begins_component (said_words (line_at text n)) ≡ false
 IsEndReason text number NoFirst =
     (n : ℕ) → n < number + 1 → said_words (line_at text n) ≡ []
-IsEndReason text number (Above name) = IsAboveIn text name name
+IsEndReason text number (Above name lines) = PutAbove text name lines.items name
 IsEndReason text number (InNoClass name) =
     ((n : ℕ) × IsLineWith text n (codes "interaction") name) × NoClassWith text name
 IsEndReason text number (InClasses n placed) =
@@ -125,10 +130,15 @@ IsEndReason text number (InClasses n placed) =
 
 -- the kind of fault that a reason is one of
 abbrev pub why_of_end : EndReason → Why
-why_of_end (Above name) = PriorityCycle
+why_of_end (Above name lines) = PriorityCycle
 why_of_end (InNoClass name) = NotAPartition
 why_of_end (InClasses n placed) = NotAPartition
 why_of_end reason = Missing
+
+-- lines by their numbers, the first behind a text
+abbrev pub lines_parts : List ℕ → List ℕ → List (List ℕ)
+lines_parts front [] = []
+lines_parts front (n ∷ ns) = front ∷ decimal n ∷ lines_parts (codes ", line ") ns
 
 -- how a reason is told
 abbrev pub end_parts : EndReason → List (List ℕ)
@@ -138,10 +148,17 @@ end_parts (NoEnd component) =
     codes "component " ∷ marked component.now ∷ codes " has no `end`" ∷ []
 end_parts NoComponent = codes "there is no component" ∷ []
 end_parts NoFirst = codes "no line is `bip 1`" ∷ []
-end_parts (Above name) =
-    codes "interaction " ∷ marked name ∷ codes " stands above itself" ∷ []
+end_parts (Above name lines) =
+    codes "interaction " ∷ marked name ∷ codes " stands above itself"
+    ∷ lines_parts (codes ": line ") lines.items
 end_parts (InNoClass name) =
     codes "interaction " ∷ marked name ∷ codes " stands in no class" ∷ []
 end_parts (InClasses n placed) =
     codes "line " ∷ decimal n ∷ codes ", " ∷ placed_parts placed
     ++ codes " stands in a class already" ∷ []
+
+-- What contracts of private functions say.
+
+-- a path of priorities leads up from an interaction
+abbrev pub IsPathFrom : List ℕ → List ℕ → PriorityPath → Type 0
+IsPathFrom text from path = PutAbove text from path.lines.items path.high

@@ -1,42 +1,38 @@
 -- Hints: what is told, behind what is wanted, of a word that can't stand where it stands.
-use Rattle.std.specs.Prelude.{ℕ, Bool, ◌==◌, ◌||◌, ◌&&◌, not, None, Some, Option, nat_lt}
-use Rattle.std.specs.Prelude.{List, [], ◌∷◌, length, slice_index, take, drop, codes, position}
-use Rattle.std.specs.Prelude.{if◌then◌else◌, is_some, is_none, nat_eq}
+use Rattle.std.specs.Prelude.{ℕ, Bool, false, ◌||◌, ◌&&◌, not, None, Some, Option, nat_lt}
+use Rattle.std.specs.Prelude.{List, [], ◌∷◌, length, slice_index, drop, codes}
+use Rattle.std.specs.Prelude.{if◌then◌else◌, is_some, is_none}
 use Rattle.std.specs.Prelude.{option_and_then}
-use Rattle.std.specs.Char.{is_ascii_digit}
+use Rattle.std.specs.Char.{is_ascii_digit, is_ascii_uppercase}
 use Rattle.std.specs.Fmt.{decimal}
-use Rattle.std.specs.List.{list_all, starts_with}
-use Rattle.std.specs.Option.{option_map, option_map_or, option_or}
-use Rattle.bip_model.specs.Naming.{is_name, is_name_start, is_spelled_as_name}
-use Rattle.bip_model.specs.Naming.{same_text}
+use Rattle.std.specs.List.{list_all, list_any}
+use Rattle.std.specs.Option.{option_map_or, option_or}
+use Rattle.std.specs.Str.{str_eq_ignore_ascii_case}
+use Rattle.bip_model.specs.Naming.{is_name, is_name_byte, is_name_start}
+use Rattle.bip_model.specs.Naming.{is_spelled_as_name, same_text}
 use Rattle.bip_model.specs.Texts.{number_of, pair_of}
 use Rattle.bip_model.specs.declared.clauses.Spelling.{Spelling}
 use Rattle.bip_model.specs.declared.clauses.Spelling.TheVariants.{Own, Shared}
 use Rattle.bip_replay.specs.Lines.{colon}
 use Rattle.bip_explain.specs.Expected.{after_word}
 use Rattle.bip_explain.specs.Explanations.{marked}
-use Rattle.bip_explain.specs.Words.{is_sign, is_term, is_value, is_verb, point}
+use Rattle.bip_explain.specs.Marks.{has_front, mark_hint, text_parts, two_parts}
+use Rattle.bip_explain.specs.Words.{is_pair, is_term, is_value, is_verb, is_want, point}
 use Rattle.bip_explain.specs.declared.expected.Expected.{Expected}
 use Rattle.bip_explain.specs.declared.expected.Expected.TheVariants.{One, StartValue}
-use Rattle.bip_explain.specs.declared.expected.Expected.TheVariants.{TransitionTarget}
-use Rattle.bip_explain.specs.declared.expected.Expected.TheVariants.{TransitionEnd}
+use Rattle.bip_explain.specs.declared.expected.Expected.TheVariants.{TransitionEnd, InteractionName}
 use Rattle.bip_explain.specs.declared.expected.Expected.TheVariants.{FirstParticipant}
 use Rattle.bip_explain.specs.declared.expected.Expected.TheVariants.{MoreParticipants, Below}
-use Rattle.bip_explain.specs.declared.expected.Expected.TheVariants.{MoreMembers}
 use Rattle.bip_explain.specs.declared.expected.Expected.TheVariants.{LeftTerm, LeftMore, RightTerm}
 use Rattle.bip_explain.specs.declared.expected.Expected.TheVariants.{RightMore, Target, Becomes}
 use Rattle.bip_explain.specs.declared.expected.Expected.TheVariants.{SumTerm, SumMore, Grant}
-use Rattle.bip_explain.specs.declared.expected.Expected.TheVariants.{FirstMoved, MoreMoved}
-use Rattle.bip_explain.specs.declared.expected.Expected.TheVariants.{FirstSeen, MoreSeen}
+use Rattle.bip_explain.specs.declared.expected.Expected.TheVariants.{Granted, FirstMoved, MoreMoved}
+use Rattle.bip_explain.specs.declared.expected.Expected.TheVariants.{FirstSeen, MoreSeen, Class}
 use Rattle.bip_explain.specs.declared.expected.Expected.TheVariants.{FlightPlace, End}
 use Rattle.bip_explain.specs.declared.hints.Hint.{Hint}
 use Rattle.bip_explain.specs.declared.hints.Hint.TheVariants.{NoHint, Text, PartTooLong}
 use Rattle.bip_explain.specs.declared.hints.Hint.TheVariants.{ReservedPart, BadValue, BadNumber}
 use Rattle.bip_explain.specs.declared.hints.Hint.TheVariants.{Signed}
-
--- a word begins with the bytes of a text
-abbrev pub has_front : List ℕ → List ℕ → Bool
-has_front text word = starts_with nat_eq word text
 
 -- whether a word has digits alone
 abbrev pub are_digits : List ℕ → Bool
@@ -49,95 +45,24 @@ is_negative numeral = has_front (codes "-") numeral && are_digits (drop 1 numera
 abbrev pub begins_as_name : List ℕ → Bool
 begins_as_name word = nat_lt 0 (length word) && is_name_start (slice_index word 0)
 
--- a word looks like a name, and is none: it is too long, or a word of the language
+-- letters, digits and underscores, of which the first is a digit, and not all are
+abbrev pub begins_with_digit : List ℕ → Bool
+begins_with_digit word = nat_lt 0 (length word) && is_ascii_digit (slice_index word 0)
+    && list_all is_name_byte word && not (are_digits word)
+
+-- a word looks like a name, and is none: it begins with a digit, is too long, or is a word of the
+-- language
 abbrev pub is_near_name : List ℕ → Bool
-is_near_name word = is_spelled_as_name word && not (is_name word)
-
--- a byte of a mark that stands between names and values, or that is taken for one
-abbrev pub is_mark_byte : ℕ → Bool
-is_mark_byte b =
-    b == 43 || b == 45 || b == 61 || b == 33 || b == 60 || b == 62 || b == 59 || b == 58
-    || b == 44 || b == 38 || b == 124 || b == 47
-
-abbrev pub begins_marked : List ℕ → Bool
-begins_marked word = nat_lt 0 (length word) && is_mark_byte (slice_index word 0)
-
--- where the first part of a word ends, which has bytes of marks alone, or none of them; none where
--- that is all of the word
-abbrev pub part_end : List ℕ → Option ℕ
-part_end word =
-    if begins_marked word then position (λ byte. not (is_mark_byte byte)) word
-    else position is_mark_byte word
-
-abbrev pub first_part : List ℕ → List ℕ
-first_part word = option_map_or (λ i. take i word) (part_end word) word
-
--- the first two parts of a word, if it has two
-abbrev pub two_parts : List ℕ → Option (List ℕ × List ℕ)
-two_parts word = option_map (λ i. (take i word, first_part (drop i word))) (part_end word)
-
--- a hint that is a text, or none
-abbrev pub text_parts : Option (List ℕ) → List (List ℕ)
-text_parts None = []
-text_parts (Some text) = text ∷ []
-
--- what is told of a mark where a relation is wanted
-abbrev pub relation_hint : List ℕ → Option (List ℕ)
-relation_hint mark =
-    if same_text mark (codes "==") then Some (codes "; equality is `=`")
-    else (if same_text mark (codes "<>") || same_text mark (codes "/=")
-    then Some (codes "; unequal is `!=`")
-    else (if same_text mark (codes "=<") then Some (codes "; at most is `<=`")
-    else (if same_text mark (codes "=>") then Some (codes "; at least is `>=`") else None)))
-
--- what is told behind a comparison
-abbrev pub guard_hint : List ℕ → Option (List ℕ)
-guard_hint mark =
-    if same_text mark (codes "&&") || same_text mark (codes ",") || same_text mark (codes "when")
-    then Some (codes "; `and` joins comparisons")
-    else (if same_text mark (codes "or") || same_text mark (codes "||")
-    then Some (codes "; a guard has no `or`") else None)
-
--- what is told behind an assignment
-abbrev pub update_hint : List ℕ → Option (List ℕ)
-update_hint mark =
-    if same_text mark (codes "when") then Some (codes "; a guard stands in front of `do`")
-    else (if same_text mark (codes "do") || same_text mark (codes ",")
-    || same_text mark (codes "&&") || same_text mark (codes "and")
-    then Some (codes "; `;` joins assignments") else None)
-
--- a text, if a word is this mark
-abbrev pub if_mark : List ℕ → List ℕ → List ℕ → Option (List ℕ)
-if_mark mark text word = if same_text word mark then Some text else None
-
--- what is told of a sign where a term is wanted
-abbrev pub sign_hint : List ℕ → Option (List ℕ)
-sign_hint word =
-    if is_sign word then Some (codes "; a sum begins with a term, as `0 - 1`") else None
-
--- what is told of a mark at a place
-abbrev pub mark_hint : Expected → List ℕ → Option (List ℕ)
-mark_hint LeftMore word = relation_hint word
-mark_hint RightMore word = guard_hint word
-mark_hint SumMore word = update_hint word
-mark_hint LeftTerm word = sign_hint word
-mark_hint RightTerm word = sign_hint word
-mark_hint SumTerm word = sign_hint word
-mark_hint TransitionTarget word =
-    if_mark (codes "->") (codes "; the locations stand side by side, as `trans p a b`") word
-mark_hint MoreParticipants word =
-    if_mark (codes ",") (codes "; participants are parted by blanks alone") word
-mark_hint MoreMembers word =
-    if_mark (codes ",") (codes "; members are parted by blanks alone") word
-mark_hint Below word =
-    if_mark (codes ">") (codes "; the lower one stands first, as `priority low < high`") word
-mark_hint expected word = None
+is_near_name word = begins_with_digit word || is_spelled_as_name word && not (is_name word)
 
 -- what is told of the second part of a word, behind the place where the first one can stand: where
 -- it can stand there too a blank is missing
 abbrev pub second_hint : Spelling → Expected → List ℕ → Option (List ℕ)
 second_hint spelling next part =
-    if is_some (after_word spelling next part) then Some (codes "; words are parted by blanks")
+    if is_some (after_word spelling next part)
+    then (if same_text part (codes ";")
+    then Some (codes "; words are parted by blanks, and `;` stands between two assignments")
+    else Some (codes "; words are parted by blanks"))
     else mark_hint next part
 
 -- of a word whose first part can stand at a place
@@ -147,11 +72,74 @@ joined_hint spelling expected word =
     (after_word spelling expected parts.0))
     (two_parts word)
 
+-- of a word that a comment begins with, behind others
+abbrev pub comment_hint : Expected → List ℕ → Option (List ℕ)
+comment_hint Grant word = None
+comment_hint expected word =
+    if has_front (codes "#") word then Some (codes "; a comment is a line of its own")
+    else (if has_front (codes "//") word
+    then Some (codes "; a comment is a line of its own, and begins with `#`") else None)
+
+-- whether a word is this one of the language but for small letters and capitals
+abbrev pub is_as : List ℕ → List ℕ → Bool
+is_as small word = str_eq_ignore_ascii_case small word
+
+-- whether it is one so that can stand at a place
+abbrev pub can_stand_as : Spelling → Expected → List ℕ → List ℕ → Bool
+can_stand_as spelling expected word small =
+    is_as small word && is_some (after_word spelling expected small)
+
+abbrev pub small_text : List ℕ
+small_text = codes "; words of the language are in small letters"
+
+-- of a word in capitals that can stand at a place in small letters
+abbrev pub small_hint : Spelling → Expected → List ℕ → Option (List ℕ)
+small_hint spelling expected word =
+    if can_stand_as spelling expected word (codes "when")
+    || can_stand_as spelling expected word (codes "do")
+    || can_stand_as spelling expected word (codes "and")
+    || can_stand_as spelling expected word (codes "see")
+    || can_stand_as spelling expected word (codes "grant") then Some small_text else None
+
 -- a text that is told of a word at a place
 abbrev pub fixed_hint : Spelling → Expected → List ℕ → Option (List ℕ)
 fixed_hint spelling expected word =
-    if has_front (codes "#") word then Some (codes "; a comment is a line of its own")
-    else option_or (joined_hint spelling expected word) (mark_hint expected word)
+    option_or (comment_hint expected word)
+    (option_or (small_hint spelling expected word)
+    (option_or (joined_hint spelling expected word) (mark_hint expected word)))
+
+abbrev pub has_capital : List ℕ → Bool
+has_capital word = list_any is_ascii_uppercase word
+
+-- whether a word begins a line of a model but for small letters and capitals
+abbrev pub is_as_keyword : List ℕ → Bool
+is_as_keyword word =
+    is_as (codes "bip") word || is_as (codes "component") word || is_as (codes "var") word
+    || is_as (codes "loc") word || is_as (codes "port") word || is_as (codes "trans") word
+    || is_as (codes "end") word || is_as (codes "interaction") word
+    || is_as (codes "priority") word || is_as (codes "class") word
+
+-- or of a trace, or of a schedule
+abbrev pub is_as_verb : List ℕ → Bool
+is_as_verb word =
+    is_as (codes "grant") word || is_as (codes "mail") word || is_as (codes "try") word
+    || is_as (codes "serve") word || is_as (codes "deliver") word || is_as (codes "pass") word
+    || is_as (codes "ask") word
+
+-- of a word in capitals that begins a line in small letters
+abbrev pub first_small_hint : List ℕ → Option (List ℕ)
+first_small_hint word =
+    if has_capital word && (is_as_keyword word || is_as_verb word) then Some small_text else None
+
+-- of a word that a comment begins with, or the mark between two texts
+abbrev pub first_mark_hint : List ℕ → Option (List ℕ)
+first_mark_hint word =
+    if has_front (codes "//") word then Some (codes "; a comment begins with `#`")
+    else (if same_text word (codes "---")
+    then Some (codes "; a line `---` and nothing more parts standard input, once, and no file")
+    else (if has_front (codes "---") word
+    then Some (codes "; a line that is `---` and nothing more parts two texts of standard input")
+    else None))
 
 -- what a first word shows that begins no line of its text
 abbrev pub first_hint : List ℕ → Option (List ℕ)
@@ -159,10 +147,7 @@ first_hint word =
     if same_text word (codes "bip") then Some (codes "; it begins the text of a model")
     else (if same_text word (codes "grant") then Some (codes "; it begins a line of a trace")
     else (if is_verb word then Some (codes "; it begins a line of a schedule")
-    else (if has_front (codes "//") word then Some (codes "; a comment begins with `#`")
-    else (if has_front (codes "---") word
-    then Some (codes "; a line that is `---` and nothing more parts two texts of standard input")
-    else None))))
+    else option_or (first_small_hint word) (first_mark_hint word)))
 
 abbrev pub long_part_parts : List ℕ → List (List ℕ)
 long_part_parts part =
@@ -173,42 +158,80 @@ abbrev pub reserved_part_parts : List ℕ → List (List ℕ)
 reserved_part_parts part =
     codes "; " ∷ marked part ∷ codes " is a word of the language, and no name" ∷ []
 
+-- of digits that are no value: they are too many, or the value is too great
 abbrev pub bad_value_parts : ℕ → List (List ℕ)
 bad_value_parts digits =
-    codes "; a value is from 0 to 4294967295, in at most 10 digits, and this has "
+    if nat_lt 10 digits
+    then codes "; a value is from 0 to 4294967295, in at most 10 digits, and this has "
     ∷ decimal digits ∷ []
+    else codes "; the greatest value is 4294967295" ∷ []
 
+-- of digits that are no number
 abbrev pub bad_number_parts : List ℕ → List (List ℕ)
 bad_number_parts numeral =
-    codes "; a number is from 1 to 18446744073709551615, in at most 20 digits, and this has "
+    if nat_lt 20 (length numeral)
+    then codes "; a number is from 1 to 18446744073709551615, in at most 20 digits, and this has "
     ∷ decimal (length numeral) ∷ []
+    else codes "; a number is from 1 to 18446744073709551615" ∷ []
 
 abbrev pub signed_parts : List ℕ → List (List ℕ)
 signed_parts term =
     codes "; a term has no sign, but a sum may begin with 0 - " ∷ marked term
-    ∷ codes ", modulo 4294967296" ∷ []
+    ∷ codes ", modulo 4294967296, and behind a sign the other one stands for both" ∷ []
+
+abbrev pub digit_text : List ℕ
+digit_text = codes "; a name begins with a letter or `_`"
 
 -- what is told of a word where a name is wanted
 abbrev pub hint_of_name : List ℕ → List (List ℕ)
 hint_of_name word =
-    if not (begins_as_name word) || is_name word then []
+    if begins_with_digit word then digit_text ∷ []
+    else (if not (begins_as_name word) || is_name word then []
     else (if not (is_spelled_as_name word)
     then codes "; a name has letters, digits and `_` alone" ∷ []
     else (if nat_lt 32 (length word) then codes "; a name has at most 32 bytes" ∷ []
-    else codes "; it is a word of the language, and no name" ∷ []))
+    else codes "; it is a word of the language, and no name" ∷ [])))
 
 -- of a part of a word that should be a name
 abbrev pub hint_of_part : List ℕ → List (List ℕ)
 hint_of_part part =
-    if not (is_near_name part) then []
-    else (if nat_lt 32 (length part) then long_part_parts part else reserved_part_parts part)
+    if begins_with_digit part then digit_text ∷ []
+    else (if not (is_near_name part) then []
+    else (if nat_lt 32 (length part) then long_part_parts part else reserved_part_parts part))
 
--- of a word where `C.p` is wanted
+-- of the two parts of a word
+abbrev pub hint_of_parts : List ℕ → List ℕ → List (List ℕ)
+hint_of_parts component inner =
+    if is_near_name component then hint_of_part component else hint_of_part inner
+
+-- of a word where `C.v` is wanted
 abbrev pub hint_of_pair : List ℕ → List (List ℕ)
 hint_of_pair word =
-    option_map_or (λ parts.
-    if is_near_name parts.0 then hint_of_part parts.0 else hint_of_part parts.1)
-    (pair_of point word) []
+    option_map_or (λ parts. hint_of_parts parts.0 parts.1) (pair_of point word) []
+
+-- whether a word is a name, or begins with one that another mark joins to what follows
+abbrev pub is_name_with : List ℕ → List ℕ → Bool
+is_name_with mark word =
+    option_map_or (λ parts. is_name parts.0 && same_text parts.1 mark) (two_parts word) false
+
+-- of a component and its port without a point between them
+abbrev pub point_text : List ℕ
+point_text = codes "; a point joins a component and its port, in one word"
+
+abbrev pub unpointed_hint : List ℕ → List (List ℕ)
+unpointed_hint word =
+    if is_name_with (codes ":") word || is_name_with (codes "->") word then point_text ∷ [] else []
+
+-- of a word where `C.p` is wanted
+abbrev pub hint_of_participant : List ℕ → List (List ℕ)
+hint_of_participant word =
+    option_map_or (λ parts. hint_of_parts parts.0 parts.1) (pair_of point word)
+    (unpointed_hint word)
+
+-- of a word where the first participant is wanted: a name may be the component's
+abbrev pub hint_of_first_participant : List ℕ → List (List ℕ)
+hint_of_first_participant word =
+    if is_name word then point_text ∷ [] else hint_of_participant word
 
 -- of a numeral behind a component
 abbrev pub hint_of_numbered : List ℕ → List ℕ → List (List ℕ)
@@ -217,10 +240,29 @@ hint_of_numbered component numeral =
     else (if is_negative numeral
     then codes "; a number is from 1 to 18446744073709551615" ∷ [] else hint_of_part component)
 
+-- whether a word begins with a name, and a point behind it
+abbrev pub is_pointed_name : List ℕ → Bool
+is_pointed_name word =
+    option_map_or (λ parts. is_name parts.0) (pair_of point word) false
+
+-- of a word without a colon where `C:1` is wanted
+abbrev pub uncoloned_hint : List ℕ → List (List ℕ)
+uncoloned_hint word =
+    if is_name word || is_name_with (codes "=") word || is_name_with (codes "->") word
+    || is_pointed_name word
+    then codes "; a colon joins a component and its number, in one word" ∷ [] else []
+
+-- whether a comma stands behind `C:1`
+abbrev pub is_want_with_comma : List ℕ → Bool
+is_want_with_comma word =
+    option_map_or (λ parts. is_want parts.0) (pair_of 44 word) false
+
 -- of a word where `C:1` is wanted
 abbrev pub hint_of_want : List ℕ → List (List ℕ)
 hint_of_want word =
-    option_map_or (λ parts. hint_of_numbered parts.0 parts.1) (pair_of colon word) []
+    if is_want_with_comma word then codes "; components are parted by blanks alone" ∷ []
+    else option_map_or (λ parts. hint_of_numbered parts.0 parts.1) (pair_of colon word)
+    (uncoloned_hint word)
 
 -- of a word where a value is wanted
 abbrev pub hint_of_value : List ℕ → List (List ℕ)
@@ -229,7 +271,9 @@ hint_of_value word =
 
 -- of a word where a variable is wanted
 abbrev pub hint_of_variable : Spelling → List ℕ → List (List ℕ)
-hint_of_variable Own word = hint_of_name word
+hint_of_variable Own word =
+    if is_pair word then codes "; a component names its own variables alone, as `v`" ∷ []
+    else hint_of_name word
 hint_of_variable Shared word = hint_of_pair word
 
 -- of a word where a term is wanted
@@ -238,6 +282,25 @@ hint_of_term spelling word =
     if are_digits word then hint_of_value word
     else (if has_front (codes "-") word && is_term spelling (drop 1 word)
     then signed_parts (drop 1 word) else hint_of_variable spelling word)
+
+-- of a word where the name of an interaction is wanted, in front of its participants
+abbrev pub hint_of_interaction : List ℕ → List (List ℕ)
+hint_of_interaction word =
+    if is_pair word
+    then codes "; the interaction's name stands in front of its participants" ∷ []
+    else hint_of_name word
+
+-- in front of its components with their numbers
+abbrev pub hint_of_granted : List ℕ → List (List ℕ)
+hint_of_granted word =
+    if is_want word then codes "; the interaction's name stands in front of its components" ∷ []
+    else hint_of_name word
+
+-- and of a word where the name of a class is, in front of an interaction's
+abbrev pub hint_of_class : List ℕ → List (List ℕ)
+hint_of_class word =
+    if is_pair word then codes "; a class and its interaction are two words, as `try P x`" ∷ []
+    else hint_of_name word
 
 -- of a word by the sort of word that is wanted at its place
 abbrev pub hint_of_sort : Spelling → Expected → List ℕ → List (List ℕ)
@@ -252,8 +315,11 @@ hint_of_sort spelling End word = []
 hint_of_sort spelling Grant word = text_parts (first_hint word)
 hint_of_sort spelling StartValue word = hint_of_value word
 hint_of_sort spelling FlightPlace word = hint_of_value word
-hint_of_sort spelling FirstParticipant word = hint_of_pair word
-hint_of_sort spelling MoreParticipants word = hint_of_pair word
+hint_of_sort spelling InteractionName word = hint_of_interaction word
+hint_of_sort spelling FirstParticipant word = hint_of_first_participant word
+hint_of_sort spelling MoreParticipants word = hint_of_participant word
+hint_of_sort spelling Granted word = hint_of_granted word
+hint_of_sort spelling Class word = hint_of_class word
 hint_of_sort spelling FirstMoved word = hint_of_want word
 hint_of_sort spelling MoreMoved word = hint_of_want word
 hint_of_sort spelling FirstSeen word = hint_of_want word

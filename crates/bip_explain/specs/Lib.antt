@@ -6,7 +6,10 @@ pub mod Forms
 pub mod Grants
 pub mod Hindrances
 pub mod Hints
+pub mod Keywords
+pub mod Later
 pub mod Limits
+pub mod Marks
 pub mod Models
 pub mod Parties
 pub mod Placed

@@ -1,11 +1,7 @@
 -- Why a text is no model, and how it is told.
-use Rattle.std.specs.Prelude.{◌≡◌, ◌⊎◌, ℕ, ◌||◌, List, [], ◌∷◌, ◌++◌, Option, None, Some, codes}
-use Rattle.std.specs.Prelude.{Bool, true, false, IsTrue, if◌then◌else◌, is_some, option_and_then, ⊤}
-use Rattle.bip_model.specs.Naming.{same_text}
+use Rattle.std.specs.Prelude.{◌≡◌, ◌⊎◌, ℕ, List, [], ◌∷◌, ◌++◌, None, Some, codes}
+use Rattle.std.specs.Prelude.{Bool, true, false, IsTrue, ⊤}
 use Rattle.bip_model.specs.Texts.{is_plain}
-use Rattle.bip_model.specs.declared.clauses.Spelling.{Spelling}
-use Rattle.bip_model.specs.declared.clauses.Spelling.TheVariants.{Own, Shared}
-use Rattle.bip_reader.specs.Statements.{keyword_of, statement_of}
 use Rattle.bip_reader.specs.declared.faults.ReadFault.{ReadFault}
 use Rattle.bip_reader.specs.declared.faults.Why.{Why}
 use Rattle.bip_reader.specs.declared.faults.Why.TheVariants as why
@@ -13,7 +9,9 @@ use Rattle.bip_explain.specs.Ends.{IsComplete, IsEndReason, end_parts, why_of_en
 use Rattle.bip_explain.specs.Explanations.{marked, placed_parts}
 use Rattle.bip_explain.specs.Forms.{IsByteReason, IsFormReason, IsNoLine, IsWantedThere}
 use Rattle.bip_explain.specs.Forms.{form_parts}
-use Rattle.bip_explain.specs.Hints.{first_hint, text_parts}
+use Rattle.bip_explain.specs.Hints.{first_hint}
+use Rattle.bip_explain.specs.Marks.{text_parts}
+use Rattle.bip_explain.specs.Keywords.{IsModelLine, IsStatedAt, behind_keyword, spelling_behind}
 use Rattle.bip_explain.specs.Limits.{AreWithin, IsLimitReason, limit_parts}
 use Rattle.bip_model.specs.Texts.{line_at}
 use Rattle.bip_explain.specs.Placed.{IsFirstOn, said_words}
@@ -23,11 +21,6 @@ use Rattle.bip_explain.specs.Twice.{why_of_twice}
 use Rattle.bip_explain.specs.Unknown.{AreDeclared, IsUnknownReason, named_interactions}
 use Rattle.bip_explain.specs.Unknown.{unknown_parts}
 use Rattle.bip_explain.specs.declared.expected.Expected.{Expected}
-use Rattle.bip_explain.specs.declared.expected.Expected.TheVariants as expected
-use Rattle.bip_explain.specs.declared.expected.Expected.TheVariants.{One, Name, VariableName}
-use Rattle.bip_explain.specs.declared.expected.Expected.TheVariants.{TransitionPort}
-use Rattle.bip_explain.specs.declared.expected.Expected.TheVariants.{InteractionName}
-use Rattle.bip_explain.specs.declared.expected.Expected.TheVariants.{LowInteraction, ClassName}
 use Rattle.bip_explain.specs.declared.forms.FormReason.{FormReason}
 use Rattle.bip_explain.specs.declared.models.ModelReason.{ModelReason}
 use Rattle.bip_explain.specs.declared.models.ModelReason.TheVariants.{Form, Keyword, Unknown, Twice}
@@ -36,41 +29,6 @@ use Rattle.bip_explain.specs.declared.models.ModelReason.TheVariants.{NoMemoryTo
 use Rattle.bip_explain.specs.declared.placed.Placed.{Placed}
 use Rattle.bip_explain.specs.declared.scopes.Standing.{Standing}
 use Rattle.bip_explain.specs.declared.scopes.Standing.TheVariants.{First, Outside, Inside}
-
--- what a line goes on with behind its first word, where a line can begin so outside of components
-abbrev pub behind_outside : List ℕ → Option Expected
-behind_outside keyword =
-    if same_text keyword (codes "component") then Some Name
-    else (if same_text keyword (codes "interaction") then Some InteractionName
-    else (if same_text keyword (codes "priority") then Some LowInteraction
-    else (if same_text keyword (codes "class") then Some ClassName else None)))
-
--- inside one
-abbrev pub behind_inside : List ℕ → Option Expected
-behind_inside keyword =
-    if same_text keyword (codes "var") then Some VariableName
-    else (if same_text keyword (codes "loc") || same_text keyword (codes "port") then Some Name
-    else (if same_text keyword (codes "trans") then Some TransitionPort
-    else (if same_text keyword (codes "end") then Some expected.End else None)))
-
--- and where the line stands; none where no line can begin so
-abbrev pub behind_keyword : Standing → List ℕ → Option Expected
-behind_keyword First keyword = if same_text keyword (codes "bip") then Some One else None
-behind_keyword Outside keyword = behind_outside keyword
-behind_keyword (Inside component) keyword = behind_inside keyword
-
--- how a line spells variables that begins with a word
-abbrev pub spelling_behind : List ℕ → Spelling
-spelling_behind keyword = if same_text keyword (codes "interaction") then Shared else Own
-
--- whether words are a line that states something
-abbrev pub states_something : List (List ℕ) → Bool
-states_something [] = false
-states_something (word ∷ rest) =
-    is_some (option_and_then (λ k. statement_of k rest) (keyword_of word))
-
-abbrev pub IsModelLine : List (List ℕ) → Type 0
-IsModelLine ws = IsTrue (states_something ws)
 
 -- a reason is true of the form of a line that stands so, whose first word can begin it: it is one
 -- of the words behind that one, no line that states something has these words in front, and what is
@@ -90,12 +48,6 @@ IsModelForm text number reason =
     IsByteReason (line_at text number) reason
     ⊎ ((standing : Standing) × IsStandingAt text number standing
     × IsFormOf standing (line_at text number) reason)
-
--- words say nothing, or state something, and the first can begin a line which stands so
-abbrev pub IsStatedAt : Standing → List (List ℕ) → Type 0
-IsStatedAt standing [] = ⊤
-IsStatedAt standing (keyword ∷ rest) =
-    IsModelLine (keyword ∷ rest) × ¬ (behind_keyword standing keyword ≡ None)
 
 -- the line of a text has a form: each byte can stand in a text, and the words are a line that can
 -- stand there

@@ -4,9 +4,10 @@ use Rattle.std.specs.Prelude.{All, Bool, false, ◌||◌, ◌==◌, drop, if◌t
 use Rattle.bip_model.specs.Naming.{IsName, same_text}
 use Rattle.bip_model.specs.Texts.{pair_of, words}
 use Rattle.std.specs.Fmt.{decimal}
-use Rattle.bip_explain.specs.Declarations.{HasLineWith, IsLaterLine, NoLineWith}
+use Rattle.bip_explain.specs.Declarations.{HasLineWith, NoLineWith}
 use Rattle.bip_explain.specs.Declarations.{declares_inside}
 use Rattle.bip_explain.specs.Explanations.{column_parts, marked}
+use Rattle.bip_explain.specs.Later.{IsLaterLine}
 use Rattle.bip_explain.specs.Limits.{are_head}
 use Rattle.bip_explain.specs.Placed.{IsNameBehind, IsPlacedOn}
 use Rattle.bip_explain.specs.Scopes.{IsInside}
@@ -102,8 +103,8 @@ name_interactions (keyword ∷ name ∷ more) =
 
 -- a reason is true of a line of a text: the word that is told stands at its column; of an
 -- interaction, or a component, that it names no line before begins the declaration, but a line
--- behind that is told; a component that is told to take no part is named by no participant; and
--- what a component lacks is of the kind that the word's place wants
+-- behind that is told declares it; a component that is told to take no part is named by no
+-- participant; and what a component lacks is of the kind that the word's place wants
 abbrev pub IsUnknownReason : List ℕ → ℕ → List ℕ → UnknownReason → Type 0
 IsUnknownReason text number line (Interaction placed later) =
     IsNameBehind name_interactions line placed

@@ -3,7 +3,7 @@ ghost use Rattle.std.specs.Prelude.{◌≡◌, ◌⊎◌, ◌<◌, ◌∷◌, �
 ghost use Rattle.std.specs.Prelude.{OnOk, codes};
 ghost use Rattle.bip_explain.specs.Declarations.{IsInnerLine, IsLineWith, NoLineWith, begins_with};
 ghost use Rattle.bip_explain.specs.Declarations.{begins_component, declares, declares_inner};
-ghost use Rattle.bip_explain.specs.Declarations.{HasLineWith, IsLaterLine, IsMore};
+ghost use Rattle.bip_explain.specs.Declarations.{HasLineWith, IsMore};
 ghost use Rattle.bip_explain.specs.Declarations.{IsSameComponent};
 ghost use Rattle.bip_explain.specs.Declarations.{IsBegunBetween, declares_inside};
 ghost use Rattle.bip_explain.specs.Placed.{said_words};
@@ -123,20 +123,8 @@ pub(crate) fn line_with(text: &[u8], line: u64, keyword: &[u8], name: &[u8]) -> 
     None
 }
 
-/// The number of the first line behind one that begins with these two words.
-pub(crate) fn later_line_with(text: &[u8], line: u64, keyword: &[u8], name: &[u8]) -> Option<u64>
-    ensures { IsLaterLine text.now line keyword.now name.now result }
-{
-    for (number, bytes) in NumberedLines::of(text) {
-        if line < number && begins_with(bytes, keyword, name) {
-            return Some(number);
-        }
-    }
-    None
-}
-
-// Whether the words of a line begin with these two.
-fn begins_with(line: &[u8], keyword: &[u8], name: &[u8]) -> bool
+/// Whether the words of a line begin with these two.
+pub(crate) fn begins_with(line: &[u8], keyword: &[u8], name: &[u8]) -> bool
     ensures { result ≡ begins_with keyword.now name.now (said_words line.now) }
 {
     match two_words(line) {

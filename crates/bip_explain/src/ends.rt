@@ -1,14 +1,15 @@
 //! What the text of a model lacks as a whole.
 ghost use Rattle.std.specs.Prelude.{◌≡◌, ◌⊎◌, ◌||◌, ◌+◌, ℕ, All, IfNone, IfOk, IfSome, IsTrue};
-ghost use Rattle.std.specs.Prelude.{List, false};
+ghost use Rattle.std.specs.Prelude.{List, false, ◌++◌, ◌∷◌, []};
 ghost use Rattle.bip_explain.specs.Ends.{HasComponent, IsComplete, IsLocated, declares_location};
 ghost use Rattle.bip_explain.specs.Ends.{has_location, is_located};
 ghost use Rattle.bip_explain.specs.Scopes.{IsOutside};
 ghost use Rattle.bip_explain.specs.declared.ends.EndReason.TheVariants.{InNoClass, NoComponent};
 ghost use Rattle.bip_explain.specs.declared.ends.EndReason.TheVariants.{NoLocation};
 ghost use Rattle.bip_explain.specs.Ends.{HasClassWith, IsEndReason, NoClassWith, end_parts};
-ghost use Rattle.bip_explain.specs.Ends.{IsAboveIn, IsMemberAt, IsMemberBefore, IsSaidIn};
-ghost use Rattle.bip_explain.specs.Ends.{SaysPriority, members, why_of_end};
+ghost use Rattle.bip_explain.specs.Ends.{IsMemberAt, IsMemberBefore, IsPathFrom, IsSaidIn};
+ghost use Rattle.bip_explain.specs.Ends.{LeadUp, PutAbove, SaysPriority, lines_parts, members};
+ghost use Rattle.bip_explain.specs.Ends.{why_of_end};
 ghost use Rattle.bip_reader.specs.declared.faults.Why.TheVariants.{Missing, NotAPartition};
 ghost use Rattle.bip_reader.specs.declared.faults.Why.TheVariants.{PriorityCycle};
 ghost use Rattle.bip_explain.specs.Explanations.{with_parts};
@@ -25,7 +26,7 @@ use bip_model::{MOST_INTERACTIONS, Name, Names, NumberedLines, is_text, line_at}
 use std::alloc::{AllocError, Global};
 
 /// What the text of a model lacks as a whole.
-#[derive(Clone, Copy)]
+#[derive(Drop)]
 pub(crate) enum EndReason<'t> {
     /// The component has no location.
     NoLocation(&'t [u8]),
@@ -34,8 +35,8 @@ pub(crate) enum EndReason<'t> {
     NoComponent,
     /// No line is the first line of a model.
     NoFirst,
-    /// The interaction stands above itself.
-    Above(Name),
+    /// The interaction stands above itself: the numbers of the lines that lead back to it.
+    Above(Name, Vec<u64>),
     /// The interaction stands in no class.
     InNoClass(Name),
     /// The interaction that a word of the line with this number names stands in a class before.
@@ -60,10 +61,11 @@ impl EndReason<'_> {
             }
             EndReason::NoComponent => explanation.say(b"there is no component"),
             EndReason::NoFirst => explanation.say(b"no line is `bip 1`"),
-            EndReason::Above(name) => {
+            EndReason::Above(name, lines) => {
                 explanation.say(b"interaction ");
                 explanation.say_word(name.as_bytes());
                 explanation.say(b" stands above itself");
+                say_lines(explanation, b": line ", lines.as_slice());
             }
             EndReason::InNoClass(name) => {
                 explanation.say(b"interaction ");
@@ -78,6 +80,17 @@ impl EndReason<'_> {
                 explanation.say(b" stands in a class already");
             }
         }
+    }
+}
+
+// Says lines by their numbers, the first behind a text.
+fn say_lines(explanation: &mut Explanation, front: &[u8], lines: &[u64])
+    ensures { explanation.new ≡ with_parts (lines_parts front.now lines.now) explanation.old }
+{
+    if let [line, more @ ..] = lines {
+        explanation.say(front);
+        explanation.say_number(*line);
+        say_lines(explanation, b", line ", more);
     }
 }
 
@@ -190,8 +203,8 @@ pub(crate) fn find_cycle<'t>(
     let declared = Declared::before(alloc, text, u64::MAX)?;
     let said = priorities_in(alloc, text)?;
     for name in declared.interactions.as_slice() {
-        if is_above_itself(alloc, said.as_slice(), name)? {
-            return Ok(Some(EndReason::Above(*name)));
+        if let Some(lines) = lines_around(alloc, said.as_slice(), name)? {
+            return Ok(Some(EndReason::Above(*name, lines)));
         }
     }
     Ok(None)
@@ -200,8 +213,16 @@ pub(crate) fn find_cycle<'t>(
 /// A priority that a line says: the second interaction stands above the first.
 #[derive(Clone, Copy)]
 pub(crate) struct SaidPriority<'t> {
+    line: u64,
     low: &'t [u8],
     high: &'t [u8],
+}
+
+/// The interaction to which lines lead up, and their numbers.
+#[derive(Drop)]
+pub(crate) struct PriorityPath {
+    high: Name,
+    lines: Vec<u64>,
 }
 
 // The priorities that the lines of a text say.
@@ -209,90 +230,165 @@ fn priorities_in<'t>(alloc: Global, text: &'t [u8]) -> Result<Vec<SaidPriority<'
     ensures { IfOk result (λ said. All (IsSaidIn text.now) said.items) }
 {
     let mut said = Vec::new(alloc);
-    for (_number, line) in NumberedLines::of(text) {
-        if let Some(priority) = priority_on(line) {
+    for (number, line) in NumberedLines::of(text) {
+        if let Some(priority) = priority_on(number, line) {
             said.push(priority)?;
         }
     }
     Ok(said)
 }
 
-fn priority_on(line: &[u8]) -> Option<SaidPriority<'_>>
-    ensures { IfSome result (SaysPriority (said_words line.now)) }
+fn priority_on(number: u64, line: &[u8]) -> Option<SaidPriority<'_>>
+    ensures number { IfSome result (λ said. said.line ≡ number) }
+    ensures says { IfSome result (λ said.
+        SaysPriority (said_words line.now) said.low.now said.high.now) }
 {
     let (keyword, low, _below, high) = four_words(line)?;
     if !is_text(keyword, b"priority") {
         return None;
     }
-    Some(SaidPriority { low, high })
+    Some(SaidPriority {
+        line: number,
+        low,
+        high,
+    })
 }
 
-fn is_above_itself(
+// The numbers of the lines that lead from an interaction back to it, if some do.
+fn lines_around(
     alloc: Global,
     said: &[SaidPriority<'_>],
     name: &Name,
-) -> Result<bool, AllocError>
+) -> Result<Option<Vec<u64>>, AllocError>
     ensures { (text : List ℕ) → All (IsSaidIn text) said.now
-        → IfOk result (λ is_above. IsTrue is_above → IsAboveIn text name.now name.now) }
+        → IfOk result (λ found. IfSome found (λ lines.
+        PutAbove text name.now lines.items name.now)) }
 {
-    let reached = reached_from(alloc, said, name)?;
-    Ok(reached.contains(name))
+    let paths = paths_from(alloc, said, name)?;
+    lines_to(alloc, name, paths.as_slice())
 }
 
-// What is reached from an interaction. Each turn goes on from what is reached, so as many as there
-// are interactions reach all.
-fn reached_from(alloc: Global, said: &[SaidPriority<'_>], name: &Name) -> Result<Names, AllocError>
-    ensures { (text : List ℕ) → All (IsSaidIn text) said.now
-        → IfOk result (λ reached. All (IsAboveIn text name.now) reached) }
+// The numbers of the lines of the path that leads to an interaction, if one does.
+fn lines_to(
+    alloc: Global,
+    high: &Name,
+    paths: &[PriorityPath],
+) -> Result<Option<Vec<u64>>, AllocError>
+    ensures { (text : List ℕ) → (from : List ℕ) → All (IsPathFrom text from) paths.now
+        → IfOk result (λ found. IfSome found (λ lines.
+        PutAbove text from lines.items high.now)) }
 {
-    let mut reached = Names::new(alloc);
-    for _turn in 0..MOST_INTERACTIONS {
-        if !reach_more(said, name, &mut reached)? {
-            return Ok(reached);
+    for path in paths {
+        if is_text(path.high.as_bytes(), high.as_bytes()) {
+            return Ok(Some(Vec::from_slice(alloc, path.lines.as_slice())?));
         }
     }
-    Ok(reached)
+    Ok(None)
 }
 
-// Reaches what stands above an interaction, or above what is reached, and says whether that is
-// more.
+// Paths from an interaction to what is reached. Each turn goes on from what is reached, so as many
+// as there are interactions reach all.
+fn paths_from(
+    alloc: Global,
+    said: &[SaidPriority<'_>],
+    name: &Name,
+) -> Result<Vec<PriorityPath>, AllocError>
+    ensures { (text : List ℕ) → All (IsSaidIn text) said.now
+        → IfOk result (λ paths. All (IsPathFrom text name.now) paths.items) }
+{
+    let mut paths = Vec::new(alloc);
+    for _turn in 0..MOST_INTERACTIONS {
+        if !reach_more(alloc, said, name, &mut paths)? {
+            return Ok(paths);
+        }
+    }
+    Ok(paths)
+}
+
+// Goes on from an interaction, or from what is reached, and says whether that reaches more.
 fn reach_more(
+    alloc: Global,
     said: &[SaidPriority<'_>],
     from: &Name,
-    reached: &mut Names,
+    paths: &mut Vec<PriorityPath>,
 ) -> Result<bool, AllocError>
     ensures { (text : List ℕ) → All (IsSaidIn text) said.now
-        → All (IsAboveIn text from.now) reached.old → All (IsAboveIn text from.now) reached.new }
+        → All (IsPathFrom text from.now) paths.old.items
+        → All (IsPathFrom text from.now) paths.new.items }
 {
     let mut is_more = false;
     for priority in said {
-        if let Some(high) = reached_by(*priority, from, reached) {
-            reached.push(high)?;
+        if let Some(path) = path_by(alloc, *priority, from, paths.as_slice())? {
+            paths.push(path)?;
             is_more = true;
         }
     }
     Ok(is_more)
 }
 
-// The interaction that a priority reaches, if it isn't reached yet.
-fn reached_by(priority: SaidPriority<'_>, from: &Name, reached: &Names) -> Option<Name>
-    ensures new { IfSome result (λ high. is_known high reached.now ≡ false) }
-    ensures above { (text : List ℕ) → IsSaidIn text priority.entry
-        → All (IsAboveIn text from.now) reached.now → IfSome result (IsAboveIn text from.now) }
+// The path to the interaction that a priority reaches, if none leads there yet.
+fn path_by(
+    alloc: Global,
+    priority: SaidPriority<'_>,
+    from: &Name,
+    paths: &[PriorityPath],
+) -> Result<Option<PriorityPath>, AllocError>
+    ensures { (text : List ℕ) → IsSaidIn text priority.entry
+        → All (IsPathFrom text from.now) paths.now
+        → IfOk result (λ found. IfSome found (IsPathFrom text from.now)) }
 {
-    let low = Name::of(priority.low)?;
-    let high = Name::of(priority.high)?;
-    if leads_from(&low, from, reached) && !reached.contains(&high) {
-        Some(high)
-    } else {
-        None
+    let Some((low, high)) = names_of(priority) else {
+        return Ok(None);
+    };
+    if is_reached(&high, paths) {
+        return Ok(None);
+    }
+    match lines_below(alloc, &low, from, paths)? {
+        None => Ok(None),
+        Some(lines) => Ok(Some(path_on(lines, priority.line, high)?)),
     }
 }
 
-fn leads_from(low: &Name, from: &Name, reached: &Names) -> bool
-    ensures { result ≡ (same_text low.now from.now || is_known low.now reached.now) }
+fn names_of(priority: SaidPriority<'_>) -> Option<(Name, Name)>
+    ensures low { IfSome result (λ names. names.0 ≡ priority.entry.low.now) }
+    ensures high { IfSome result (λ names. names.1 ≡ priority.entry.high.now) }
 {
-    is_text(low.as_bytes(), from.as_bytes()) || reached.contains(low)
+    let low = Name::of(priority.low)?;
+    let high = Name::of(priority.high)?;
+    Some((low, high))
+}
+
+// The path with a line more, which leads to an interaction.
+fn path_on(lines: Vec<u64>, line: u64, high: Name) -> Result<PriorityPath, AllocError>
+    ensures lines { IfOk result (λ path. path.lines.items ≡ lines.items ++ line ∷ []) }
+    ensures high { IfOk result (λ path. path.high ≡ high) }
+{
+    let mut lines = lines;
+    lines.push(line)?;
+    Ok(PriorityPath { high, lines })
+}
+
+fn is_reached(high: &Name, paths: &[PriorityPath]) -> bool {
+    paths
+        .iter()
+        .any(|path| is_text(path.high.as_bytes(), high.as_bytes()))
+}
+
+// The numbers of the lines that lead up from one interaction to another; none to the same one.
+fn lines_below(
+    alloc: Global,
+    low: &Name,
+    from: &Name,
+    paths: &[PriorityPath],
+) -> Result<Option<Vec<u64>>, AllocError>
+    ensures { (text : List ℕ) → All (IsPathFrom text from.now) paths.now
+        → IfOk result (λ found. IfSome found (λ lines.
+        LeadUp text from.now lines.items low.now)) }
+{
+    if is_text(from.as_bytes(), low.as_bytes()) {
+        return Ok(Some(Vec::new(alloc)));
+    }
+    lines_to(alloc, low, paths)
 }
 
 fn number_of(names: &Names, word: &[u8]) -> Option<usize> {

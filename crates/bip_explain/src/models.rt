@@ -4,26 +4,25 @@ ghost use Rattle.bip_reader.specs.declared.faults.Why.{Why};
 ghost use Rattle.bip_reader.specs.declared.faults.Why.TheVariants.{Syntax};
 ghost use Rattle.bip_explain.specs.Explanations.{Tells, with_parts};
 ghost use Rattle.bip_explain.specs.Models.{IsModelReason, IsOfWhy, IsReasonOf, MayLackReason};
-ghost use Rattle.bip_explain.specs.Models.{HasForm, behind_inside, takes_memory};
-ghost use Rattle.bip_explain.specs.Models.{behind_keyword, behind_outside, keyword_parts};
-ghost use Rattle.bip_explain.specs.Models.{model_parts, spelling_behind, standing_parts};
+ghost use Rattle.bip_explain.specs.Models.{HasForm, keyword_parts, model_parts, standing_parts};
+ghost use Rattle.bip_explain.specs.Models.{takes_memory};
 
 use crate::Explanation;
 use crate::ends::{EndReason, find_cycle, find_missing, find_unparted};
-use crate::expected::Expected;
 use crate::forms::{FormReason, find_byte, find_word};
 use crate::hints::hint_of_first;
+use crate::keywords::{behind_keyword, spelling_behind};
 use crate::limits::{LimitReason, find_limit};
 use crate::placed::{Placed, words_of};
 use crate::scopes::{Standing, standing_at};
 use crate::twice::{TwiceReason, find_transition, find_twice};
 use crate::unknown::{UnknownReason, find_unknown};
-use bip_model::{Spelling, is_text, line_at};
+use bip_model::line_at;
 use bip_reader::{ReadFault, Why};
 use std::alloc::{AllocError, Global};
 
 /// Why a text is no model.
-#[derive(Clone, Copy)]
+#[derive(Drop)]
 pub(crate) enum ModelReason<'t> {
     Form(FormReason<'t>),
     /// A first word that can't begin a line which stands so.
@@ -162,58 +161,5 @@ fn find_form(text: &[u8], number: u64) -> Option<ModelReason<'_>>
             let spelling = spelling_behind(first.word);
             Some(ModelReason::Form(find_word(spelling, start, rest)?))
         }
-    }
-}
-
-// What the line goes on with behind its first word; none where no line can begin so here.
-fn behind_keyword(standing: Standing<'_>, keyword: &[u8]) -> Option<Expected>
-    ensures { result ≡ behind_keyword standing.entry keyword.now }
-{
-    match standing {
-        Standing::First => is_text(keyword, b"bip").then_some(Expected::One),
-        Standing::Outside => behind_outside(keyword),
-        Standing::Inside(_component) => behind_inside(keyword),
-    }
-}
-
-fn behind_outside(keyword: &[u8]) -> Option<Expected>
-    ensures { result ≡ behind_outside keyword.now }
-{
-    if is_text(keyword, b"component") {
-        Some(Expected::Name)
-    } else if is_text(keyword, b"interaction") {
-        Some(Expected::InteractionName)
-    } else if is_text(keyword, b"priority") {
-        Some(Expected::LowInteraction)
-    } else if is_text(keyword, b"class") {
-        Some(Expected::ClassName)
-    } else {
-        None
-    }
-}
-
-fn behind_inside(keyword: &[u8]) -> Option<Expected>
-    ensures { result ≡ behind_inside keyword.now }
-{
-    if is_text(keyword, b"var") {
-        Some(Expected::VariableName)
-    } else if is_text(keyword, b"loc") || is_text(keyword, b"port") {
-        Some(Expected::Name)
-    } else if is_text(keyword, b"trans") {
-        Some(Expected::TransitionPort)
-    } else if is_text(keyword, b"end") {
-        Some(Expected::End)
-    } else {
-        None
-    }
-}
-
-fn spelling_behind(keyword: &[u8]) -> Spelling
-    ensures { result ≡ spelling_behind keyword.now }
-{
-    if is_text(keyword, b"interaction") {
-        Spelling::Shared
-    } else {
-        Spelling::Own
     }
 }

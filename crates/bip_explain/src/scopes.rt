@@ -55,8 +55,8 @@ pub(crate) fn ends_component(line: &[u8]) -> bool
 }
 
 impl<'t> Standing<'t> {
-    // Where the line behind one stands that stands here.
-    fn behind(self, line: &'t [u8]) -> Standing<'t>
+    /// Where the line behind one stands that stands here.
+    pub(crate) fn behind(self, line: &'t [u8]) -> Standing<'t>
         ensures { StandsBehind self.entry (said_words line.now) result }
     {
         let Some((keyword, rest)) = words_of(line) else {

@@ -15,7 +15,8 @@ ghost use Rattle.bip_explain.specs.Unknown.{other_parts, unknown_parts};
 ghost use Rattle.bip_explain.specs.Words.{point};
 
 use crate::Explanation;
-use crate::declarations::{Declared, Inner, declares_inside, later_line_with, line_with};
+use crate::declarations::{Declared, Inner, declares_inside, line_with};
+use crate::later::later_line_with;
 use crate::limits::begins_list;
 use crate::placed::{Placed, PlacedWords, words_of};
 use crate::scopes::{Standing, standing_at};

@@ -12,7 +12,8 @@ loop-number-preserved-in-Continue-1 c =
       at = (l.invariant.at.0 + 1, next.later);
       all = rw c.in_ok-push.ensures.items (All-push
           (IsSaidIn c.args.text.now) l.said.items c.in-Some-priority_on.priority l.invariant.all
-          (c.in-Some._number, rw next.line_is c.in-Some-priority_on.ensures));
+          (rw (c.in-Some-priority_on.ensures.number, next.line_is)
+          c.in-Some-priority_on.ensures.says));
     }
 
 pub loop-number-preserved : goal.loop-number-preserved

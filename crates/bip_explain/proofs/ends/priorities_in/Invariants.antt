@@ -6,6 +6,6 @@ use Rattle.bip_explain.proofs.ends.priorities_in.Given as goal
 
 abbrev pub invariant-loop-number : goal.invariant-loop-number
 invariant-loop-number l = record {
-  at : (m : ℕ) × IsAtLine l.text m l._number-iterator;
+  at : (m : ℕ) × IsAtLine l.text m l.number-iterator;
   all : All (IsSaidIn l.text) l.said.items;
 }

@@ -1,6 +1,6 @@
 use Rattle.std.proofs.Common.{◌∷◌, [], inr, sym, ◌∙◌}
 use Rattle.bip_explain.specs.Forms.{IsFormReason}
-use Rattle.bip_explain.specs.Models.{IsModelLine, IsStatedAt, spelling_behind}
+use Rattle.bip_explain.specs.Keywords.{IsModelLine, IsStatedAt, spelling_behind}
 use Rattle.bip_model.specs.Texts.{line_at}
 use Rattle.bip_explain.specs.Placed.{said_words}
 use Rattle.bip_explain.proofs.FormLemmas.{if_none, plain_from_said, words_from_said}

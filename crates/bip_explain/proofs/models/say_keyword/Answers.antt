@@ -1,6 +1,7 @@
 use Rattle.std.proofs.Common.{ap, ◌++◌, ◌∙◌, List, ℕ}
 use Rattle.bip_explain.specs.Explanations.{placed_parts, with_parts}
-use Rattle.bip_explain.specs.Hints.{first_hint, text_parts}
+use Rattle.bip_explain.specs.Hints.{first_hint}
+use Rattle.bip_explain.specs.Marks.{text_parts}
 use Rattle.bip_explain.specs.Models.{standing_parts}
 use Rattle.bip_explain.proofs.SayLemmas.{then_said}
 use Rattle.bip_explain.proofs.models.say_keyword.Goals as goal

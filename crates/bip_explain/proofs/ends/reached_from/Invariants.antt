@@ -1,8 +1,0 @@
-use Rattle.std.proofs.Common.{ℕ, List}
-use Rattle.std.specs.Prelude.{All}
-use Rattle.bip_explain.specs.Ends.{IsAboveIn, IsSaidIn}
-use Rattle.bip_explain.proofs.ends.reached_from.Given as goal
-
-abbrev pub invariant-loop-turn : goal.invariant-loop-turn
-invariant-loop-turn l =
-    (text : List ℕ) → All (IsSaidIn text) l.said → All (IsAboveIn text l.name) l.reached
