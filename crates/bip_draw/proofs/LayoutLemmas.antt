@@ -26,7 +26,7 @@ half_holds : (m : System) (values : Bool) (c : ℕ)
 half_holds m values c = let name = within-fold 0 m.component_names c in omega (arith, name)
 
 pub lanes_are_apart : LanesAreApart
-lanes_are_apart m values classes rows c d before =
+lanes_are_apart m values classes c d before =
     let half = half_of values m in
     let next : c + 1 ≤ d = omega (arith, before) in
     let further : (c + 1) * half ≤ d * half = mul-le-mul_right half next in
@@ -38,7 +38,7 @@ height_holds : (m : System) (values : Bool) → 34 ≤ height_of values m
 height_holds m values = omega arith
 
 pub rows_are_apart : RowsAreApart
-rows_are_apart m values classes rows i j before =
+rows_are_apart m values classes i j before =
     let height = height_of values m in
     let next : i + 1 ≤ j = omega (arith, before) in
     let further : (i + 1) * height ≤ j * height = mul-le-mul_right height next in

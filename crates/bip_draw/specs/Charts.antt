@@ -1,34 +1,60 @@
 -- The chart of a run, as SVG: a lane for each component, a row for each grant with a mark for each
 -- of its wants, and what the components are in.
-use Rattle.std.specs.Prelude.{ℕ, ◌+◌, ◌-◌, ◌*◌, ◌/◌, ◌%◌, List, ◌++◌, codes, length, max}
-use Rattle.std.specs.Prelude.{[], slice_index, slice_index_or, take}
+use Rattle.std.specs.Prelude.{ℕ, ◌≡◌, ◌≤◌, ◌+◌, ◌-◌, ◌*◌, ◌/◌, ◌%◌, ◌&&◌, Bool, true, List, ◌++◌}
+use Rattle.std.specs.Prelude.{[], ◌∷◌, codes, filter, length, max, nat_le, nat_lt, slice_index}
+use Rattle.std.specs.Prelude.{take, ⊤}
 use Rattle.std.specs.List.{flat_map, range_with_len}
+use Rattle.std.specs.Option.{option_map_or}
 use Rattle.bip_model.specs.Naming.{name_in}
 use Rattle.bip_model.specs.Partitions.{class_in}
-use Rattle.bip_model.specs.States.{State}
+use Rattle.bip_model.specs.States.{State, state_of}
+use Rattle.bip_model.specs.Steps.{after, start_of}
 use Rattle.bip_model.specs.Wants.{components_of}
 use Rattle.bip_model.specs.declared.grants.Grant.{Grant}
 use Rattle.bip_model.specs.declared.parts.System.{System}
 use Rattle.bip_model.specs.declared.partitions.Partition.{Partition}
+use Rattle.bip_model.specs.declared.states.LocalState.{LocalState}
 use Rattle.bip_model.specs.declared.wants.Want.{Want}
-use Rattle.bip_replay.specs.Runs.{state_after}
+use Rattle.bip_replay.specs.Faults.{IsFaultAt}
+use Rattle.bip_replay.specs.Runs.{Kept, StandsAfter, standing_of, state_after}
 use Rattle.bip_draw.specs.Escaping.{escaped}
 use Rattle.bip_draw.specs.Feet.{foot_height, foot_text, foot_width}
-use Rattle.bip_draw.specs.Layout.{lane_x, layout_of, legend_width, row_y}
+use Rattle.bip_draw.specs.Layout.{IsLayout, lane_x, layout_of, legend_width, row_y}
 use Rattle.bip_draw.specs.Locals.{changes_text, state_text}
 use Rattle.bip_draw.specs.Shapes.{bar_text, beside_text, chart_front, circle_end, circle_text}
 use Rattle.bip_draw.specs.Shapes.{colour_text, ended, group_end, head_front}
 use Rattle.bip_draw.specs.Shapes.{lane_line, number_text, place_text, square_text}
-use Rattle.bip_draw.specs.declared.charts.Chart.{Chart}
+use Rattle.bip_draw.specs.declared.charts.ChartFault.TheVariants.{Memory, NotNext}
+use Rattle.bip_draw.specs.declared.charts.ChartFault.{ChartFault}
+use Rattle.bip_draw.specs.declared.charts.Excerpt.{Excerpt}
+use Rattle.bip_draw.specs.declared.feet.Foot.{Foot}
 use Rattle.bip_draw.specs.declared.layout.Layout.{Layout}
-
--- the grant with a number from 0
-abbrev pub grant_at : List Grant → ℕ → Grant
-grant_at gs i = slice_index_or gs i (record { inter = record { 0 = 0 }; wants = [] })
 
 -- the state to which the first so many grants lead
 abbrev pub state_at : System → List Grant → ℕ → State
 state_at m gs count = state_after m (take count gs)
+
+-- a grant of a run with its number, and the states before it and behind it
+pub record Moment : Type 0 where
+  pub number : ℕ
+  pub grant : Grant
+  pub before : State
+  pub behind : State
+
+-- the moments of grants that are taken in a state, behind so many others
+abbrev pub moments_from : System → ℕ → State → List Grant → List Moment
+moments_from m count s [] = []
+moments_from m count s (g ∷ gs) =
+    record { number = count + 1; grant = g; before = s; behind = after m s g.inter.0 }
+    ∷ moments_from m (count + 1) (after m s g.inter.0) gs
+
+-- whether the grant with a number has a row
+abbrev pub is_row : Excerpt → ℕ → Bool
+is_row x number = nat_lt x.first number && option_map_or (λ last. nat_le number last) x.last true
+
+-- the moments of a run that have a row, in the order of its grants
+abbrev pub rows_of : System → Excerpt → List Grant → List Moment
+rows_of m x gs = filter (λ (at : Moment). is_row x at.number) (moments_from m 0 (start_of m) gs)
 
 -- a class in the legend: a square in its colour, and its name, in columns of eight
 abbrev pub legend_entry : Partition → ℕ → List ℕ
@@ -39,14 +65,15 @@ legend_entry classes k =
 abbrev pub legend_of : Partition → List ℕ
 legend_of classes = flat_map (legend_entry classes) (range_with_len 0 (length classes.names))
 
--- the lane of a component, with its name at the top
-abbrev pub lane_text : Layout → List (List ℕ) → ℕ → List ℕ
-lane_text l names c =
-    lane_line (lane_x l c) l.top (row_y l l.rows)
+-- the lane of a component, with its name at the top, beside so many rows
+abbrev pub lane_text : Layout → List (List ℕ) → ℕ → ℕ → List ℕ
+lane_text l names rows c =
+    lane_line (lane_x l c) l.top (row_y l rows)
     ++ (head_front (lane_x l c) (l.top - 6) ++ ended (name_in names c))
 
-abbrev pub lanes_text : Layout → System → List ℕ
-lanes_text l m = flat_map (lane_text l m.component_names) (range_with_len 0 (length m.components))
+abbrev pub lanes_text : Layout → System → ℕ → List ℕ
+lanes_text l m rows =
+    flat_map (lane_text l m.component_names rows) (range_with_len 0 (length m.components))
 
 -- the mark of a want: on the lane of its component, with that one's name and the want's number
 abbrev pub mark_text : Layout → List (List ℕ) → Want → List ℕ
@@ -67,51 +94,96 @@ wants_text l names wants = bar_of l wants ++ flat_map (mark_text l names) wants
 
 -- the front of a row: its place, the colour of the interaction's class, the row's number, and the
 -- interaction's name
-unfoldable pub row_head : Chart → Layout → ℕ → ℕ → ℕ → List ℕ
-row_head p l row number a =
+unfoldable pub row_head : System → Partition → Layout → ℕ → ℕ → ℕ → List ℕ
+row_head m classes l row number a =
     place_text 0 (row_y l row)
-    ++ (colour_text (class_in p.classes.now a)
-    ++ (number_text number ++ ended (name_in p.model.now.interaction_names a)))
+    ++ (colour_text (class_in classes a)
+    ++ (number_text number ++ ended (name_in m.interaction_names a)))
 
--- the row of a grant that leads from one state to another
-unfoldable pub row_text : Chart → Layout → ℕ → Grant → State → State → List ℕ
-row_text p l row g s t =
-    row_head p l row (p.first + row + 1) g.inter.0
-    ++ (wants_text l p.model.now.component_names g.wants
-    ++ (changes_text l p.model.now s t ++ group_end))
+-- the row of a moment, below so many others: its grant, and what that changes
+unfoldable pub row_text : System → Partition → Layout → ℕ → Moment → List ℕ
+row_text m classes l row at =
+    row_head m classes l row at.number at.grant.inter.0
+    ++ (wants_text l m.component_names at.grant.wants
+    ++ (changes_text l m at.before at.behind ++ group_end))
 
--- the row with a number from 0
-abbrev pub numbered_row : Chart → Layout → ℕ → List ℕ
-numbered_row p l row =
-    row_text p l row (grant_at p.book.now.grants (p.first + row))
-    (state_at p.model.now p.book.now.grants (p.first + row))
-    (state_at p.model.now p.book.now.grants (p.first + row + 1))
-
--- the state before the first row, and the rows
-unfoldable pub shown_run : Chart → Layout → List ℕ
-shown_run p l =
-    state_text l p.model.now (state_at p.model.now p.book.now.grants p.first)
-    ++ flat_map (numbered_row p l) (range_with_len 0 l.rows)
+-- rows, one below the other, below so many others
+abbrev pub rows_text : System → Partition → Layout → ℕ → List Moment → List ℕ
+rows_text m classes l row [] = []
+rows_text m classes l row (at ∷ rest) =
+    row_text m classes l row at ++ rows_text m classes l (row + 1) rest
 
 -- how wide a chart is: as its lanes, its legend or its foot
-abbrev pub chart_width : Chart → Layout → ℕ
-chart_width p l =
+abbrev pub chart_width : System → Partition → Layout → Foot → ℕ
+chart_width m classes l foot =
     max
-    (max (lane_x l (length p.model.now.components)) (legend_width (length p.classes.now.names)))
-    (foot_width p.foot)
+    (max (lane_x l (length m.components)) (legend_width (length classes.names)))
+    (foot_width foot)
 
--- a chart that is laid out
-abbrev pub chart_on : Chart → Layout → List ℕ
-chart_on p l =
-    chart_front (chart_width p l) (row_y l l.rows + foot_height l p.foot)
-    ++ (legend_of p.classes.now
-    ++ (lanes_text l p.model.now
-    ++ (shown_run p l
-    ++ (foot_text l p.foot ++ codes "</svg>\n"))))
+-- a chart that is laid out, with these rows, the state above them and what stands behind them
+abbrev pub chart_on : System → Partition → Layout → List Moment → State → Foot → List ℕ
+chart_on m classes l rows s foot =
+    chart_front (chart_width m classes l foot) (row_y l (length rows) + foot_height l foot)
+    ++ (legend_of classes
+    ++ (lanes_text l m (length rows)
+    ++ (state_text l m s
+    ++ (rows_text m classes l 0 rows
+    ++ (foot_text l (length rows) foot ++ codes "</svg>\n")))))
 
--- the chart: its rows are the grants from a first one on
-abbrev pub chart_of : Chart → List ℕ
-chart_of p =
-    chart_on p
-    (layout_of p.model.now p.values (length p.classes.now.names)
-    (length p.book.now.grants - p.first))
+-- the layout of a chart
+abbrev pub laid_out : System → Partition → Bool → Layout
+laid_out m classes values = layout_of m values (length classes.names)
+
+-- the chart of a run of a model with classes, by its grants: what is shown of it, and behind that a
+-- foot
+abbrev pub chart_of : System → Partition → Excerpt → List Grant → Foot → List ℕ
+chart_of m classes x gs foot =
+    chart_on m classes (laid_out m classes x.values) (rows_of m x gs) (state_at m gs x.first) foot
+
+-- what a chart that is being drawn keeps: what it shows of which model, where the run stands, how
+-- many grants it has taken, how many rows there are, the state above them, and their text
+pub record Sketch : Type 0 where
+  pub model : System
+  pub classes : Partition
+  pub excerpt : Excerpt
+  pub position : Kept
+  pub count : ℕ
+  pub rows : ℕ
+  pub above : List LocalState
+  pub text : List ℕ
+
+-- a chart shows this of a model with classes
+pub record IsChartOn (m : System) (classes : Partition) (x : Excerpt) (c : Sketch) : Type 0 where
+  pub model : c.model ≡ m
+  pub parted : c.classes ≡ classes
+  pub shows : c.excerpt ≡ x
+
+-- a chart has drawn these grants, which are a run above the base: it stands where they lead, and
+-- has their rows, and the text of these where they aren't too many
+pub record Draws (base : ℕ) (gs : List Grant) (c : Sketch) : Type 0 where
+  pub leads : StandsAfter c.model base gs (standing_of c.position)
+  pub counted : c.count ≡ length gs
+  pub rows : c.rows ≡ length (rows_of c.model c.excerpt gs)
+  pub above : state_of c.above ≡ state_at c.model gs c.excerpt.first
+  pub text : c.rows ≤ c.excerpt.most
+      → c.text ≡ rows_text c.model c.classes (laid_out c.model c.classes c.excerpt.values) 0
+      (rows_of c.model c.excerpt gs)
+
+-- why a chart takes no grant: that can't be next, and the chart stays; or want of memory
+abbrev pub IsChartFault : Sketch → Sketch → Grant → ChartFault → Type 0
+IsChartFault old new g (NotNext fault) = IsFaultAt (standing_of old.position) g fault × (new ≡ old)
+IsChartFault old new g Memory = ⊤
+
+-- What invariants say.
+
+pub record IsLaidOut (m : System) (classes : Partition) (values : Bool) (l : Layout) : Type 0 where
+  pub laid : l ≡ laid_out m classes values
+  pub small : IsLayout l
+
+-- the state before the next row is that in which the run stands; up to the first row it stands
+-- above the rows, too
+pub record IsInStep (m : System) (position : Kept) (count first : ℕ)
+    (above before : List LocalState) : Type 0 where
+  pub model : position.model ≡ m
+  pub here : state_of before ≡ (standing_of position).state
+  pub early : count ≤ first → state_of above ≡ (standing_of position).state

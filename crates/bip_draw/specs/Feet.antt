@@ -9,20 +9,20 @@ use Rattle.bip_draw.specs.declared.feet.Foot.TheVariants.{Fault, Nothing, Runnab
 use Rattle.bip_draw.specs.declared.feet.Foot.{Foot}
 use Rattle.bip_draw.specs.declared.layout.Layout.{Layout}
 
--- a reason, behind the last row
-abbrev pub fault_row : Layout → List ℕ → List ℕ
-fault_row l reason =
-    place_text 0 (row_y l l.rows) ++ (fault_front ++ (ended reason ++ group_end))
+-- a reason, behind so many rows
+abbrev pub fault_row : Layout → ℕ → List ℕ → List ℕ
+fault_row l rows reason =
+    place_text 0 (row_y l rows) ++ (fault_front ++ (ended reason ++ group_end))
 
 -- lines of a text there, one below the other
-unfoldable pub runnable_rows : Layout → List ℕ → List ℕ
-runnable_rows l text =
-    place_text 0 (row_y l l.rows) ++ (foot_front ++ (flat_map foot_line (lines text) ++ foot_end))
+unfoldable pub runnable_rows : Layout → ℕ → List ℕ → List ℕ
+runnable_rows l rows text =
+    place_text 0 (row_y l rows) ++ (foot_front ++ (flat_map foot_line (lines text) ++ foot_end))
 
-unfoldable pub foot_text : Layout → Foot → List ℕ
-foot_text l Nothing = []
-foot_text l (Fault reason) = fault_row l reason.now
-foot_text l (Runnable text) = runnable_rows l text.now
+unfoldable pub foot_text : Layout → ℕ → Foot → List ℕ
+foot_text l rows Nothing = []
+foot_text l rows (Fault reason) = fault_row l rows reason.now
+foot_text l rows (Runnable text) = runnable_rows l rows text.now
 
 -- how wide it is: as its reason, or its longest line
 abbrev pub foot_width : Foot → ℕ

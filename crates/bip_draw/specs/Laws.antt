@@ -23,7 +23,7 @@ NoneIsRed = (k : ℕ) → (4 ≤ hue k) × (hue k ≤ 36)
 -- a statement about the layout of each chart
 abbrev pub OfLayouts : (System → Layout → Type 0) → Type 0
 OfLayouts P =
-    (m : System) (values : Bool) (classes rows : ℕ) → P m (layout_of m values classes rows)
+    (m : System) (values : Bool) (classes : ℕ) → P m (layout_of m values classes)
 
 -- the lane of a component with a higher number is further right, and the names on two lanes don't
 -- meet, at eight points a byte

@@ -1,7 +1,7 @@
 -- Where things stand in a chart, in points: a lane for each component, a row for each grant. Texts
 -- have room for the longest name, at up to eight points a byte.
 use Rattle.std.specs.Prelude.{ℕ, ◌+◌, ◌*◌, ◌/◌, ◌<◌, ◌≤◌, List, length, max, min}
-use Rattle.std.specs.Prelude.{Bool, ◌^◌, if◌then◌else◌}
+use Rattle.std.specs.Prelude.{Bool, if◌then◌else◌}
 use Rattle.std.specs.List.{fold}
 use Rattle.bip_model.specs.declared.parts.Component.{Component}
 use Rattle.bip_model.specs.declared.parts.System.{System}
@@ -42,16 +42,14 @@ legend_width classes = 254 * ((classes + 7) / 8) + 10
 abbrev pub reason_width : ℕ → ℕ
 reason_width bytes = 7 * min bytes 400 + 20
 
--- where all stands in a chart of a model: whether it shows values, how many classes, and how many
--- rows it has
-abbrev pub layout_of : System → Bool → ℕ → ℕ → Layout
-layout_of m values classes rows =
+-- where all stands in a chart of a model: whether it shows values, and how many classes it has
+abbrev pub layout_of : System → Bool → ℕ → Layout
+layout_of m values classes =
     record {
       left = 7 * longest m.interaction_names + 70;
       half = half_of values m;
       top = legend_height classes;
       height = height_of values m;
-      rows = rows;
       values = values;
     }
 
@@ -70,4 +68,3 @@ pub record IsLayout (l : Layout) : Type 0 where
   pub head : 6 ≤ l.top
   pub top : l.top < 256
   pub height : l.height < 128
-  pub rows : l.rows < 2 ^ 54

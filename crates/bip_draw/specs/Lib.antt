@@ -8,5 +8,6 @@ pub mod Hues
 pub mod Laws
 pub mod Layout
 pub mod Locals
+pub mod Selections
 pub mod Shapes
 pub mod Tallies

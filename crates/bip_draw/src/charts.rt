@@ -1,15 +1,15 @@
 //! The chart of a run, as SVG.
-ghost use Rattle.std.specs.Prelude.{◌≡◌, ◌<◌, ◌+◌, ◌-◌, ◌^◌, ◌++◌, IfOk, OnOk, codes, length};
-ghost use Rattle.std.specs.Prelude.{max, slice_index};
+ghost use Rattle.std.specs.Prelude.{◌≡◌, ◌≤◌, ◌<◌, ◌+◌, ◌-◌, ◌^◌, ◌&&◌, ◌++◌, ◌∷◌, [], List, ℕ};
+ghost use Rattle.std.specs.Prelude.{IfErr, IfOk, OnOk, codes, if◌then◌else◌, length, max, nat_lt};
+ghost use Rattle.std.specs.Prelude.{slice_index};
 ghost use Rattle.std.specs.List.{flat_map, range_with_len};
 ghost use Rattle.bip_model.specs.Naming.{name_in};
 ghost use Rattle.bip_model.specs.Partitions.{AreClassesOf, class_in};
 ghost use Rattle.bip_model.specs.States.{state_of};
 ghost use Rattle.bip_model.specs.Wants.{IsWants, components_of};
-ghost use Rattle.bip_draw.specs.Charts.{bar_of, chart_of, chart_on, chart_width, grant_at};
-ghost use Rattle.bip_draw.specs.Charts.{lane_text, lanes_text, legend_entry, legend_of, mark_text};
-ghost use Rattle.bip_draw.specs.Charts.{numbered_row, row_head, row_text, shown_run, state_at};
-ghost use Rattle.bip_draw.specs.Charts.{wants_text};
+ghost use Rattle.bip_draw.specs.Charts.{bar_of, chart_of, chart_width, is_row, lane_text};
+ghost use Rattle.bip_draw.specs.Charts.{lanes_text, legend_entry, legend_of, mark_text, row_head};
+ghost use Rattle.bip_draw.specs.Charts.{row_text, wants_text};
 ghost use Rattle.bip_draw.specs.Feet.{foot_height, foot_text, foot_width};
 ghost use Rattle.bip_draw.specs.Layout.{IsLayout, lane_x, layout_of, row_y};
 ghost use Rattle.bip_draw.specs.Shapes.{chart_front};
@@ -25,60 +25,234 @@ use crate::shapes::{
     write_ended, write_group_end, write_head_front, write_lane_line, write_place, write_row_number,
     write_square,
 };
-use bip_model::{Classes, Grant, InterId, Model, Name, State, Want};
-use bip_replay::Book;
+use bip_model::{Classes, InterId, Model, Name, Number, State, Want};
+use bip_replay::{GrantRef, Position, StepFault};
 use std::alloc::{AllocError, Global};
+use std::marker;
 
-/// What a chart shows: the grants of a model's book from a first one on, counted from 0; what
-/// stands behind them; and values of variables, where these are wanted.
-#[derive(Clone, Copy)]
-pub struct Chart<'a, 'r> {
-    pub model: &'a Model,
-    pub classes: &'a Classes,
-    pub book: &'a Book<'a>,
-    pub first: usize,
-    pub foot: Foot<'r>,
+/// What a chart shows of a run: rows for the grants behind so many, up to the one with a number
+/// from 1, or up to the end; how many rows there may be; and values of variables, where these are
+/// wanted.
+#[derive(Clone, Copy, Debug)]
+pub struct Excerpt {
+    pub first: u64,
+    pub last: Option<u64>,
+    pub most: u32,
     pub values: bool,
 }
 
-/// The chart of a run as SVG: a lane for each component, and a row for each grant from the first
-/// one that is shown on, with a mark for each of its wants, and what it changes (docs/DRAW.md,
-/// "Charts").
-pub fn draw_chart(alloc: Global, chart: &Chart<'_, '_>) -> Result<Vec<u8>, AllocError>
-    requires classes { AreClassesOf chart.now.model.now chart.now.classes.now }
-    requires book { chart.now.book.now.model ≡ chart.now.model.now }
-    ensures { IfOk result (λ text. text.items ≡ chart_of chart.now) }
-{
-    let rows = chart.book.grants().len().saturating_sub(chart.first);
-    let layout = Layout::of(chart.model, chart.values, chart.classes.len(), rows);
-    let mut text = Vec::new(alloc);
-    write_front(&mut text, chart, &layout)?;
-    write_legend(&mut text, chart.classes)?;
-    write_lanes(&mut text, &layout, chart.model)?;
-    write_run(alloc, &mut text, chart, &layout)?;
-    write_foot(&mut text, &layout, &chart.foot)?;
-    text.extend_from_slice(b"</svg>\n")?;
-    Ok(text)
+impl Excerpt {
+    /// Whether the grant with this number has a row.
+    fn has_row(&self, number: u64) -> bool
+        ensures { result ≡ is_row self.now number }
+    {
+        let begun = self.first < number;
+        match self.last {
+            Some(last) => begun && number <= last,
+            None => begun,
+        }
+    }
 }
 
-fn write_front(text: &mut Vec<u8>, chart: &Chart<'_, '_>, layout: &Layout) -> Result<(), AllocError>
-    requires { IsLayout layout.now }
-    ensures { OnOk result (text.new.items ≡ text.old.items
-        ++ chart_front (chart_width chart.now layout.now)
-        (row_y layout.now layout.now.rows + foot_height layout.now chart.now.foot)) }
+/// What all rows of a chart have in common.
+#[derive(Clone, Copy)]
+struct Sheet<'a> {
+    model: &'a Model,
+    classes: &'a Classes,
+    excerpt: Excerpt,
+    layout: Layout,
+}
+
+/// Why a chart takes no grant.
+#[derive(Debug, Drop)]
+pub enum ChartFault {
+    /// The grant can't be next in the run.
+    NotNext(StepFault),
+    /// Want of memory.
+    Memory,
+}
+
+/// A chart that is being drawn of a run, grant by grant (docs/DRAW.md, "Charts"). It keeps the text
+/// of the rows that are shown and where the run stands, and no grant; so its memory doesn't grow
+/// with the run. Contracts see what it shows of which model, where the run stands, how many grants
+/// it has taken, how many rows there are, the state above the rows, and their text.
+#[derive(Drop)]
+pub struct Chart<'a> {
+    sheet: Sheet<'a>,
+    position: Position<'a>,
+    count: u64,
+    rows: u64,
+    above: State,
+    before: State,
+    text: Vec<u8>,
+}
+
+impl<'a> marker::Model for Chart<'a> {
+    ghost use Rattle.std.specs.Prelude.{◌≤◌, ◌<◌, ◌^◌};
+    ghost use Rattle.bip_draw.specs.Charts.{IsInStep, IsLaidOut, Sketch};
+
+    ghost Value = { Sketch };
+
+    ghost view = { λ c. record {
+      model = c.sheet.model.now;
+      classes = c.sheet.classes.now;
+      excerpt = c.sheet.excerpt;
+      position = c.position;
+      count = c.count;
+      rows = c.rows;
+      above = c.above;
+      text = c.text.items;
+    } };
+
+    ghost invariant = { λ c. IsLaidOut c.sheet.model.now c.sheet.classes.now c.sheet.excerpt.values
+        c.sheet.layout
+        × (c.rows ≤ c.count)
+        × (c.sheet.excerpt.most < 2 ^ 32)
+        × IsInStep c.sheet.model.now c.position c.count c.sheet.excerpt.first c.above c.before };
+}
+
+impl<'a> Chart<'a> {
+    ghost use Rattle.bip_model.specs.declared.grants.Grant.{Grant};
+    ghost use Rattle.bip_model.specs.Numbering.{last_number};
+    ghost use Rattle.bip_replay.specs.Runs.{IsNextAt, standing_of, standing_on};
+    ghost use Rattle.bip_draw.specs.Charts.{Draws, IsChartFault, IsChartOn};
+
+    /// The chart of the empty run above a base.
+    pub fn start(
+        alloc: Global,
+        model: &'a Model,
+        classes: &'a Classes,
+        base: Number,
+        excerpt: Excerpt,
+    ) -> Result<Chart<'a>, AllocError>
+        requires base { base < last_number }
+        requires classes { AreClassesOf model.now classes.now }
+        ensures on { IfOk result (IsChartOn model.now classes.now excerpt) }
+        ensures drawn { IfOk result (Draws base []) }
+    {
+        let layout = Layout::of(model, excerpt.values, classes.len());
+        Ok(Chart {
+            sheet: Sheet {
+                model,
+                classes,
+                excerpt,
+                layout,
+            },
+            position: Position::start(alloc, model, base)?,
+            count: 0,
+            rows: 0,
+            above: model.start(alloc)?,
+            before: model.start(alloc)?,
+            text: Vec::new(alloc),
+        })
+    }
+
+    /// How many grants it has taken.
+    pub fn count(&self) -> u64
+        ensures { result ≡ self.now.count }
+    {
+        self.count
+    }
+
+    /// How many rows are shown; where they are more than there may be, the later ones aren't kept.
+    pub fn rows(&self) -> u64
+        ensures { result ≡ self.now.rows }
+    {
+        self.rows
+    }
+
+    /// Where the run stands.
+    pub fn position(&self) -> &Position<'a>
+        ensures { result.now ≡ self.now.position }
+    {
+        &self.position
+    }
+
+    /// Takes a grant that can be next, and draws its row if it is shown; any other is refused with
+    /// its fault, and the chart stays. Without memory the chart may have a part of the row.
+    pub fn add(&mut self, grant: &GrantRef<'_>) -> Result<(), ChartFault>
+        requires room { self.old.count + 1 < 2 ^ 64 }
+        ensures next { OnOk result (IsNextAt (standing_of self.old.position) grant.now) }
+        ensures taken { OnOk result (standing_of self.new.position
+            ≡ standing_on (standing_of self.old.position) grant.now) }
+        ensures on { OnOk result
+            (IsChartOn self.old.model self.old.classes self.old.excerpt self.new) }
+        ensures drawn { OnOk result ((base : ℕ) (gs : List Grant)
+            → Draws base gs self.old → Draws base (gs ++ grant.now ∷ []) self.new) }
+        ensures fault { IfErr result (IsChartFault self.old self.new grant.now) }
+    {
+        if let Err(fault) = self.position.step(grant) {
+            return Err(ChartFault::NotNext(fault));
+        }
+        let number = self.count + 1;
+        let rows = add_row(
+            &mut self.text,
+            &self.sheet,
+            self.rows,
+            number,
+            grant,
+            &self.before,
+            self.position.state(),
+        );
+        if number <= self.sheet.excerpt.first {
+            self.sheet.model.run(&mut self.above, grant.inter());
+        }
+        self.sheet.model.run(&mut self.before, grant.inter());
+        self.count = number;
+        match rows {
+            Ok(rows) => {
+                self.rows = rows;
+                Ok(())
+            }
+            Err(_) => Err(ChartFault::Memory),
+        }
+    }
+
+    /// The whole chart, with what stands behind the last row.
+    pub fn finish(&self, alloc: Global, foot: &Foot<'_>) -> Result<Vec<u8>, AllocError>
+        requires { self.now.rows ≤ self.now.excerpt.most }
+        ensures { IfOk result (λ text. (base : ℕ) (gs : List Grant) → Draws base gs self.now
+            → text.items ≡ chart_of self.now.model self.now.classes self.now.excerpt gs foot.now) }
+    {
+        let sheet = &self.sheet;
+        let layout = &sheet.layout;
+        let mut text = Vec::new(alloc);
+        write_front(&mut text, sheet, self.rows, foot)?;
+        write_legend(&mut text, sheet.classes)?;
+        write_lanes(&mut text, layout, sheet.model, self.rows)?;
+        write_state(&mut text, layout, sheet.model, &self.above)?;
+        text.extend_from_slice(self.text.as_slice())?;
+        write_foot(&mut text, layout, self.rows, foot)?;
+        text.extend_from_slice(b"</svg>\n")?;
+        Ok(text)
+    }
+}
+
+fn write_front(
+    text: &mut Vec<u8>,
+    sheet: &Sheet<'_>,
+    rows: u64,
+    foot: &Foot<'_>,
+) -> Result<(), AllocError>
+    requires layout { IsLayout sheet.now.layout }
+    requires rows { rows < 2 ^ 54 }
+    ensures { OnOk result (text.new.items ≡ text.old.items ++ chart_front
+        (chart_width sheet.now.model.now sheet.now.classes.now sheet.now.layout foot.now)
+        (row_y sheet.now.layout rows + foot_height sheet.now.layout foot.now)) }
 {
-    let width = chart_width(chart, layout);
-    let bottom = layout.row_y(layout.rows) + chart.foot.height(layout);
+    let width = chart_width(sheet, foot);
+    let bottom = sheet.layout.row_y(rows) + foot.height(&sheet.layout);
     write_chart_front(text, width, bottom)
 }
 
-fn chart_width(chart: &Chart<'_, '_>, layout: &Layout) -> u64
-    requires { IsLayout layout.now }
-    ensures { result ≡ chart_width chart.now layout.now }
+fn chart_width(sheet: &Sheet<'_>, foot: &Foot<'_>) -> u64
+    requires { IsLayout sheet.now.layout }
+    ensures { result
+        ≡ chart_width sheet.now.model.now sheet.now.classes.now sheet.now.layout foot.now }
 {
-    let lanes = layout.lane_x(count_of(chart.model));
-    let legend = legend_width(chart.classes.len());
-    lanes.max(legend).max(chart.foot.width())
+    let lanes = sheet.layout.lane_x(count_of(sheet.model));
+    let legend = legend_width(sheet.classes.len());
+    lanes.max(legend).max(foot.width())
 }
 
 fn write_legend(text: &mut Vec<u8>, classes: &Classes) -> Result<(), AllocError>
@@ -101,13 +275,21 @@ fn write_legend_entry(text: &mut Vec<u8>, classes: &Classes, class: u16) -> Resu
     write_group_end(text)
 }
 
-fn write_lanes(text: &mut Vec<u8>, layout: &Layout, model: &Model) -> Result<(), AllocError>
-    requires { IsLayout layout.now }
-    ensures { OnOk result (text.new.items ≡ text.old.items ++ lanes_text layout.now model.now) }
+/// The lanes of the components, which go down beside so many rows.
+fn write_lanes(
+    text: &mut Vec<u8>,
+    layout: &Layout,
+    model: &Model,
+    rows: u64,
+) -> Result<(), AllocError>
+    requires layout { IsLayout layout.now }
+    requires rows { rows < 2 ^ 54 }
+    ensures { OnOk result
+        (text.new.items ≡ text.old.items ++ lanes_text layout.now model.now rows) }
 {
     let names = model.component_names();
     for comp in 0..count_of(model) {
-        write_lane(text, layout, names, comp)?;
+        write_lane(text, layout, names, rows, comp)?;
     }
     Ok(())
 }
@@ -116,156 +298,105 @@ fn write_lane(
     text: &mut Vec<u8>,
     layout: &Layout,
     names: &[Name],
+    rows: u64,
     comp: u16,
 ) -> Result<(), AllocError>
-    requires { IsLayout layout.now }
+    requires layout { IsLayout layout.now }
+    requires rows { rows < 2 ^ 54 }
     ensures { OnOk result
-        (text.new.items ≡ text.old.items ++ lane_text layout.now names.now comp) }
+        (text.new.items ≡ text.old.items ++ lane_text layout.now names.now rows comp) }
 {
     let x = layout.lane_x(comp);
-    write_lane_line(text, x, layout.top, layout.row_y(layout.rows))?;
+    write_lane_line(text, x, layout.top, layout.row_y(rows))?;
     write_head_front(text, x, layout.top - 6)?;
     write_ended(text, name_at(names, comp as usize))
 }
 
-/// The state to which the grants before the first row lead, and the rows.
-#[tactic(auto, unfolding(crate::specs::Charts::shown_run))]
-fn write_run(
-    alloc: Global,
+/// Draws the row of a grant with a number below so many rows, if it is shown and they aren't as
+/// many as there may be; how many rows are shown then.
+fn add_row(
     text: &mut Vec<u8>,
-    chart: &Chart<'_, '_>,
-    layout: &Layout,
-) -> Result<(), AllocError>
-    requires layout { IsLayout layout.now }
-    requires rows { layout.now.rows ≡ length chart.now.book.now.grants - chart.now.first }
-    requires book { chart.now.book.now.model ≡ chart.now.model.now }
-    ensures { OnOk result (text.new.items ≡ text.old.items ++ shown_run chart.now layout.now) }
+    sheet: &Sheet<'_>,
+    rows: u64,
+    number: u64,
+    grant: &GrantRef<'_>,
+    before: &State,
+    behind: &State,
+) -> Result<u64, AllocError>
+    requires layout { IsLayout sheet.now.layout }
+    requires room { rows + 1 < 2 ^ 64 }
+    ensures rows { IfOk result (λ now. now
+        ≡ (if is_row sheet.now.excerpt number then rows + 1 else rows)) }
+    ensures text { OnOk result (text.new.items ≡ text.old.items
+        ++ (if is_row sheet.now.excerpt number && nat_lt rows sheet.now.excerpt.most
+        then row_text sheet.now.model.now sheet.now.classes.now sheet.now.layout rows
+        (record {
+          number = number;
+          grant = grant.now;
+          before = state_of before.now;
+          behind = state_of behind.now;
+        })
+        else [])) }
 {
-    let mut before = first_state(alloc, chart)?;
-    let mut after = first_state(alloc, chart)?;
-    write_state(text, layout, chart.model, &before)?;
-    write_rows(text, chart, layout, &mut before, &mut after)?;
-    Ok(())
-}
-
-/// The state to which the grants before the first row lead.
-fn first_state(alloc: Global, chart: &Chart<'_, '_>) -> Result<State, AllocError>
-    requires { chart.now.book.now.model ≡ chart.now.model.now }
-    ensures { IfOk result (λ state. state_of state
-        ≡ state_at chart.now.model.now chart.now.book.now.grants chart.now.first) }
-{
-    let mut state = chart.model.start(alloc)?;
-    for number in 0..chart.first.min(chart.book.grants().len()) {
-        go_on(chart, &mut state, number);
+    if !sheet.excerpt.has_row(number) {
+        return Ok(rows);
     }
-    Ok(state)
-}
-
-/// Goes on by the grant with a number.
-fn go_on(chart: &Chart<'_, '_>, state: &mut State, number: usize)
-    requires number { number < length chart.now.book.now.grants }
-    requires book { chart.now.book.now.model ≡ chart.now.model.now }
-    requires state { state_of state.old
-        ≡ state_at chart.now.model.now chart.now.book.now.grants number }
-    ensures { state_of state.new
-        ≡ state_at chart.now.model.now chart.now.book.now.grants (number + 1) }
-{
-    chart.model.run(state, chart.book.grants()[number].inter);
-}
-
-fn write_rows(
-    text: &mut Vec<u8>,
-    chart: &Chart<'_, '_>,
-    layout: &Layout,
-    before: &mut State,
-    after: &mut State,
-) -> Result<(), AllocError>
-    requires layout { IsLayout layout.now }
-    requires rows { layout.now.rows ≡ length chart.now.book.now.grants - chart.now.first }
-    requires book { chart.now.book.now.model ≡ chart.now.model.now }
-    requires before { state_of before.old
-        ≡ state_at chart.now.model.now chart.now.book.now.grants chart.now.first }
-    requires after { state_of after.old
-        ≡ state_at chart.now.model.now chart.now.book.now.grants chart.now.first }
-    ensures { OnOk result (text.new.items ≡ text.old.items
-        ++ flat_map (numbered_row chart.now layout.now) (range_with_len 0 layout.now.rows)) }
-{
-    let grants = chart.book.grants();
-    for row in 0..layout.rows {
-        let number = chart.first + row as usize;
-        go_on(chart, after, number);
-        write_row(
-            text,
-            chart,
-            layout,
-            row,
-            grant_at(grants, number),
-            before,
-            after,
-        )?;
-        go_on(chart, before, number);
+    if rows < sheet.excerpt.most as u64 {
+        write_row(text, sheet, rows, number, grant, before, behind)?;
     }
-    Ok(())
+    Ok(rows + 1)
 }
 
-/// A row: a grant that leads from one state to another.
+/// A row: a grant with its number that leads from one state to another.
 #[tactic(auto, unfolding(crate::specs::Charts::row_text))]
 fn write_row(
     text: &mut Vec<u8>,
-    chart: &Chart<'_, '_>,
-    layout: &Layout,
+    sheet: &Sheet<'_>,
     row: u64,
-    grant: &Grant,
+    number: u64,
+    grant: &GrantRef<'_>,
     before: &State,
-    after: &State,
+    behind: &State,
 ) -> Result<(), AllocError>
-    requires layout { IsLayout layout.now }
-    requires row { row < layout.now.rows }
-    requires number { chart.now.first + row < 2 ^ 54 }
+    requires layout { IsLayout sheet.now.layout }
+    requires row { row < 2 ^ 54 }
     ensures { OnOk result (text.new.items ≡ text.old.items
-        ++ row_text chart.now layout.now row grant.now (state_of before.now) (state_of after.now)) }
+        ++ row_text sheet.now.model.now sheet.now.classes.now sheet.now.layout row
+        (record {
+          number = number;
+          grant = grant.now;
+          before = state_of before.now;
+          behind = state_of behind.now;
+        })) }
 {
-    let number = chart.first as u64 + row + 1;
-    write_row_head(text, chart, layout, row, number, grant.inter)?;
-    write_wants(
-        text,
-        layout,
-        chart.model.component_names(),
-        grant.wants.as_slice(),
-    )?;
-    write_changes(text, layout, chart.model, before, after)?;
+    let names = sheet.model.component_names();
+    write_row_head(text, sheet, row, number, grant.inter())?;
+    write_wants(text, &sheet.layout, names, grant.wants())?;
+    write_changes(text, &sheet.layout, sheet.model, before, behind)?;
     write_group_end(text)
-}
-
-/// The grant with a number.
-fn grant_at(grants: &[Grant], number: usize) -> &Grant
-    requires { number < length grants.now }
-    ensures { result.now ≡ grant_at grants.now number }
-{
-    &grants[number]
 }
 
 /// The front of a row, with its number and its interaction.
 #[tactic(auto, unfolding(crate::specs::Charts::row_head))]
 fn write_row_head(
     text: &mut Vec<u8>,
-    chart: &Chart<'_, '_>,
-    layout: &Layout,
+    sheet: &Sheet<'_>,
     row: u64,
     number: u64,
     inter: InterId,
 ) -> Result<(), AllocError>
-    requires layout { IsLayout layout.now }
-    requires row { row < layout.now.rows }
-    ensures { OnOk result
-        (text.new.items ≡ text.old.items ++ row_head chart.now layout.now row number inter.0) }
+    requires layout { IsLayout sheet.now.layout }
+    requires row { row < 2 ^ 54 }
+    ensures { OnOk result (text.new.items ≡ text.old.items
+        ++ row_head sheet.now.model.now sheet.now.classes.now sheet.now.layout row number
+        inter.0) }
 {
-    write_place(text, 0, layout.row_y(row))?;
-    write_colour(text, class_of(chart.classes, inter))?;
+    write_place(text, 0, sheet.layout.row_y(row))?;
+    write_colour(text, class_of(sheet.classes, inter))?;
     write_row_number(text, number)?;
     write_ended(
         text,
-        name_at(chart.model.interaction_names(), inter.0 as usize),
+        name_at(sheet.model.interaction_names(), inter.0 as usize),
     )
 }
 

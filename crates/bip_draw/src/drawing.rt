@@ -53,7 +53,7 @@ fn write_components(text: &mut Vec<u8>, model: &Model) -> Result<(), AllocError>
     Ok(())
 }
 
-fn write_component(
+pub(crate) fn write_component(
     text: &mut Vec<u8>,
     number: usize,
     name: &Name,
@@ -136,7 +136,7 @@ fn write_variable(
 
 /// The node of a location or a port: its component, a letter, and its own number.
 #[tactic(auto, unfolding(crate::specs::Drawing::part_node))]
-fn write_part_node(
+pub(crate) fn write_part_node(
     text: &mut Vec<u8>,
     comp: usize,
     letter: &[u8],
@@ -414,7 +414,11 @@ fn write_each_class(text: &mut Vec<u8>, classes: &Classes) -> Result<(), AllocEr
     Ok(())
 }
 
-fn write_class(text: &mut Vec<u8>, classes: &Classes, number: u16) -> Result<(), AllocError>
+pub(crate) fn write_class(
+    text: &mut Vec<u8>,
+    classes: &Classes,
+    number: u16,
+) -> Result<(), AllocError>
     requires { number < length classes.now.names }
     ensures { OnOk result (text.new.items ≡ text.old.items ++ class_text classes.now number) }
 {
@@ -466,7 +470,7 @@ fn write_interaction(
 }
 
 #[tactic(auto, unfolding(crate::specs::Drawing::box_of))]
-fn write_interaction_box(
+pub(crate) fn write_interaction_box(
     text: &mut Vec<u8>,
     model: &Model,
     classes: &Classes,
@@ -493,7 +497,7 @@ fn write_interaction_box(
 }
 
 #[tactic(auto, unfolding(crate::specs::Drawing::interaction_node))]
-fn write_interaction_node(text: &mut Vec<u8>, inter: InterId) -> Result<(), AllocError>
+pub(crate) fn write_interaction_node(text: &mut Vec<u8>, inter: InterId) -> Result<(), AllocError>
     ensures { OnOk result (text.new.items ≡ text.old.items ++ interaction_node inter.0) }
 {
     text.extend_from_slice(b"i")?;
@@ -543,7 +547,7 @@ fn write_priorities(text: &mut Vec<u8>, priorities: &[Pair]) -> Result<(), Alloc
     Ok(())
 }
 
-fn write_priority(text: &mut Vec<u8>, pair: Pair) -> Result<(), AllocError>
+pub(crate) fn write_priority(text: &mut Vec<u8>, pair: Pair) -> Result<(), AllocError>
     ensures { OnOk result (text.new.items ≡ text.old.items ++ priority_text pair) }
 {
     write_interaction_node(text, pair.low)?;
@@ -567,7 +571,7 @@ fn write_label(text: &mut Vec<u8>) -> Result<(), AllocError>
 }
 
 #[tactic(auto, unfolding(crate::specs::Drawing::label_end))]
-fn write_label_end(text: &mut Vec<u8>) -> Result<(), AllocError>
+pub(crate) fn write_label_end(text: &mut Vec<u8>) -> Result<(), AllocError>
     ensures { OnOk result (text.new.items ≡ text.old.items ++ label_end) }
 {
     text.extend_from_slice(b"\"];\n")
@@ -588,14 +592,14 @@ fn write_width_end(text: &mut Vec<u8>) -> Result<(), AllocError>
 }
 
 #[tactic(auto, unfolding(crate::specs::Drawing::arrow))]
-fn write_arrow(text: &mut Vec<u8>) -> Result<(), AllocError>
+pub(crate) fn write_arrow(text: &mut Vec<u8>) -> Result<(), AllocError>
     ensures { OnOk result (text.new.items ≡ text.old.items ++ arrow) }
 {
     text.extend_from_slice(b" -> ")
 }
 
 #[tactic(auto, unfolding(crate::specs::Drawing::no_arrow))]
-fn write_no_arrow(text: &mut Vec<u8>) -> Result<(), AllocError>
+pub(crate) fn write_no_arrow(text: &mut Vec<u8>) -> Result<(), AllocError>
     ensures { OnOk result (text.new.items ≡ text.old.items ++ no_arrow) }
 {
     text.extend_from_slice(b" [dir=none];\n")
@@ -616,7 +620,7 @@ fn write_two_borders(text: &mut Vec<u8>) -> Result<(), AllocError>
 }
 
 #[tactic(auto, unfolding(crate::specs::Drawing::legend_front))]
-fn write_legend_front(text: &mut Vec<u8>) -> Result<(), AllocError>
+pub(crate) fn write_legend_front(text: &mut Vec<u8>) -> Result<(), AllocError>
     ensures { OnOk result (text.new.items ≡ text.old.items ++ legend_front) }
 {
     text.extend_from_slice(b"subgraph cluster_classes {\nlabel=\"classes\";\n")
@@ -624,7 +628,7 @@ fn write_legend_front(text: &mut Vec<u8>) -> Result<(), AllocError>
 
 /// How all is drawn.
 #[tactic(auto, unfolding(crate::specs::Drawing::front_text))]
-fn write_front(text: &mut Vec<u8>) -> Result<(), AllocError>
+pub(crate) fn write_front(text: &mut Vec<u8>) -> Result<(), AllocError>
     ensures { OnOk result (text.new.items ≡ text.old.items ++ front_text) }
 {
     text.extend_from_slice(b"digraph model {\nrankdir=LR;\nfontname=\"sans-serif\";\n")?;

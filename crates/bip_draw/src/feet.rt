@@ -1,5 +1,5 @@
 //! What stands behind the last row of a chart.
-ghost use Rattle.std.specs.Prelude.{◌≡◌, ◌≤◌, ◌++◌, OnOk, length};
+ghost use Rattle.std.specs.Prelude.{◌≡◌, ◌<◌, ◌≤◌, ◌^◌, ◌++◌, OnOk, length};
 ghost use Rattle.std.specs.List.{flat_map};
 ghost use Rattle.bip_model.specs.Texts.{lines};
 ghost use Rattle.bip_draw.specs.Feet.{fault_row, foot_height, foot_text, foot_width, runnable_rows};
@@ -61,28 +61,37 @@ fn measure(text: &[u8]) -> (u64, usize)
     (count, most)
 }
 
+/// What stands behind so many rows.
 #[tactic(auto, unfolding(crate::specs::Feet::foot_text))]
 pub(crate) fn write_foot(
     text: &mut Vec<u8>,
     layout: &Layout,
+    rows: u64,
     foot: &Foot<'_>,
 ) -> Result<(), AllocError>
-    requires { IsLayout layout.now }
-    ensures { OnOk result (text.new.items ≡ text.old.items ++ foot_text layout.now foot.now) }
+    requires layout { IsLayout layout.now }
+    requires rows { rows < 2 ^ 54 }
+    ensures { OnOk result (text.new.items ≡ text.old.items ++ foot_text layout.now rows foot.now) }
 {
     match foot {
         Foot::Nothing => Ok(()),
-        Foot::Fault(reason) => write_fault_row(text, layout, reason),
-        Foot::Runnable(runnable) => write_runnable_rows(text, layout, runnable),
+        Foot::Fault(reason) => write_fault_row(text, layout, rows, reason),
+        Foot::Runnable(runnable) => write_runnable_rows(text, layout, rows, runnable),
     }
 }
 
-fn write_fault_row(text: &mut Vec<u8>, layout: &Layout, reason: &[u8]) -> Result<(), AllocError>
-    requires { IsLayout layout.now }
+fn write_fault_row(
+    text: &mut Vec<u8>,
+    layout: &Layout,
+    rows: u64,
+    reason: &[u8],
+) -> Result<(), AllocError>
+    requires layout { IsLayout layout.now }
+    requires rows { rows < 2 ^ 54 }
     ensures { OnOk result
-        (text.new.items ≡ text.old.items ++ fault_row layout.now reason.now) }
+        (text.new.items ≡ text.old.items ++ fault_row layout.now rows reason.now) }
 {
-    write_place(text, 0, layout.row_y(layout.rows))?;
+    write_place(text, 0, layout.row_y(rows))?;
     write_fault_front(text)?;
     write_ended(text, reason)?;
     write_group_end(text)
@@ -92,13 +101,15 @@ fn write_fault_row(text: &mut Vec<u8>, layout: &Layout, reason: &[u8]) -> Result
 fn write_runnable_rows(
     text: &mut Vec<u8>,
     layout: &Layout,
+    rows: u64,
     runnable: &[u8],
 ) -> Result<(), AllocError>
-    requires { IsLayout layout.now }
+    requires layout { IsLayout layout.now }
+    requires rows { rows < 2 ^ 54 }
     ensures { OnOk result
-        (text.new.items ≡ text.old.items ++ runnable_rows layout.now runnable.now) }
+        (text.new.items ≡ text.old.items ++ runnable_rows layout.now rows runnable.now) }
 {
-    write_place(text, 0, layout.row_y(layout.rows))?;
+    write_place(text, 0, layout.row_y(rows))?;
     write_foot_front(text)?;
     write_lines(text, runnable)?;
     write_foot_end(text)

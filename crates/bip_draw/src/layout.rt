@@ -8,8 +8,8 @@ ghost use Rattle.bip_draw.specs.Layout.{reason_width, row_y};
 
 use bip_model::{Component, Model, Name};
 
-/// Where things stand in a chart, in points: where the first lane's room begins, half of the
-/// distance between lanes, the top of the lanes, the height of a row, how many rows there are, and
+/// Where things stand in a chart, in points, however many rows it has: where the first lane's room
+/// begins, half of the distance between lanes, the top of the lanes, the height of a row, and
 /// whether values of variables are shown.
 #[derive(Clone, Copy)]
 pub(crate) struct Layout {
@@ -17,15 +17,13 @@ pub(crate) struct Layout {
     pub half: u64,
     pub top: u64,
     pub height: u64,
-    pub rows: u64,
     pub values: bool,
 }
 
 impl Layout {
-    /// The layout of a chart of a model with so many classes and rows, with values or without.
-    pub(crate) fn of(model: &Model, values: bool, classes: usize, rows: usize) -> Layout
-        requires { rows < 2 ^ 54 }
-        ensures layout { result ≡ layout_of model.now values classes rows }
+    /// The layout of a chart of a model with so many classes, with values or without.
+    pub(crate) fn of(model: &Model, values: bool, classes: usize) -> Layout
+        ensures layout { result ≡ layout_of model.now values classes }
         ensures small { IsLayout result }
     {
         Layout {
@@ -33,7 +31,6 @@ impl Layout {
             half: half_of(values, model),
             top: legend_height(classes),
             height: height_of(values, model),
-            rows: rows as u64,
             values,
         }
     }
@@ -50,7 +47,7 @@ impl Layout {
     /// The y of the row with a number from 0.
     pub(crate) fn row_y(&self, row: u64) -> u64
         requires layout { IsLayout self.now }
-        requires row { row ≤ self.now.rows + 1 }
+        requires row { row < 2 ^ 54 }
         ensures y { result ≡ row_y self.now row }
         ensures low { result < 2 ^ 62 }
     {

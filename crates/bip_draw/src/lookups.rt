@@ -1,10 +1,10 @@
 //! What a model has at a number.
 ghost use Rattle.std.specs.Prelude.{◌≡◌, ◌<◌, ◌≤◌, length};
 ghost use Rattle.bip_model.specs.Naming.{name_in};
-ghost use Rattle.bip_model.specs.Parts.{IsComponent};
-ghost use Rattle.bip_reader.specs.Writing.{component_in};
+ghost use Rattle.bip_model.specs.Parts.{IsComponent, IsInteraction};
+ghost use Rattle.bip_reader.specs.Writing.{component_in, interaction_in};
 
-use bip_model::{Component, Model, Name};
+use bip_model::{Component, InterId, Interaction, Model, Name};
 
 /// How many components a model has.
 pub(crate) fn count_of(model: &Model) -> u16
@@ -21,6 +21,23 @@ pub(crate) fn component_at(model: &Model, comp: u16) -> &Component
     ensures valid { IsComponent result.now }
 {
     &model.components()[comp as usize]
+}
+
+/// An interaction of a model.
+pub(crate) fn interaction_at(model: &Model, inter: InterId) -> &Interaction
+    requires { inter.0 < length model.now.interactions }
+    ensures interaction { result.now ≡ interaction_in model.now inter.0 }
+    ensures valid { IsInteraction model.now.components result.now }
+{
+    &model.interactions()[inter.0 as usize]
+}
+
+/// The name with a number, which is there.
+pub(crate) fn the_name(names: &[Name], number: usize) -> &Name
+    requires { number < length names.now }
+    ensures { result.now ≡ name_in names.now number }
+{
+    &names[number]
 }
 
 /// The name with a number; nothing where there is none.

@@ -5,6 +5,6 @@ use Rattle.bip_draw.proofs.charts.write_lanes.Goals as goal
 
 pub loop-comp-preserved : goal.loop-comp-preserved
 loop-comp-preserved c = c.in_ok-write_lane.ensures
-    ∙ more_written (lane_text c.args.layout.now c.args.model.now.component_names) c.loop-comp.comp
-    c.args.text.now.items c.loop-comp.text.items _ c.loop-comp.invariant
+    ∙ more_written (lane_text c.args.layout.now c.args.model.now.component_names c.args.rows)
+    c.loop-comp.comp c.args.text.now.items c.loop-comp.text.items _ c.loop-comp.invariant
     (rw c.component_names-names.ensures.names refl)

@@ -5,4 +5,4 @@ use Rattle.bip_draw.proofs.charts.write_lanes.Given as goal
 
 abbrev pub invariant-loop-comp : goal.invariant-loop-comp
 invariant-loop-comp l = l.text.items ≡ l.initial.text.items ++ flat_map
-    (lane_text l.layout l.model.component_names) (range_with_len 0 l.comp)
+    (lane_text l.layout l.model.component_names l.rows) (range_with_len 0 l.comp)
