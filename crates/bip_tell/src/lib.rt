@@ -9,4 +9,5 @@ mod messages;
 mod reasons;
 mod words;
 
-pub use lines::{tell_event, tell_first};
+pub use lines::{count_left, handed_on, tell_event, tell_first, write_lost};
+pub use words::{write_asked, write_class, write_comp, write_inter, write_numbered, write_port};

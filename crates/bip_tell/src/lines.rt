@@ -150,7 +150,7 @@ fn write_handed(text: &mut Vec<u8>, plan: &Plan, handed: &Option<Message>) -> Re
 }
 
 /// The message that an event hands on, where there is one at its place.
-fn handed_on<'p, B: Bank>(world: &World<'p, B>, event: Event) -> Option<Message>
+pub fn handed_on<'p, B: Bank>(world: &World<'p, B>, event: Event) -> Option<Message>
     ensures { result ≡ handed_on event world.now.mail }
 {
     match event {
@@ -160,7 +160,7 @@ fn handed_on<'p, B: Bank>(world: &World<'p, B>, event: Event) -> Option<Message>
 }
 
 /// How many messages stay in flight when the one that is handed on is taken out.
-fn count_left(handed: &Option<Message>, count: usize) -> usize
+pub fn count_left(handed: &Option<Message>, count: usize) -> usize
     ensures { result ≡ count_left handed.now count }
 {
     match handed {
@@ -226,7 +226,7 @@ fn write_one_put(
 }
 
 /// Writes how many messages were lost, if any.
-fn write_lost(text: &mut Vec<u8>, lost: usize) -> Result<(), AllocError>
+pub fn write_lost(text: &mut Vec<u8>, lost: usize) -> Result<(), AllocError>
     ensures { OnOk result (text.new.items ≡ text.old.items ++ lost_text lost) }
 {
     if lost == 0 {

@@ -30,7 +30,7 @@ pub(crate) fn write_count(text: &mut Vec<u8>, count: u64) -> Result<(), AllocErr
 }
 
 /// Writes a component behind some words.
-pub(crate) fn write_comp(
+pub fn write_comp(
     text: &mut Vec<u8>,
     words: &[u8],
     model: &Model,
@@ -44,7 +44,7 @@ pub(crate) fn write_comp(
 }
 
 /// Writes an interaction behind some words.
-pub(crate) fn write_inter(
+pub fn write_inter(
     text: &mut Vec<u8>,
     words: &[u8],
     model: &Model,
@@ -57,7 +57,7 @@ pub(crate) fn write_inter(
     write_name(text, model.interaction_names(), inter.0)
 }
 
-pub(crate) fn write_class(text: &mut Vec<u8>, plan: &Plan, class: ClassId) -> Result<(), AllocError>
+pub fn write_class(text: &mut Vec<u8>, plan: &Plan, class: ClassId) -> Result<(), AllocError>
     ensures { OnOk result
         (text.new.items ≡ text.old.items ++ named plan.now.classes.names class.0) }
 {
@@ -65,7 +65,7 @@ pub(crate) fn write_class(text: &mut Vec<u8>, plan: &Plan, class: ClassId) -> Re
 }
 
 /// Writes a component with a number of its.
-pub(crate) fn write_numbered(
+pub fn write_numbered(
     text: &mut Vec<u8>,
     model: &Model,
     comp: CompId,
@@ -80,7 +80,7 @@ pub(crate) fn write_numbered(
 }
 
 /// Writes the port of a component.
-pub(crate) fn write_port(
+pub fn write_port(
     text: &mut Vec<u8>,
     model: &Model,
     comp: CompId,
@@ -143,7 +143,7 @@ fn write_want(text: &mut Vec<u8>, model: &Model, want: &Want, role: Role) -> Res
 }
 
 /// Writes the class, the interaction and the number of a request.
-pub(crate) fn write_asked(
+pub fn write_asked(
     text: &mut Vec<u8>,
     plan: &Plan,
     class: ClassId,
