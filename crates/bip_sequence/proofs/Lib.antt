@@ -1,0 +1,5 @@
+pub mod FlightLemmas
+pub mod MarkLemmas
+pub mod NoteLemmas
+pub mod RunLemmas
+pub mod TextLemmas
