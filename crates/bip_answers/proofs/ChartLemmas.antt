@@ -1,249 +1,318 @@
--- Charts: the run with which a trace begins.
-use Rattle.std.proofs.Common.{◌≡◌, ◌≢◌, ◌+◌, ◌-◌, ◌<◌, ◌≤◌, ◌∙◌, ℕ, List, [], ◌∷◌, ◌++◌}
-use Rattle.std.proofs.Common.{None, Option, refl}
-use Rattle.std.proofs.Common.{Some, Result, Ok, Err, ap, ap₂, append_assoc, arith, drop, length}
-use Rattle.std.proofs.Common.{subst, sym, take}
-use Rattle.std.proofs.lemmas.List.{length-append, length-drop, length-take, take-append-drop}
-use Rattle.std.proofs.lemmas.List.{take-append-le, take_at, take_min}
-use Rattle.std.proofs.Math.Seq.{take-length}
-use Rattle.std.specs.Option.{option_map_or}
-use Rattle.std.specs.Prelude.{IsOk, min}
-use Rattle.bip_model.specs.Steps.{start_of}
-use Rattle.bip_model.specs.Texts.{lines}
+-- Charts: a trace that is followed line by line, and the run with which it begins.
+use Rattle.std.proofs.Common.{◌≡◌, ◌<◌, ◌≤◌, ◌∙◌, ℕ, List, [], ◌∷◌, ◌++◌, None, Option, Some}
+use Rattle.std.proofs.Common.{Result}
+use Rattle.std.proofs.Common.{Ok, Err, ap, arith, length, refl, subst, sym}
+use Rattle.std.specs.Prelude.{IfErr, IfOk}
+use Rattle.bip_model.proofs.LineLemmas.{line_read}
+use Rattle.bip_model.specs.Texts.{numbered_lines}
 use Rattle.bip_model.specs.declared.grants.Grant.{Grant}
 use Rattle.bip_model.specs.declared.parts.System.{System}
-use Rattle.bip_replay.specs.Replays.{IsFirstFault, IsRunOf}
-use Rattle.bip_replay.proofs.ItemLemmas.{first_at_fault, first_read, items_from-append, onto}
-use Rattle.bip_replay.proofs.RunLemmas.{IsRunFrom-parts}
-use Rattle.bip_replay.specs.Items.{before_rest, items_from, one_more}
+use Rattle.bip_reader.specs.Texts.{Means}
+use Rattle.bip_replay.proofs.ItemLemmas.{HasRead, has_read-below, has_read-end, has_read-more}
+use Rattle.bip_replay.proofs.ItemLemmas.{has_read-none}
+use Rattle.bip_replay.proofs.ReadingLemmas.{first_told}
+use Rattle.bip_replay.specs.Items.{one_more}
 use Rattle.bip_replay.specs.Lines.{grant_on}
-use Rattle.bip_replay.specs.Runs.{IsModelRun}
-use Rattle.bip_replay.specs.Traces.{IsTraceFault, grants_from, grants_of}
-use Rattle.bip_replay.specs.declared.faults.LineFault.{LineFault}
-use Rattle.bip_replay.specs.declared.faults.TraceFault.TheVariants.{Memory, Syntax, Unknown}
-use Rattle.bip_replay.specs.declared.faults.TraceFault.{TraceFault}
+use Rattle.bip_replay.specs.Replays.{IsReplayFault, IsRunOf}
+use Rattle.bip_replay.specs.Runs.{IsModelRun, Standing, standing_of}
+use Rattle.bip_replay.specs.declared.faults.StepFault.{StepFault}
 use Rattle.bip_replay.specs.declared.faults.BookFault.{BookFault}
 use Rattle.bip_replay.specs.declared.faults.ReplayFault.TheVariants.{NotARun}
-use Rattle.bip_answers.specs.Answers.{IsSaidOf}
-use Rattle.bip_answers.specs.Charted.{ArePart, IsFrontRun, count_shown, rows_shown, stopped}
-use Rattle.bip_answers.specs.Charted.{until_last}
-use Rattle.bip_answers.specs.Charted.{whole}
-use Rattle.bip_answers.specs.declared.answers.Answer.{Answer}
+use Rattle.bip_replay.specs.declared.faults.ReplayFault.{ReplayFault}
+use Rattle.bip_draw.specs.Charts.{Draws, IsChartFault, IsChartOn, Sketch, chart_of, rows_of}
+use Rattle.bip_draw.specs.Ends.{AddsRunnable}
+use Rattle.bip_draw.specs.declared.charts.ChartFault.TheVariants.{NotNext}
+use Rattle.bip_draw.specs.declared.feet.Foot.{Foot}
+use Rattle.bip_draw.specs.declared.charts.Excerpt.{Excerpt}
+use Rattle.bip_model.specs.States.{State}
+use Rattle.bip_model.specs.declared.partitions.Partition.{Partition}
+use Rattle.bip_replay.specs.Faults.{IsFaultAt, of_step, replay_of_line}
+use Rattle.bip_replay.specs.Replays.{IsLineFault}
+use Rattle.bip_replay.specs.declared.faults.LineFault.TheVariants as line_fault
+use Rattle.bip_replay.specs.declared.faults.LineFault.{LineFault}
+use Rattle.bip_answers.specs.Answers.{IsSaidOf, complaining}
+use Rattle.bip_answers.specs.Charted.{IsFollowed, IsFootOf, IsFrontRun, IsPictured, TakesLine}
+use Rattle.bip_answers.specs.Charted.{IsChartAnswer, charted, count_shown, excerpt_of, fitting}
+use Rattle.bip_answers.specs.Charted.{most_rows, stopped, too_long, whole}
+use Rattle.bip_answers.specs.Wording.{chart_refusal}
+use Rattle.bip_answers.specs.declared.answers.Status.TheVariants.{Refused}
 use Rattle.bip_answers.specs.declared.charted.Shown.{Shown}
+use Rattle.bip_answers.specs.declared.answers.Answer.{Answer}
 
-same_grants : {E : Type 0} (r : Result (List Grant) E) (gs hs : List Grant) → r ≡ Ok gs → r ≡ Ok hs
-    → gs ≡ hs
-same_grants r gs hs one other = cc
+-- what has been followed of a trace: the lines read as these grants, which are drawn, and those
+-- lines are left
+pub record DrawnSoFar (base : ℕ) (text : List ℕ) (gs : List Grant) (c : Sketch)
+    (left : List (ℕ × List ℕ)) : Type 0 where
+  pub read : HasRead (grant_on c.model) text gs left
+  pub drawn : Draws base gs c
 
--- all grants of a trace that is a run
-pub begins_whole : (m : System) (base : ℕ) (trace : List ℕ) (count : ℕ) (verdict : Answer)
-    (grants : List Grant)
-    → IsRunOf m base trace count → IsSaidOf m trace (Ok count) verdict
-    → grants_of m trace ≡ Ok grants → IsFrontRun m base trace grants verdict
-begins_whole m base trace count verdict grants is said read =
-    let same = same_grants (grants_of m trace) is.grants grants is.reads read in
-    subst (λ (gs : List Grant). IsFrontRun m base trace gs verdict) same
-    (subst (IsFrontRun m base trace is.grants) (sym said) (whole count is))
+pub drawn-none : (base : ℕ) (text : List ℕ) (c : Sketch) → Draws base [] c
+    → DrawnSoFar base text [] c (numbered_lines text)
+drawn-none base text c drawn =
+    record { read = has_read-none (grant_on c.model) text; drawn = drawn }
 
--- the lines before the first whose grant can't be next
-front_reads : (m : System) (base : ℕ) (trace : List ℕ) (number : ℕ) (fault : BookFault)
-    → (first : IsFirstFault m base trace number (NotARun fault))
-    → grants_from m 1 (take (number - 1) (lines trace)) ≡ Ok first.grants
-front_reads m base trace number fault first =
-    let front : take (number - 1) (lines trace) ≡ first.front =
-    ap (take (number - 1)) first.split
-    ∙ take_at first.front (first.line ∷ first.rest) (number - 1)
-    (omega (arith, first.numbered)) in
-    ap (grants_from m 1) front ∙ first.reads
-
--- those before the first line whose grant can't be next
-pub begins_stopped : (m : System) (base : ℕ) (trace : List ℕ) (number : ℕ) (fault : BookFault)
-    (verdict : Answer) (grants : List Grant)
-    → IsFirstFault m base trace number (NotARun fault)
-    → IsSaidOf m trace (Err (number, NotARun fault)) verdict
-    → grants_from m 1 (take (number - 1) (lines trace)) ≡ Ok grants
-    → IsFrontRun m base trace grants verdict
-begins_stopped m base trace number fault verdict grants first said read =
-    let same =
-    same_grants (grants_from m 1 (take (number - 1) (lines trace))) first.grants grants
-    (front_reads m base trace number fault first) read in
-    subst (λ (gs : List Grant). IsFrontRun m base trace gs verdict) same
-    (subst (IsFrontRun m base trace first.grants) (sym said) (stopped number fault first))
-
--- they are a run
-pub whole_run : (m : System) (base : ℕ) (trace : List ℕ) (count : ℕ) (grants : List Grant)
-    → IsRunOf m base trace count → grants_of m trace ≡ Ok grants → IsModelRun m base grants
-whole_run m base trace count grants is read =
-    subst (IsModelRun m base) (same_grants (grants_of m trace) is.grants grants is.reads read)
-    is.run
-
-pub stopped_run : (m : System) (base : ℕ) (trace : List ℕ) (number : ℕ) (fault : BookFault)
-    (grants : List Grant) → IsFirstFault m base trace number (NotARun fault)
-    → grants_from m 1 (take (number - 1) (lines trace)) ≡ Ok grants → IsModelRun m base grants
-stopped_run m base trace number fault grants first read =
-    subst (IsModelRun m base)
-    (same_grants (grants_from m 1 (take (number - 1) (lines trace))) first.grants grants
-    (front_reads m base trace number fault first) read) first.run
-
-pub stopped_reads : (m : System) (base : ℕ) (trace : List ℕ) (number : ℕ) (fault : BookFault)
-    → IsFirstFault m base trace number (NotARun fault)
-    → IsOk (grants_from m 1 (take (number - 1) (lines trace)))
-stopped_reads m base trace number fault first =
-    subst IsOk (sym (front_reads m base trace number fault first)) refl
-
-pub whole_reads : (m : System) (base : ℕ) (trace : List ℕ) (count : ℕ) → IsRunOf m base trace count
-    → IsOk (grants_of m trace)
-whole_reads m base trace count is = subst IsOk (sym is.reads) refl
-
--- how many rows are shown
-pub rows_counted : (shown : Shown) (grants : List Grant)
-    → count_shown shown grants ≡ rows_shown shown (length grants)
-rows_counted shown grants = ap (λ (n : ℕ). n - (shown.from - 1)) (by_last shown.to)
-  where
-    by_last : (last : Option ℕ)
-        → length (option_map_or (λ n. take n grants) last grants)
-        ≡ option_map_or (λ n. min n (length grants)) last (length grants)
-    by_last None = refl
-    by_last (Some n) = length-take n grants
-
--- lines before others read, where all do, as the first items of all
-front_items : {X : Type 0} (on : List ℕ → Result (Option X) LineFault) (n : ℕ)
-    (front rest : List (List ℕ)) (all : List X) → items_from on n (front ++ rest) ≡ Ok all
-    → (xs : List X) × (ys : List X) × (items_from on n front ≡ Ok xs) × (all ≡ xs ++ ys)
-front_items {X = X} on n [] rest all reads = ([], all, refl, refl)
-front_items {X = X} on n (line ∷ front) rest all reads =
-    let (said, later, says, behind, joined) =
-    first_read n (on line) (items_from on (n + 1) (front ++ rest)) all reads in
-    let (xs, ys, first, split) = front_items on (n + 1) front rest later behind in (
-      one_more [] said ++ xs,
-      ys,
-      ap₂ (before_rest n) says first ∙ one_line said xs,
-      sym joined ∙ (ap (λ (zs : List X). one_more [] said ++ zs) split
-          ∙ sym (append_assoc (one_more [] said) xs ys)),
+-- one line more
+pub drawn-more : (base : ℕ) (text line : List ℕ) (n : ℕ) (left after : List (ℕ × List ℕ))
+    (gs : List Grant) (c d : Sketch) (u : Unit {0}) → DrawnSoFar base text gs c left
+    → left ≡ (n, line) ∷ after → d.model ≡ c.model → TakesLine base gs line (Ok u) d
+    → (hs : List Grant) × DrawnSoFar base text hs d after
+drawn-more base text line n left after gs c d u so next same takes =
+    let longer : List Grant = one_more gs takes.0 in
+    let before : HasRead (grant_on d.model) text gs left =
+    subst (λ (m : System). HasRead (grant_on m) text gs left) (sym same) so.read in (
+      longer,
+      record {
+        read = has_read-more (grant_on d.model) text line n left after gs longer tt before next (
+          takes.0,
+          takes.1,
+          refl,
+        );
+        drawn = takes.2;
+      },
     )
-  where
-    one_line : (said : Option X) (xs : List X)
-        → before_rest n (Ok said) (Ok xs) ≡ Ok (one_more [] said ++ xs)
-    one_line None xs = refl
-    one_line (Some x) xs = refl
 
--- so lines before one read, as the first grants of a trace
-pub front_grants : (m : System) (trace : List ℕ) (line : ℕ) (all : List Grant)
-    → grants_of m trace ≡ Ok all
-    → (xs : List Grant) × (ys : List Grant)
-    × (grants_from m 1 (take (line - 1) (lines trace)) ≡ Ok xs) × (all ≡ xs ++ ys)
-front_grants m trace line all reads =
-    front_items (grant_on m) 1 (take (line - 1) (lines trace)) (drop (line - 1) (lines trace)) all
-    (ap (grants_from m 1) (take-append-drop (line - 1) (lines trace)) ∙ reads)
-
--- a run up to a row
-pub run_until_last : (m : System) (base : ℕ) (shown : Shown) (grants : List Grant)
-    → IsModelRun m base grants → IsModelRun m base (until_last shown grants)
-run_until_last m base shown grants run = by_last shown.to
-  where
-    by_last : (last : Option ℕ) → IsModelRun m base (option_map_or (λ n. take n grants) last grants)
-    by_last None = run
-    by_last (Some n) =
-        (IsRunFrom-parts m (start_of m) (λ _. base) (take n grants) (drop n grants)
-        (subst (IsModelRun m base) (sym (take-append-drop n grants)) run)).0
-
--- the first grants of a run, with the one behind them
-pub run_with : (m : System) (base : ℕ) (done rest : List Grant) (g : Grant)
-    → IsModelRun m base (done ++ g ∷ rest) → IsModelRun m base (done ++ g ∷ [])
-run_with m base done rest g run =
-    (IsRunFrom-parts m (start_of m) (λ _. base) (done ++ g ∷ []) rest
-    (subst (IsModelRun m base) (sym (append_assoc done (g ∷ []) rest)) run)).0
-
--- what reads has no fault but want of memory
-no_fault : {X E : Type 0} (r : Result X E) (e : E) → IsOk r → r ≡ Err e → ⊥
-no_fault (Ok x) e is same = cc
-no_fault (Err f) e is same = cc
-
-pub reads_all : (m : System) (trace : List ℕ) (number : ℕ) (fault : TraceFault)
-    → IsOk (grants_of m trace) → IsTraceFault m trace number fault → fault ≢ Memory → ⊥
-reads_all m trace number Syntax reads is other = no_fault (grants_of m trace) _ reads is
-reads_all m trace number Unknown reads is other = no_fault (grants_of m trace) _ reads is
-reads_all m trace number Memory reads is other = other refl
-
--- nor have the lines before one, where these read
-later : {X : Type 0} (xs : List X) (r : Result (List X) (ℕ × LineFault)) (e : ℕ × LineFault)
-    → onto xs r ≡ Err e → r ≡ Err e
-later xs (Ok ys) e is = cc
-later xs (Err f) e is = cc
-
-read_of : {X E : Type 0} (r : Result X E) → IsOk r → (x : X) × (r ≡ Ok x)
-read_of (Ok x) is = (x, refl)
-read_of (Err e) is = cc
-
-behind_front : (m : System) (trace : List ℕ) (end number : ℕ) (fault : LineFault)
-    → IsOk (grants_from m 1 (take (end - 1) (lines trace)))
-    → grants_of m trace ≡ Err (number, fault) → number < end → ⊥
-behind_front m trace end number fault reads is before =
-    let front = take (end - 1) (lines trace) in
-    let rest = drop (end - 1) (lines trace) in
-    let (xs, read) = read_of (grants_from m 1 front) reads in
-    let parted = items_from-append (grant_on m) 1 front rest xs read in
-    let whole : grants_from m 1 (front ++ rest) ≡ Err (number, fault) =
-    ap (grants_from m 1) (take-append-drop (end - 1) (lines trace)) ∙ is in
-    let at =
-    first_at_fault (grant_on m) (1 + length front) rest number fault
-    (later xs (grants_from m (1 + length front) rest) (number, fault) (sym parted ∙ whole)) in
-    let long = ap length at.split ∙ length-append at.before (at.line ∷ at.rest) in
+-- there are fewer grants than bytes
+pub drawn-below : (base : ℕ) (text line : List ℕ) (n : ℕ) (left after : List (ℕ × List ℕ))
+    (gs : List Grant) (c : Sketch) → DrawnSoFar base text gs c left → left ≡ (n, line) ∷ after
+    → c.count < length text
+drawn-below base text line n left after gs c so next =
     omega (
       arith,
-      at.counted,
-      long,
-      length-take (end - 1) (lines trace),
-      length-drop (end - 1) (lines trace),
-      before,
+      so.drawn.counted,
+      has_read-below (grant_on c.model) text line n left after gs so.read next,
     )
 
-pub reads_front : (m : System) (trace : List ℕ) (end number : ℕ) (fault : TraceFault)
-    → IsOk (grants_from m 1 (take (end - 1) (lines trace))) → IsTraceFault m trace number fault
-    → number < end → fault ≢ Memory → ⊥
-reads_front m trace end number Syntax reads is before other =
-    behind_front m trace end number _ reads is before
-reads_front m trace end number Unknown reads is before other =
-    behind_front m trace end number _ reads is before
-reads_front m trace end number Memory reads is before other = other refl
+-- the end of the trace
+pub drawn-end : (base : ℕ) (text : List ℕ) (left : List (ℕ × List ℕ)) (gs : List Grant)
+    (c : Sketch) → DrawnSoFar base text gs c left → left ≡ []
+    → IsFollowed c.model base text (Ok c.count) gs
+drawn-end base text left gs c so none =
+    (has_read-end (grant_on c.model) text gs left so.read none, so.drawn.counted)
 
--- lines before one read where all do
-pub lines_read : (m : System) (trace : List ℕ) (line : ℕ) → IsOk (grants_of m trace)
-    → IsOk (grants_from m 1 (take (line - 1) (lines trace)))
-lines_read m trace line reads =
-    let (all, read) = read_of (grants_of m trace) reads in
-    let (xs, ys, first, split) = front_grants m trace line all read in
-    subst IsOk (sym first) refl
+-- or its first line at fault
+pub drawn-fault : (base : ℕ) (text line : List ℕ) (n : ℕ) (left after : List (ℕ × List ℕ))
+    (gs : List Grant) (c d : Sketch) (fault : ReplayFault) → DrawnSoFar base text gs c left
+    → left ≡ (n, line) ∷ after → d.model ≡ c.model → TakesLine base gs line (Err fault) d
+    → IsFollowed d.model base text (Err (n, fault)) gs
+drawn-fault base text line n left after gs c d fault so next same takes =
+    let read : HasRead (grant_on d.model) text gs left =
+    subst (λ (m : System). HasRead (grant_on m) text gs left) (sym same) so.read in
+    let is = line_read text read.front left after n line read.are_left next in (
+      record {
+        front = read.front;
+        line = line;
+        rest = is.rest;
+        grants = gs;
+        split = is.split;
+        numbered = is.number;
+        reads = read.reads;
+        run = takes.1.leads.run;
+        why = takes.0;
+      },
+      refl,
+    )
 
--- where they have as many grants, the first ones are the first ones of all
-pub front_part : (m : System) (trace : List ℕ) (line count : ℕ) (read part : List Grant)
-    → grants_from m 1 (take (line - 1) (lines trace)) ≡ Ok read → count ≤ length read
-    → part ≡ take count read → ArePart m trace count part
-front_part m trace line count read part reads enough cut grants all =
-    let (xs, ys, first, split) = front_grants m trace line grants all in
-    let same = same_grants (grants_from m 1 (take (line - 1) (lines trace))) xs read first reads in
-    let within : count ≤ length xs = omega (arith, enough, ap length same) in
-    cut ∙ (ap (take count) (sym same)
-    ∙ sym (ap (take count) split ∙ take-append-le count xs ys within))
+-- what is said of a trace that was followed
+pub followed_run : (m : System) (base : ℕ) (trace : List ℕ)
+    (replayed : Result ℕ (ℕ × ReplayFault)) (gs : List Grant)
+    → IsFollowed m base trace replayed gs → IsModelRun m base gs
+    → IfOk replayed (IsRunOf m base trace)
+followed_run m base trace (Ok count) gs is run =
+    record { grants = gs; reads = is.0; run = run; counted = sym is.1 }
+followed_run m base trace (Err e) gs is run = tt
 
--- those of all are
-pub whole_part : (m : System) (trace : List ℕ) (count : ℕ) (read part : List Grant)
-    → grants_of m trace ≡ Ok read → part ≡ take count read → ArePart m trace count part
-whole_part m trace count read part reads cut grants all =
-    cut ∙ ap (take count) (same_grants (grants_of m trace) read grants reads all)
+pub followed_fault : (m : System) (base : ℕ) (trace : List ℕ)
+    (replayed : Result ℕ (ℕ × ReplayFault)) (gs : List Grant)
+    → IsFollowed m base trace replayed gs
+    → IfErr replayed (λ e. IsReplayFault m base trace e.0 e.1)
+followed_fault m base trace (Ok count) gs is = tt
+followed_fault m base trace (Err (number, fault)) gs is =
+    first_told m base trace number fault is.0
 
--- the first ones up to the last row that is drawn are those up to the last one that is shown
-pub part_drawn : (m : System) (base : ℕ) (trace : List ℕ) (count : ℕ) (shown : Shown)
-    (drawn : List Grant) → (run : IsRunOf m base trace count)
-    → ArePart m trace (option_map_or (λ last. min last count) shown.to count) drawn
-    → drawn ≡ until_last shown run.grants
-part_drawn m base trace count shown drawn run are =
-    are run.grants run.reads ∙ by_last shown.to
-  where
-    by_last : (last : Option ℕ)
-        → take (option_map_or (λ n. min n count) last count) run.grants
-        ≡ option_map_or (λ n. take n run.grants) last run.grants
-    by_last None = subst (λ (n : ℕ). take n run.grants ≡ run.grants) run.counted
-        (take-length run.grants)
-    by_last (Some n) = subst (λ (k : ℕ). take (min n k) run.grants ≡ take n run.grants) run.counted
-        (take_min n run.grants)
+-- the run with which it begins
+pub begins_whole : (m : System) (base : ℕ) (trace : List ℕ) (count : ℕ) (gs : List Grant)
+    (verdict : Answer) → IsFollowed m base trace (Ok count) gs → IsModelRun m base gs
+    → IsSaidOf m trace (Ok count) verdict → IsFrontRun m base trace gs verdict
+begins_whole m base trace count gs verdict is run said =
+    subst (IsFrontRun m base trace gs) (sym said)
+    (whole count (record { grants = gs; reads = is.0; run = run; counted = sym is.1 }))
+
+pub begins_stopped : (m : System) (base : ℕ) (trace : List ℕ) (number : ℕ) (fault : BookFault)
+    (gs : List Grant) (verdict : Answer)
+    → IsFollowed m base trace (Err (number, NotARun fault)) gs
+    → IsSaidOf m trace (Err (number, NotARun fault)) verdict
+    → IsFrontRun m base trace gs verdict
+begins_stopped m base trace number fault gs verdict is said =
+    subst (λ (hs : List Grant). IsFrontRun m base trace hs verdict) is.1
+    (subst (IsFrontRun m base trace is.0.grants) (sym said) (stopped number fault is.0))
+
+-- a chart shows what the one before it did
+pub shows_on : (m : System) (classes : Partition) (x : Excerpt) (c d : Sketch)
+    → IsChartOn m classes x c → IsChartOn c.model c.classes c.excerpt d
+    → IsChartOn m classes x d
+shows_on m classes x c d before on =
+    record {
+      model = on.model ∙ before.model;
+      parted = on.parted ∙ before.parted;
+      shows = on.shows ∙ before.shows;
+    }
+
+-- a line that says no grant is at fault, wherever it stands
+pub says_none : (m : System) (s : State) (used : ℕ → ℕ) (line : List ℕ) (fault : LineFault)
+    → grant_on m line ≡ Err fault → IsLineFault m s used line (replay_of_line fault)
+says_none m s used line line_fault.Syntax is = is
+says_none m s used line line_fault.Unknown is = is
+
+-- what a line does to a chart, by what it says
+module _ (base : ℕ) (gs : List Grant) (line : List ℕ) (c : Sketch) (drawn : Draws base gs c) where
+  of_model : c.position.model ≡ c.model
+  of_model = ap (λ (p : Standing). p.model) drawn.leads.there
+
+  said_there : (said : Result (Option Grant) LineFault) → grant_on c.position.model line ≡ said
+      → grant_on c.model line ≡ said
+  said_there said says =
+      subst (λ (m : System). grant_on m line ≡ said) of_model says
+
+  pub nothing_said : grant_on c.position.model line ≡ Ok None → TakesLine base gs line (Ok tt) c
+  nothing_said says = (None, said_there (Ok None) says, drawn)
+
+  pub none_said : (fault : LineFault) → grant_on c.position.model line ≡ Err fault
+      → TakesLine base gs line (Err (replay_of_line fault)) c
+  none_said fault says = (
+    says_none c.model _ _ line fault (said_there (Err fault) says),
+    drawn,
+  )
+
+  pub one_said : (g : Grant) (d : Sketch) → grant_on c.position.model line ≡ Ok (Some g)
+      → d.model ≡ c.model → Draws base (gs ++ g ∷ []) d → TakesLine base gs line (Ok tt) d
+  one_said g d says same longer = (
+    Some g,
+    subst (λ (m : System). grant_on m line ≡ Ok (Some g)) (sym same)
+        (said_there (Ok (Some g)) says),
+    longer,
+  )
+
+  pub one_refused : (g : Grant) (d : Sketch) (fault : StepFault)
+      → grant_on c.position.model line ≡ Ok (Some g) → IsChartFault c d g (NotNext fault)
+      → TakesLine base gs line (Err (NotARun (of_step fault))) d
+  one_refused g d fault says is =
+      subst (λ (k : Sketch). TakesLine base gs line (Err (NotARun (of_step fault))) k) (sym is.1) (
+        (
+          fault,
+          refl,
+          record {
+            grant = g;
+            reads = said_there (Ok (Some g)) says;
+            why = subst (λ (p : Standing). IsFaultAt p g fault) drawn.leads.there is.0;
+          },
+        ),
+        drawn,
+      )
+
+-- the chart of a run, or too many rows
+module _ (base : ℕ) (gs : List Grant) (shown : Shown) (c : Sketch) (verdict : Answer)
+    (drawn : Draws base gs c) (shows : c.excerpt ≡ excerpt_of shown) where
+  counts : c.rows ≡ count_shown c.model shown gs
+  counts =
+      drawn.rows
+      ∙ ap (λ (x : Excerpt). length (rows_of c.model x gs)) shows
+
+  pub pictured : (foot : Foot) (runnable text : List ℕ) → c.rows ≤ most_rows
+      → IsFootOf shown c.count verdict runnable foot
+      → AddsRunnable c.position.model (standing_of c.position).state [] runnable
+      → text ≡ chart_of c.model c.classes c.excerpt gs foot
+      → IsPictured c.model c.classes shown gs verdict
+      (record {
+        status = verdict.status;
+        output = text;
+        complaint = verdict.output;
+        file = None;
+      })
+  pictured foot runnable text few behind runs is =
+      let fits : count_shown c.model shown gs ≤ most_rows = omega (arith, few, counts) in
+      subst (λ (output : List ℕ).
+      IsPictured c.model c.classes shown gs verdict
+      (record {
+        status = verdict.status;
+        output = output;
+        complaint = verdict.output;
+        file = None;
+      }))
+      (sym (is ∙ ap (λ (x : Excerpt). chart_of c.model c.classes x gs foot) shows))
+      (fitting foot runnable fits
+      (subst (λ (n : ℕ). IsFootOf shown n verdict runnable foot) drawn.counted behind)
+      (subst (λ (p : Standing). AddsRunnable p.model p.state [] runnable) drawn.leads.there runs))
+
+  pub overlong : most_rows < c.rows
+      → IsPictured c.model c.classes shown gs verdict
+      (complaining Refused (chart_refusal most_rows))
+  overlong many =
+      let more : most_rows < count_shown c.model shown gs = omega (arith, many, counts) in
+      too_long more
+
+-- a chart that stays shows what it did
+pub shows_itself : (c d : Sketch) → d ≡ c → IsChartOn c.model c.classes c.excerpt d
+shows_itself c d same =
+    subst (λ (k : Sketch). IsChartOn c.model c.classes c.excerpt k) (sym same)
+    (record { model = refl; parted = refl; shows = refl })
+
+-- a trace that a chart of a model followed, with the grants that it drew
+pub record Followed (m : System) (classes : Partition) (x : Excerpt) (base : ℕ) (trace : List ℕ)
+    (replayed : Result ℕ (ℕ × ReplayFault)) (c : Sketch) : Type 0 where
+  pub grants : List Grant
+  pub on : IsChartOn m classes x c
+  pub says : IsFollowed m base trace replayed grants
+  pub drawn : Draws base grants c
+
+pub has_followed : (m : System) (classes : Partition) (x : Excerpt) (base : ℕ) (trace : List ℕ)
+    (replayed : Result ℕ (ℕ × ReplayFault)) (c d : Sketch) → IsChartOn m classes x c
+    → IsChartOn c.model c.classes c.excerpt d
+    → (gs : List Grant) × IsFollowed d.model base trace replayed gs × Draws base gs d
+    → Followed m classes x base trace replayed d
+has_followed m classes x base trace replayed c d start on so =
+    let here = shows_on m classes x c d start on in
+    record {
+      grants = so.0;
+      on = here;
+      says = subst (λ (n : System). IsFollowed n base trace replayed so.0) here.model so.1;
+      drawn = so.2;
+    }
+
+module _ (m : System) (classes : Partition) (x : Excerpt) (base : ℕ) (trace : List ℕ)
+    (replayed : Result ℕ (ℕ × ReplayFault)) (c : Sketch)
+    (is : Followed m classes x base trace replayed c) where
+  a_run : IsModelRun m base is.grants
+  a_run = subst (λ (n : System). IsModelRun n base is.grants) is.on.model is.drawn.leads.run
+
+  pub run_followed : IfOk replayed (IsRunOf m base trace)
+  run_followed = followed_run m base trace replayed is.grants is.says a_run
+
+  pub fault_followed : IfErr replayed (λ e. IsReplayFault m base trace e.0 e.1)
+  fault_followed = followed_fault m base trace replayed is.grants is.says
+
+  -- what is answered of it
+  module _ (shown : Shown) (verdict answer : Answer) (text : List ℕ) (means : Means text m classes)
+      (shows : (n : ℕ) (gs : List Grant) → Draws n gs c
+      → IsPictured c.model c.classes shown gs verdict answer) where
+    the_picture : IsPictured m classes shown is.grants verdict answer
+    the_picture =
+        subst (λ (n : System). IsPictured n classes shown is.grants verdict answer) is.on.model
+        (subst (λ (k : Partition). IsPictured c.model k shown is.grants verdict answer)
+        is.on.parted (shows base is.grants is.drawn))
+
+    pub answered_whole : (count : ℕ) → replayed ≡ Ok count → IsSaidOf m trace replayed verdict
+        → IsChartAnswer base shown text trace answer
+    answered_whole count same said =
+        charted m classes is.grants verdict answer means
+        (begins_whole m base trace count is.grants verdict
+        (subst (λ r. IsFollowed m base trace r is.grants) same is.says) a_run
+        (subst (λ r. IsSaidOf m trace r verdict) same said)) the_picture
+
+    pub answered_stopped : (number : ℕ) (fault : BookFault)
+        → replayed ≡ Err (number, NotARun fault) → IsSaidOf m trace replayed verdict
+        → IsChartAnswer base shown text trace answer
+    answered_stopped number fault same said =
+        charted m classes is.grants verdict answer means
+        (begins_stopped m base trace number fault is.grants verdict
+        (subst (λ r. IsFollowed m base trace r is.grants) same is.says)
+        (subst (λ r. IsSaidOf m trace r verdict) same said)) the_picture

@@ -3,4 +3,5 @@ pub mod ChartLemmas
 pub mod OneAnswerLemmas
 pub mod OneCheckLemmas
 pub mod RenderingLemmas
+pub mod SelectedLemmas
 pub mod ViewLemmas

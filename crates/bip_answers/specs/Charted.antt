@@ -1,20 +1,23 @@
 -- The answer to a chart: the picture of the run with which a trace begins, beside its verdict.
 use Rattle.std.specs.Prelude.{◌≡◌, ◌<◌, ◌≤◌, ◌-◌, ◌&&◌, ℕ, Bool, true, List, length, nat_le, nat_lt}
-use Rattle.std.specs.Prelude.{Ok, Option, None, Some, [], false, min, take, ⊤}
+use Rattle.std.specs.Prelude.{Err, Ok, Option, None, Result, Some, [], false, take, ⊤}
 use Rattle.std.specs.Option.{option_map_or}
-use Rattle.bip_draw.specs.Charts.{chart_of}
+use Rattle.bip_draw.specs.Charts.{Draws, Sketch, chart_of, rows_of}
 use Rattle.bip_draw.specs.Ends.{AddsRunnable}
-use Rattle.bip_draw.specs.declared.charts.Chart.{Chart}
+use Rattle.bip_draw.specs.declared.charts.Excerpt.{Excerpt}
 use Rattle.bip_draw.specs.declared.feet.Foot.TheVariants.{Fault, Nothing, Runnable}
 use Rattle.bip_draw.specs.declared.feet.Foot.{Foot}
 use Rattle.bip_model.specs.declared.grants.Grant.{Grant}
 use Rattle.bip_model.specs.declared.parts.System.{System}
 use Rattle.bip_model.specs.declared.partitions.Partition.{Partition}
 use Rattle.bip_reader.specs.Texts.{Means}
-use Rattle.bip_replay.specs.Replays.{IsFirstFault, IsRunOf}
-use Rattle.bip_replay.specs.Runs.{state_after}
+use Rattle.bip_replay.specs.Items.{one_more}
+use Rattle.bip_replay.specs.Lines.{grant_on}
+use Rattle.bip_replay.specs.Replays.{IsFirstFault, IsLineFault, IsRunOf}
+use Rattle.bip_replay.specs.Runs.{state_after, used_after}
 use Rattle.bip_replay.specs.Traces.{grants_of}
 use Rattle.bip_replay.specs.declared.faults.BookFault.{BookFault}
+use Rattle.bip_replay.specs.declared.faults.ReplayFault.{ReplayFault}
 use Rattle.bip_replay.specs.declared.faults.ReplayFault.TheVariants as replay_fault
 use Rattle.bip_answers.specs.Answers.{IsAnswer, complaining, saying}
 use Rattle.bip_answers.specs.Wording.{chart_refusal, run_text, verdict_text}
@@ -42,23 +45,19 @@ AreRowsDisordered shown = out_of_order shown.to
 abbrev pub most_rows : ℕ
 most_rows = 2000
 
--- the grants up to the last row that is shown
-abbrev pub until_last : Shown → List Grant → List Grant
-until_last shown grants = option_map_or (λ last. take last grants) shown.to grants
-
--- these are the first so many grants of a trace
-abbrev pub ArePart : System → List ℕ → ℕ → List Grant → Type 0
-ArePart m trace count part =
-    (grants : List Grant) → grants_of m trace ≡ Ok grants → part ≡ take count grants
+-- what a chart shows of a run, where these rows are asked for
+abbrev pub excerpt_of : Shown → Excerpt
+excerpt_of shown =
+    record {
+      first = shown.from - 1;
+      last = shown.to;
+      most = most_rows;
+      values = shown.values;
+    }
 
 -- how many rows are shown
-abbrev pub count_shown : Shown → List Grant → ℕ
-count_shown shown grants = length (until_last shown grants) - (shown.from - 1)
-
--- the same by how many grants there are
-abbrev pub rows_shown : Shown → ℕ → ℕ
-rows_shown shown count =
-    option_map_or (λ last. min last count) shown.to count - (shown.from - 1)
+abbrev pub count_shown : System → Shown → List Grant → ℕ
+count_shown m shown grants = length (rows_of m (excerpt_of shown) grants)
 
 -- whether the row behind so many is shown
 abbrev pub shows_behind : Shown → ℕ → Bool
@@ -91,40 +90,22 @@ IsFootOf shown count verdict runnable (Fault why) =
 IsFootOf shown count verdict runnable (Runnable text) =
     (shows_behind shown count ≡ true) × (reason_of verdict ≡ None) × (text.now ≡ runnable)
 
--- a chart has these rows, from the first one on that is shown, and this foot
-pub record IsDrawnAs (m : System) (classes : Partition) (shown : Shown) (grants : List Grant)
-    (foot : Foot) (chart : Chart) : Type 0 where
-  pub model : chart.model.now ≡ m
-  pub parted : chart.classes.now ≡ classes
-  pub rows : chart.book.now.grants ≡ grants
-  pub first : chart.first ≡ shown.from - 1
-  pub values : chart.values ≡ shown.values
-  pub below : chart.foot ≡ foot
-
--- a chart of a run has the rows of its grants that are shown, and what stands behind them; what may
--- run there may run in the state to which these lead, which are all where that is shown
-pub record IsChartOf (m : System) (classes : Partition) (shown : Shown) (grants : List Grant)
-    (verdict : Answer) (chart : Chart) : Type 0 where
-  pub foot : Foot
-  pub runnable : List ℕ
-  pub drawn : IsDrawnAs m classes shown (until_last shown grants) foot chart
-  pub behind : IsFootOf shown (length grants) verdict runnable foot
-  pub runs : AddsRunnable m (state_after m (until_last shown grants)) [] runnable
-
--- what is answered of a run that has this verdict: its chart, with the verdict beside it, or that
--- it has too many rows
+-- what is answered of a run that has this verdict: its chart, of the rows that are shown and what
+-- stands behind them, with the verdict beside it; or that it has too many rows
 pub data IsPictured (m : System) (classes : Partition) (shown : Shown) (grants : List Grant)
     (verdict : Answer) : Answer → Type 0 where
-  fitting : (chart : Chart) → count_shown shown grants ≤ most_rows
-      → IsChartOf m classes shown grants verdict chart
+  -- what may run there may run in the state to which the grants lead
+  fitting : (foot : Foot) (runnable : List ℕ) → count_shown m shown grants ≤ most_rows
+      → IsFootOf shown (length grants) verdict runnable foot
+      → AddsRunnable m (state_after m grants) [] runnable
       → IsPictured m classes shown grants verdict
       (record {
         status = verdict.status;
-        output = chart_of chart;
+        output = chart_of m classes (excerpt_of shown) grants foot;
         complaint = verdict.output;
         file = None;
       })
-  too_long : most_rows < count_shown shown grants
+  too_long : most_rows < count_shown m shown grants
       → IsPictured m classes shown grants verdict (complaining Refused (chart_refusal most_rows))
 
 -- the answer to the chart of the texts of a model and a trace, from a base
@@ -137,3 +118,19 @@ pub data IsChartAnswer (base : ℕ) (shown : Shown) (model trace : List ℕ) : A
   -- a text is refused, as a replay refuses it
   uncharted : (answer : Answer) → IsAnswer base model trace answer → answer.status ≡ Refused
       → IsChartAnswer base shown model trace answer
+
+-- What contracts of private functions say.
+
+-- what a replay says of a trace, which has these grants, or has them before its first line at fault
+abbrev pub IsFollowed : System → ℕ → List ℕ → Result ℕ (ℕ × ReplayFault) → List Grant → Type 0
+IsFollowed m base trace (Ok count) gs = (grants_of m trace ≡ Ok gs) × (count ≡ length gs)
+IsFollowed m base trace (Err (number, fault)) gs =
+    (first : IsFirstFault m base trace number fault) × (first.grants ≡ gs)
+
+-- what a line does to a chart that has drawn these grants: that of the line is drawn, too, if it
+-- has one; or the line is at fault behind them
+abbrev pub TakesLine : ℕ → List Grant → List ℕ → Result (Unit {0}) ReplayFault → Sketch → Type 0
+TakesLine base gs line (Ok u) c =
+    (said : Option Grant) × (grant_on c.model line ≡ Ok said) × Draws base (one_more gs said) c
+TakesLine base gs line (Err fault) c =
+    IsLineFault c.model (state_after c.model gs) (used_after base gs) line fault × Draws base gs c

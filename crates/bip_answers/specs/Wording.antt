@@ -1,5 +1,6 @@
 -- What is written of models and traces: verdicts on standard output, complaints on standard error.
-use Rattle.std.specs.Prelude.{ℕ, List, [], ◌∷◌, ◌++◌, codes, slice_index_or}
+use Rattle.std.specs.Prelude.{ℕ, Bool, List, [], ◌∷◌, ◌++◌, ◌&&◌, ◌||◌, chars, codes}
+use Rattle.std.specs.Prelude.{encode_utf8_all, if◌then◌else◌, map, nat_le, slice_index_or}
 use Rattle.std.specs.Fmt.{decimal}
 use Rattle.bip_model.specs.Naming.{name_in}
 use Rattle.bip_model.specs.Texts.{line_at, line_feed, words}
@@ -39,6 +40,29 @@ verdict_text m trace number fault =
 -- `bipr: ..`
 abbrev pub complaint_text : List ℕ → List ℕ
 complaint_text why = codes "bipr: " ++ (why ++ line_feed ∷ [])
+
+-- the numbers from one to another
+abbrev is_from : ℕ → ℕ → ℕ → Bool
+is_from low high number = nat_le low number && nat_le number high
+
+-- a character that a terminal may obey: a control, a separator of lines or paragraphs, or a mark
+-- that turns the direction of what stands behind it
+abbrev pub is_obeyed : ℕ → Bool
+is_obeyed c =
+    is_from 0 31 c || is_from 127 159 c || is_from 1564 1564 c || is_from 8206 8207 c
+    || is_from 8232 8238 c || is_from 8294 8297 c
+
+-- a character of a word as it is shown: `?` in place of one that is obeyed
+abbrev pub shown : ℕ → ℕ
+shown c = if is_obeyed c then 63 else c
+
+-- a word of a command line as it is shown
+abbrev pub shown_word : List ℕ → List ℕ
+shown_word word = encode_utf8_all (map shown (chars word))
+
+-- no such thing, as `component`, has the name that a word gives
+abbrev pub unknown_text : List ℕ → List ℕ → List ℕ
+unknown_text kind word = complaint_text (codes "no " ++ (kind ++ (codes " " ++ shown_word word)))
 
 -- a model's text is refused
 abbrev pub model_refusal : ReadFault → List ℕ

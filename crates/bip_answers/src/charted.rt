@@ -1,29 +1,23 @@
 //! What is answered to a chart: the picture of the run with which a trace begins.
-ghost use Rattle.std.specs.Prelude.{◌≡◌, ◌≤◌, ◌-◌, ℕ, List, IfOk, IfSome, IsOk, Ok, length};
-ghost use Rattle.std.specs.Prelude.{min, take};
-ghost use Rattle.std.specs.Option.{option_map, option_map_or};
-ghost use Rattle.bip_draw.specs.Charts.{chart_of};
-ghost use Rattle.bip_draw.specs.declared.charts.Chart.{Chart};
+ghost use Rattle.std.specs.Prelude.{◌≡◌, ◌≤◌, ◌<◌, ◌+◌, ◌^◌, [], ℕ, List, IfErr, IfOk};
+ghost use Rattle.std.specs.Option.{option_map};
+ghost use Rattle.bip_draw.specs.Charts.{Draws, IsChartOn};
 ghost use Rattle.bip_model.specs.Partitions.{AreClassesOf};
-ghost use Rattle.bip_model.specs.Texts.{lines};
 ghost use Rattle.bip_reader.specs.Texts.{Means};
-ghost use Rattle.bip_replay.specs.Runs.{IsModelRun};
-ghost use Rattle.bip_replay.specs.Traces.{grants_from, grants_of};
 ghost use Rattle.bip_model.specs.declared.grants.Grant.{Grant};
-ghost use Rattle.bip_answers.specs.Charted.{ArePart, IsChartAnswer, IsDrawnAs, IsFootOf};
-ghost use Rattle.bip_answers.specs.Charted.{IsPictured};
+ghost use Rattle.bip_answers.specs.Charted.{IsChartAnswer, IsFollowed, IsFootOf, IsPictured};
+ghost use Rattle.bip_answers.specs.Charted.{TakesLine, excerpt_of, most_rows, reason_of};
+ghost use Rattle.bip_answers.specs.Charted.{shows_behind};
 ghost use Rattle.bip_answers.specs.Answers.{complaining, greatest_base};
-ghost use Rattle.bip_answers.specs.Charted.{most_rows, reason_of, rows_shown, shows_behind};
-ghost use Rattle.bip_answers.specs.Charted.{until_last};
 ghost use Rattle.bip_answers.specs.Wording.{chart_refusal};
 ghost use Rattle.bip_answers.specs.declared.answers.Status.TheVariants.{Refused};
 
 use crate::answers::{Answer, Status, answer_replayed, complained};
 use crate::wording::chart_refusal;
-use bip_draw::{Chart, Foot, draw_chart, write_runnable};
+use bip_draw::{Chart, ChartFault, Excerpt, Foot, write_runnable};
 use bip_explain::Explanation;
-use bip_model::{Classes, Grant, Model, Number, Seq};
-use bip_replay::{Book, ReplayFault, TraceFault, read_front, read_trace, replay};
+use bip_model::{Classes, Model, Number, NumberedLines, Seq};
+use bip_replay::{ReplayFault, Room};
 use std::alloc::{AllocError, Global};
 
 /// Which rows of a run are shown, by their numbers from 1, the last one included; and whether the
@@ -36,24 +30,13 @@ pub struct Shown {
 }
 
 /// How many rows a chart has at most.
-pub const MOST_ROWS: usize = 2_000;
-
-// How often twice as many lines are read of a trace, until they have the grants that are drawn.
-const MOST_DOUBLINGS: u32 = 32;
-
-// The run with which a trace begins: its grants up to the last row that is shown, how many it has,
-// and the verdict on the trace.
-#[derive(Drop)]
-struct FrontRun {
-    drawn: Vec<Grant>,
-    count: u64,
-    verdict: Answer,
-}
+pub const MOST_ROWS: u32 = 2_000;
 
 /// The answer to the chart of a trace, where the model's text is one: the shown rows of the run
 /// with which the trace begins, behind them why it stops or what may run there, and the verdict on
 /// the trace beside it; or that they are too many rows; or the first fault of the trace's text
-/// (docs/ANSWERS.md, "Answers"). The only error is want of memory.
+/// (docs/ANSWERS.md, "Answers"). The trace is read once, and none of its grants is kept. The only
+/// error is want of memory.
 pub fn answer_chart(
     alloc: Global,
     explanation: &mut Explanation,
@@ -68,34 +51,13 @@ pub fn answer_chart(
     ensures { IfOk result (λ answer. (text : List ℕ) → Means text model.now classes.now
         → IsChartAnswer base shown.now text trace.now answer) }
 {
-    let replayed = replay(alloc, model, base, trace);
+    let mut chart = Chart::start(alloc, model, classes, base, excerpt_of(shown))?;
+    let replayed = follow(&mut chart, trace)?;
     let verdict = answer_replayed(alloc, explanation, model, trace, base, &replayed)?;
     match &replayed {
-        Ok(count) => {
-            let count = *count;
-            // Where they are too many, no grant is kept; else those alone that are drawn.
-            if count_rows(shown, count) > MOST_ROWS as u64 {
-                return refuse_rows(alloc);
-            }
-            let drawn = first_grants(alloc, model, trace, last_drawn(shown, count))?;
-            let front = FrontRun {
-                drawn,
-                count,
-                verdict,
-            };
-            answer_begun(alloc, model, classes, base, front, shown)
-        }
-        Err((line, fault)) => match fault {
-            ReplayFault::NotARun(_) => {
-                let grants = grants_before(alloc, model, trace, *line)?;
-                let count = grants.as_slice().len() as u64;
-                let front = FrontRun {
-                    drawn: until_last(grants, shown),
-                    count,
-                    verdict,
-                };
-                answer_begun(alloc, model, classes, base, front, shown)
-            }
+        Ok(_) => answer_begun(alloc, &chart, verdict, shown),
+        Err((_, fault)) => match fault {
+            ReplayFault::NotARun(_) => answer_begun(alloc, &chart, verdict, shown),
             ReplayFault::Syntax => Ok(verdict),
             ReplayFault::Unknown => Ok(verdict),
             ReplayFault::Memory => Err(AllocError),
@@ -103,85 +65,64 @@ pub fn answer_chart(
     }
 }
 
-// The grants of a trace that reads; the only error is want of memory.
-fn all_grants(alloc: Global, model: &Model, trace: &[u8]) -> Result<Vec<Grant>, AllocError>
-    requires { IsOk (grants_of model.now trace.now) }
-    ensures { IfOk result (λ grants. grants_of model.now trace.now ≡ Ok grants.items) }
+// What a chart shows of a run, where these rows are asked for.
+fn excerpt_of(shown: &Shown) -> Excerpt
+    ensures { result ≡ excerpt_of shown.now }
 {
-    match read_trace(alloc, model, trace) {
-        Ok(grants) => Ok(grants),
-        Err((_, fault)) => match fault {
-            TraceFault::Memory => Err(AllocError),
-            _ => unreachable!(),
-        },
+    Excerpt {
+        first: shown.from.saturating_sub(1),
+        last: shown.to,
+        most: MOST_ROWS,
+        values: shown.values,
     }
 }
 
-// The first so many grants of a trace that reads: where lines say nothing, those of some more.
-fn first_grants(
-    alloc: Global,
-    model: &Model,
+// Follows a trace up to its end or to its first line at fault, and draws its grants: what a replay
+// says of it. The only error is want of memory.
+fn follow(
+    chart: &mut Chart<'_>,
     trace: &[u8],
-    count: u64,
-) -> Result<Vec<Grant>, AllocError>
-    requires { IsOk (grants_of model.now trace.now) }
-    ensures { IfOk result (λ grants. ArePart model.now trace.now count grants.items) }
+) -> Result<Result<u64, (u64, ReplayFault)>, AllocError>
+    requires { (base : ℕ) × Draws base [] chart.old }
+    ensures on { IfOk result (λ replayed.
+        IsChartOn chart.old.model chart.old.classes chart.old.excerpt chart.new) }
+    ensures drawn { IfOk result (λ replayed. (base : ℕ) → Draws base [] chart.old
+        → (gs : List Grant) × IsFollowed chart.new.model base trace.now replayed gs
+        × Draws base gs chart.new) }
 {
-    let mut line = count.saturating_add(1);
-    for _ in 0..MOST_DOUBLINGS {
-        if let Some(grants) = grants_within(alloc, model, trace, line, count)? {
-            return Ok(grants);
+    let mut room = Room::new();
+    for (number, line) in NumberedLines::of(trace) {
+        let taken = take_line(chart, &mut room, line)?;
+        if let Err(fault) = taken {
+            return Ok(Err((number, fault)));
         }
-        line = line.saturating_mul(2);
     }
-    Ok(cut(all_grants(alloc, model, trace)?, count))
+    Ok(Ok(chart.count()))
 }
 
-// The same, where the lines before one have as many.
-fn grants_within(
-    alloc: Global,
-    model: &Model,
-    trace: &[u8],
-    line: u64,
-    count: u64,
-) -> Result<Option<Vec<Grant>>, AllocError>
-    requires { IsOk (grants_of model.now trace.now) }
-    ensures { IfOk result (λ found. IfSome found (λ grants.
-        ArePart model.now trace.now count grants.items)) }
+// Draws the grant of a line, if it has one; or why the trace stops there. The only error is want of
+// memory.
+fn take_line(
+    chart: &mut Chart<'_>,
+    room: &mut Room,
+    line: &[u8],
+) -> Result<Result<(), ReplayFault>, AllocError>
+    requires { chart.old.count + 1 < 2 ^ 64 }
+    ensures on { IfOk result (λ taken.
+        IsChartOn chart.old.model chart.old.classes chart.old.excerpt chart.new) }
+    ensures drawn { IfOk result (λ taken. (base : ℕ) (gs : List Grant) → Draws base gs chart.old
+        → TakesLine base gs line.now taken chart.new) }
 {
-    let grants = grants_before(alloc, model, trace, line)?;
-    if (grants.as_slice().len() as u64) < count {
-        drop(grants);
-        return Ok(None);
-    }
-    Ok(Some(cut(grants, count)))
-}
-
-// The first so many of some grants.
-fn cut(grants: Vec<Grant>, count: u64) -> Vec<Grant>
-    ensures { result.items ≡ take count grants.items }
-{
-    let mut grants = grants;
-    grants.truncate(count as usize);
-    grants
-}
-
-// The grants of a trace's lines before one, where these read.
-fn grants_before(
-    alloc: Global,
-    model: &Model,
-    trace: &[u8],
-    line: u64,
-) -> Result<Vec<Grant>, AllocError>
-    requires { IsOk (grants_from model.now 1 (take (line - 1) (lines trace.now))) }
-    ensures { IfOk result (λ grants.
-        grants_from model.now 1 (take (line - 1) (lines trace.now)) ≡ Ok grants.items) }
-{
-    match read_front(alloc, model, trace, line) {
-        Ok(grants) => Ok(grants),
-        Err((_, fault)) => match fault {
-            TraceFault::Memory => Err(AllocError),
-            _ => unreachable!(),
+    let grant = match room.read(chart.position().model(), line) {
+        Ok(Some(grant)) => grant,
+        Ok(None) => return Ok(Ok(())),
+        Err(fault) => return Ok(Err(ReplayFault::from(fault))),
+    };
+    match chart.add(&grant) {
+        Ok(()) => Ok(Ok(())),
+        Err(fault) => match fault {
+            ChartFault::NotNext(why) => Ok(Err(ReplayFault::from(why))),
+            ChartFault::Memory => Err(AllocError),
         },
     }
 }
@@ -190,34 +131,22 @@ fn grants_before(
 // want of memory.
 fn answer_begun(
     alloc: Global,
-    model: &Model,
-    classes: &Classes,
-    base: Number,
-    front: FrontRun,
+    chart: &Chart<'_>,
+    verdict: Answer,
     shown: &Shown,
 ) -> Result<Answer, AllocError>
-    requires base { base ≤ greatest_base }
-    requires classes { AreClassesOf model.now classes.now }
-    requires run { IsModelRun model.now base front.drawn.items }
-    ensures { IfOk result (λ answer. (grants : List Grant) → length grants ≡ front.count
-        → front.drawn.items ≡ until_last shown.now grants
-        → IsPictured model.now classes.now shown.now grants front.verdict answer) }
+    requires { chart.now.excerpt ≡ excerpt_of shown.now }
+    ensures { IfOk result (λ answer. (base : ℕ) (gs : List Grant) → Draws base gs chart.now
+        → IsPictured chart.now.model chart.now.classes shown.now gs verdict answer) }
 {
-    let FrontRun {
-        drawn,
-        count,
-        verdict,
-    } = front;
-    if count_rows(shown, count) > MOST_ROWS as u64 {
-        drop(drawn);
+    if chart.rows() > MOST_ROWS as u64 {
         drop(verdict);
         return refuse_rows(alloc);
     }
-    let book = book_of(alloc, model, base, drawn)?;
     let mut runnable = Vec::new(alloc);
-    write_runnable(&mut runnable, book.position())?;
-    let foot = foot_of(&verdict, shown, count as usize, runnable.as_slice());
-    let picture = draw_shown(alloc, model, classes, &book, foot, shown)?;
+    write_runnable(&mut runnable, chart.position())?;
+    let foot = foot_of(&verdict, shown, chart.count(), runnable.as_slice());
+    let picture = chart.finish(alloc, &foot)?;
     Ok(Answer {
         status: verdict.status,
         output: Seq::of(picture),
@@ -226,38 +155,12 @@ fn answer_begun(
     })
 }
 
-// The picture of the rows of a book that are shown, and behind them this foot.
-fn draw_shown<'x, 'r>(
-    alloc: Global,
-    model: &'x Model,
-    classes: &'x Classes,
-    book: &'x Book<'x>,
-    foot: Foot<'r>,
-    shown: &Shown,
-) -> Result<Vec<u8>, AllocError>
-    requires classes { AreClassesOf model.now classes.now }
-    requires book { book.now.model ≡ model.now }
-    ensures { IfOk result (λ text. (chart : Chart)
-        × IsDrawnAs model.now classes.now shown.now book.now.grants foot.entry chart
-        × (text.items ≡ chart_of chart)) }
-{
-    let chart = Chart {
-        model,
-        classes,
-        book,
-        first: shown.from.saturating_sub(1) as usize,
-        foot,
-        values: shown.values,
-    };
-    draw_chart(alloc, &chart)
-}
-
 // What stands behind the rows that are shown of a run of so many grants, which has this verdict,
 // and behind which this may run.
-fn foot_of<'r>(verdict: &'r Answer, shown: &Shown, count: usize, runnable: &'r [u8]) -> Foot<'r>
+fn foot_of<'r>(verdict: &'r Answer, shown: &Shown, count: u64, runnable: &'r [u8]) -> Foot<'r>
     ensures { IsFootOf shown.now count verdict.now runnable.now result }
 {
-    if !shows_behind(shown, count as u64) {
+    if !shows_behind(shown, count) {
         return Foot::Nothing;
     }
     match reason_of(verdict) {
@@ -266,57 +169,11 @@ fn foot_of<'r>(verdict: &'r Answer, shown: &Shown, count: usize, runnable: &'r [
     }
 }
 
-// The book of a run; the only error is want of memory.
-fn book_of<'m>(
-    alloc: Global,
-    model: &'m Model,
-    base: Number,
-    grants: Vec<Grant>,
-) -> Result<Book<'m>, AllocError>
-    requires base { base ≤ greatest_base }
-    requires run { IsModelRun model.now base grants.items }
-    ensures { IfOk result (λ book. (book.model ≡ model.now) × (book.grants ≡ grants.items)) }
-{
-    let mut book = Book::start(alloc, model, base)?;
-    for grant in grants {
-        book.push(grant)?;
-    }
-    Ok(book)
-}
-
-// The grants up to the last row that is shown.
-fn until_last(grants: Vec<Grant>, shown: &Shown) -> Vec<Grant>
-    ensures { result.items ≡ until_last shown.now grants.items }
-{
-    let mut grants = grants;
-    if let Some(last) = shown.to {
-        grants.truncate(last as usize);
-    }
-    grants
-}
-
-// The last row that is drawn of a run of so many grants.
-fn last_drawn(shown: &Shown, count: u64) -> u64
-    ensures { result ≡ option_map_or (λ last. min last count) shown.now.to count }
-{
-    match shown.to {
-        Some(last) => count.min(last),
-        None => count,
-    }
-}
-
-// How many rows are shown of a run of so many grants.
-fn count_rows(shown: &Shown, count: u64) -> u64
-    ensures { result ≡ rows_shown shown.now count }
-{
-    last_drawn(shown, count).saturating_sub(shown.from.saturating_sub(1))
-}
-
-// That a chart would have too many rows. The only error is want of memory.
-fn refuse_rows(alloc: Global) -> Result<Answer, AllocError>
+/// That a chart would have too many rows. The only error is want of memory.
+pub fn refuse_rows(alloc: Global) -> Result<Answer, AllocError>
     ensures { IfOk result (λ answer. answer ≡ complaining Refused (chart_refusal most_rows)) }
 {
-    let complaint = chart_refusal(alloc, MOST_ROWS)?;
+    let complaint = chart_refusal(alloc, MOST_ROWS as usize)?;
     Ok(complained(alloc, Status::Refused, complaint))
 }
 

@@ -6,6 +6,7 @@ mod answers;
 mod charted;
 mod ended;
 mod renderings;
+mod selected;
 mod views;
 mod wording;
 
@@ -13,6 +14,8 @@ pub use answers::{
     Answer, FileText, PlanOrRefusal, Status, answer_check, answer_fault, complained, plan_text,
     said,
 };
-pub use charted::Shown;
+pub use charted::{MOST_ROWS, Shown, refuse_rows};
 pub use renderings::{Rendering, answer_drawing, answer_rendering};
+pub use selected::answer_part;
 pub use views::View;
+pub use wording::shown_word;

@@ -1,9 +1,10 @@
 //! The texts of answers about models and traces.
-ghost use Rattle.std.specs.Prelude.{◌≡◌, ◌++◌, IfOk, OnOk};
+ghost use Rattle.std.specs.Prelude.{◌≡◌, ◌++◌, IfOk, OnOk, string_bytes};
 ghost use Rattle.bip_model.specs.Naming.{name_in};
 ghost use Rattle.bip_answers.specs.Wording.{chart_refusal, counts_text, interaction_on};
 ghost use Rattle.bip_answers.specs.Wording.{model_refusal, plan_refusal, run_text, step_text};
-ghost use Rattle.bip_answers.specs.Wording.{trace_refusal, verdict_text};
+ghost use Rattle.bip_answers.specs.Wording.{is_obeyed, shown, shown_word, trace_refusal};
+ghost use Rattle.bip_answers.specs.Wording.{unknown_text, verdict_text};
 
 use bip_model::{CompId, InterId, Model, line_at, split_word};
 use bip_reader::ReadFault;
@@ -76,6 +77,49 @@ pub fn chart_refusal(alloc: Global, most: usize) -> Result<Vec<u8>, AllocError>
 {
     let text = format!(in alloc; "bipr: a chart has at most {most} rows, see --from and --to\n")?;
     Ok(text.into_bytes())
+}
+
+/// The complaint of a word that names no such thing, as `component`: `?` stands for each character
+/// of it that a terminal would obey.
+pub fn unknown_text(alloc: Global, kind: &[u8], word: &str) -> Result<Vec<u8>, AllocError>
+    ensures { IfOk result (λ text. text.items ≡ unknown_text kind.now word.now) }
+{
+    let shown = shown_word(alloc, word)?;
+    let mut text = Vec::from_slice(alloc, b"bipr: no ")?;
+    text.extend_from_slice(kind)?;
+    text.push(b' ')?;
+    text.extend_from_slice(shown.as_bytes())?;
+    text.push(b'\n')?;
+    Ok(text)
+}
+
+/// A word of a command line as it is shown.
+pub fn shown_word(alloc: Global, word: &str) -> Result<String, AllocError>
+    ensures { IfOk result (λ text. string_bytes text ≡ shown_word word.now) }
+{
+    word.chars().map(shown).collect(alloc)
+}
+
+fn shown(character: char) -> char
+    ensures { result ≡ shown character }
+{
+    if is_obeyed(character) { '?' } else { character }
+}
+
+/// Whether a terminal may obey a character: a control, a separator of lines or paragraphs, or a
+/// mark that turns the direction of what stands behind it.
+fn is_obeyed(character: char) -> bool
+    ensures { result ≡ is_obeyed character }
+{
+    matches!(
+        character,
+        '\0'..='\u{1f}'
+            | '\u{7f}'..='\u{9f}'
+            | '\u{61c}'
+            | '\u{200e}'..='\u{200f}'
+            | '\u{2028}'..='\u{202e}'
+            | '\u{2066}'..='\u{2069}'
+    )
 }
 
 /// The verdict on a trace whose line with this number has a grant that can't be next.
