@@ -7,11 +7,11 @@ use Rattle.std.specs.Borrow.{Bor}
 use Rattle.std.specs.Box.{box_value}
 use Rattle.std.specs.Prelude.{Box}
 use Rattle.clap.specs.Simple.{new_app, new_shape}
-use Rattle.clap.specs.Words.{AddsArg, AddsInTurn, AddsSubcommand, App, HasKind, HasMatchesOf, Row}
+use Rattle.clap.specs.Words.{AddsArg, AddsInTurn, App, HasKind, HasMatchesOf, Row}
 use Rattle.clap.specs.Words.{Rule, Shape, Text, app_of, fault_of, first_of, first_value, found_of}
 use Rattle.clap.specs.Words.{is_simple, is_simple_and_free, matches_of, one_of, one_text, rows_of}
 use Rattle.clap.specs.Words.{subcommand_name_of, subcommand_of, subcommand_rows, subcommand_rows_of}
-use Rattle.clap.specs.Words.{with_rule, with_subcommand}
+use Rattle.clap.specs.Words.{all_of, matched_of, raw_values, with_rule}
 use Rattle.clap.specs.declared.builder.arg.Arg.{Arg}
 use Rattle.clap.specs.declared.builder.command.Command.{Command}
 use Rattle.clap.specs.declared.builder.command.Command.TheViews.{out-Command}
@@ -20,9 +20,9 @@ use Rattle.clap.specs.declared.parser.matches.ArgMatches.{ArgMatches}
 use Rattle.clap.specs.declared.parser.matches.ArgMatches.TheViews.{out-ArgMatches, out-SubCommand}
 use Rattle.clap.specs.declared.parser.matches.SubCommand.{SubCommand}
 use Rattle.clap.proofs.OnLiterals.{clap_on_literals}
-use Rattle.clap.proofs.WalkLemmas.{first_value-rows, one_text-rows}
+use Rattle.clap.proofs.WalkLemmas.{first_value-rows, one_text-rows, raw_values-rows}
 use Rattle.bip_program.specs.Programs.{HasRule, HasShape, HaveRules, AreChoices, IsNoParse, IsParse}
-use Rattle.bip_program.specs.Programs.{parsed_of, program}
+use Rattle.bip_program.specs.Programs.{names_in, parsed_of, program}
 use Rattle.bip_program.specs.declared.programs.Choices.{Choices}
 
 -- a command with texts alone
@@ -95,6 +95,12 @@ does_not_parse choices app words error is alone fails = (
 pub first_read : (m : ArgMatches) (name : Text) (read : Option Text)
     → read ≡ first_value (found_of m) name → read ≡ first_of name (rows_of (found_of m))
 first_read m name read is = is ∙ first_value-rows (found_of m) name
+
+-- the same of all values of an argument
+pub all_read : (m : ArgMatches) (name : Text) (read : Option (Bor (List (Bor Text))))
+    → option_map names_in read ≡ option_map raw_values (matched_of (found_of m) name)
+    → option_map names_in read ≡ all_of name (rows_of (found_of m))
+all_read m name read is = is ∙ raw_values-rows (found_of m) name
 
 -- where a getter has none, the rows have none
 pub no_first : (m : ArgMatches) (name text : Text) → None ≡ first_value (found_of m) name

@@ -4,8 +4,9 @@ use Rattle.std.specs.Borrow.{Bor}
 use Rattle.clap.specs.Words.{App, HasKind, Row, Rule, Shape, Text, app_of, fault_of, found_of}
 use Rattle.clap.specs.Words.{matches_of, new_rule, rows_of, rule_of, subcommand_of}
 use Rattle.clap.specs.Words.{subcommand_rows_of}
+use Rattle.clap.specs.Lexer.{usize_max}
 use Rattle.clap.specs.Simple.{new_shape}
-use Rattle.clap.specs.declared.builder.action.ArgAction.TheVariants.{SetTrue}
+use Rattle.clap.specs.declared.builder.action.ArgAction.TheVariants.{Append, SetTrue}
 use Rattle.clap.specs.declared.builder.arg.Arg.{Arg}
 use Rattle.clap.specs.declared.builder.command.Command.{Command}
 use Rattle.clap.specs.declared.builder.command.Command.TheViews.{out-Command}
@@ -37,6 +38,13 @@ option name parser = record (new_rule name) {
 -- `--name VALUE`, of any text
 abbrev pub text_option : Text → Rule
 text_option name = record (new_rule name) { long = Some name; value_names = 1 }
+
+-- `--name VALUE ..`, of any texts, one or more in each use
+abbrev pub texts_option : Text → Rule
+texts_option name = record (text_option name) {
+  action = Some Append;
+  range = Some (record { start_inclusive = 1; end_inclusive = usize_max });
+}
 
 -- a value of a parser that has to be given
 abbrev pub needed : Text → ValueParser → Rule
@@ -98,7 +106,8 @@ check_command =
 abbrev pub draw_command : Shape
 draw_command =
     with_arguments (codes "draw")
-    (path (codes "model") ∷ flag (codes "plan") ∷ flag (codes "explain") ∷ [])
+    (path (codes "model") ∷ texts_option (codes "only") ∷ texts_option (codes "only-class")
+    ∷ flag (codes "plan") ∷ flag (codes "explain") ∷ [])
 
 abbrev pub replay_command : Shape
 replay_command = with_arguments (codes "replay")
@@ -108,7 +117,8 @@ replay_command = with_arguments (codes "replay")
 abbrev pub steps_command : Bor (List (Bor Text)) → Shape
 steps_command resolvers = with_arguments (codes "steps")
     (path (codes "model") ∷ path (codes "schedule") ∷ resolver_option resolvers ∷ base_option
-    ∷ flag (codes "tell") ∷ flag (codes "explain") ∷ [])
+    ∷ flag (codes "tell") ∷ text_option (codes "chart") ∷ from_option ∷ option (codes "to") rows
+    ∷ flag (codes "explain") ∷ [])
 
 abbrev pub explore_command : Bor (List (Bor Text)) → Bor (List (Bor Text)) → Shape
 explore_command resolvers draws = with_arguments (codes "explore")

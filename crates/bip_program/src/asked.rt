@@ -1,9 +1,9 @@
 //! What words ask, read of the library's matches.
 ghost use Rattle.std.specs.Prelude.{◌≡◌};
 ghost use Rattle.std.specs.Option.{option_map};
-ghost use Rattle.clap.specs.Words.{first_of, found_of, rows_of, subcommand_rows_of};
+ghost use Rattle.clap.specs.Words.{all_of, first_of, found_of, rows_of, subcommand_rows_of};
 ghost use Rattle.bip_program.specs.Asked.{IsExplainAsked, IsFlagAsked, IsFlagBehind, MayAskNumber};
-ghost use Rattle.bip_program.specs.Programs.{parsed_of};
+ghost use Rattle.bip_program.specs.Programs.{names_in, parsed_of};
 
 use clap::ArgMatches;
 
@@ -13,6 +13,13 @@ pub fn text_asked<'a>(matches: &ArgMatches<'a>, name: &str) -> Option<&'a str>
         ≡ first_of name.now (rows_of (found_of matches.now)) }
 {
     matches.get_str(name)
+}
+
+/// The texts of an option that may have several, in order, if it is given.
+pub fn texts_asked<'m, 'a>(matches: &'m ArgMatches<'a>, name: &str) -> Option<&'m [&'a str]>
+    ensures { option_map names_in result ≡ all_of name.now (rows_of (found_of matches.now)) }
+{
+    matches.get_strs(name)
 }
 
 /// The number of 32 bits that an option gives, if it gives one.

@@ -3,7 +3,8 @@
 #![tactic(auto)]
 
 mod asked;
+mod helps;
 mod programs;
 
-pub use asked::{is_explained, is_set, number_asked, text_asked, wide_number_asked};
+pub use asked::{is_explained, is_set, number_asked, text_asked, texts_asked, wide_number_asked};
 pub use programs::{Choices, program};
