@@ -14,7 +14,8 @@ use Rattle.bipr.specs.Stops.{answer_of_stop, bad_base, out_of_memory}
 use Rattle.bip_answers.specs.declared.answers.Answer.{Answer}
 use Rattle.bipr.specs.declared.stops.Stop.{Stop}
 use Rattle.bipr.specs.declared.stops.Stop.TheVariants.{BaseOutOfRange, CannotRead, CannotWrite}
-use Rattle.bipr.specs.declared.stops.Stop.TheVariants.{GrantRefused, OutOfMemory, RecordOnOutput}
+use Rattle.bipr.specs.declared.stops.Stop.TheVariants.{ChartOnOutput, DrawnAndTold, GrantRefused}
+use Rattle.bipr.specs.declared.stops.Stop.TheVariants.{OutOfMemory, PlanOfPart, RecordOnOutput}
 use Rattle.bipr.specs.declared.stops.Stop.TheVariants.{RowsOutOfOrder}
 use Rattle.bipr.specs.declared.stops.Stop.TheVariants.{ScheduleTooLong, SeedNotARun}
 use Rattle.bipr.specs.declared.stops.Stop.TheVariants.{ThreadRefused, TooManyRows}
@@ -44,6 +45,9 @@ outcome_stopped (Err why) P given is told lacking =
     by_why TurnsOrGrants answer held same = subst P (sym same) held
     by_why WordsNeedCentral answer held same = subst P (sym same) held
     by_why RecordOnOutput answer held same = subst P (sym same) held
+    by_why PlanOfPart answer held same = subst P (sym same) held
+    by_why DrawnAndTold answer held same = subst P (sym same) held
+    by_why ChartOnOutput answer held same = subst P (sym same) held
     by_why TooManyRows answer held same = subst P (sym same) held
     by_why ScheduleTooLong answer held same = subst P (sym same) held
     by_why GrantRefused answer held same = subst P (sym same) held

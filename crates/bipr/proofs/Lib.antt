@@ -10,6 +10,7 @@ pub mod RecordedLemmas
 pub mod RepeatLemmas
 pub mod ScheduledLemmas
 pub mod SeedLemmas
+pub mod SequencedLemmas
 pub mod SomeAnswerLemmas
 pub mod StatusLemmas
 pub mod StreamLemmas

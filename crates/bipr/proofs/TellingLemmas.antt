@@ -1,13 +1,14 @@
 -- Events that are told one after another.
 use Rattle.std.proofs.Common.{◌≡◌, ◌∙◌, ◌+◌, ◌++◌, ◌∷◌, ◌<◌, ℕ, Bool, true, List, []}
 use Rattle.std.proofs.Common.{Option, Some, None, Result, Ok, Err, ap, length, refl, subst}
-use Rattle.std.proofs.Common.{sym, get_or}
+use Rattle.std.proofs.Common.{append_assoc, arith, sym}
 use Rattle.std.specs.Prelude.{All, IsErr}
 use Rattle.std.specs.declared.alloc.AllocError.{AllocError}
 use Rattle.std.proofs.lemmas.List.{append-nil, length-append}
-use Rattle.std.proofs.lemmas.List.Elements.{All-append, All-cons, All-nil}
+use Rattle.std.proofs.lemmas.List.Elements.{All-append, All-cons, All-head, All-nil}
+use Rattle.std.proofs.lemmas.List.Elements.{All-tail}
 use Rattle.bip_core.specs.Laws.{WorldsKeepTheirPlan}
-use Rattle.bip_core.specs.Runs.{AreSteps, IsRunOfEvents, report_of, report_with}
+use Rattle.bip_core.specs.Runs.{AddsUp, AreSteps, IsRunOfEvents, report_of, report_with}
 use Rattle.bip_core.specs.Starting.{IsNewWorld}
 use Rattle.bip_core.specs.Worlds.{WorldContent}
 use Rattle.bip_core.specs.declared.events.Did.{Did}
@@ -28,7 +29,7 @@ use Rattle.bipr.specs.Scheduled.{IsAtMostOneDone, IsScheduleAnswered, IsTelling,
 use Rattle.bipr.specs.Scheduled.{all_told, lacking, none_more, nothing_told, one_more, one_unheard}
 use Rattle.bipr.specs.Scheduled.{reporting, some_told, told_lacking, told_stepped, unheard}
 use Rattle.bipr.specs.Stops.{out_of_memory, unwritten_text}
-use Rattle.bipr.specs.Streams.{AreOut, Put, texts}
+use Rattle.bipr.specs.Streams.{AreOut, Put, PutsEach, texts}
 use Rattle.bipr.specs.Wording.{report_text}
 use Rattle.bip_answers.specs.declared.answers.Answer.{Answer}
 use Rattle.bip_answers.specs.declared.answers.Status.TheVariants.{Refused}
@@ -74,20 +75,24 @@ told_on w v x es ds told report later e d line is_out before counted is more =
       more ∙ (ap (λ (r : Report). report_with r d) counted ∙ report_more ds d),
     )
 
--- all of one, and an event of a list that has a spelling
-all_one : {X : Type 0} (P : X → Type 0) (x : X) → P x → All P (x ∷ [])
-all_one P x is = All-cons P x [] is (All-nil P)
-
-pub spelled_one : (p : Planned) (es : List Event) (i : ℕ) (d : Event) → HaveSpelling p es
-    → i < length es → HaveSpelling p (get_or es i d ∷ [])
-spelled_one p es i d each within =
-    λ stations are. all_one (HasSpelling p stations) (get_or es i d) (each stations are i d within)
+-- what was told so far, by whom a stream is written: the events that are done, what they did, and
+-- the texts, each out
+pub record HasTold {S : Type 0} (writes : S → List ℕ → Bool → S → Type 0) (before after : S)
+    (all left : List Event) (w v : WorldContent) (report : Report) : Type 0 where
+  pub done : List Event
+  pub dids : List (Option Did)
+  pub told : List Put
+  pub puts : PutsEach writes before told after
+  pub lines : AreTold w done dids (texts told) v
+  pub heard : AreOut told
+  pub sums : report ≡ report_of dids
+  pub adds_up : AddsUp report
+  pub parts : all ≡ done ++ left
 
 -- want of memory is an error, whichever
-pub err_telling : {p : Planned} {schedule : List ℕ} {w v : WorldContent} {told : List Put}
+pub err_telling : {events : List Event} {w v : WorldContent} {told : List Put}
     (result : Result (Option Report) AllocError) → IsErr result
-    → ((e : AllocError) → IsTelling p schedule w v told (Err e))
-    → IsTelling p schedule w v told result
+    → ((e : AllocError) → IsTelling events w v told (Err e)) → IsTelling events w v told result
 err_telling (Ok x) is each = cc
 err_telling (Err e) is each = each e
 
@@ -99,7 +104,8 @@ next_untold rest more e w v before after is (done_untold did steps _) = one_more
 
 -- what is answered where events are told
 module _ (p : Planned) (base : ℕ) (resolver : Resolver) (is_told : Bool) (schedule : List ℕ)
-    (w v : WorldContent) (told : List Put) (on : is_told ≡ true) (new : IsNewWorld p base w)
+    (events : List Event) (w v : WorldContent) (told : List Put) (on : is_told ≡ true)
+    (says : IsEventText p schedule events) (new : IsNewWorld p base w)
     (shared : IsSharedAtFirst resolver p w.bank.sharing) where
   abbrev Answered : Answer → Type 0
   Answered = IsScheduleAnswered p base resolver is_told schedule told
@@ -107,10 +113,10 @@ module _ (p : Planned) (base : ℕ) (resolver : Resolver) (is_told : Bool) (sche
   -- all of them
   pub told_all : (report : Report) → WorldsKeepTheirPlan
       → IsModelRun v.plan.model v.bank.base v.trace
-      → IsTelling p schedule w v told (Ok (Some report)) → (answer : Answer)
+      → IsTelling events w v told (Ok (Some report)) → (answer : Answer)
       → answer ≡ reporting (text_of p.model v.trace) (report_text report)
       → grants_of p.model (text_of p.model v.trace) ≡ Ok v.trace → Answered answer
-  told_all report keep ran (all_told events dids _ says lines heard sums) answer is reads =
+  told_all report keep ran (all_told dids _ lines heard sums) answer is reads =
       let steps = told_steps lines.each in
       let run : IsRunOfEvents events w v report =
       record { dids = dids; steps = steps; sums = sums } in
@@ -129,47 +135,46 @@ module _ (p : Planned) (base : ℕ) (resolver : Resolver) (is_told : Bool) (sche
 
   -- so far as it is told
   until : (last : WorldContent) (done rest : List Event) (dids : List (Option Did))
-      → IsEventText p schedule (done ++ rest) → AreToldFrom w done dids (texts told) last
+      → events ≡ done ++ rest → AreToldFrom w done dids (texts told) last
       → IsToldUntil p base resolver schedule told
-  until last done rest dids says lines =
+  until last done rest dids parts lines =
       record {
         done = done;
         rest = rest;
         dids = dids;
         first = w;
         last = last;
-        says = says;
+        says = subst (IsEventText p schedule) parts says;
         new = new;
         shared = shared;
         lines = lines;
       }
 
   -- want of memory, behind all that is told
-  pub told_all_lacking : (report : Report) → IsTelling p schedule w v told (Ok (Some report))
+  pub told_all_lacking : (report : Report) → IsTelling events w v told (Ok (Some report))
       → Answered out_of_memory
-  told_all_lacking report (all_told events dids _ says lines heard sums) =
+  told_all_lacking report (all_told dids _ lines heard sums) =
       aloud told out_of_memory on (told_lacking told heard
-      (until v events [] dids (subst (IsEventText p schedule) (sym (append-nil events)) says)
-      lines))
+      (until v events [] dids (sym (append-nil events)) lines))
 
   -- and on the way
-  pub told_err : (e : AllocError) → IsTelling p schedule w v told (Err e) → Answered out_of_memory
+  pub told_err : (e : AllocError) → IsTelling events w v told (Err e) → Answered out_of_memory
   told_err e (nothing_told _ none _) =
       subst (λ (ts : List Put).
       IsScheduleAnswered p base resolver is_told schedule ts out_of_memory) (sym none) lacking
-  told_err e (some_told done rest dids last _ says lines heard _) =
-      aloud told out_of_memory on (told_lacking told heard (until last done rest dids says lines))
+  told_err e (some_told done rest dids last _ parts lines heard _) =
+      aloud told out_of_memory on (told_lacking told heard (until last done rest dids parts lines))
 
   -- where a line isn't out
-  pub told_unheard : IsTelling p schedule w v told (Ok None)
+  pub told_unheard : IsTelling events w v told (Ok None)
       → Answered (complaining Refused unwritten_text)
-  told_unheard (one_unheard done rest dids says lines last) =
+  told_unheard (one_unheard done rest dids parts lines last) =
       aloud told (complaining Refused unwritten_text) on
-      (unheard told last (until v done rest dids says lines))
+      (unheard told last (until v done rest dids parts lines))
 
 -- one more is put, and is out
 pub out_more : (told : List Put) (put : Put) → AreOut told → put.is_out ≡ true
     → AreOut (told ++ put ∷ [])
 out_more told put heard out =
     All-append (λ (x : Put). x.is_out ≡ true) told (put ∷ []) heard
-    (all_one (λ (x : Put). x.is_out ≡ true) put out)
+    (All-cons (λ (x : Put). x.is_out ≡ true) put [] out (All-nil (λ (x : Put). x.is_out ≡ true)))

@@ -2,13 +2,14 @@
 use Rattle.std.specs.Borrow.{Bor}
 use Rattle.std.specs.Option.{option_map}
 use Rattle.std.specs.Prelude.{◌≡◌, ℕ, ◌≤◌, List, Some, codes}
-use Rattle.clap.specs.Words.{Row, first_of}
+use Rattle.clap.specs.Words.{Row, all_of, first_of}
 use Rattle.bip_answers.specs.Answers.{greatest_base}
 use Rattle.bip_host.specs.declared.hosts.Tables.{Tables}
 use Rattle.bip_schedule.specs.declared.drawing.Draw.{Draw}
 use Rattle.bip_schedule.specs.declared.drawing.Draws.{Draws}
 use Rattle.bipr.specs.Draws.{draw_name}
 use Rattle.bip_program.specs.Asked.{IsFlagAsked, IsNumberAsked, MayAskNumber}
+use Rattle.bip_program.specs.Programs.{names_in}
 use Rattle.bipr.specs.Resolvers.{resolver_name, tables_name}
 use Rattle.bipr.specs.declared.commands.canon.CanonArguments.{CanonArguments}
 use Rattle.bipr.specs.declared.commands.chart.ChartArguments.{ChartArguments}
@@ -58,6 +59,8 @@ pub record IsCanonAsked (values : List Row) (arguments : CanonArguments) : Type 
 -- the values behind `draw` ask
 pub record IsDrawingAsked (values : List Row) (arguments : DrawArguments) : Type 0 where
   pub model : first_of (codes "model") values ≡ Some arguments.model.now
+  pub only : option_map names_in arguments.only ≡ all_of (codes "only") values
+  pub only_class : option_map names_in arguments.only_class ≡ all_of (codes "only-class") values
   pub plan : IsFlagAsked values (codes "plan") arguments.with_plan
 
 -- the values behind `replay` or `chart` ask of a replay: the paths are the first values of their
@@ -86,6 +89,10 @@ pub record AreStepsAsked (values : List Row) (arguments : StepsArguments) : Type
   pub resolver : IsResolverAsked values arguments.resolver
   pub base : IsBaseAsked values arguments.base
   pub tell : IsFlagAsked values (codes "tell") arguments.is_told
+  pub chart_in : option_map (λ (path : Bor (List ℕ)). path.now) arguments.chart_in
+      ≡ first_of (codes "chart") values
+  pub from : IsNumberAsked values (codes "from") 64 arguments.rows.from
+  pub to : MayAskNumber values (codes "to") 64 arguments.rows.to
 
 -- the values behind `explore` ask
 pub record IsExploreAsked (values : List Row) (arguments : ExploreArguments) : Type 0 where

@@ -1,6 +1,7 @@
 -- What the program may answer to the words of a command line.
-use Rattle.std.specs.Prelude.{◌≡◌, ◌≢◌, Bool, List, [], ℕ, Option, None, Some, false, Result, Ok}
 use Rattle.std.specs.Borrow.{Bor}
+use Rattle.std.specs.Prelude.{◌≡◌, ◌≢◌, ◌||◌, Bool, List, [], ℕ, Option, None, Some, false}
+use Rattle.std.specs.Prelude.{Ok, Result, is_some}
 use Rattle.std.specs.Prelude.{Err, codes, true}
 use Rattle.std.specs.declared.io.Error as io_error
 use Rattle.clap.specs.Words.{Row, Text}
@@ -20,12 +21,14 @@ use Rattle.bipr.specs.Loading.{Silently}
 use Rattle.bip_program.specs.Programs.{IsNoParse, IsParse, Parsed}
 use Rattle.bipr.specs.Refusals.{IsErrorAnswer, IsWordsAnswer}
 use Rattle.bip_answers.specs.Renderings.{IsDrawingShowing, IsRenderingAnswer}
+use Rattle.bip_answers.specs.Selected.{IsPartAnswer}
 use Rattle.bipr.specs.Resolvers.{NeedsCentral}
-use Rattle.bipr.specs.Scheduled.{IsScheduleAnswered}
 use Rattle.bipr.specs.Seeds.{IsSeedAnswer}
-use Rattle.bipr.specs.Sources.{is_standard_input}
-use Rattle.bipr.specs.Stops.{bad_base, bad_limits, bad_range, bad_record, bad_seeds}
-use Rattle.bipr.specs.Stops.{out_of_memory, words_need_central}
+use Rattle.bipr.specs.Sources.{is_on_output}
+use Rattle.bipr.specs.Sequenced.{AreRowsIn, AreRowsOut, IsScheduleShown}
+use Rattle.bipr.specs.Stops.{bad_base, bad_chart, bad_limits, bad_part, bad_range, bad_record}
+use Rattle.bipr.specs.Stops.{bad_seeds}
+use Rattle.bipr.specs.Stops.{bad_showing, out_of_memory, words_need_central}
 use Rattle.bipr.specs.Streams.{Put, Puts}
 use Rattle.bip_answers.specs.Views.{IsViewed, verdict_view}
 use Rattle.bipr.specs.Walked.{IsWalkAnswer, walks_of}
@@ -63,11 +66,30 @@ abbrev pub IsCanon : (List ℕ → Result (List ℕ) InputFault → Type 0) → 
 IsCanon gives asked =
     OfText gives asked.model.now (λ model. Silently (IsRenderingAnswer Canonical model))
 
--- the drawing, of the model or of its plan
-abbrev pub IsDraw : (List ℕ → Result (List ℕ) InputFault → Type 0) → DrawArguments → List Put
-    → Answer → Type 0
-IsDraw gives asked =
-    OfText gives asked.model.now (λ model. Silently (IsDrawingShowing model asked.with_plan))
+-- a part of a model is asked to be drawn
+abbrev pub is_of_part : DrawArguments → Bool
+is_of_part asked = is_some asked.only || is_some asked.only_class
+
+-- the words that an option gives; none where it isn't given
+abbrev pub words_of : Option (Bor (List (Bor Text))) → List (Bor Text)
+words_of None = []
+words_of (Some given) = given.now
+
+-- the drawing, of the model or of its plan, or of a part of the model
+pub data IsDraw (gives : List ℕ → Result (List ℕ) InputFault → Type 0) (asked : DrawArguments) :
+    List Put → Answer → Type 0 where
+  -- a part of a plan is asked for: no path is read
+  plan_of_part : is_of_part asked ≡ true → asked.with_plan ≡ true → IsDraw gives asked [] bad_part
+  -- of the components and the classes that words name
+  of_part : (told : List Put) (answer : Answer) → is_of_part asked ≡ true
+      → asked.with_plan ≡ false
+      → OfText gives asked.model.now
+      (λ model. Silently (IsPartAnswer (words_of asked.only) (words_of asked.only_class) model))
+      told answer → IsDraw gives asked told answer
+  of_whole : (told : List Put) (answer : Answer) → is_of_part asked ≡ false
+      → OfText gives asked.model.now
+      (λ model. Silently (IsDrawingShowing model asked.with_plan)) told answer
+      → IsDraw gives asked told answer
 
 -- what may be answered to a model's text and a trace's, where this answers both
 abbrev pub IsReplayBy : (List ℕ → List ℕ → Answer → Type 0)
@@ -97,13 +119,27 @@ pub data IsChart (gives : List ℕ → Result (List ℕ) InputFault → Type 0) 
       → IsReplayBy (IsChartAnswer asked.replay.base asked.shown) gives asked.replay told answer
       → IsChart gives asked told answer
 
+-- steps are to be drawn and told
+abbrev pub AreDrawnAndTold : StepsArguments → Type 0
+AreDrawnAndTold asked = (asked.chart_in ≢ None) × (asked.is_told ≡ true)
+
 -- the steps of a schedule
-abbrev pub IsSteps : (List ℕ → Result (List ℕ) InputFault → Type 0) → StepsArguments → List Put
-    → Answer → Type 0
-IsSteps gives asked =
-    OfTexts IsPlannedText IsRefusedModel
-    (λ model schedule. OfPlan model (λ p. IsScheduleAnswered p asked.base asked.resolver
-    asked.is_told schedule)) gives asked.model.now asked.schedule.now
+pub data IsSteps (gives : List ℕ → Result (List ℕ) InputFault → Type 0) (hosts : Hosts)
+    (asked : StepsArguments) : List Put → Answer → Type 0 where
+  -- the rows are out of order: nothing is read
+  of_no_rows : AreRowsOut asked.rows → IsSteps gives hosts asked [] bad_range
+  -- they are to be drawn and told: nothing is read
+  of_both : AreRowsIn asked.rows → AreDrawnAndTold asked → IsSteps gives hosts asked [] bad_showing
+  -- a picture is asked for on standard output: nothing is read
+  of_stream : AreRowsIn asked.rows → ¬ AreDrawnAndTold asked → is_on_output asked.chart_in ≡ true
+      → IsSteps gives hosts asked [] bad_chart
+  -- the schedule for the plan of the text that the path names is done
+  of_schedule : (told : List Put) (answer : Answer) → AreRowsIn asked.rows
+      → ¬ AreDrawnAndTold asked → is_on_output asked.chart_in ≡ false
+      → OfTexts IsPlannedText IsRefusedModel
+      (λ model schedule. OfPlan model (λ p. IsScheduleShown p hosts asked schedule)) gives
+      asked.model.now asked.schedule.now told answer
+      → IsSteps gives hosts asked told answer
 
 -- the exploring
 abbrev pub IsExplore : (List ℕ → Result (List ℕ) InputFault → Type 0) → ExploreArguments
@@ -128,11 +164,6 @@ pub data AreWalksWritten (gives : List ℕ → Result (List ℕ) InputFault → 
       → OfText gives asked.model.now
       (λ model. OfPlan model (λ p. Silently (IsWalkAnswer p asked walks))) told answer
       → AreWalksWritten gives asked told answer
-
--- a record is asked for on standard output
-abbrev pub is_on_output : Option (Bor (List ℕ)) → Bool
-is_on_output None = false
-is_on_output (Some path) = is_standard_input path.now
 
 -- the run of nodes as threads
 pub data IsThreadedRun (gives : List ℕ → Result (List ℕ) InputFault → Type 0) (hosts : Hosts)
@@ -188,7 +219,8 @@ IsSaidTo command.Check values gives hosts = IsAnsweredTo (IsCheckAsked values) (
 IsSaidTo command.Draw values gives hosts = IsAnsweredTo (IsDrawingAsked values) (IsDraw gives)
 IsSaidTo command.Replay values gives hosts =
     IsAnsweredTo (IsVerdictAsked values) (IsReplayShowing gives)
-IsSaidTo command.Steps values gives hosts = IsAnsweredTo (AreStepsAsked values) (IsSteps gives)
+IsSaidTo command.Steps values gives hosts =
+    IsAnsweredTo (AreStepsAsked values) (IsSteps gives hosts)
 IsSaidTo command.Explore values gives hosts = IsAnsweredTo (IsExploreAsked values) (IsExplore gives)
 IsSaidTo command.Seed values gives hosts =
     IsAnsweredTo (IsSeedAsked values) (IsSeedWritten gives)

@@ -14,6 +14,7 @@ pub mod Refusals
 pub mod Resolvers
 pub mod Scheduled
 pub mod Seeds
+pub mod Sequenced
 pub mod Sources
 pub mod Stops
 pub mod Streams

@@ -127,17 +127,15 @@ pub data IsAtMostOneDone (rest : List Event) (w v : WorldContent) : Type 0 where
   one_more : (next : Event) (more : List Event) (did : Option Did) → rest ≡ next ∷ more
       → AreSteps (next ∷ []) (did ∷ []) w v → IsAtMostOneDone rest w v
 
--- what telling the events of a schedule comes to
-pub data IsTelling (p : Planned) (schedule : List ℕ) (w v : WorldContent) (told : List Put)
+-- what telling events comes to
+pub data IsTelling (events : List Event) (w v : WorldContent) (told : List Put)
     : Result (Option Report) AllocError → Type 0 where
-  all_told : (events : List Event) (dids : List (Option Did)) (report : Report)
-      → IsEventText p schedule events → AreToldFrom w events dids (texts told) v → AreOut told
-      → report ≡ report_of dids → IsTelling p schedule w v told (Ok (Some report))
-  one_unheard : (done rest : List Event) (dids : List (Option Did))
-      → IsEventText p schedule (done ++ rest) → AreToldFrom w done dids (texts told) v
-      → IsLastUnheard told → IsTelling p schedule w v told (Ok None)
-  nothing_told : (e : AllocError) → told ≡ [] → v ≡ w → IsTelling p schedule w v told (Err e)
+  all_told : (dids : List (Option Did)) (report : Report) → AreToldFrom w events dids (texts told) v
+      → AreOut told → report ≡ report_of dids → IsTelling events w v told (Ok (Some report))
+  one_unheard : (done rest : List Event) (dids : List (Option Did)) → events ≡ done ++ rest
+      → AreToldFrom w done dids (texts told) v → IsLastUnheard told
+      → IsTelling events w v told (Ok None)
+  nothing_told : (e : AllocError) → told ≡ [] → v ≡ w → IsTelling events w v told (Err e)
   some_told : (done rest : List Event) (dids : List (Option Did)) (last : WorldContent)
-      (e : AllocError) → IsEventText p schedule (done ++ rest)
-      → AreToldFrom w done dids (texts told) last → AreOut told → IsAtMostOneDone rest last v
-      → IsTelling p schedule w v told (Err e)
+      (e : AllocError) → events ≡ done ++ rest → AreToldFrom w done dids (texts told) last
+      → AreOut told → IsAtMostOneDone rest last v → IsTelling events w v told (Err e)

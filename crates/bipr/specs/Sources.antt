@@ -1,5 +1,6 @@
 -- What a path names, and the bytes that it has left.
-use Rattle.std.specs.Prelude.{ℕ, Bool, false, true, List, Option, codes}
+use Rattle.std.specs.Borrow.{Bor}
+use Rattle.std.specs.Prelude.{ℕ, Bool, false, true, List, None, Option, Some, codes}
 use Rattle.bip_model.specs.Naming.{same_text}
 use Rattle.bipr.specs.declared.sources.Source.{Source}
 use Rattle.bipr.specs.declared.sources.Source.TheVariants as source
@@ -18,3 +19,8 @@ remaining_in of_input of_file (source.File file) = of_file file
 abbrev pub is_input : {I F : Type 0} → Source I F → Bool
 is_input (source.StandardInput input) = true
 is_input (source.File file) = false
+
+-- what is to be written in a file is asked for on standard output
+abbrev pub is_on_output : Option (Bor (List ℕ)) → Bool
+is_on_output None = false
+is_on_output (Some path) = is_standard_input path.now

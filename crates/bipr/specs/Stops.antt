@@ -79,6 +79,18 @@ bad_limits = bad_command_line (codes "error: a run has --turns or --grants" ++ l
 abbrev pub bad_record : Answer
 bad_record = bad_command_line (codes "error: --record is a file" ++ line_feed ∷ [])
 
+-- what is said where a part of a plan is to be drawn
+abbrev pub bad_part : Answer
+bad_part = bad_command_line (codes "error: --plan is of a whole model" ++ line_feed ∷ [])
+
+-- what is said where steps are to be drawn and told; and where they are to be drawn on standard
+-- output
+abbrev pub bad_showing : Answer
+bad_showing = bad_command_line (codes "error: steps have --tell or --chart" ++ line_feed ∷ [])
+
+abbrev pub bad_chart : Answer
+bad_chart = bad_command_line (codes "error: --chart is a file" ++ line_feed ∷ [])
+
 -- what is said where row words are asked for without the central bank, and where more components
 -- have a row than these can
 abbrev pub words_need_central : Answer
@@ -104,6 +116,9 @@ answer_of_stop stop.SeedOrSeeds = bad_seeds
 answer_of_stop stop.TurnsOrGrants = bad_limits
 answer_of_stop stop.WordsNeedCentral = words_need_central
 answer_of_stop stop.RecordOnOutput = bad_record
+answer_of_stop stop.PlanOfPart = bad_part
+answer_of_stop stop.DrawnAndTold = bad_showing
+answer_of_stop stop.ChartOnOutput = bad_chart
 answer_of_stop stop.TooManyRows = too_many_rows
 answer_of_stop stop.ScheduleTooLong = long_schedule
 answer_of_stop stop.GrantRefused = complaining NotARun host_refusal

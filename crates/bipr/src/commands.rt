@@ -88,7 +88,7 @@ fn command_named(name: &str) -> Option<Command>
 }
 
 // What the words behind a command ask, where they ask something.
-fn asked<T>(read: Option<T>) -> Result<T, Stop<'static>>
+fn asked<'s, T>(read: Option<T>) -> Result<T, Stop<'s>>
     ensures ok { IfOk result (λ arguments. read ≡ Some arguments) }
     ensures err { IfErr result (λ why. (read ≡ None) × (why ≡ BaseOutOfRange)) }
 {

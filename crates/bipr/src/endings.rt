@@ -13,8 +13,9 @@ ghost use Rattle.bipr.specs.Streams.{Puts};
 use crate::hosting::Hosting;
 use crate::invocations::Invocation;
 use crate::stops::{
-    BAD_BASE, BAD_LIMITS, BAD_RANGE, BAD_RECORD, BAD_SEEDS, CANNOT_WRITE, NO_MEMORY, NO_THREAD,
-    NOT_A_RUN, SCHEDULE_TOO_LONG, Stop, TOO_MANY_ROWS, WORDS_NEED_CENTRAL, unread_text,
+    BAD_BASE, BAD_CHART, BAD_LIMITS, BAD_PART, BAD_RANGE, BAD_RECORD, BAD_SEEDS, BAD_SHOWING,
+    CANNOT_WRITE, NO_MEMORY, NO_THREAD, NOT_A_RUN, SCHEDULE_TOO_LONG, Stop, TOO_MANY_ROWS,
+    WORDS_NEED_CENTRAL, unread_text,
 };
 use crate::streams::{Stream, put};
 use crate::wording::seed_verdict;
@@ -97,6 +98,9 @@ impl<R, I, H: Hosting, O: Stream, E: Stream> Invocation<'_, R, I, H, O, E> {
             Stop::TurnsOrGrants => self.complain(Status::BadCommandLine, BAD_LIMITS),
             Stop::WordsNeedCentral => self.complain(Status::BadCommandLine, WORDS_NEED_CENTRAL),
             Stop::RecordOnOutput => self.complain(Status::BadCommandLine, BAD_RECORD),
+            Stop::PlanOfPart => self.complain(Status::BadCommandLine, BAD_PART),
+            Stop::DrawnAndTold => self.complain(Status::BadCommandLine, BAD_SHOWING),
+            Stop::ChartOnOutput => self.complain(Status::BadCommandLine, BAD_CHART),
             Stop::TooManyRows => self.complain(Status::Refused, TOO_MANY_ROWS),
             Stop::ScheduleTooLong => self.complain(Status::Refused, SCHEDULE_TOO_LONG),
             Stop::GrantRefused => self.complain(Status::NotARun, NOT_A_RUN),

@@ -20,6 +20,7 @@ mod refusals;
 mod resolvers;
 mod scheduled;
 mod seeds;
+mod sequenced;
 mod sources;
 mod stops;
 mod streams;

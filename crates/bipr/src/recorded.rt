@@ -94,8 +94,8 @@ enum Unkept {
     Elsewhere,
 }
 
-// An answer with a text to keep in the file that a path names.
-fn answer_keeping(
+/// An answer with a text to keep in the file that a path names. The only error is want of memory.
+pub fn answer_keeping(
     alloc: Global,
     plain: Answer,
     path: &str,

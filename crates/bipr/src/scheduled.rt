@@ -1,5 +1,6 @@
 //! Answers to schedules: what their events lead to, and what is told on the way.
-ghost use Rattle.std.specs.Prelude.{◌≡◌, ◌≤◌, [], IfOk, List, Ok, OnErr, true};
+ghost use Rattle.std.specs.Prelude.{◌≡◌, ◌<◌, ◌≤◌, ◌^◌, [], IfOk, List, Ok, OnErr, length, true};
+ghost use Rattle.std.specs.Prelude.{ℕ};
 ghost use Rattle.bip_bank.specs.Banks.{content_of};
 ghost use Rattle.bip_core.specs.Starting.{IsUnasked};
 ghost use Rattle.bip_core.specs.Worlds.{world_of};
@@ -9,6 +10,8 @@ ghost use Rattle.bip_model.specs.Texts.{line_at};
 ghost use Rattle.bip_replay.specs.Runs.{IsModelRun};
 ghost use Rattle.bip_replay.specs.Traces.{grants_of};
 ghost use Rattle.bip_schedule.specs.Laws.{IsFault};
+ghost use Rattle.bip_schedule.specs.Schedules.{IsEventText};
+ghost use Rattle.bip_schedule.specs.Writing.{HaveSpelling};
 ghost use Rattle.bip_replay.specs.Writing.{text_of};
 ghost use Rattle.bip_answers.specs.Answers.{complaining};
 ghost use Rattle.bip_answers.specs.Answers.{greatest_base};
@@ -34,15 +37,15 @@ use bip_model::{Number, Seq};
 use bip_partition::Plan;
 use bip_replay::{TraceFault, write_trace};
 use bip_ring::Ring;
-use bip_schedule::Schedule;
+use bip_schedule::{Schedule, follow_schedule};
 use bip_tell::{tell_event, tell_first};
 use std::alloc::{AllocError, Global};
 
 /// The answer to a schedule's text for a plan, with a resolver's bank, from a base: the trace of
 /// the world to which its events lead from the new one, with their report; else the first fault of
-/// the text. Where that is asked for, each event is told on standard error when it is done; where
-/// its line isn't out, no more are done (docs/ANSWERS.md, "Answers"). What stops it is that, or
-/// want of memory.
+/// the text. Where that is asked for, each event is told on standard error when it is done, and
+/// nothing of a text that is refused; where its line isn't out, no more are done (docs/ANSWERS.md,
+/// "Answers"). What stops it is that, or want of memory.
 pub fn answer_schedule<'a, E: Stream>(
     alloc: Global,
     explanation: &mut Explanation,
@@ -55,8 +58,65 @@ pub fn answer_schedule<'a, E: Stream>(
     ensures { AllOutcomesTelling E.writes errors.old errors.new result
         (IsScheduleOf plan.now asked.now schedule.now) }
 {
-    match Schedule::of(plan, schedule) {
-        Ok(schedule) => answer_resolved(alloc, plan, asked, &schedule, errors),
+    let base = asked.base;
+    match asked.resolver {
+        Resolver::Central => {
+            let bank = Central::new(alloc, plan, base)?;
+            answer_with_bank(alloc, explanation, plan, bank, asked, schedule, errors)
+        }
+        Resolver::Ring => {
+            let bank = Ring::new(alloc, plan, base)?;
+            answer_with_bank(alloc, explanation, plan, bank, asked, schedule, errors)
+        }
+        Resolver::Forks => {
+            let bank = Forks::new(alloc, plan, base)?;
+            answer_with_bank(alloc, explanation, plan, bank, asked, schedule, errors)
+        }
+    }
+}
+
+// The answer to a schedule's text for a plan, with a new bank of the resolver.
+fn answer_with_bank<'a, B: Bank + Drop, E: Stream>(
+    alloc: Global,
+    explanation: &mut Explanation,
+    plan: &Plan,
+    bank: B,
+    asked: &StepsArguments<'a>,
+    schedule: &[u8],
+    errors: &mut E,
+) -> Result<Answer, Stop<'a>>
+    requires base { asked.now.base ≤ greatest_base }
+    requires unasked { IsUnasked plan.now asked.now.base (content_of (B.kept bank)) }
+    requires shared { IsSharedAtFirst asked.now.resolver plan.now (B.kept bank).sharing }
+    ensures { AllOutcomesTelling E.writes errors.old errors.new result
+        (IsScheduleOf plan.now asked.now schedule.now) }
+{
+    if asked.is_told {
+        answer_aloud(alloc, explanation, plan, bank, asked, schedule, errors)
+    } else {
+        Ok(answer_events(alloc, explanation, plan, bank, schedule, asked.base)?)
+    }
+}
+
+// The same where each event is told: the text is read whole before the first one.
+fn answer_aloud<'a, B: Bank + Drop, E: Stream>(
+    alloc: Global,
+    explanation: &mut Explanation,
+    plan: &Plan,
+    bank: B,
+    asked: &StepsArguments<'a>,
+    schedule: &[u8],
+    errors: &mut E,
+) -> Result<Answer, Stop<'a>>
+    requires base { asked.now.base ≤ greatest_base }
+    requires unasked { IsUnasked plan.now asked.now.base (content_of (B.kept bank)) }
+    requires shared { IsSharedAtFirst asked.now.resolver plan.now (B.kept bank).sharing }
+    requires told { asked.now.is_told ≡ true }
+    ensures { AllOutcomesTelling E.writes errors.old errors.new result
+        (IsScheduleOf plan.now asked.now schedule.now) }
+{
+    match Schedule::of(alloc, plan, schedule) {
+        Ok(events) => answer_telling(alloc, plan, bank, asked, events, errors),
         Err((line, fault)) => Ok(refuse_schedule(
             alloc,
             explanation,
@@ -68,9 +128,9 @@ pub fn answer_schedule<'a, E: Stream>(
     }
 }
 
-// The answer that refuses a schedule by its first fault, which the explanation tells more of. The
-// only error is want of memory.
-fn refuse_schedule(
+/// The answer that refuses a schedule by its first fault, which the explanation tells more of. The
+/// only error is want of memory.
+pub fn refuse_schedule(
     alloc: Global,
     explanation: &mut Explanation,
     plan: &Plan,
@@ -89,79 +149,29 @@ fn refuse_schedule(
     Ok(complained(alloc, Status::Refused, complaint))
 }
 
-// The answer to a schedule of the plan, with a resolver's bank.
-fn answer_resolved<'a, E: Stream>(
-    alloc: Global,
-    plan: &Plan,
-    asked: &StepsArguments<'a>,
-    schedule: &Schedule<'_>,
-    errors: &mut E,
-) -> Result<Answer, Stop<'a>>
-    requires base { asked.now.base ≤ greatest_base }
-    requires plan { schedule.now.plan ≡ plan.now }
-    ensures { AllOutcomesTelling E.writes errors.old errors.new result
-        (IsScheduleOf plan.now asked.now schedule.now.text) }
-{
-    let base = asked.base;
-    match asked.resolver {
-        Resolver::Central => {
-            let bank = Central::new(alloc, plan, base)?;
-            answer_with_bank(alloc, plan, bank, asked, schedule, errors)
-        }
-        Resolver::Ring => {
-            let bank = Ring::new(alloc, plan, base)?;
-            answer_with_bank(alloc, plan, bank, asked, schedule, errors)
-        }
-        Resolver::Forks => {
-            let bank = Forks::new(alloc, plan, base)?;
-            answer_with_bank(alloc, plan, bank, asked, schedule, errors)
-        }
-    }
-}
-
-// The answer to a schedule of the plan, with a new bank of the resolver.
-fn answer_with_bank<'a, B: Bank + Drop, E: Stream>(
-    alloc: Global,
-    plan: &Plan,
-    bank: B,
-    asked: &StepsArguments<'a>,
-    schedule: &Schedule<'_>,
-    errors: &mut E,
-) -> Result<Answer, Stop<'a>>
-    requires base { asked.now.base ≤ greatest_base }
-    requires plan { schedule.now.plan ≡ plan.now }
-    requires unasked { IsUnasked plan.now asked.now.base (content_of (B.kept bank)) }
-    requires shared { IsSharedAtFirst asked.now.resolver plan.now (B.kept bank).sharing }
-    ensures { AllOutcomesTelling E.writes errors.old errors.new result
-        (IsScheduleOf plan.now asked.now schedule.now.text) }
-{
-    if asked.is_told {
-        answer_telling(alloc, plan, bank, asked, schedule, errors)
-    } else {
-        Ok(answer_events(alloc, plan, bank, schedule, asked.base)?)
-    }
-}
-
-// The same where what is in flight at first is told, and then each event.
+// The answer to the events of a schedule of the plan, with a new bank of the resolver: what is in
+// flight at first is told, and then each event.
 fn answer_telling<'a, B: Bank + Drop, E: Stream>(
     alloc: Global,
     plan: &Plan,
     bank: B,
     asked: &StepsArguments<'a>,
-    schedule: &Schedule<'_>,
+    events: Schedule<'_>,
     errors: &mut E,
 ) -> Result<Answer, Stop<'a>>
     requires base { asked.now.base ≤ greatest_base }
-    requires plan { schedule.now.plan ≡ plan.now }
     requires unasked { IsUnasked plan.now asked.now.base (content_of (B.kept bank)) }
     requires shared { IsSharedAtFirst asked.now.resolver plan.now (B.kept bank).sharing }
     requires told { asked.now.is_told ≡ true }
-    ensures { AllOutcomesTelling E.writes errors.old errors.new result
-        (IsScheduleOf plan.now asked.now schedule.now.text) }
+    requires spelled { HaveSpelling plan.now events }
+    requires few { length events < 2 ^ 64 }
+    ensures { (text : List ℕ) → IsEventText plan.now text events.entry
+        → AllOutcomesTelling E.writes errors.old errors.new result
+        (IsScheduleOf plan.now asked.now text) }
 {
     world_laws();
     let mut world = World::new(alloc, plan, bank, asked.base)?;
-    match tell_events(alloc, schedule, &mut world, errors)? {
+    match tell_events(alloc, events, &mut world, errors)? {
         Some(report) => Ok(answer_run(alloc, plan, &world, &report)?),
         None => Err(Stop::CannotWrite),
     }
@@ -171,25 +181,24 @@ fn answer_telling<'a, B: Bank + Drop, E: Stream>(
 // by its line; no report where a text isn't out. The only error is want of memory.
 fn tell_events<'p, B: Bank, E: Stream>(
     alloc: Global,
-    schedule: &Schedule<'_>,
+    events: Schedule<'_>,
     world: &mut World<'p, B>,
     errors: &mut E,
 ) -> Result<Option<Report>, AllocError>
-    requires { schedule.now.plan ≡ world.old.plan }
+    requires spelled { HaveSpelling world.old.plan events }
+    requires few { length events < 2 ^ 64 }
     ensures plan { world.new.plan ≡ world.old.plan }
     ensures told { (told : List Put) × PutsEach E.writes errors.old told errors.new
-        × IsTelling schedule.now.plan schedule.now.text (world_of world.old) (world_of world.new)
-        told result }
+        × IsTelling events.entry (world_of world.old) (world_of world.new) told result }
 {
-    let events = schedule.events(alloc)?;
     let mut line = Vec::new(alloc);
     if !tell_beginning(&mut line, world, errors)? {
         return Ok(None);
     }
     let mut report = Report::empty();
-    for event in &events {
+    for event in events {
         line.clear();
-        tell_event(&mut line, world, *event, &mut report)?;
+        tell_event(&mut line, world, event, &mut report)?;
         if !put(errors, line.as_slice()) {
             return Ok(None);
         }
@@ -213,29 +222,33 @@ fn tell_beginning<'p, B: Bank, E: Stream>(
     Ok(put(errors, line.as_slice()))
 }
 
-// The answer to a schedule of the plan, with a new bank, where nothing is told on the way.
+// The answer to a schedule's text for a plan, with a new bank, where nothing is told on the way:
+// each line is read once, and its event done.
 fn answer_events<B: Bank + Drop>(
     alloc: Global,
+    explanation: &mut Explanation,
     plan: &Plan,
     bank: B,
-    schedule: &Schedule<'_>,
+    schedule: &[u8],
     base: Number,
 ) -> Result<Answer, AllocError>
     requires base { base ≤ greatest_base }
-    requires plan { schedule.now.plan ≡ plan.now }
     requires unasked { IsUnasked plan.now base (content_of (B.kept bank)) }
     ensures { IfOk result (λ answer. (resolver : Resolver)
         → IsSharedAtFirst resolver plan.now (B.kept bank).sharing
-        → IsScheduleAnswer plan.now base resolver schedule.now.text answer) }
+        → IsScheduleAnswer plan.now base resolver schedule.now answer) }
 {
     world_laws();
     let mut world = World::new(alloc, plan, bank, base)?;
-    let report = schedule.follow(&mut world);
-    answer_run(alloc, plan, &world, &report)
+    match follow_schedule(alloc, &mut world, schedule) {
+        Ok(report) => answer_run(alloc, plan, &world, &report),
+        Err((line, fault)) => refuse_schedule(alloc, explanation, plan, schedule, line, &fault),
+    }
 }
 
-// The answer to a run of events: the trace of the world to which they led, and their report.
-fn answer_run<'p, B: Bank>(
+/// The answer to a run of events: the trace of the world to which they led, and their report. The
+/// only error is want of memory.
+pub fn answer_run<'p, B: Bank>(
     alloc: Global,
     plan: &Plan,
     world: &World<'p, B>,

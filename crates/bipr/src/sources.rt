@@ -1,6 +1,6 @@
 //! What the paths of a command name: `-` is standard input, any other a file.
 ghost use Rattle.std.specs.Prelude.{◌≡◌, IfOk};
-ghost use Rattle.bipr.specs.Sources.{is_input, is_standard_input, remaining_in};
+ghost use Rattle.bipr.specs.Sources.{is_input, is_on_output, is_standard_input, remaining_in};
 
 use crate::inputs::Open;
 use std::fs::{File, Files};
@@ -56,4 +56,14 @@ pub fn is_standard_input(path: &str) -> bool
     ensures { result ≡ is_standard_input path.now }
 {
     path == "-"
+}
+
+/// Whether what is to be written in a file is asked for on standard output.
+pub fn is_on_output(path: Option<&str>) -> bool
+    ensures { result ≡ is_on_output path.entry }
+{
+    match path {
+        None => false,
+        Some(path) => is_standard_input(path),
+    }
 }

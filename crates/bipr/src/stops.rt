@@ -27,6 +27,12 @@ pub enum Stop<'a> {
     WordsNeedCentral,
     /// A record is asked for on standard output.
     RecordOnOutput,
+    /// A part of a plan is to be drawn.
+    PlanOfPart,
+    /// Steps are to be drawn and told.
+    DrawnAndTold,
+    /// A picture of steps is asked for on standard output.
+    ChartOnOutput,
     /// More components have a row than row words can.
     TooManyRows,
     /// A host's book refused a grant.
@@ -67,6 +73,15 @@ pub const BAD_LIMITS: &[u8] = b"bipr: bad command line\nerror: a run has --turns
 
 /// The complaint where a record is asked for on standard output.
 pub const BAD_RECORD: &[u8] = b"bipr: bad command line\nerror: --record is a file\n";
+
+/// The complaint where a part of a plan is to be drawn.
+pub const BAD_PART: &[u8] = b"bipr: bad command line\nerror: --plan is of a whole model\n";
+
+/// The complaint where steps are to be drawn and told; and where they are to be drawn on standard
+/// output.
+pub const BAD_SHOWING: &[u8] = b"bipr: bad command line\nerror: steps have --tell or --chart\n";
+
+pub const BAD_CHART: &[u8] = b"bipr: bad command line\nerror: --chart is a file\n";
 
 /// The complaint where row words are asked for without the central bank; and where more components
 /// have a row than these can.

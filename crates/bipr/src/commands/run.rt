@@ -3,7 +3,7 @@ ghost use Rattle.std.specs.Prelude.{◌≡◌, Some};
 ghost use Rattle.clap.specs.Words.{found_of, rows_of};
 ghost use Rattle.bip_program.specs.Asked.{IsReadAs};
 ghost use Rattle.bipr.specs.CommandLine.{IsRunAsked};
-ghost use Rattle.bipr.specs.Commands.{IsThreadedRun, is_on_output};
+ghost use Rattle.bipr.specs.Commands.{IsThreadedRun};
 ghost use Rattle.bipr.specs.Endings.{AllOutcomes, AllOutcomesTelling};
 ghost use Rattle.bipr.specs.Hosted.{IsPlanHosted, limits_of};
 
@@ -14,7 +14,7 @@ use crate::inputs::Inputs;
 use crate::invocations::Invocation;
 use crate::loading::load;
 use crate::resolvers::HostForm;
-use crate::sources::is_standard_input;
+use crate::sources::is_on_output;
 use crate::stops::Stop;
 use crate::streams::Stream;
 use bip_answers::{Answer, PlanOrRefusal, plan_text};
@@ -135,15 +135,5 @@ impl<R: Threads + Wait + Clock + Sync, I: Inputs, H: Hosting, O, E: Stream> Invo
             None => self.answer_host(plan, asked, limits),
             Some(path) => self.answer_recorded(plan, asked, limits, path),
         }
-    }
-}
-
-/// Whether a record is asked for on standard output.
-fn is_on_output(record_in: Option<&str>) -> bool
-    ensures { result ≡ is_on_output record_in.entry }
-{
-    match record_in {
-        None => false,
-        Some(path) => is_standard_input(path),
     }
 }

@@ -16,7 +16,7 @@ returns-in_ok-answer_events g c =
       told = [];
       on_the_way = none_put;
       outcomes =
-          outcome_answered (IsScheduleOf c.args.plan.now asked c.args.schedule.now.text [])
+          outcome_answered (IsScheduleOf c.args.plan.now asked c.args.schedule.now [])
           c.in_ok-answer_events.field-0
           (quietly c.in_ok-answer_events.field-0 c.if-asked.false
           (c.in_ok-answer_events.ensures asked.resolver c.requires.shared));

@@ -1,58 +1,60 @@
-use Rattle.std.proofs.Common.{[], refl}
-use Rattle.bipr.specs.Commands.{IsSteps}
-use Rattle.bip_answers.specs.Answers.{IsRefusedModel}
-use Rattle.bipr.specs.Loading.{IsPlannedText, OfPlan, bytes_in, lacking, of_no_plan, of_plan}
-use Rattle.bipr.specs.Scheduled.{IsScheduleOf}
-use Rattle.bipr.proofs.EndingLemmas.{lacks_quietly, outcome_answered, outcome_stopped}
-use Rattle.bipr.proofs.EndingLemmas.{outcomes_quiet}
-use Rattle.bipr.proofs.EndingLemmas.{outcomes_weaker}
-use Rattle.bipr.proofs.LoadingLemmas.{both_said, first_refused, first_stopped, other_stopped}
+use Rattle.std.proofs.Common.{◌∙◌, [], refl, sym}
+use Rattle.bipr.specs.Commands.{AreDrawnAndTold, IsSteps, of_both, of_no_rows, of_schedule}
+use Rattle.bipr.specs.Commands.{of_stream}
+use Rattle.bipr.proofs.EndingLemmas.{outcome_answered, outcomes_quiet, outcomes_weaker}
+use Rattle.bipr.proofs.SequencedLemmas.{is_given, isnt_given}
 use Rattle.bipr.proofs.invocations.Invocation.steps.Goals as goal
+use Rattle.bipr.proofs.invocations.Invocation.steps.Goals.{else-is_some-via-else-is_some}
+use Rattle.bipr.proofs.invocations.Invocation.steps.Goals.{else-is_some-via-then-is_some+else-asked}
 
-pub returns-in_err-text-clause-says : goal.returns-in_err-text-clause-says
-returns-in_err-text-clause-says g c =
-    let is = IsSteps (g.I.Inputs.gives c.args.self.now.inputs.now) c.args.asked.now in
-    outcomes_quiet g.E.Stream.writes _ _ c.from_residual.result is refl
-    (outcome_stopped c.from_residual.result (is []) c.in_err-text.field-0.0
-    c.from_residual.ensures.1 (first_stopped _ _ _ _ _ _ _ c.in_err-text.ensures.unread) lacking)
-
-pub returns-in_err-plan-clause-says : goal.returns-in_err-plan-clause-says
-returns-in_err-plan-clause-says g c =
-    lacks_quietly g.E.Stream.writes _ c.from_residual-in_err-plan.result _
-    c.from_residual-in_err-plan.ensures.1 lacking
-
-pub returns-in-Refusal-clause-says : goal.returns-in-Refusal-clause-says
-returns-in-Refusal-clause-says g c =
-    let is = IsSteps (g.I.Inputs.gives c.args.self.now.inputs.now) c.args.asked.now in
+pub returns-then-not-are_in_order-clause-says : goal.returns-then-not-are_in_order-clause-says
+returns-then-not-are_in_order-clause-says g c =
+    let gives = g.I.Inputs.gives c.args.self.now.inputs.now in
+    let hosts = g.H.Hosting.hosts c.args.self.now.hosting.now in
+    let is = IsSteps gives hosts c.args.asked.now in
     outcomes_quiet g.E.Stream.writes _ _ _ is refl
-    (outcome_answered (is []) c.in-Refusal.answer
-    (first_refused (g.I.Inputs.gives c.args.self.now.inputs.now) IsPlannedText IsRefusedModel
-    (λ model schedule. OfPlan model (λ p. IsScheduleOf p c.args.asked.now schedule))
-    c.args.asked.now.model.now c.args.asked.now.schedule.now
-    c.in_ok-text.text c.parts.result.0.now c.parts.result.1 c.in-Refusal.answer
-    c.in_ok-text.ensures.read
-    (rw (← c.as_slice.ensures) c.parts.ensures) (rw c.in-Refusal.is at c.in_ok-plan.ensures)
-    (λ rest refused. of_no_plan _ refused)))
+    (outcome_answered (is []) _
+    (of_no_rows (c.are_in_order.ensures.no c.if-not-are_in_order.true)))
 
-pub returns-in_err-schedule-clause-says : goal.returns-in_err-schedule-clause-says
-returns-in_err-schedule-clause-says g c =
-    let is = IsSteps (g.I.Inputs.gives c.args.self.now.inputs.now) c.args.asked.now in
-    let has = rw c.in-Plan.is at c.in_ok-plan.ensures in
-    outcomes_quiet g.E.Stream.writes _ _ c.from_residual-in_err-schedule.result is refl
-    (outcome_stopped c.from_residual-in_err-schedule.result (is []) c.in_err-schedule.field-0.0
-    c.from_residual-in_err-schedule.ensures.1
-    (other_stopped _ _ _ _ _ _ _ _ _ _ c.in_ok-text.ensures.read
-    (rw (← c.as_slice.ensures) c.parts.ensures) (_, has) c.in_err-schedule.ensures.unread) lacking)
+pub returns-then-asked-clause-says : goal.returns-then-asked-clause-says
+returns-then-asked-clause-says g c =
+    let gives = g.I.Inputs.gives c.args.self.now.inputs.now in
+    let hosts = g.H.Hosting.hosts c.args.self.now.hosting.now in
+    let is = IsSteps gives hosts c.args.asked.now in
+    outcomes_quiet g.E.Stream.writes _ _ _ is refl
+    (outcome_answered (is []) _
+    (of_both (c.are_in_order.ensures.yes c.if-not-are_in_order.false) (
+      is_given c.args.asked.now.chart_in (sym c.is_some.ensures ∙ c.if-is_some.true),
+      c.if-asked.true,
+    )))
+
+pub returns-then-is_on_output-clause-says : goal.returns-then-is_on_output-clause-says
+returns-then-is_on_output-clause-says g c =
+    let gives = g.I.Inputs.gives c.args.self.now.inputs.now in
+    let hosts = g.H.Hosting.hosts c.args.self.now.hosting.now in
+    let is = IsSteps gives hosts c.args.asked.now in
+    let apart : ¬ AreDrawnAndTold c.args.asked.now =
+    elim c.else-is_some.branch [
+      | else-is_some-via-then-is_some+else-asked w ↦ λ both.
+          let told = both.1 in let silent = w.if-asked.false in cc
+      | else-is_some-via-else-is_some w ↦ λ both.
+          both.0 (isnt_given c.args.asked.now.chart_in (sym c.is_some.ensures ∙ w.if-is_some.false))
+    ] in
+    outcomes_quiet g.E.Stream.writes _ _ _ is refl
+    (outcome_answered (is []) _
+    (of_stream (c.are_in_order.ensures.yes c.if-not-are_in_order.false) apart
+    (sym c.is_on_output.ensures ∙ c.if-is_on_output.true)))
 
 pub returns-clause-says : goal.returns-clause-says
 returns-clause-says g c =
-    let has = rw c.in-Plan.is at c.in_ok-plan.ensures in
-    outcomes_weaker g.E.Stream.writes _ _ c.answer_schedule.result _ _ c.answer_schedule.ensures
+    let apart : ¬ AreDrawnAndTold c.args.asked.now =
+    elim c.else-is_some.branch [
+      | else-is_some-via-then-is_some+else-asked w ↦ λ both.
+          let told = both.1 in let silent = w.if-asked.false in cc
+      | else-is_some-via-else-is_some w ↦ λ both.
+          both.0 (isnt_given c.args.asked.now.chart_in (sym c.is_some.ensures ∙ w.if-is_some.false))
+    ] in
+    outcomes_weaker g.E.Stream.writes _ _ c.run_schedule.result _ _ c.run_schedule.ensures.says
     (λ told answer is.
-    both_said (g.I.Inputs.gives c.args.self.now.inputs.now) IsPlannedText IsRefusedModel
-    (λ model schedule. OfPlan model (λ p. IsScheduleOf p c.args.asked.now schedule))
-    c.args.asked.now.model.now c.args.asked.now.schedule.now
-    c.in_ok-text.text c.parts.result.0.now c.parts.result.1 (bytes_in c.in_ok-schedule.schedule)
-    told answer c.in_ok-text.ensures.read
-    (rw (← c.as_slice.ensures) c.parts.ensures) (_, has) c.in_ok-schedule.ensures.read
-    (of_plan _ told answer has (rw (← c.as_slice-schedule.ensures) is)))
+    of_schedule told answer (c.are_in_order.ensures.yes c.if-not-are_in_order.false) apart
+    (sym c.is_on_output.ensures ∙ c.if-is_on_output.false) is)
