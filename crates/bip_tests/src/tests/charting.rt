@@ -3,9 +3,9 @@ ghost use Rattle.std.specs.Prelude.{◌≡◌};
 ghost use Rattle.bip_model.specs.Partitions.{AreClassesOf};
 
 use super::{grants, read};
-use bip_draw::{Chart, Foot, draw_chart};
+use bip_draw::{Chart, Excerpt, Foot};
 use bip_model::{Classes, Model};
-use bip_replay::Book;
+use bip_replay::GrantRef;
 use std::alloc::Global;
 use std::process::Abort;
 use std::test::*;
@@ -69,32 +69,28 @@ const ROWS: &str = "<g transform=\"translate(0,121)\" color=\"hsl(297,70%,40%)\"
 const END: &str = "<g transform=\"translate(0,211)\" class=\"fault\">\n<line x2=\"100%\"/>\n\
     <text x=\"10\" y=\"18\">line 3: y isn&#39;t enabled</text>\n</g>\n</svg>\n";
 
-/// The book of the grants of a text.
-fn book_of<'m>(rt: &impl Abort, alloc: Global, model: &'m Model, text: &str) -> Book<'m>
-    ensures { result.model ≡ model.now }
-{
-    let mut book = Book::start(alloc, model, 0).expect(rt, "memory");
-    for grant in grants(rt, alloc, model, text) {
-        let _before = book.append(grant).expect(rt, "a run");
-    }
-    book
-}
-
 fn draw<'m>(rt: &impl Abort, alloc: Global, model: &'m Model, classes: &'m Classes) -> Vec<u8>
     requires { AreClassesOf model.now classes.now }
 {
-    let book = book_of(rt, alloc, model, RUN);
-    let chart = Chart {
-        model,
-        classes,
-        book: &book,
+    let excerpt = Excerpt {
         first: 0,
-        foot: Foot::Fault(REASON.as_bytes()),
+        last: None,
+        most: 2000,
         values: true,
     };
-    let drawn = draw_chart(alloc, &chart).expect(rt, "a chart");
-    drop(book);
-    drawn
+    let mut chart = Chart::start(alloc, model, classes, 0, excerpt).expect(rt, "memory");
+    for grant in grants(rt, alloc, model, RUN) {
+        if chart.count() < 2 {
+            chart
+                .add(&GrantRef::of(&grant))
+                .expect(rt, "a grant that can be next");
+        }
+    }
+    if chart.rows() > 2000 {
+        return Vec::new(alloc);
+    }
+    let foot = Foot::Fault(REASON.as_bytes());
+    chart.finish(alloc, &foot).expect(rt, "a chart")
 }
 
 #[test]
