@@ -15,7 +15,7 @@ _bipr() {
         it=$(sed -n 's/.*\[possible values: \([^]]*\)\].*/\1/p' <<<"$it")
         COMPREPLY=($(compgen -W "${it//,/}" -- "$word"))
     elif [[ $word == -* ]]; then
-        it=$(sed -nE 's/^ +(-[a-zA-Z], )?(--[a-z]+)( .*)?$/\2/p' <<<"$help")
+        it=$(sed -nE 's/^ +(-[a-zA-Z], )?(--[a-z-]+)( .*)?$/\2/p' <<<"$help")
         COMPREPLY=($(compgen -W "$it" -- "$word"))
     elif [[ -z $command ]]; then
         it=$(sed -nE '/^Commands:$/,/^$/s/^  ([a-z]+) .*/\1/p' <<<"$help")
