@@ -1,13 +1,7 @@
--- Why bytes are dropped is one fault, by the laws of frames; ports as bits; and how many values the
--- bytes that a view lends hold.
-use Rattle.std.proofs.Common.{◌≡◌, ◌∙◌, ℕ, ◌+◌, ◌/◌, ◌%◌, ◌^◌, ◌<◌, ◌≤◌, List, Err, ap, arith}
-use Rattle.std.proofs.Common.{inl, inr, length, refl, subst, sym, true, ◌-◌, ◌*◌}
-use Rattle.std.specs.Int.{bit_at}
-use Rattle.std.proofs.lemmas.Bool.{cases_lt, false≢true}
-use Rattle.std.proofs.lemmas.Nat.{div-add-mod', pow_pos}
-use Rattle.std.proofs.lemmas.Nat.Bits.{bit_at-lt, bit_at-zero, bit_at_above, bit_at_cat_high}
-use Rattle.std.proofs.lemmas.Nat.Bits.{same_from_bits}
-use Rattle.bip_model.specs.Sets.{has}
+-- Why bytes are dropped is one fault, by the laws of frames; and how many values the bytes that a
+-- view lends hold.
+use Rattle.std.proofs.Common.{◌≡◌, ℕ, ◌/◌, List, Err, ap, arith}
+use Rattle.std.proofs.Common.{length, refl, subst}
 use Rattle.bip_partition.specs.Plans.{Planned}
 use Rattle.bip_frame.proofs.LawLemmas.{not_both, one_fault}
 use Rattle.bip_frame.proofs.LentLemmas.{values_counted}

@@ -1,9 +1,8 @@
 //! What addressees accept: frames that name only what the plan has, and fit whom they are for.
-ghost use Rattle.std.specs.Prelude.{◌≡◌, ◌↔◌, ◌<◌, ℕ, IfErr, IfOk, IsOkAnd, IsErrOf, IsTrue};
+ghost use Rattle.std.specs.Prelude.{◌≡◌, ◌↔◌, ◌<◌, IfErr, IfOk, IsOkAnd, IsErrOf, IsTrue};
 ghost use Rattle.std.specs.Prelude.{All, IfSome, Some, length, slice_get, true};
 ghost use Rattle.std.specs.Option.{option_map};
 ghost use Rattle.bip_model.specs.Messages.{IsOfferOf};
-ghost use Rattle.bip_model.specs.Sets.{has};
 ghost use Rattle.bip_frame.specs.Frames.{IsFrame, Message};
 ghost use Rattle.bip_frame.specs.Views.{IsLent, message_shown, notify_shown, offer_shown};
 ghost use Rattle.bip_frame.specs.Views.{reply_shown, request_shown};

@@ -14,7 +14,7 @@ ghost use Rattle.bip_reader.specs.declared.faults.Why.TheVariants.{Missing, NotA
 ghost use Rattle.bip_reader.specs.declared.faults.Why.TheVariants.{PriorityCycle};
 ghost use Rattle.bip_explain.specs.Explanations.{with_parts};
 ghost use Rattle.bip_explain.specs.Placed.{IsBehindTwo, said_words};
-ghost use Rattle.bip_model.specs.Naming.{is_known, same_text};
+ghost use Rattle.bip_model.specs.Naming.{is_known};
 ghost use Rattle.bip_model.specs.Texts.{words};
 
 use crate::Explanation;

@@ -1,7 +1,8 @@
 -- Why a step of forks does nothing, as a bank has it.
 use Rattle.std.proofs.Common.{◌≡◌, ℕ, zero, suc, ◌<◌, ◌≤◌, ◌+◌, ◌*◌, ◌-◌, ◌/◌, ◌%◌, Bool, true}
 use Rattle.std.proofs.Common.{false, cond, length, map}
-use Rattle.std.proofs.Common.{Option, None, Some, refl, sym, ap, ◌∙◌, subst, inl, inr, arith, slice_get}
+use Rattle.std.proofs.Common.{Option, None, Some, refl, sym, ap, ◌∙◌, subst, inl, inr, arith}
+use Rattle.std.proofs.Common.{slice_get}
 use Rattle.std.specs.Option.{option_map}
 use Rattle.std.specs.Prelude.{IfNone, IfSome}
 use Rattle.std.proofs.lemmas.Bool.{cases_lt}
@@ -41,8 +42,8 @@ use Rattle.bip_forks.specs.declared.shares.Fork.{Fork}
 use Rattle.bip_forks.specs.declared.shares.Side.{Side}
 
 -- a step that applies can be done, but for want of memory
-arrives_at : (k : KeptForks) (n : ℕ) (x : Sent) → IsKeptForks k → slice_get k.parts.flight n ≡ Some x
-    → CanWantMemory (content (machine_of k)) (Deliver n)
+arrives_at : (k : KeptForks) (n : ℕ) (x : Sent) → IsKeptForks k
+    → slice_get k.parts.flight n ≡ Some x → CanWantMemory (content (machine_of k)) (Deliver n)
 arrives_at k n x is at =
     let step = steps_deliver k n x is at in
     (_, (forks_bank (machine_of k) _ (Deliver n) Moved is.machine step.does).0)

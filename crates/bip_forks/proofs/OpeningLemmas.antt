@@ -21,7 +21,8 @@ use Rattle.bip_bank.proofs.CentralLemmas.{listed_row}
 use Rattle.bip_bank.proofs.UsedLemmas.{used_first}
 use Rattle.bip_forks.proofs.SharingLemmas.{map_twice}
 use Rattle.bip_forks.specs.Kept.{no_station}
-use Rattle.bip_forks.specs.Opening.{AreFirstSides, AreFirstStations, BothTouch, IsCommon, IsFirstSide}
+use Rattle.bip_forks.specs.Opening.{AreFirstSides, AreFirstStations, BothTouch, IsCommon}
+use Rattle.bip_forks.specs.Opening.{IsFirstSide}
 use Rattle.bip_forks.specs.Opening.{IsFirstStation, IsListCommon, SharedByPlan, rows_with}
 use Rattle.bip_forks.specs.Stations.{KeptStation, nothing_shared}
 use Rattle.bip_forks.specs.declared.shares.Side.{Side}
@@ -288,8 +289,8 @@ one_listed base [] c = refl
 one_listed base (d ∷ ds) c =
     ap (λ (rows : List Row). record { used = base; comp = d } ∷ rows) (one_listed base ds c)
 
-module _ (p : Planned) (a b base : ℕ) (own others : List CompId) (mine : IsListTouched p.model a own)
-    (theirs : IsListTouched p.model b others) where
+module _ (p : Planned) (a b base : ℕ) (own others : List CompId)
+    (mine : IsListTouched p.model a own) (theirs : IsListTouched p.model b others) where
   abbrev Both : ℕ → Type 0
   Both = BothTouch p a b
 

@@ -15,7 +15,8 @@ use Rattle.bip_forks.specs.Sides.{KeepsForkSomehow, KeepsTokenSomehow}
 use Rattle.bip_forks.specs.Exchanges.{StaysSomehow}
 use Rattle.bip_forks.specs.declared.exchanges.Exchange.{Exchange}
 use Rattle.bip_forks.specs.declared.exchanges.Exchange.TheVariants as exchange
-use Rattle.bip_forks.specs.Sides.{IsNextNeighbour, LacksFork, listed_at, listed_sides, nobody_shared}
+use Rattle.bip_forks.specs.Sides.{IsNextNeighbour, LacksFork, listed_at, listed_sides}
+use Rattle.bip_forks.specs.Sides.{nobody_shared}
 use Rattle.bip_forks.specs.Sides.{side_among, sides_from, with_other_side}
 use Rattle.bip_forks.specs.Stations.{AllLie, LiesHere, MayAsk, MayPass, nothing_shared}
 use Rattle.bip_forks.specs.Stations.{rows_here, rows_in}

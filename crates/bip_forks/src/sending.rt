@@ -74,8 +74,8 @@ fn acted(moved: bool) -> Acted
     if moved { Acted::Moved } else { Acted::Nothing }
 }
 
-/// Does a step that decides nothing, and tells whether it moved something. What it gives has no room
-/// for an answer, which would be cleared and copied for each step, and most do nothing.
+/// Does a step that decides nothing, and tells whether it moved something. What it gives has no
+/// room for an answer, which would be cleared and copied for each step, and most do nothing.
 #[inline(always)]
 fn move_on(
     stations: &mut Vec<Station>,

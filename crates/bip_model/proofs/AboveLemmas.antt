@@ -1,6 +1,7 @@
 -- What stands above what: steps, and where no pair leads on.
 use Rattle.std.proofs.Common.{◌≡◌, ℕ, ◌<◌, true, false, eqb, ◌||◌, List, refl, inl}
-use Rattle.std.proofs.Common.{inr, sym, subst, ◌∙◌, ◌↔◌, ◌⊎◌, ◌++◌, ◌∷◌, [], ap, get_or, replicate, set}
+use Rattle.std.proofs.Common.{inr, sym, subst, ◌∙◌, ◌↔◌, ◌⊎◌, ◌++◌, ◌∷◌, [], ap, get_or, replicate}
+use Rattle.std.proofs.Common.{set}
 use Rattle.std.specs.Prelude.{All, Contains}
 use Rattle.std.proofs.lemmas.Bool.{or_cases, or_left, or_right}
 use Rattle.std.proofs.lemmas.Bool.{cases_eq, eq-eqb, eqb-true, false≢true}
@@ -88,8 +89,8 @@ pub declares_none : AreDeclaredAbove [] (replicate 128 0)
 declares_none = record {
   each = length-replicate {A = ℕ} 128 0;
   set = λ a b within. (
-    λ in'. absurd (false≢true (sym (rw (get_or-replicate {A = ℕ} 128 a 0 0 within, bit_at-zero b) refl)
-        ∙ in')),
+    λ in'. absurd (false≢true
+        (sym (rw (get_or-replicate {A = ℕ} 128 a 0 0 within, bit_at-zero b) refl) ∙ in')),
     λ at. absurd (Contains-none (pair a b) at),
   );
 }

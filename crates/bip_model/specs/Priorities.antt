@@ -61,7 +61,7 @@ pub record AreListsAbove (pairs : List Pair) (count : ℕ) (lists : List (List I
     pub list : (a : ℕ) → a < count → IsListAbove pairs a (slice_index_or lists a [])
 
 -- of so many interactions, with their declared pairs, each one's set is of those above it
-pub record IsClosed (above : Above) : Type 0 where
+pub record IsClosure (above : Above) : Type 0 where
   pub few : above.count ≤ 128
   pub known : All (IsPairOf above.count) above.pairs.now
   pub each : length above.sets ≡ 128

@@ -1,7 +1,7 @@
 //! Priorities: which interactions stand above which. They are closed when a model is built.
-ghost use Rattle.std.specs.Prelude.{◌≡◌, ◌<◌, ◌≤◌, ◌↔◌, ℕ, IsTrue, All, IfOk, List, length};
+ghost use Rattle.std.specs.Prelude.{◌≡◌, ◌<◌, ◌≤◌, ◌↔◌, ℕ, IsTrue, All, IfOk, List};
 ghost use Rattle.bip_model.specs.Sets.{has};
-ghost use Rattle.bip_model.specs.Priorities.{AreDeclaredAbove, AreListsAbove, HasAbove, IsClosed};
+ghost use Rattle.bip_model.specs.Priorities.{AreDeclaredAbove, AreListsAbove, HasAbove, IsClosure};
 ghost use Rattle.bip_model.specs.Priorities.{IsCyclic, IsPairOf, inters_in};
 ghost use Rattle.bip_model.specs.declared.parts.Pair.{Pair};
 
@@ -23,7 +23,7 @@ impl<'p> Above<'p> {
     pub fn of(count: u16, pairs: &'p [Pair]) -> Above<'p>
         requires few { count ≤ 128 }
         requires known { All (IsPairOf count) pairs.now }
-        ensures closed { IsClosed result }
+        ensures closed { IsClosure result }
         ensures pairs { result.pairs.now ≡ pairs.now }
         ensures count { result.count ≡ count }
     {
@@ -37,7 +37,7 @@ impl<'p> Above<'p> {
 
     /// Whether some interaction stands above itself.
     pub fn is_cyclic(&self) -> bool
-        requires { IsClosed self.now }
+        requires { IsClosure self.now }
         ensures { IsTrue result ↔ IsCyclic self.now.pairs.now }
     {
         for number in 0..self.count {
@@ -50,7 +50,7 @@ impl<'p> Above<'p> {
 
     /// For each interaction in turn those above it, in order of their numbers.
     pub fn lists(&self, alloc: Global) -> Result<Seq<Seq<InterId>>, AllocError>
-        requires { IsClosed self.now }
+        requires { IsClosure self.now }
         ensures { IfOk result (AreListsAbove self.now.pairs.now self.now.count) }
     {
         let mut lists = Seq::of(Vec::new(alloc));

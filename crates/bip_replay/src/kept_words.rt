@@ -1,5 +1,5 @@
 //! Words `C:N` that are kept as text, and counted up.
-ghost use Rattle.std.specs.Prelude.{◌≡◌, ◌<◌, ◌≤◌, ℕ, List, length, take};
+ghost use Rattle.std.specs.Prelude.{◌≡◌, ◌≤◌, ℕ, List, take};
 ghost use Rattle.bip_model.specs.Naming.{IsName};
 ghost use Rattle.bip_replay.specs.KeptWords.{IsKeptWord};
 

@@ -1,7 +1,8 @@
 -- Schedules that are read line by line: the lines so far, one line more, the end; and the events of
 -- the lines that are left.
 use Rattle.std.proofs.Common.{◌≡◌, ◌≢◌, ℕ, ◌+◌, ◌∷◌, ◌++◌, List, [], Option, None, Some, Result, Ok}
-use Rattle.std.proofs.Common.{◌<◌, ◌≤◌, Err, suc, refl, sym, ap, append_assoc, ◌∙◌, arith, length, subst}
+use Rattle.std.proofs.Common.{◌<◌, ◌≤◌, Err, suc, refl, sym, ap, append_assoc, ◌∙◌, arith, length}
+use Rattle.std.proofs.Common.{subst}
 use Rattle.std.specs.Prelude.{All, IfSome, IsOk}
 use Rattle.std.proofs.lemmas.List.{length-append}
 use Rattle.std.proofs.lemmas.List.Elements.{All-cons, All-head, All-nil, All-push, All-tail}
