@@ -15,7 +15,8 @@ use Rattle.bip_model.specs.declared.states.LocalState.{LocalState}
 use Rattle.bip_replay.proofs.RunLemmas.{end_of-push, leads_on}
 use Rattle.bip_replay.specs.Runs.{IsNextAt, Kept, StandsAfter, Standing, interactions_of}
 use Rattle.bip_replay.specs.Runs.{standing_of, standing_on, state_after}
-use Rattle.bip_draw.specs.Charts.{Draws, Moment, Sketch, is_row, laid_out, moments_from, row_text}
+use Rattle.bip_draw.specs.Charts.{HasDrawn, Moment, Sketch, is_row, laid_out, moments_from}
+use Rattle.bip_draw.specs.Charts.{row_text}
 use Rattle.bip_draw.specs.Charts.{chart_of, chart_width, lanes_text, legend_of, rows_of, rows_text}
 use Rattle.bip_draw.specs.Charts.{state_at}
 use Rattle.bip_draw.specs.Feet.{foot_height, foot_text}
@@ -126,7 +127,7 @@ pub record TookOne (m : System) (classes : Partition) (x : Excerpt) (g : Grant) 
 
 module _ (m : System) (classes : Partition) (x : Excerpt) (base : ℕ) (gs : List Grant) (g : Grant)
     (p q : Kept) (count rows more : ℕ) (above left : List LocalState) (text longer : List ℕ)
-    (old : Draws base gs (sketch m classes x p count rows above text))
+    (old : HasDrawn base gs (sketch m classes x p count rows above text))
     (took : TookOne m classes x g p q count rows more above left text longer) where
   leads : StandsAfter m base (gs ++ g ∷ []) (standing_of q)
   leads = leads_on m base gs (standing_of p) (standing_of q) g old.leads took.next took.on
@@ -173,7 +174,7 @@ module _ (m : System) (classes : Partition) (x : Excerpt) (base : ℕ) (gs : Lis
   counts = omega (arith, old.counted, length-append gs (g ∷ []))
 
   by_row : (b : Bool) → is_row x (count + 1) ≡ b
-      → Draws base (gs ++ g ∷ []) (sketch m classes x q (count + 1) more left longer)
+      → HasDrawn base (gs ++ g ∷ []) (sketch m classes x q (count + 1) more left longer)
   by_row false e =
       let at : is_row x (length gs + 1) ≡ false =
       ap (λ (n : ℕ). is_row x (n + 1)) (sym old.counted) ∙ e in
@@ -220,13 +221,13 @@ module _ (m : System) (classes : Partition) (x : Excerpt) (base : ℕ) (gs : Lis
             (rows_of m x gs) one (omega arith));
       }
 
-  pub draws_on : Draws base (gs ++ g ∷ []) (sketch m classes x q (count + 1) more left longer)
+  pub draws_on : HasDrawn base (gs ++ g ∷ []) (sketch m classes x q (count + 1) more left longer)
   draws_on = by_row (is_row x (count + 1)) refl
 
 -- a chart that is finished
 pub finished : (m : System) (classes : Partition) (x : Excerpt) (base : ℕ) (gs : List Grant)
     (p : Kept) (count rows : ℕ) (above : List LocalState) (text : List ℕ) (l : Layout) (foot : Foot)
-    (written : List ℕ) → Draws base gs (sketch m classes x p count rows above text)
+    (written : List ℕ) → HasDrawn base gs (sketch m classes x p count rows above text)
     → l ≡ laid_out m classes x.values → rows ≤ x.most
     → written ≡ chart_front (chart_width m classes l foot) (row_y l rows + foot_height l foot)
     ++ (legend_of classes

@@ -160,7 +160,7 @@ pub record IsChartOn (m : System) (classes : Partition) (x : Excerpt) (c : Sketc
 
 -- a chart has drawn these grants, which are a run above the base: it stands where they lead, and
 -- has their rows, and the text of these where they aren't too many
-pub record Draws (base : ℕ) (gs : List Grant) (c : Sketch) : Type 0 where
+pub record HasDrawn (base : ℕ) (gs : List Grant) (c : Sketch) : Type 0 where
   pub leads : StandsAfter c.model base gs (standing_of c.position)
   pub counted : c.count ≡ length gs
   pub rows : c.rows ≡ length (rows_of c.model c.excerpt gs)

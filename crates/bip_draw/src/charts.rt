@@ -2,7 +2,7 @@
 ghost use Rattle.std.specs.Prelude.{◌≡◌, ◌≤◌, ◌<◌, ◌+◌, ◌-◌, ◌^◌, ◌&&◌, ◌++◌, ◌∷◌, [], List, ℕ};
 ghost use Rattle.std.specs.Prelude.{IfErr, IfOk, OnOk, codes, if◌then◌else◌, length, max, nat_lt};
 ghost use Rattle.std.specs.Prelude.{slice_index};
-ghost use Rattle.std.specs.List.{flat_map, range_with_len};
+ghost use Rattle.std.specs.List.{flat_map};
 ghost use Rattle.bip_model.specs.Naming.{name_in};
 ghost use Rattle.bip_model.specs.Partitions.{AreClassesOf, class_in};
 ghost use Rattle.bip_model.specs.States.{state_of};
@@ -115,7 +115,7 @@ impl<'a> Chart<'a> {
     ghost use Rattle.bip_model.specs.declared.grants.Grant.{Grant};
     ghost use Rattle.bip_model.specs.Numbering.{last_number};
     ghost use Rattle.bip_replay.specs.Runs.{IsNextAt, standing_of, standing_on};
-    ghost use Rattle.bip_draw.specs.Charts.{Draws, IsChartFault, IsChartOn};
+    ghost use Rattle.bip_draw.specs.Charts.{HasDrawn, IsChartFault, IsChartOn};
 
     /// The chart of the empty run above a base.
     pub fn start(
@@ -128,7 +128,7 @@ impl<'a> Chart<'a> {
         requires base { base < last_number }
         requires classes { AreClassesOf model.now classes.now }
         ensures on { IfOk result (IsChartOn model.now classes.now excerpt) }
-        ensures drawn { IfOk result (Draws base []) }
+        ensures drawn { IfOk result (HasDrawn base []) }
     {
         let layout = Layout::of(model, excerpt.values, classes.len());
         Ok(Chart {
@@ -178,7 +178,7 @@ impl<'a> Chart<'a> {
         ensures on { OnOk result
             (IsChartOn self.old.model self.old.classes self.old.excerpt self.new) }
         ensures drawn { OnOk result ((base : ℕ) (gs : List Grant)
-            → Draws base gs self.old → Draws base (gs ++ grant.now ∷ []) self.new) }
+            → HasDrawn base gs self.old → HasDrawn base (gs ++ grant.now ∷ []) self.new) }
         ensures fault { IfErr result (IsChartFault self.old self.new grant.now) }
     {
         if let Err(fault) = self.position.step(grant) {
@@ -211,7 +211,7 @@ impl<'a> Chart<'a> {
     /// The whole chart, with what stands behind the last row.
     pub fn finish(&self, alloc: Global, foot: &Foot<'_>) -> Result<Vec<u8>, AllocError>
         requires { self.now.rows ≤ self.now.excerpt.most }
-        ensures { IfOk result (λ text. (base : ℕ) (gs : List Grant) → Draws base gs self.now
+        ensures { IfOk result (λ text. (base : ℕ) (gs : List Grant) → HasDrawn base gs self.now
             → text.items ≡ chart_of self.now.model self.now.classes self.now.excerpt gs foot.now) }
     {
         let sheet = &self.sheet;

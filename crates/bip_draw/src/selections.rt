@@ -1,7 +1,7 @@
 //! A part of the drawing of a model: some components and classes, and what stands around them.
 ghost use Rattle.std.specs.Prelude.{◌≡◌, ◌<◌, ◌==◌, ◌&&◌, ◌++◌, IfOk, OnOk, length};
 ghost use Rattle.std.specs.List.{flat_map, list_any, range_with_len};
-ghost use Rattle.bip_model.specs.Partitions.{AreClassesOf, class_in};
+ghost use Rattle.bip_model.specs.Partitions.{AreClassesOf};
 ghost use Rattle.bip_model.specs.Parts.{IsInteraction, Participant};
 ghost use Rattle.bip_model.specs.Steps.{moves};
 ghost use Rattle.bip_draw.specs.Selections.{class_part, classes_part, component_part};

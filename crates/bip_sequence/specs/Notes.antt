@@ -126,5 +126,5 @@ pub data AreNoted (w : WorldContent) (n : NotesContent) :
       → AreNoted w n (es ++ e ∷ []) (ds ++ d ∷ []) x later
 
 -- how many of so many events are shown
-abbrev pub count_shown : ℕ → ℕ → ℕ → ℕ
-count_shown before until events = min until events - before
+abbrev pub count_event_rows : ℕ → ℕ → ℕ → ℕ
+count_event_rows before until events = min until events - before

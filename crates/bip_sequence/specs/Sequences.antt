@@ -50,16 +50,16 @@ groups_text g =
     ++ group_text g (Station 0) (codes "stations"))
 
 -- the front of a chart
-unfoldable pub front_text : Grid → List ℕ
-front_text g =
+unfoldable pub picture_front : Grid → List ℕ
+picture_front g =
     paired (codes "<svg xmlns=\"http://www.w3.org/2000/svg\" width=\"") (grid_width g)
     (codes "\" height=\"") (g.bottom + 20)
     (codes "\" font-family=\"monospace\" font-size=\"11\">\n")
     ++ (sequence_style ++ groups_text g)
 
 -- who stands on a lifeline, at its top
-unfoldable pub head_text : Planned → List InterId → Lifeline → ℕ → List ℕ
-head_text p stations lifeline x =
+unfoldable pub lifeline_head : Planned → List InterId → Lifeline → ℕ → List ℕ
+lifeline_head p stations lifeline x =
     with_number (codes "<text class=\"head\" y=\"36\" x=\"") x
     ++ (codes "\">" ++ (lifeline_name p stations lifeline ++ codes "</text>\n"))
 
@@ -69,7 +69,7 @@ lifeline_text g p stations number =
     let lifeline = lifeline_at g number in
     let x = lifeline_x g lifeline in
     line_text lifeline (record { x = x; y = 42 }) (record { x = x; y = g.bottom })
-    ++ head_text p stations lifeline x
+    ++ lifeline_head p stations lifeline x
 
 -- the words of an event, and how many of its messages were lost, if any
 unfoldable pub words_text : Planned → List InterId → EventRow → List ℕ
@@ -124,7 +124,7 @@ each_air g p stations flights =
 -- a chart on a grid
 abbrev pub sequence_on : Grid → NotesContent → List ℕ
 sequence_on g n =
-    front_text g
+    picture_front g
     ++ (flat_map (lifeline_text g n.plan n.stations) (range_with_len 0 (lifeline_count g))
     ++ (flat_map (row_text g n.plan n.stations) n.rows
     ++ each_air g n.plan n.stations n.in_flight))

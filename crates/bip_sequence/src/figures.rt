@@ -1,6 +1,5 @@
 //! The figures of a sequence chart, as elements of SVG.
 ghost use Rattle.std.specs.Prelude.{◌≡◌, ◌++◌, OnOk};
-ghost use Rattle.std.specs.Fmt.{decimal};
 ghost use Rattle.bip_sequence.specs.Figures.{arrow_front, flight_text, line_front, line_text};
 ghost use Rattle.bip_sequence.specs.Figures.{mark_figure, mark_front, mark_of, mark_text, paired};
 ghost use Rattle.bip_sequence.specs.Figures.{segment, titled, with_number};

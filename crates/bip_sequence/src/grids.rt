@@ -1,5 +1,5 @@
 //! Where things stand in a sequence chart.
-ghost use Rattle.std.specs.Prelude.{◌≡◌, ◌≤◌, ◌<◌, ◌+◌, ◌-◌, ◌^◌, length, max};
+ghost use Rattle.std.specs.Prelude.{◌≡◌, ◌≤◌, ◌<◌, ◌+◌, ◌-◌, ◌^◌, max};
 ghost use Rattle.bip_sequence.specs.Grids.{IsGrid, grid_of, grid_width, lifeline_at};
 ghost use Rattle.bip_sequence.specs.Grids.{lifeline_count, lifeline_x};
 ghost use Rattle.bip_sequence.specs.Grids.{longest_name, row_y, widest};

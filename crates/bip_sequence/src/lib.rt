@@ -13,5 +13,7 @@ mod styles;
 pub use deeds::Deed;
 pub use laws::sequence_laws;
 pub use lifelines::{Brief, Lifeline};
-pub use notes::{EventRow, Flight, MOST_EVENTS_SHOWN, Notes, count_shown, note_event, note_events};
+pub use notes::{
+    EventRow, Flight, MOST_EVENTS_SHOWN, Notes, count_event_rows, note_event, note_events,
+};
 pub use sequences::{chart_events, draw_sequence};

@@ -12,7 +12,7 @@ ghost use Rattle.bip_core.specs.declared.events.Did.{Did};
 ghost use Rattle.bip_partition.specs.Plans.{AreStations};
 ghost use Rattle.bip_schedule.specs.Writing.{HasSpelling, HaveSpelling};
 ghost use Rattle.bip_sequence.specs.Lifelines.{brief_of};
-ghost use Rattle.bip_sequence.specs.Notes.{IsNotedEvent, count_shown, first_flight, flight_of};
+ghost use Rattle.bip_sequence.specs.Notes.{IsNotedEvent, count_event_rows, first_flight, flight_of};
 ghost use Rattle.bip_sequence.specs.Notes.{flight_taken, flights_after, flights_left, noted};
 ghost use Rattle.bip_sequence.specs.Notes.{row_of, rows_with};
 ghost use Rattle.bip_core.specs.Runs.{lost_by};
@@ -179,8 +179,8 @@ impl<'p> Notes<'p> {
 }
 
 /// How many of so many events are shown.
-pub fn count_shown(before: u64, until: u64, events: u64) -> u64
-    ensures { result ≡ count_shown before until events }
+pub fn count_event_rows(before: u64, until: u64, events: u64) -> u64
+    ensures { result ≡ count_event_rows before until events }
 {
     until.min(events).saturating_sub(before)
 }
@@ -220,8 +220,8 @@ pub fn note_event<'p, B: Bank>(
 }
 
 /// Does the events of a schedule one after another, and notes each, as `note_event` does: in notes
-/// that are begun in the same world. The report has their sums. The only error is want of memory for
-/// the notes: then some of the events are done.
+/// that are begun in the same world. The report has their sums. The only error is want of memory
+/// for the notes: then some of the events are done.
 pub fn note_events<'p, B: Bank>(
     notes: &mut Notes<'p>,
     world: &mut World<'p, B>,

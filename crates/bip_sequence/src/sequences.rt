@@ -8,8 +8,8 @@ ghost use Rattle.bip_core.specs.declared.events.Did.{Did};
 ghost use Rattle.bip_schedule.specs.Writing.{HasSpelling, HaveSpelling};
 ghost use Rattle.bip_sequence.specs.Grids.{IsGrid, lifeline_count};
 ghost use Rattle.bip_sequence.specs.Sequences.{aim_of, aim_text, air_text, arrow_text, each_air};
-ghost use Rattle.bip_sequence.specs.Sequences.{front_text, group_text, groups_text};
-ghost use Rattle.bip_sequence.specs.Sequences.{head_text, label_text, lifeline_text};
+ghost use Rattle.bip_sequence.specs.Sequences.{picture_front, group_text, groups_text};
+ghost use Rattle.bip_sequence.specs.Sequences.{lifeline_head, label_text, lifeline_text};
 ghost use Rattle.bip_sequence.specs.Sequences.{IsSequenceChart, on_lifeline, row_text, sequence_of};
 ghost use Rattle.bip_sequence.specs.Sequences.{stub_end};
 ghost use Rattle.bip_sequence.specs.Sequences.{words_text};
@@ -77,10 +77,10 @@ pub fn draw_sequence(alloc: Global, notes: &Notes<'_>) -> Result<Vec<u8>, AllocE
 }
 
 /// The front of a chart, with how all is drawn and the names of the groups of lifelines.
-#[tactic(auto, unfolding(crate::specs::Sequences::front_text))]
+#[tactic(auto, unfolding(crate::specs::Sequences::picture_front))]
 fn write_front(text: &mut Vec<u8>, grid: &Grid) -> Result<(), AllocError>
     requires { IsGrid grid.now }
-    ensures { OnOk result (text.new.items ≡ text.old.items ++ front_text grid.now) }
+    ensures { OnOk result (text.new.items ≡ text.old.items ++ picture_front grid.now) }
 {
     write_paired(
         text,
@@ -161,7 +161,7 @@ fn write_lifeline(
     write_head(text, plan, stations, lifeline, x)
 }
 
-#[tactic(auto, unfolding(crate::specs::Sequences::head_text))]
+#[tactic(auto, unfolding(crate::specs::Sequences::lifeline_head))]
 fn write_head(
     text: &mut Vec<u8>,
     plan: &Plan,
@@ -170,7 +170,7 @@ fn write_head(
     x: u64,
 ) -> Result<(), AllocError>
     ensures { OnOk result (text.new.items
-        ≡ text.old.items ++ head_text plan.now stations.now lifeline x) }
+        ≡ text.old.items ++ lifeline_head plan.now stations.now lifeline x) }
 {
     write_with_number(text, b"<text class=\"head\" y=\"36\" x=\"", x)?;
     write_part(text, b"\">")?;

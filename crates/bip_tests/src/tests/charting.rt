@@ -1,5 +1,4 @@
 //! Charts: the worked run, whose chart is compared whole.
-ghost use Rattle.std.specs.Prelude.{◌≡◌};
 ghost use Rattle.bip_model.specs.Partitions.{AreClassesOf};
 
 use super::{grants, read};

@@ -1,9 +1,9 @@
 use Rattle.bip_sequence.proofs.TextLemmas.{three_parts}
-use Rattle.bip_sequence.specs.Sequences.{front_text}
+use Rattle.bip_sequence.specs.Sequences.{picture_front}
 use Rattle.bip_sequence.proofs.sequences.write_front.Goals as goal
 
 pub returns : goal.returns
-unfolding front_text
+unfolding picture_front
 returns c =
     rw (
       c.in_ok-write_groups.ensures,

@@ -2,7 +2,7 @@ use Rattle.std.proofs.Common.{◌≡◌, ◌∙◌, ap, arith, refl, subst, sym}
 use Rattle.bip_model.specs.Steps.{after}
 use Rattle.bip_model.specs.declared.parts.System.{System}
 use Rattle.bip_replay.specs.Runs.{Standing, standing_of}
-use Rattle.bip_draw.specs.Charts.{Draws}
+use Rattle.bip_draw.specs.Charts.{HasDrawn}
 use Rattle.bip_draw.proofs.ChartLemmas.{draws_on, sketch}
 use Rattle.bip_draw.proofs.charts.Chart.add.Goals.{else-number-self, then-number-self}
 use Rattle.bip_draw.proofs.charts.Chart.add.Goals as goal
@@ -15,9 +15,9 @@ returns-in-Ok-clause-drawn c = λ base gs old.
     let x = s.sheet.excerpt in
     let g = c.args.grant.now in
     let is = c.self.invariant in
-    let before : Draws base gs
+    let before : HasDrawn base gs
     (sketch m classes x s.position s.count s.rows s.above s.text.items) =
-    subst (Draws base gs) (sym c.self.view_is) old in
+    subst (HasDrawn base gs) (sym c.self.view_is) old in
     let on : (standing_of c.step.new.self).state
     ≡ after m (standing_of s.position).state g.inter.0 =
     ap (λ (p : Standing). p.state) c.in_default.ensures.on

@@ -1,7 +1,7 @@
 use Rattle.std.proofs.Common.{◌≡◌, ◌≤◌, ◌+◌, arith, subst, sym}
 use Rattle.std.specs.Prelude.{codes}
 use Rattle.bip_model.specs.States.{state_of}
-use Rattle.bip_draw.specs.Charts.{Draws, Sketch, chart_of, chart_width, lanes_text, legend_of}
+use Rattle.bip_draw.specs.Charts.{HasDrawn, Sketch, chart_of, chart_width, lanes_text, legend_of}
 use Rattle.bip_draw.specs.Feet.{foot_height, foot_text}
 use Rattle.bip_draw.specs.Layout.{row_y}
 use Rattle.bip_draw.specs.Locals.{state_text}
@@ -33,9 +33,9 @@ returns c = λ base gs old.
     let x = s.sheet.excerpt in
     let l = s.sheet.layout in
     let foot = c.args.foot.now in
-    let drawn : Draws base gs
+    let drawn : HasDrawn base gs
     (sketch m classes x s.position s.count s.rows s.above s.text.items) =
-    subst (Draws base gs) (sym c.self.view_is) old in
+    subst (HasDrawn base gs) (sym c.self.view_is) old in
     let few : s.rows ≤ x.most = rw (← c.self.view_is) at c.requires in
     subst (λ (k : Sketch). c.extend_from_slice-2.new.self.items
     ≡ chart_of k.model k.classes k.excerpt gs foot) c.self.view_is
