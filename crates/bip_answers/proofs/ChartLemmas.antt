@@ -19,7 +19,7 @@ use Rattle.bip_replay.specs.declared.faults.StepFault.{StepFault}
 use Rattle.bip_replay.specs.declared.faults.BookFault.{BookFault}
 use Rattle.bip_replay.specs.declared.faults.ReplayFault.TheVariants.{NotARun}
 use Rattle.bip_replay.specs.declared.faults.ReplayFault.{ReplayFault}
-use Rattle.bip_draw.specs.Charts.{Draws, IsChartFault, IsChartOn, Sketch, chart_of, rows_of}
+use Rattle.bip_draw.specs.Charts.{HasDrawn, IsChartFault, IsChartOn, Sketch, chart_of, rows_of}
 use Rattle.bip_draw.specs.Ends.{AddsRunnable}
 use Rattle.bip_draw.specs.declared.charts.ChartFault.TheVariants.{NotNext}
 use Rattle.bip_draw.specs.declared.feet.Foot.{Foot}
@@ -44,9 +44,9 @@ use Rattle.bip_answers.specs.declared.answers.Answer.{Answer}
 pub record DrawnSoFar (base : ℕ) (text : List ℕ) (gs : List Grant) (c : Sketch)
     (left : List (ℕ × List ℕ)) : Type 0 where
   pub read : HasRead (grant_on c.model) text gs left
-  pub drawn : Draws base gs c
+  pub drawn : HasDrawn base gs c
 
-pub drawn-none : (base : ℕ) (text : List ℕ) (c : Sketch) → Draws base [] c
+pub drawn-none : (base : ℕ) (text : List ℕ) (c : Sketch) → HasDrawn base [] c
     → DrawnSoFar base text [] c (numbered_lines text)
 drawn-none base text c drawn =
     record { read = has_read-none (grant_on c.model) text; drawn = drawn }
@@ -164,7 +164,8 @@ says_none m s used line line_fault.Syntax is = is
 says_none m s used line line_fault.Unknown is = is
 
 -- what a line does to a chart, by what it says
-module _ (base : ℕ) (gs : List Grant) (line : List ℕ) (c : Sketch) (drawn : Draws base gs c) where
+module _ (base : ℕ) (gs : List Grant) (line : List ℕ) (c : Sketch)
+    (drawn : HasDrawn base gs c) where
   of_model : c.position.model ≡ c.model
   of_model = ap (λ (p : Standing). p.model) drawn.leads.there
 
@@ -184,7 +185,7 @@ module _ (base : ℕ) (gs : List Grant) (line : List ℕ) (c : Sketch) (drawn : 
   )
 
   pub one_said : (g : Grant) (d : Sketch) → grant_on c.position.model line ≡ Ok (Some g)
-      → d.model ≡ c.model → Draws base (gs ++ g ∷ []) d → TakesLine base gs line (Ok tt) d
+      → d.model ≡ c.model → HasDrawn base (gs ++ g ∷ []) d → TakesLine base gs line (Ok tt) d
   one_said g d says same longer = (
     Some g,
     subst (λ (m : System). grant_on m line ≡ Ok (Some g)) (sym same)
@@ -211,7 +212,7 @@ module _ (base : ℕ) (gs : List Grant) (line : List ℕ) (c : Sketch) (drawn : 
 
 -- the chart of a run, or too many rows
 module _ (base : ℕ) (gs : List Grant) (shown : Shown) (c : Sketch) (verdict : Answer)
-    (drawn : Draws base gs c) (shows : c.excerpt ≡ excerpt_of shown) where
+    (drawn : HasDrawn base gs c) (shows : c.excerpt ≡ excerpt_of shown) where
   counts : c.rows ≡ count_shown c.model shown gs
   counts =
       drawn.rows
@@ -262,12 +263,12 @@ pub record Followed (m : System) (classes : Partition) (x : Excerpt) (base : ℕ
   pub grants : List Grant
   pub on : IsChartOn m classes x c
   pub says : IsFollowed m base trace replayed grants
-  pub drawn : Draws base grants c
+  pub drawn : HasDrawn base grants c
 
 pub has_followed : (m : System) (classes : Partition) (x : Excerpt) (base : ℕ) (trace : List ℕ)
     (replayed : Result ℕ (ℕ × ReplayFault)) (c d : Sketch) → IsChartOn m classes x c
     → IsChartOn c.model c.classes c.excerpt d
-    → (gs : List Grant) × IsFollowed d.model base trace replayed gs × Draws base gs d
+    → (gs : List Grant) × IsFollowed d.model base trace replayed gs × HasDrawn base gs d
     → Followed m classes x base trace replayed d
 has_followed m classes x base trace replayed c d start on so =
     let here = shows_on m classes x c d start on in
@@ -292,7 +293,7 @@ module _ (m : System) (classes : Partition) (x : Excerpt) (base : ℕ) (trace : 
 
   -- what is answered of it
   module _ (shown : Shown) (verdict answer : Answer) (text : List ℕ) (means : Means text m classes)
-      (shows : (n : ℕ) (gs : List Grant) → Draws n gs c
+      (shows : (n : ℕ) (gs : List Grant) → HasDrawn n gs c
       → IsPictured c.model c.classes shown gs verdict answer) where
     the_picture : IsPictured m classes shown is.grants verdict answer
     the_picture =

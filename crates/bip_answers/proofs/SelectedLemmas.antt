@@ -6,17 +6,15 @@ use Rattle.std.proofs.lemmas.List.{length-take-le, map-append, take-append-drop,
 use Rattle.std.proofs.Common.{length-append}
 use Rattle.std.proofs.Math.Seq.{drop-cons, get_or-append_seam}
 use Rattle.std.specs.Borrow.{Bor}
-use Rattle.bip_model.specs.declared.numbering.ClassId.{ClassId}
-use Rattle.bip_model.specs.declared.numbering.CompId.{CompId}
-use Rattle.bip_answers.specs.Selected.{AreNamed, IsFirstUnknown, IsUnknownAt, number_named}
+use Rattle.bip_answers.specs.Selected.{AreFoundNames, IsFirstUnknown, IsUnknownAt, number_named}
 use Rattle.bip_answers.specs.declared.selected.SelectFault.TheVariants.{Unknown}
 
 -- the word at a place
 module _ (names : List (List ℕ)) (words : List (Bor (List ℕ))) (i : ℕ) (d : Bor (List ℕ))
     (within : i < length words) where
-  named_more : (numbers : List ℕ) (n : ℕ) → AreNamed names (take i words) numbers
+  named_more : (numbers : List ℕ) (n : ℕ) → AreFoundNames names (take i words) numbers
       → number_named names (get_or words i d).now ≡ Some n
-      → AreNamed names (take (i + 1) words) (numbers ++ n ∷ [])
+      → AreFoundNames names (take (i + 1) words) (numbers ++ n ∷ [])
   named_more numbers n before is =
       let f : Bor (List ℕ) → Option ℕ = λ (v : Bor (List ℕ)). number_named names v.now in
       ap (λ (vs : List (Bor (List ℕ))). map f vs) (take_more words i d within)
@@ -25,27 +23,16 @@ module _ (names : List (List ℕ)) (words : List (Bor (List ℕ))) (i : ℕ) (d 
       (ap (λ (o : Option ℕ). o ∷ []) is)
       ∙ sym (map-append (λ (number : ℕ). Some number) numbers (n ∷ []))
 
-  pub component_more : (chosen : List CompId) (n : ℕ)
-      → AreNamed names (take i words) (map (λ (c : CompId). c.0) chosen)
-      → number_named names (get_or words i d).now ≡ Some n
-      → AreNamed names (take (i + 1) words)
-      (map (λ (c : CompId). c.0) (chosen ++ (record { 0 = n }) ∷ []))
-  component_more chosen n before is =
-      subst (λ (numbers : List ℕ). AreNamed names (take (i + 1) words) numbers)
-      (sym (map-append (λ (c : CompId). c.0) chosen ((record { 0 = n }) ∷ [])))
-      (named_more (map (λ (c : CompId). c.0) chosen) n before is)
+  pub more_named : {X : Type 0} (number : X → ℕ) (chosen : List X) (x : X)
+      → AreFoundNames names (take i words) (map number chosen)
+      → number_named names (get_or words i d).now ≡ Some (number x)
+      → AreFoundNames names (take (i + 1) words) (map number (chosen ++ x ∷ []))
+  more_named number chosen x before is =
+      subst (λ (numbers : List ℕ). AreFoundNames names (take (i + 1) words) numbers)
+      (sym (map-append number chosen (x ∷ [])))
+      (named_more (map number chosen) (number x) before is)
 
-  pub class_more : (parted : List ClassId) (n : ℕ)
-      → AreNamed names (take i words) (map (λ (k : ClassId). k.0) parted)
-      → number_named names (get_or words i d).now ≡ Some n
-      → AreNamed names (take (i + 1) words)
-      (map (λ (k : ClassId). k.0) (parted ++ (record { 0 = n }) ∷ []))
-  class_more parted n before is =
-      subst (λ (numbers : List ℕ). AreNamed names (take (i + 1) words) numbers)
-      (sym (map-append (λ (k : ClassId). k.0) parted ((record { 0 = n }) ∷ [])))
-      (named_more (map (λ (k : ClassId). k.0) parted) n before is)
-
-  pub unknown_at : (numbers : List ℕ) → AreNamed names (take i words) numbers
+  pub unknown_at : (numbers : List ℕ) → AreFoundNames names (take i words) numbers
       → number_named names (get_or words i d).now ≡ None → IsUnknownAt names words (Unknown i)
   unknown_at numbers before none =
       let split : words ≡ take i words ++ get_or words i d ∷ drop (suc i) words =

@@ -2,7 +2,7 @@
 use Rattle.std.specs.Prelude.{◌≡◌, ◌<◌, ◌≤◌, ◌-◌, ◌&&◌, ℕ, Bool, true, List, length, nat_le, nat_lt}
 use Rattle.std.specs.Prelude.{Err, Ok, Option, None, Result, Some, [], false, take, ⊤}
 use Rattle.std.specs.Option.{option_map_or}
-use Rattle.bip_draw.specs.Charts.{Draws, Sketch, chart_of, rows_of}
+use Rattle.bip_draw.specs.Charts.{HasDrawn, Sketch, chart_of, rows_of}
 use Rattle.bip_draw.specs.Ends.{AddsRunnable}
 use Rattle.bip_draw.specs.declared.charts.Excerpt.{Excerpt}
 use Rattle.bip_draw.specs.declared.feet.Foot.TheVariants.{Fault, Nothing, Runnable}
@@ -131,6 +131,7 @@ IsFollowed m base trace (Err (number, fault)) gs =
 -- has one; or the line is at fault behind them
 abbrev pub TakesLine : ℕ → List Grant → List ℕ → Result (Unit {0}) ReplayFault → Sketch → Type 0
 TakesLine base gs line (Ok u) c =
-    (said : Option Grant) × (grant_on c.model line ≡ Ok said) × Draws base (one_more gs said) c
+    (said : Option Grant) × (grant_on c.model line ≡ Ok said) × HasDrawn base (one_more gs said) c
 TakesLine base gs line (Err fault) c =
-    IsLineFault c.model (state_after c.model gs) (used_after base gs) line fault × Draws base gs c
+    IsLineFault c.model (state_after c.model gs) (used_after base gs) line fault
+    × HasDrawn base gs c

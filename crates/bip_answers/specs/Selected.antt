@@ -25,8 +25,8 @@ abbrev pub number_named : List (List ℕ) → List ℕ → Option ℕ
 number_named names word = position (same_text word) names
 
 -- each of these words is a name, and these are their numbers
-abbrev pub AreNamed : List (List ℕ) → List (Bor (List ℕ)) → List ℕ → Type 0
-AreNamed names words numbers =
+abbrev pub AreFoundNames : List (List ℕ) → List (Bor (List ℕ)) → List ℕ → Type 0
+AreFoundNames names words numbers =
     map (λ (word : Bor (List ℕ)). number_named names word.now) words
     ≡ map (λ number. Some number) numbers
 
@@ -38,16 +38,16 @@ pub record IsFirstUnknown (names : List (List ℕ)) (words : List (Bor (List ℕ
   pub rest : List (Bor (List ℕ))
   pub split : words ≡ front ++ at ∷ rest
   pub numbers : List ℕ
-  pub known : AreNamed names front numbers
+  pub known : AreFoundNames names front numbers
   pub unknown : number_named names at.now ≡ None
   pub is : word ≡ at.now
 
 -- the components and classes that words name are selected
 pub record AreSelected (m : System) (kept : Partition) (components classes : List (Bor (List ℕ)))
     (x : Selection) : Type 0 where
-  pub chosen : AreNamed m.component_names components
+  pub chosen : AreFoundNames m.component_names components
       (map (λ (c : CompId). c.0) x.components.now)
-  pub parted : AreNamed kept.names classes (map (λ (k : ClassId). k.0) x.classes.now)
+  pub parted : AreFoundNames kept.names classes (map (λ (k : ClassId). k.0) x.classes.now)
 
 -- the answer to the drawing of a part of a model's text: of the components and classes that words
 -- name
@@ -64,7 +64,7 @@ pub data IsPartAnswer (components classes : List (Bor (List ℕ))) (model : List
         (complaining Refused (unknown_text (codes "component") word))
     -- or no class, where each of the others names a component
     no_class : (m : System) (kept : Partition) (word : List ℕ) (numbers : List ℕ)
-        → Means model m kept → AreNamed m.component_names components numbers
+        → Means model m kept → AreFoundNames m.component_names components numbers
         → IsFirstUnknown kept.names classes word
         → IsPartAnswer components classes model
         (complaining Refused (unknown_text (codes "class") word))

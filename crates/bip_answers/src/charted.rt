@@ -1,7 +1,7 @@
 //! What is answered to a chart: the picture of the run with which a trace begins.
-ghost use Rattle.std.specs.Prelude.{◌≡◌, ◌≤◌, ◌<◌, ◌+◌, ◌^◌, [], ℕ, List, IfErr, IfOk};
+ghost use Rattle.std.specs.Prelude.{◌≡◌, ◌≤◌, ◌<◌, ◌+◌, ◌^◌, [], ℕ, List, IfOk};
 ghost use Rattle.std.specs.Option.{option_map};
-ghost use Rattle.bip_draw.specs.Charts.{Draws, IsChartOn};
+ghost use Rattle.bip_draw.specs.Charts.{HasDrawn, IsChartOn};
 ghost use Rattle.bip_model.specs.Partitions.{AreClassesOf};
 ghost use Rattle.bip_reader.specs.Texts.{Means};
 ghost use Rattle.bip_model.specs.declared.grants.Grant.{Grant};
@@ -83,12 +83,12 @@ fn follow(
     chart: &mut Chart<'_>,
     trace: &[u8],
 ) -> Result<Result<u64, (u64, ReplayFault)>, AllocError>
-    requires { (base : ℕ) × Draws base [] chart.old }
+    requires { (base : ℕ) × HasDrawn base [] chart.old }
     ensures on { IfOk result (λ replayed.
         IsChartOn chart.old.model chart.old.classes chart.old.excerpt chart.new) }
-    ensures drawn { IfOk result (λ replayed. (base : ℕ) → Draws base [] chart.old
+    ensures drawn { IfOk result (λ replayed. (base : ℕ) → HasDrawn base [] chart.old
         → (gs : List Grant) × IsFollowed chart.new.model base trace.now replayed gs
-        × Draws base gs chart.new) }
+        × HasDrawn base gs chart.new) }
 {
     let mut room = Room::new();
     for (number, line) in NumberedLines::of(trace) {
@@ -110,7 +110,7 @@ fn take_line(
     requires { chart.old.count + 1 < 2 ^ 64 }
     ensures on { IfOk result (λ taken.
         IsChartOn chart.old.model chart.old.classes chart.old.excerpt chart.new) }
-    ensures drawn { IfOk result (λ taken. (base : ℕ) (gs : List Grant) → Draws base gs chart.old
+    ensures drawn { IfOk result (λ taken. (base : ℕ) (gs : List Grant) → HasDrawn base gs chart.old
         → TakesLine base gs line.now taken chart.new) }
 {
     let grant = match room.read(chart.position().model(), line) {
@@ -136,7 +136,7 @@ fn answer_begun(
     shown: &Shown,
 ) -> Result<Answer, AllocError>
     requires { chart.now.excerpt ≡ excerpt_of shown.now }
-    ensures { IfOk result (λ answer. (base : ℕ) (gs : List Grant) → Draws base gs chart.now
+    ensures { IfOk result (λ answer. (base : ℕ) (gs : List Grant) → HasDrawn base gs chart.now
         → IsPictured chart.now.model chart.now.classes shown.now gs verdict answer) }
 {
     if chart.rows() > MOST_ROWS as u64 {

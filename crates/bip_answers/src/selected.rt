@@ -6,7 +6,8 @@ ghost use Rattle.bip_model.specs.declared.numbering.ClassId.{ClassId};
 ghost use Rattle.bip_model.specs.declared.numbering.CompId.{CompId};
 ghost use Rattle.bip_reader.specs.Texts.{Means};
 ghost use Rattle.bip_answers.specs.Answers.{complaining};
-ghost use Rattle.bip_answers.specs.Selected.{AreNamed, IsPartAnswer, IsUnknownAt, number_named};
+ghost use Rattle.bip_answers.specs.Selected.{AreFoundNames, IsPartAnswer, IsUnknownAt};
+ghost use Rattle.bip_answers.specs.Selected.{number_named};
 ghost use Rattle.bip_answers.specs.Wording.{unknown_text};
 ghost use Rattle.bip_answers.specs.declared.answers.Status.TheVariants.{Refused};
 
@@ -104,7 +105,7 @@ fn number_components(
     model: &Model,
     words: &[&str],
 ) -> Result<Vec<CompId>, SelectFault>
-    ensures named { IfOk result (λ chosen. AreNamed model.now.component_names words.now
+    ensures named { IfOk result (λ chosen. AreFoundNames model.now.component_names words.now
         (map (λ (c : CompId). c.0) chosen.items)) }
     ensures fault { IfErr result (IsUnknownAt model.now.component_names words.now) }
 {
@@ -133,7 +134,7 @@ fn number_classes(
     classes: &Classes,
     words: &[&str],
 ) -> Result<Vec<ClassId>, SelectFault>
-    ensures named { IfOk result (λ parted. AreNamed classes.now.names words.now
+    ensures named { IfOk result (λ parted. AreFoundNames classes.now.names words.now
         (map (λ (k : ClassId). k.0) parted.items)) }
     ensures fault { IfErr result (IsUnknownAt classes.now.names words.now) }
 {

@@ -3,7 +3,8 @@ use Rattle.std.proofs.Common.{◌≡◌, arith, inl, inr, ℕ, Bool, false, true
 use Rattle.std.proofs.Common.{None, Option, Some, refl, sym, subst}
 use Rattle.std.specs.Result.{IsErrAnd}
 use Rattle.bipr.specs.Endings.{AllOutcomes, AllOutcomesTelling, Ends, EndsExplaining, EndsTelling}
-use Rattle.bipr.specs.Endings.{IsEnd, IsFileKept, IsOutcome, Keeping, explaining, nothing_kept, unkept}
+use Rattle.bipr.specs.Endings.{IsEnd, IsFileKept, IsOutcome, Keeping, explaining, nothing_kept}
+use Rattle.bipr.specs.Endings.{unkept}
 use Rattle.bipr.specs.Endings.{unwritten, written}
 use Rattle.bip_answers.specs.declared.answers.FileText.{FileText}
 use Rattle.bipr.specs.Streams.{Put, Puts, none_put, nothing}

@@ -1,12 +1,11 @@
 -- Events that are told one after another.
-use Rattle.std.proofs.Common.{◌≡◌, ◌∙◌, ◌+◌, ◌++◌, ◌∷◌, ◌<◌, ℕ, Bool, true, List, []}
+use Rattle.std.proofs.Common.{◌≡◌, ◌∙◌, ◌+◌, ◌++◌, ◌∷◌, ℕ, Bool, true, List, []}
 use Rattle.std.proofs.Common.{Option, Some, None, Result, Ok, Err, ap, length, refl, subst}
-use Rattle.std.proofs.Common.{append_assoc, arith, sym}
+use Rattle.std.proofs.Common.{sym}
 use Rattle.std.specs.Prelude.{All, IsErr}
 use Rattle.std.specs.declared.alloc.AllocError.{AllocError}
 use Rattle.std.proofs.lemmas.List.{append-nil, length-append}
-use Rattle.std.proofs.lemmas.List.Elements.{All-append, All-cons, All-head, All-nil}
-use Rattle.std.proofs.lemmas.List.Elements.{All-tail}
+use Rattle.std.proofs.lemmas.List.Elements.{All-append, All-cons, All-nil}
 use Rattle.bip_core.specs.Laws.{WorldsKeepTheirPlan}
 use Rattle.bip_core.specs.Runs.{AddsUp, AreSteps, IsRunOfEvents, report_of, report_with}
 use Rattle.bip_core.specs.Starting.{IsNewWorld}
@@ -20,7 +19,6 @@ use Rattle.bip_replay.specs.Runs.{IsModelRun}
 use Rattle.bip_replay.specs.Traces.{grants_of}
 use Rattle.bip_replay.specs.Writing.{text_of}
 use Rattle.bip_schedule.specs.Schedules.{IsEventText}
-use Rattle.bip_schedule.specs.Writing.{HasSpelling, HaveSpelling}
 use Rattle.bip_tell.specs.Lines.{AreTold, AreToldFrom, IsLeftUntold, IsToldEvent, done_untold}
 use Rattle.bip_tell.specs.Lines.{none_told, not_done, one_told}
 use Rattle.bip_answers.specs.Answers.{complaining}

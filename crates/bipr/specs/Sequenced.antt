@@ -7,7 +7,7 @@ use Rattle.bip_core.specs.Runs.{report_of}
 use Rattle.bip_core.specs.declared.events.Did.{Did}
 use Rattle.bip_core.specs.declared.runs.Report.{Report}
 use Rattle.bip_partition.specs.Plans.{Planned}
-use Rattle.bip_sequence.specs.Notes.{count_shown}
+use Rattle.bip_sequence.specs.Notes.{count_event_rows}
 use Rattle.bip_sequence.specs.Sequences.{IsSequenceChart}
 use Rattle.bip_answers.specs.Answers.{complaining}
 use Rattle.bip_answers.specs.Charted.{most_rows}
@@ -16,7 +16,6 @@ use Rattle.bip_answers.specs.declared.answers.Answer.{Answer}
 use Rattle.bip_answers.specs.declared.answers.Status.TheVariants.{Refused}
 use Rattle.bipr.specs.Hosted.{Hosts}
 use Rattle.bipr.specs.Recorded.{keeping}
-use Rattle.bipr.specs.Resolvers.{IsSharedAtFirst}
 use Rattle.bipr.specs.Scheduled.{IsScheduleAnswered, IsScheduleRefused, IsStepped}
 use Rattle.bipr.specs.Stops.{out_of_memory, unwritten_text}
 use Rattle.bipr.specs.Streams.{Put}
@@ -56,7 +55,7 @@ last_noted rows = min (last_asked rows) (min greatest_event (events_before rows 
 
 -- how many of so many events are asked to be drawn
 abbrev pub rows_asked : StepRows → ℕ → ℕ
-rows_asked rows events = count_shown (events_before rows) (last_asked rows) events
+rows_asked rows events = count_event_rows (events_before rows) (last_asked rows) events
 
 -- the events of a schedule lead from the new world to another one, with this answer, and this is
 -- the sequence chart of those that are asked for

@@ -1,9 +1,8 @@
 -- What stops a command before it has an answer, and what is said of it.
-use Rattle.std.specs.Prelude.{ℕ, Bool, List, [], ◌∷◌, ◌++◌, ◌&&◌, ◌||◌, codes, if◌then◌else◌, map}
-use Rattle.std.specs.Prelude.{nat_le, chars, encode_utf8_all}
+use Rattle.std.specs.Prelude.{ℕ, List, [], ◌∷◌, ◌++◌, codes}
 use Rattle.bip_model.specs.Texts.{line_feed}
 use Rattle.bip_answers.specs.Answers.{complaining, saying}
-use Rattle.bip_answers.specs.Wording.{complaint_text}
+use Rattle.bip_answers.specs.Wording.{complaint_text, shown_word}
 use Rattle.bipr.specs.Wording.{host_refusal, no_thread_text, seed_verdict}
 use Rattle.bipr.specs.Wording.{too_many_rows_text, words_need_central_text}
 use Rattle.bip_answers.specs.declared.answers.Answer.{Answer}
@@ -14,28 +13,9 @@ use Rattle.bipr.specs.declared.inputs.InputFault.TheVariants as input_fault
 use Rattle.bipr.specs.declared.stops.Stop.{Stop}
 use Rattle.bipr.specs.declared.stops.Stop.TheVariants as stop
 
--- the numbers from one to another
-abbrev is_from : ℕ → ℕ → ℕ → Bool
-is_from low high number = nat_le low number && nat_le number high
-
--- a character that a terminal may obey: a control, a separator of lines or paragraphs, or a mark
--- that turns the direction of what stands behind it
-abbrev pub is_obeyed : ℕ → Bool
-is_obeyed c =
-    is_from 0 31 c || is_from 127 159 c || is_from 1564 1564 c || is_from 8206 8207 c
-    || is_from 8232 8238 c || is_from 8294 8297 c
-
--- a character of a path as it is shown: `?` in place of one that is obeyed
-abbrev pub shown : ℕ → ℕ
-shown c = if is_obeyed c then 63 else c
-
--- a path as it is shown
-abbrev pub shown_path : List ℕ → List ℕ
-shown_path path = encode_utf8_all (map shown (chars path))
-
 -- a text can't be read, or is too long, by its path
 abbrev pub unread_text : List ℕ → List ℕ
-unread_text path = complaint_text (codes "cannot read " ++ shown_path path)
+unread_text path = complaint_text (codes "cannot read " ++ shown_word path)
 
 -- what a command says can't be written
 abbrev pub unwritten_text : List ℕ

@@ -28,7 +28,7 @@ use bip_forks::Forks;
 use bip_partition::Plan;
 use bip_ring::Ring;
 use bip_schedule::Schedule;
-use bip_sequence::{chart_events, count_shown};
+use bip_sequence::{chart_events, count_event_rows};
 use std::alloc::{AllocError, Global};
 
 /// Which rows of a picture of steps are asked for, by the numbers of their events from 1, the last
@@ -78,7 +78,7 @@ impl StepRows {
         ensures no { result ≡ false → rows_asked self.now events ≤ most_rows }
         ensures yes { result ≡ true → most_rows < rows_asked self.now events }
     {
-        u64::from(MOST_ROWS) < count_shown(self.before(), self.last_asked(), events)
+        u64::from(MOST_ROWS) < count_event_rows(self.before(), self.last_asked(), events)
     }
 }
 

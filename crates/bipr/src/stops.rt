@@ -1,11 +1,10 @@
 //! What stops a command before it has an answer.
 ghost use Rattle.std.specs.Prelude.{◌≡◌, IfOk};
-ghost use Rattle.std.specs.String.{string_bytes};
-ghost use Rattle.bipr.specs.Stops.{answer_of_stop, is_obeyed, shown, shown_path, unread};
-ghost use Rattle.bipr.specs.Stops.{unread_text};
+ghost use Rattle.bipr.specs.Stops.{answer_of_stop, unread, unread_text};
 ghost use Rattle.bipr.specs.declared.stops.Stop.TheVariants.{OutOfMemory};
 
 use crate::inputs::InputFault;
+use bip_answers::shown_word;
 use std::alloc::{AllocError, Global};
 
 /// Why a command has no answer.
@@ -116,40 +115,11 @@ impl<'a> Stop<'a> {
 pub fn unread_text(alloc: Global, path: &str) -> Result<Vec<u8>, AllocError>
     ensures { IfOk result (λ text. text.items ≡ unread_text path.now) }
 {
-    let shown = shown_path(alloc, path)?;
+    let shown = shown_word(alloc, path)?;
     let mut text = Vec::from_slice(alloc, b"bipr: cannot read ")?;
     text.extend_from_slice(shown.as_bytes())?;
     text.push(b'\n')?;
     Ok(text)
-}
-
-/// A path as it is shown.
-fn shown_path(alloc: Global, path: &str) -> Result<String, AllocError>
-    ensures { IfOk result (λ text. string_bytes text ≡ shown_path path.now) }
-{
-    path.chars().map(shown).collect(alloc)
-}
-
-fn shown(character: char) -> char
-    ensures { result ≡ shown character }
-{
-    if is_obeyed(character) { '?' } else { character }
-}
-
-/// Whether a terminal may obey a character: a control, a separator of lines or paragraphs, or a
-/// mark that turns the direction of what stands behind it.
-fn is_obeyed(character: char) -> bool
-    ensures { result ≡ is_obeyed character }
-{
-    matches!(
-        character,
-        '\0'..='\u{1f}'
-            | '\u{7f}'..='\u{9f}'
-            | '\u{61c}'
-            | '\u{200e}'..='\u{200f}'
-            | '\u{2028}'..='\u{202e}'
-            | '\u{2066}'..='\u{2069}'
-    )
 }
 
 impl From<AllocError> for Stop<'_> {

@@ -13,18 +13,14 @@ follow-requires c = (c.args.base, c.in_ok-chart.ensures.drawn)
 pub answer_replayed-requires-clause-run : goal.answer_replayed-requires-clause-run
 answer_replayed-requires-clause-run c =
     let is =
-    has_followed c.args.model.now c.args.classes.now c.excerpt_of.result c.args.base
-    c.args.trace.now c.in_ok-replayed.replayed c.in_ok-chart.chart c.follow.new.chart
-    c.in_ok-chart.ensures.on c.in_ok-replayed.ensures.on
+    has_followed _ _ _ c.args.base _ _ _ _ c.in_ok-chart.ensures.on c.in_ok-replayed.ensures.on
     (c.in_ok-replayed.ensures.drawn c.args.base c.in_ok-chart.ensures.drawn) in
     run_followed _ _ _ _ _ _ _ is
 
 pub answer_replayed-requires-clause-fault : goal.answer_replayed-requires-clause-fault
 answer_replayed-requires-clause-fault c =
     let is =
-    has_followed c.args.model.now c.args.classes.now c.excerpt_of.result c.args.base
-    c.args.trace.now c.in_ok-replayed.replayed c.in_ok-chart.chart c.follow.new.chart
-    c.in_ok-chart.ensures.on c.in_ok-replayed.ensures.on
+    has_followed _ _ _ c.args.base _ _ _ _ c.in_ok-chart.ensures.on c.in_ok-replayed.ensures.on
     (c.in_ok-replayed.ensures.drawn c.args.base c.in_ok-chart.ensures.drawn) in
     fault_followed _ _ _ _ _ _ _ is
 
@@ -39,9 +35,7 @@ answer_begun-requires-in-NotARun c =
 pub returns-in-Ok : goal.returns-in-Ok
 returns-in-Ok c =
     let is =
-    has_followed c.args.model.now c.args.classes.now c.excerpt_of.result c.args.base
-    c.args.trace.now c.in_ok-replayed.replayed c.in_ok-chart.chart c.follow.new.chart
-    c.in_ok-chart.ensures.on c.in_ok-replayed.ensures.on
+    has_followed _ _ _ c.args.base _ _ _ _ c.in_ok-chart.ensures.on c.in_ok-replayed.ensures.on
     (c.in_ok-replayed.ensures.drawn c.args.base c.in_ok-chart.ensures.drawn) in
     IfOk-weaker c.answer_begun.result _ _
     (λ answer shows text means.
@@ -51,9 +45,7 @@ returns-in-Ok c =
 pub returns-in-NotARun : goal.returns-in-NotARun
 returns-in-NotARun c =
     let is =
-    has_followed c.args.model.now c.args.classes.now c.excerpt_of.result c.args.base
-    c.args.trace.now c.in_ok-replayed.replayed c.in_ok-chart.chart c.follow.new.chart
-    c.in_ok-chart.ensures.on c.in_ok-replayed.ensures.on
+    has_followed _ _ _ c.args.base _ _ _ _ c.in_ok-chart.ensures.on c.in_ok-replayed.ensures.on
     (c.in_ok-replayed.ensures.drawn c.args.base c.in_ok-chart.ensures.drawn) in
     IfOk-weaker c.answer_begun-in-NotARun.result _ _
     (λ answer shows text means.
@@ -64,9 +56,7 @@ returns-in-NotARun c =
 pub returns-in-Syntax : goal.returns-in-Syntax
 returns-in-Syntax c = λ text means.
     let is =
-    has_followed c.args.model.now c.args.classes.now c.excerpt_of.result c.args.base
-    c.args.trace.now c.in_ok-replayed.replayed c.in_ok-chart.chart c.follow.new.chart
-    c.in_ok-chart.ensures.on c.in_ok-replayed.ensures.on
+    has_followed _ _ _ c.args.base _ _ _ _ c.in_ok-chart.ensures.on c.in_ok-replayed.ensures.on
     (c.in_ok-replayed.ensures.drawn c.args.base c.in_ok-chart.ensures.drawn) in
     let said = rw (c.in-Err.is, c.in-Syntax.is) at c.in_ok-verdict.ensures.answered in
     uncharted c.in_ok-verdict.verdict
@@ -78,9 +68,7 @@ returns-in-Syntax c = λ text means.
 pub returns-in-Unknown : goal.returns-in-Unknown
 returns-in-Unknown c = λ text means.
     let is =
-    has_followed c.args.model.now c.args.classes.now c.excerpt_of.result c.args.base
-    c.args.trace.now c.in_ok-replayed.replayed c.in_ok-chart.chart c.follow.new.chart
-    c.in_ok-chart.ensures.on c.in_ok-replayed.ensures.on
+    has_followed _ _ _ c.args.base _ _ _ _ c.in_ok-chart.ensures.on c.in_ok-replayed.ensures.on
     (c.in_ok-replayed.ensures.drawn c.args.base c.in_ok-chart.ensures.drawn) in
     let said = rw (c.in-Err.is, c.in-Unknown.is) at c.in_ok-verdict.ensures.answered in
     uncharted c.in_ok-verdict.verdict

@@ -1,7 +1,8 @@
 use Rattle.std.proofs.Common.{◌<◌, ◌∙◌, List, arith, length, subst, sym, ℕ}
+use Rattle.bip_model.specs.declared.numbering.ClassId.{ClassId}
 use Rattle.bip_answers.specs.Selected.{IsUnknownAt}
 use Rattle.bip_answers.specs.declared.selected.SelectFault.TheVariants.{Unknown}
-use Rattle.bip_answers.proofs.SelectedLemmas.{class_more, unknown_at}
+use Rattle.bip_answers.proofs.SelectedLemmas.{more_named, unknown_at}
 use Rattle.bip_answers.proofs.selected.number_classes.Goals as goal
 
 pub returns-in_default-clause-fault : goal.returns-in_default-clause-fault
@@ -18,6 +19,7 @@ loop-index-preserved c =
     let within : c.loop-index.index < length c.args.words.now =
     omega (arith, c.loop-index-test.true) in
     rw c.in_ok-add_class.ensures
-    (class_more c.names-names.result.now c.args.words.now c.loop-index.index _ within
-    c.loop-index.parted.items c.in-Some.number c.loop-index.invariant
+    (more_named c.names-names.result.now c.args.words.now c.loop-index.index _ within
+    (λ (k : ClassId). k.0) c.loop-index.parted.items (record { 0 = c.in-Some.number })
+    c.loop-index.invariant
     (sym c.number_named.ensures.number ∙ c.in-Some.is))

@@ -1,8 +1,8 @@
 use Rattle.std.proofs.Common.{map, take}
 use Rattle.bip_model.specs.declared.numbering.CompId.{CompId}
-use Rattle.bip_answers.specs.Selected.{AreNamed}
+use Rattle.bip_answers.specs.Selected.{AreFoundNames}
 use Rattle.bip_answers.proofs.selected.number_components.Given as goal
 
 abbrev pub invariant-loop-index : goal.invariant-loop-index
 invariant-loop-index l =
-    AreNamed l.names (take l.index l.words) (map (λ (n : CompId). n.0) l.chosen.items)
+    AreFoundNames l.names (take l.index l.words) (map (λ (n : CompId). n.0) l.chosen.items)

@@ -1,4 +1,3 @@
-use Rattle.std.proofs.Common.{[]}
 use Rattle.bipr.specs.Sequenced.{IsScheduleShown, drawn_in, not_drawn}
 use Rattle.bipr.proofs.EndingLemmas.{outcomes_quiet, outcomes_weaker}
 use Rattle.bipr.proofs.invocations.Invocation.show_schedule.Goals as goal
