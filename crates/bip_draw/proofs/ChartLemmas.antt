@@ -2,10 +2,12 @@
 use Rattle.std.proofs.Common.{◌≡◌, ◌≤◌, ◌<◌, ◌+◌, ◌++◌, ◌∙◌, ℕ, Bool, true, false, List, [], ◌∷◌}
 use Rattle.std.proofs.Common.{ap, append-nil, append_assoc, arith, length, length-append, refl, sym}
 use Rattle.std.proofs.Common.{inl, inr}
-use Rattle.std.proofs.lemmas.Bool.{cases_lt, lt-ltb}
+use Rattle.std.proofs.lemmas.Bool.{cases_lt, false≢true, lt-ltb}
 use Rattle.std.proofs.lemmas.List.{take-append-le, take_all}
 use Rattle.std.proofs.lemmas.List.Elements.{filter-append}
+use Rattle.std.specs.List.{list_any}
 use Rattle.std.specs.Prelude.{◌&&◌, codes, filter, if◌then◌else◌, nat_lt}
+use Rattle.bip_model.specs.declared.wants.Want.{Want}
 use Rattle.bip_model.specs.States.{State, state_of}
 use Rattle.bip_model.specs.Steps.{after, end_of, start_of}
 use Rattle.bip_model.specs.declared.grants.Grant.{Grant}
@@ -49,11 +51,11 @@ filter_one p at b e = rw e refl
 
 -- and one row more, if it is shown
 rows-push : (m : System) (x : Excerpt) (gs : List Grant) (g : Grant) (b : Bool)
-    → is_row x (length gs + 1) ≡ b
+    → is_row x (length gs + 1) g ≡ b
     → rows_of m x (gs ++ g ∷ [])
     ≡ rows_of m x gs ++ (if b then moment m (length gs) (state_after m gs) g ∷ [] else [])
 rows-push m x gs g b e =
-    let p : Moment → Bool = λ (at : Moment). is_row x at.number in
+    let p : Moment → Bool = λ (at : Moment). is_row x at.number at.grant in
     let at = moment m (length gs) (state_after m gs) g in
     ap (filter p) (moments-push m 0 (length gs) (start_of m) gs g (omega arith))
     ∙ filter-append p (moments_from m 0 (start_of m) gs) (at ∷ [])
@@ -91,6 +93,17 @@ a_text : (b fits : Bool) (text longer row : List ℕ) → b ≡ true → fits �
     → longer ≡ text ++ (if b && fits then row else []) → longer ≡ text ++ row
 a_text b fits text longer row e f is = rw (e, f) at is
 
+-- where a test finds a want there is one when wants are filtered by it
+pub some_filtered : (p : Want → Bool) (ws : List Want) → list_any p ws ≡ true
+    → 0 < length (filter p ws)
+some_filtered p [] finds = absurd (false≢true finds)
+some_filtered p (w ∷ ws) finds = by_first (p w) refl (some_filtered p ws)
+  where
+    by_first : (b : Bool) → p w ≡ b → (list_any p ws ≡ true → 0 < length (filter p ws))
+        → 0 < length (filter p (w ∷ ws))
+    by_first true is rest = rw is (omega arith)
+    by_first false is rest = rw is (rest (rw is at finds))
+
 -- what a chart keeps, by its parts
 abbrev pub sketch : System → Partition → Excerpt → Kept → ℕ → ℕ → List LocalState → List ℕ
     → Sketch
@@ -111,12 +124,12 @@ pub record TookOne (m : System) (classes : Partition) (x : Excerpt) (g : Grant) 
     (count rows more : ℕ) (above left : List LocalState) (text longer : List ℕ) : Type 0 where
   pub next : IsNextAt (standing_of p) g
   pub on : standing_of q ≡ standing_on (standing_of p) g
-  pub counted : more ≡ (if is_row x (count + 1) then rows + 1 else rows)
+  pub counted : more ≡ (if is_row x (count + 1) g then rows + 1 else rows)
   pub early : count + 1 ≤ x.first → state_of left ≡ (standing_of q).state
   pub late : x.first < count + 1 → left ≡ above
   pub written : longer ≡ text
-      ++ (if is_row x (count + 1) && nat_lt rows x.most
-      then row_text m classes (laid_out m classes x.values) rows
+      ++ (if is_row x (count + 1) g && nat_lt rows x.most
+      then row_text m classes (laid_out m classes x) rows
       (record {
         number = count + 1;
         grant = g;
@@ -142,7 +155,7 @@ module _ (m : System) (classes : Partition) (x : Excerpt) (base : ℕ) (gs : Lis
 
   abbrev shown : List ℕ
   shown =
-      row_text m classes (laid_out m classes x.values) rows
+      row_text m classes (laid_out m classes x) rows
       (record {
         number = count + 1;
         grant = g;
@@ -151,7 +164,7 @@ module _ (m : System) (classes : Partition) (x : Excerpt) (base : ℕ) (gs : Lis
       })
 
   the_row : shown
-      ≡ row_text m classes (laid_out m classes x.values) (length (rows_of m x gs))
+      ≡ row_text m classes (laid_out m classes x) (length (rows_of m x gs))
       (moment m (length gs) (state_after m gs) g)
   the_row = rw (behind, before, old.counted, old.rows) refl
 
@@ -173,13 +186,13 @@ module _ (m : System) (classes : Partition) (x : Excerpt) (base : ℕ) (gs : Lis
   counts : count + 1 ≡ length (gs ++ g ∷ [])
   counts = omega (arith, old.counted, length-append gs (g ∷ []))
 
-  by_row : (b : Bool) → is_row x (count + 1) ≡ b
+  by_row : (b : Bool) → is_row x (count + 1) g ≡ b
       → HasDrawn base (gs ++ g ∷ []) (sketch m classes x q (count + 1) more left longer)
   by_row false e =
-      let at : is_row x (length gs + 1) ≡ false =
-      ap (λ (n : ℕ). is_row x (n + 1)) (sym old.counted) ∙ e in
+      let at : is_row x (length gs + 1) g ≡ false =
+      ap (λ (n : ℕ). is_row x (n + 1) g) (sym old.counted) ∙ e in
       let push = rows-push m x gs g false at in
-      let same : more ≡ rows = no_row (is_row x (count + 1)) rows more e took.counted in
+      let same : more ≡ rows = no_row (is_row x (count + 1) g) rows more e took.counted in
       record {
         leads = leads;
         counted = counts;
@@ -187,17 +200,17 @@ module _ (m : System) (classes : Partition) (x : Excerpt) (base : ℕ) (gs : Lis
             ∙ sym (ap length (push ∙ append-nil (rows_of m x gs)));
         above = is_above;
         text = λ few.
-            no_text (is_row x (count + 1)) (nat_lt rows x.most) text longer shown e took.written
+            no_text (is_row x (count + 1) g) (nat_lt rows x.most) text longer shown e took.written
             ∙ old.text (omega (arith, few, same))
-            ∙ sym (ap (rows_text m classes (laid_out m classes x.values) 0)
+            ∙ sym (ap (rows_text m classes (laid_out m classes x) 0)
             (push ∙ append-nil (rows_of m x gs)));
       }
   by_row true e =
-      let at : is_row x (length gs + 1) ≡ true =
-      ap (λ (n : ℕ). is_row x (n + 1)) (sym old.counted) ∙ e in
+      let at : is_row x (length gs + 1) g ≡ true =
+      ap (λ (n : ℕ). is_row x (n + 1) g) (sym old.counted) ∙ e in
       let push = rows-push m x gs g true at in
       let one : Moment = moment m (length gs) (state_after m gs) g in
-      let same : more ≡ rows + 1 = a_row (is_row x (count + 1)) rows more e took.counted in
+      let same : more ≡ rows + 1 = a_row (is_row x (count + 1) g) rows more e took.counted in
       record {
         leads = leads;
         counted = counts;
@@ -211,24 +224,24 @@ module _ (m : System) (classes : Partition) (x : Excerpt) (base : ℕ) (gs : Lis
         above = is_above;
         text = λ few.
             let fits : rows < x.most = omega (arith, few, same) in
-            a_text (is_row x (count + 1)) (nat_lt rows x.most) text longer shown e
+            a_text (is_row x (count + 1) g) (nat_lt rows x.most) text longer shown e
             (lt-ltb rows x.most fits) took.written
             ∙ ap (λ (t : List ℕ). t ++ shown) (old.text (omega (arith, few, same)))
             ∙ ap (λ (t : List ℕ).
-            rows_text m classes (laid_out m classes x.values) 0 (rows_of m x gs) ++ t) the_row
-            ∙ sym (ap (rows_text m classes (laid_out m classes x.values) 0) push
-            ∙ rows_text-push m classes (laid_out m classes x.values) 0 (length (rows_of m x gs))
+            rows_text m classes (laid_out m classes x) 0 (rows_of m x gs) ++ t) the_row
+            ∙ sym (ap (rows_text m classes (laid_out m classes x) 0) push
+            ∙ rows_text-push m classes (laid_out m classes x) 0 (length (rows_of m x gs))
             (rows_of m x gs) one (omega arith));
       }
 
   pub draws_on : HasDrawn base (gs ++ g ∷ []) (sketch m classes x q (count + 1) more left longer)
-  draws_on = by_row (is_row x (count + 1)) refl
+  draws_on = by_row (is_row x (count + 1) g) refl
 
 -- a chart that is finished
 pub finished : (m : System) (classes : Partition) (x : Excerpt) (base : ℕ) (gs : List Grant)
     (p : Kept) (count rows : ℕ) (above : List LocalState) (text : List ℕ) (l : Layout) (foot : Foot)
     (written : List ℕ) → HasDrawn base gs (sketch m classes x p count rows above text)
-    → l ≡ laid_out m classes x.values → rows ≤ x.most
+    → l ≡ laid_out m classes x → rows ≤ x.most
     → written ≡ chart_front (chart_width m classes l foot) (row_y l rows + foot_height l foot)
     ++ (legend_of classes
     ++ (lanes_text l m rows
@@ -238,12 +251,12 @@ pub finished : (m : System) (classes : Partition) (x : Excerpt) (base : ℕ) (gs
 finished m classes x base gs p count rows above text l foot written drawn laid few is =
     is ∙ (rw (laid, drawn.rows, drawn.text few)
     (ap (λ (s : State).
-    chart_front (chart_width m classes (laid_out m classes x.values) foot)
-    (row_y (laid_out m classes x.values) (length (rows_of m x gs))
-    + foot_height (laid_out m classes x.values) foot)
+    chart_front (chart_width m classes (laid_out m classes x) foot)
+    (row_y (laid_out m classes x) (length (rows_of m x gs))
+    + foot_height (laid_out m classes x) foot)
     ++ (legend_of classes
-    ++ (lanes_text (laid_out m classes x.values) m (length (rows_of m x gs))
-    ++ (state_text (laid_out m classes x.values) m s
-    ++ (rows_text m classes (laid_out m classes x.values) 0 (rows_of m x gs)
-    ++ (foot_text (laid_out m classes x.values) (length (rows_of m x gs)) foot
+    ++ (lanes_text (laid_out m classes x) m (length (rows_of m x gs))
+    ++ (state_text (laid_out m classes x) m s
+    ++ (rows_text m classes (laid_out m classes x) 0 (rows_of m x gs)
+    ++ (foot_text (laid_out m classes x) (length (rows_of m x gs)) foot
     ++ codes "</svg>\n")))))) drawn.above))

@@ -1,9 +1,10 @@
--- The chart of a run, as SVG: a lane for each component, a row for each grant with a mark for each
--- of its wants, and what the components are in.
+-- The chart of a run, as SVG: a lane for each component, or for some; a row for each grant that one
+-- of them takes part in, with a mark for each of its wants; and what the components are in.
 use Rattle.std.specs.Prelude.{ℕ, ◌≡◌, ◌≤◌, ◌+◌, ◌-◌, ◌*◌, ◌/◌, ◌%◌, ◌&&◌, Bool, true, List, ◌++◌}
 use Rattle.std.specs.Prelude.{[], ◌∷◌, codes, filter, length, max, nat_le, nat_lt, slice_index}
-use Rattle.std.specs.Prelude.{take, ⊤}
-use Rattle.std.specs.List.{flat_map, range_with_len}
+use Rattle.std.specs.Prelude.{Option, if◌then◌else◌, take, ⊤}
+use Rattle.std.specs.Borrow.{Bor}
+use Rattle.std.specs.List.{flat_map, list_any, range_with_len}
 use Rattle.std.specs.Option.{option_map_or}
 use Rattle.bip_model.specs.Naming.{name_in}
 use Rattle.bip_model.specs.Partitions.{class_in}
@@ -11,6 +12,7 @@ use Rattle.bip_model.specs.States.{State, state_of}
 use Rattle.bip_model.specs.Steps.{after, start_of}
 use Rattle.bip_model.specs.Wants.{components_of}
 use Rattle.bip_model.specs.declared.grants.Grant.{Grant}
+use Rattle.bip_model.specs.declared.numbering.CompId.{CompId}
 use Rattle.bip_model.specs.declared.parts.System.{System}
 use Rattle.bip_model.specs.declared.partitions.Partition.{Partition}
 use Rattle.bip_model.specs.declared.states.LocalState.{LocalState}
@@ -19,7 +21,7 @@ use Rattle.bip_replay.specs.Faults.{IsFaultAt}
 use Rattle.bip_replay.specs.Runs.{Kept, StandsAfter, standing_of, state_after}
 use Rattle.bip_draw.specs.Escaping.{escaped}
 use Rattle.bip_draw.specs.Feet.{foot_height, foot_text, foot_width}
-use Rattle.bip_draw.specs.Layout.{IsLayout, lane_x, layout_of, legend_width, row_y}
+use Rattle.bip_draw.specs.Layout.{IsLayout, has_lane, lane_x, layout_of, legend_width, row_y}
 use Rattle.bip_draw.specs.Locals.{changes_text, state_text}
 use Rattle.bip_draw.specs.Shapes.{bar_text, beside_text, chart_front, circle_end, circle_text}
 use Rattle.bip_draw.specs.Shapes.{colour_text, ended, group_end, head_front}
@@ -48,13 +50,22 @@ moments_from m count s (g ∷ gs) =
     record { number = count + 1; grant = g; before = s; behind = after m s g.inter.0 }
     ∷ moments_from m (count + 1) (after m s g.inter.0) gs
 
--- whether the grant with a number has a row
-abbrev pub is_row : Excerpt → ℕ → Bool
-is_row x number = nat_lt x.first number && option_map_or (λ last. nat_le number last) x.last true
+-- a number is one of those that are shown
+abbrev pub is_within : Excerpt → ℕ → Bool
+is_within x number = nat_lt x.first number && option_map_or (λ last. nat_le number last) x.last true
+
+-- a want is of a component that has a lane
+abbrev pub has_mark : Option (Bor (List CompId)) → Want → Bool
+has_mark only w = has_lane only w.comp.0
+
+-- the grant with a number has a row: the number is shown, and a want of it has a lane
+abbrev pub is_row : Excerpt → ℕ → Grant → Bool
+is_row x number g = is_within x number && list_any (has_mark x.only) g.wants
 
 -- the moments of a run that have a row, in the order of its grants
 abbrev pub rows_of : System → Excerpt → List Grant → List Moment
-rows_of m x gs = filter (λ (at : Moment). is_row x at.number) (moments_from m 0 (start_of m) gs)
+rows_of m x gs =
+    filter (λ (at : Moment). is_row x at.number at.grant) (moments_from m 0 (start_of m) gs)
 
 -- a class in the legend: a square in its colour, and its name, in columns of eight
 abbrev pub legend_entry : Partition → ℕ → List ℕ
@@ -71,9 +82,13 @@ lane_text l names rows c =
     lane_line (lane_x l c) l.top (row_y l rows)
     ++ (head_front (lane_x l c) (l.top - 6) ++ ended (name_in names c))
 
+-- where it has one
+abbrev pub lane_part : Layout → List (List ℕ) → ℕ → ℕ → List ℕ
+lane_part l names rows c = if has_lane l.only c then lane_text l names rows c else []
+
 abbrev pub lanes_text : Layout → System → ℕ → List ℕ
 lanes_text l m rows =
-    flat_map (lane_text l m.component_names rows) (range_with_len 0 (length m.components))
+    flat_map (lane_part l m.component_names rows) (range_with_len 0 (length m.components))
 
 -- the mark of a want: on the lane of its component, with that one's name and the want's number
 abbrev pub mark_text : Layout → List (List ℕ) → Want → List ℕ
@@ -89,8 +104,13 @@ bar_of l wants =
     bar_text (lane_x l (slice_index (components_of wants) 0))
     (lane_x l (slice_index (components_of wants) (length wants - 1)))
 
-unfoldable pub wants_text : Layout → List (List ℕ) → List Want → List ℕ
-wants_text l names wants = bar_of l wants ++ flat_map (mark_text l names) wants
+unfoldable pub marked_text : Layout → List (List ℕ) → List Want → List ℕ
+marked_text l names wants = bar_of l wants ++ flat_map (mark_text l names) wants
+
+-- of the wants whose components have lanes
+abbrev pub wants_text : Layout → List (List ℕ) → List Want → List ℕ
+wants_text l names wants =
+    marked_text l names (filter (has_mark l.only) wants)
 
 -- the front of a row: its place, the colour of the interaction's class, the row's number, and the
 -- interaction's name
@@ -131,14 +151,14 @@ chart_on m classes l rows s foot =
     ++ (foot_text l (length rows) foot ++ codes "</svg>\n")))))
 
 -- the layout of a chart
-abbrev pub laid_out : System → Partition → Bool → Layout
-laid_out m classes values = layout_of m values (length classes.names)
+abbrev pub laid_out : System → Partition → Excerpt → Layout
+laid_out m classes x = layout_of m x.values x.only (length classes.names)
 
 -- the chart of a run of a model with classes, by its grants: what is shown of it, and behind that a
 -- foot
 abbrev pub chart_of : System → Partition → Excerpt → List Grant → Foot → List ℕ
 chart_of m classes x gs foot =
-    chart_on m classes (laid_out m classes x.values) (rows_of m x gs) (state_at m gs x.first) foot
+    chart_on m classes (laid_out m classes x) (rows_of m x gs) (state_at m gs x.first) foot
 
 -- what a chart that is being drawn keeps: what it shows of which model, where the run stands, how
 -- many grants it has taken, how many rows there are, the state above them, and their text
@@ -166,7 +186,7 @@ pub record HasDrawn (base : ℕ) (gs : List Grant) (c : Sketch) : Type 0 where
   pub rows : c.rows ≡ length (rows_of c.model c.excerpt gs)
   pub above : state_of c.above ≡ state_at c.model gs c.excerpt.first
   pub text : c.rows ≤ c.excerpt.most
-      → c.text ≡ rows_text c.model c.classes (laid_out c.model c.classes c.excerpt.values) 0
+      → c.text ≡ rows_text c.model c.classes (laid_out c.model c.classes c.excerpt) 0
       (rows_of c.model c.excerpt gs)
 
 -- why a chart takes no grant: that can't be next, and the chart stays; or want of memory
@@ -174,10 +194,14 @@ abbrev pub IsChartFault : Sketch → Sketch → Grant → ChartFault → Type 0
 IsChartFault old new g (NotNext fault) = IsFaultAt (standing_of old.position) g fault × (new ≡ old)
 IsChartFault old new g Memory = ⊤
 
--- What invariants say.
+-- What contracts of private functions and invariants say.
 
-pub record IsLaidOut (m : System) (classes : Partition) (values : Bool) (l : Layout) : Type 0 where
-  pub laid : l ≡ laid_out m classes values
+-- the grant with a number has a row in a layout
+abbrev pub has_row : Layout → Excerpt → ℕ → Grant → Bool
+has_row l x number g = is_within x number && list_any (has_mark l.only) g.wants
+
+pub record IsLaidOut (m : System) (classes : Partition) (x : Excerpt) (l : Layout) : Type 0 where
+  pub laid : l ≡ laid_out m classes x
   pub small : IsLayout l
 
 -- the state before the next row is that in which the run stands; up to the first row it stands

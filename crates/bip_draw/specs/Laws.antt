@@ -1,15 +1,17 @@
 -- What pictures keep, in the subject's own words: laws that a reviewer reads.
 use Rattle.std.specs.Prelude.{ℕ, ◌+◌, ◌*◌, ◌<◌, ◌≤◌, ◌==◌, ◌||◌, ◌&&◌, Bool, List, true, ◌≡◌}
-use Rattle.std.specs.Prelude.{false, length, nat_le, not}
+use Rattle.std.specs.Prelude.{Option, false, length, nat_le, not}
+use Rattle.std.specs.Borrow.{Bor}
 use Rattle.std.specs.List.{AllPairs, flat_map, list_all}
 use Rattle.std.specs.List.Sorted.{IsPermutation}
 use Rattle.bip_model.specs.Naming.{IsName, name_in}
+use Rattle.bip_model.specs.declared.numbering.CompId.{CompId}
 use Rattle.bip_model.specs.declared.parts.Component.{Component}
 use Rattle.bip_model.specs.declared.parts.System.{System}
 use Rattle.bip_draw.specs.Drawing.{parallel_to, firsts_of, are_parallel}
 use Rattle.bip_draw.specs.Escaping.{escaped}
 use Rattle.bip_draw.specs.Hues.{hue}
-use Rattle.bip_draw.specs.Layout.{lane_x, layout_of, row_y}
+use Rattle.bip_draw.specs.Layout.{has_lane, lane_x, layout_of, row_y}
 use Rattle.bip_draw.specs.declared.layout.Layout.{Layout}
 
 -- 32 classes have 32 colours
@@ -23,13 +25,14 @@ NoneIsRed = (k : ℕ) → (4 ≤ hue k) × (hue k ≤ 36)
 -- a statement about the layout of each chart
 abbrev pub OfLayouts : (System → Layout → Type 0) → Type 0
 OfLayouts P =
-    (m : System) (values : Bool) (classes : ℕ) → P m (layout_of m values classes)
+    (m : System) (values : Bool) (only : Option (Bor (List CompId))) (classes : ℕ)
+    → P m (layout_of m values only classes)
 
--- the lane of a component with a higher number is further right, and the names on two lanes don't
--- meet, at eight points a byte
+-- of two components with lanes that of the higher number is further right, and the names on them
+-- don't meet, at eight points a byte
 abbrev pub LanesAreApart : Type 0
 LanesAreApart =
-    OfLayouts (λ m l. (c d : ℕ) → c < d
+    OfLayouts (λ m l. (c d : ℕ) → c < d → has_lane l.only c ≡ true
     → lane_x l c + 4 * (length (name_in m.component_names c) + length (name_in m.component_names d))
     < lane_x l d)
 

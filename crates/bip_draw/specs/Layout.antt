@@ -1,11 +1,25 @@
--- Where things stand in a chart, in points: a lane for each component, a row for each grant. Texts
+-- Where things stand in a chart, in points: lanes of components, rows of grants. Texts
 -- have room for the longest name, at up to eight points a byte.
 use Rattle.std.specs.Prelude.{ℕ, ◌+◌, ◌*◌, ◌/◌, ◌<◌, ◌≤◌, List, length, max, min}
-use Rattle.std.specs.Prelude.{Bool, if◌then◌else◌}
-use Rattle.std.specs.List.{fold}
+use Rattle.std.specs.Prelude.{Bool, Option, suc, true, zero, ◌==◌, if◌then◌else◌}
+use Rattle.std.specs.Borrow.{Bor}
+use Rattle.std.specs.List.{fold, list_any}
+use Rattle.std.specs.Option.{option_map_or}
+use Rattle.bip_model.specs.declared.numbering.CompId.{CompId}
 use Rattle.bip_model.specs.declared.parts.Component.{Component}
 use Rattle.bip_model.specs.declared.parts.System.{System}
 use Rattle.bip_draw.specs.declared.layout.Layout.{Layout}
+
+-- a component has a lane: it is one of those that are asked for; or none are, and each has one
+abbrev pub has_lane : Option (Bor (List CompId)) → ℕ → Bool
+has_lane only c =
+    option_map_or (λ (asked : Bor (List CompId)). list_any (λ (k : CompId). k.0 == c) asked.now)
+    only true
+
+-- how many of the components with a lower number have one
+abbrev pub lanes_before : Option (Bor (List CompId)) → ℕ → ℕ
+lanes_before only zero = 0
+lanes_before only (suc c) = lanes_before only c + (if has_lane only c then 1 else 0)
 
 -- the greatest of what is measured of things, 0 of none
 abbrev pub most_by : {X : Type 0} → (X → ℕ) → List X → ℕ
@@ -42,20 +56,22 @@ legend_width classes = 254 * ((classes + 7) / 8) + 10
 abbrev pub reason_width : ℕ → ℕ
 reason_width bytes = 7 * min bytes 400 + 20
 
--- where all stands in a chart of a model: whether it shows values, and how many classes it has
-abbrev pub layout_of : System → Bool → ℕ → Layout
-layout_of m values classes =
+-- where all stands in a chart of a model: whether it shows values, which components have lanes, and
+-- how many classes it has
+abbrev pub layout_of : System → Bool → Option (Bor (List CompId)) → ℕ → Layout
+layout_of m values only classes =
     record {
       left = 7 * longest m.interaction_names + 70;
       half = half_of values m;
       top = legend_height classes;
       height = height_of values m;
       values = values;
+      only = only;
     }
 
--- the x of the lane of a component
+-- the x of the lane of a component: lanes stand side by side
 abbrev pub lane_x : Layout → ℕ → ℕ
-lane_x l c = l.left + (2 * c + 1) * l.half
+lane_x l c = l.left + (2 * lanes_before l.only c + 1) * l.half
 
 -- the y of the row with a number from 0
 abbrev pub row_y : Layout → ℕ → ℕ

@@ -9,7 +9,7 @@ use Rattle.bip_model.specs.declared.parts.Component.{Component}
 use Rattle.bip_model.specs.declared.parts.System.{System}
 use Rattle.bip_reader.specs.Writing.{component_in}
 use Rattle.bip_draw.specs.Escaping.{escaped}
-use Rattle.bip_draw.specs.Layout.{lane_x}
+use Rattle.bip_draw.specs.Layout.{has_lane, lane_x}
 use Rattle.bip_draw.specs.Shapes.{below_front, between, ended, front_end, group_end, place_text}
 use Rattle.bip_draw.specs.Shapes.{text_end}
 use Rattle.bip_draw.specs.declared.layout.Layout.{Layout}
@@ -40,10 +40,12 @@ unfoldable pub local_text : Layout → Component → ℕ → State → List ℕ
 local_text l k c s =
     location_label l k c (location_at s c) ++ (if l.values then values_text l k c s else [])
 
--- what each component is in, above the first row
+-- what each component with a lane is in, above the first row
+abbrev pub local_part : Layout → System → State → ℕ → List ℕ
+local_part l m s c = if has_lane l.only c then local_text l (component_in m c) c s else []
+
 abbrev pub locals_text : Layout → System → State → List ℕ
-locals_text l m s =
-    flat_map (λ c. local_text l (component_in m c) c s) (range_with_len 0 (length m.components))
+locals_text l m s = flat_map (local_part l m s) (range_with_len 0 (length m.components))
 
 unfoldable pub state_text : Layout → System → State → List ℕ
 state_text l m s = place_text 0 l.top ++ (front_end ++ (locals_text l m s ++ group_end))
@@ -66,7 +68,9 @@ unfoldable pub local_change : Layout → Component → ℕ → State → State �
 local_change l k c s t =
     location_change l k c s t ++ (if l.values then value_changes l k c s t else [])
 
+-- what changes of each component with a lane
+abbrev pub change_part : Layout → System → State → State → ℕ → List ℕ
+change_part l m s t c = if has_lane l.only c then local_change l (component_in m c) c s t else []
+
 unfoldable pub changes_text : Layout → System → State → State → List ℕ
-changes_text l m s t =
-    flat_map (λ c. local_change l (component_in m c) c s t)
-    (range_with_len 0 (length m.components))
+changes_text l m s t = flat_map (change_part l m s t) (range_with_len 0 (length m.components))

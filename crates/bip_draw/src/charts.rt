@@ -1,15 +1,17 @@
 //! The chart of a run, as SVG.
 ghost use Rattle.std.specs.Prelude.{◌≡◌, ◌≤◌, ◌<◌, ◌+◌, ◌-◌, ◌^◌, ◌&&◌, ◌++◌, ◌∷◌, [], List, ℕ};
 ghost use Rattle.std.specs.Prelude.{IfErr, IfOk, OnOk, codes, if◌then◌else◌, length, max, nat_lt};
-ghost use Rattle.std.specs.Prelude.{slice_index};
-ghost use Rattle.std.specs.List.{flat_map};
+ghost use Rattle.std.specs.Prelude.{filter, slice_index, true};
+ghost use Rattle.std.specs.List.{flat_map, list_any};
 ghost use Rattle.bip_model.specs.Naming.{name_in};
 ghost use Rattle.bip_model.specs.Partitions.{AreClassesOf, class_in};
 ghost use Rattle.bip_model.specs.States.{state_of};
-ghost use Rattle.bip_model.specs.Wants.{IsWants, components_of};
-ghost use Rattle.bip_draw.specs.Charts.{bar_of, chart_of, chart_width, is_row, lane_text};
-ghost use Rattle.bip_draw.specs.Charts.{lanes_text, legend_entry, legend_of, mark_text, row_head};
-ghost use Rattle.bip_draw.specs.Charts.{row_text, wants_text};
+ghost use Rattle.bip_model.specs.Wants.{components_of};
+ghost use Rattle.bip_draw.specs.Charts.{bar_of, chart_of, chart_width, has_mark, has_row};
+ghost use Rattle.bip_draw.specs.Charts.{is_within};
+ghost use Rattle.bip_draw.specs.Charts.{lane_part, lane_text, lanes_text, legend_entry};
+ghost use Rattle.bip_draw.specs.Charts.{legend_of, mark_text, marked_text, row_head, row_text};
+ghost use Rattle.bip_draw.specs.Charts.{wants_text};
 ghost use Rattle.bip_draw.specs.Feet.{foot_height, foot_text, foot_width};
 ghost use Rattle.bip_draw.specs.Layout.{IsLayout, lane_x, layout_of, row_y};
 ghost use Rattle.bip_draw.specs.Shapes.{chart_front};
@@ -25,26 +27,28 @@ use crate::shapes::{
     write_ended, write_group_end, write_head_front, write_lane_line, write_place, write_row_number,
     write_square,
 };
-use bip_model::{Classes, InterId, Model, Name, Number, State, Want};
+use bip_model::{Classes, CompId, InterId, Model, Name, Number, State, Want};
 use bip_replay::{GrantRef, Position, StepFault};
 use std::alloc::{AllocError, Global};
 use std::marker;
 
 /// What a chart shows of a run: rows for the grants behind so many, up to the one with a number
-/// from 1, or up to the end; how many rows there may be; and values of variables, where these are
-/// wanted.
+/// from 1, or up to the end; how many rows there may be; values of variables, where these are
+/// wanted; and lanes for these components alone, in any order, or for all. Where not all have one,
+/// a grant has a row only where one of its wants is of a component with a lane.
 #[derive(Clone, Copy, Debug)]
-pub struct Excerpt {
+pub struct Excerpt<'a> {
     pub first: u64,
     pub last: Option<u64>,
     pub most: u32,
     pub values: bool,
+    pub only: Option<&'a [CompId]>,
 }
 
-impl Excerpt {
-    /// Whether the grant with this number has a row.
-    fn has_row(&self, number: u64) -> bool
-        ensures { result ≡ is_row self.now number }
+impl Excerpt<'_> {
+    /// Whether a number is one of those that are shown.
+    fn is_within(&self, number: u64) -> bool
+        ensures { result ≡ is_within self.now number }
     {
         let begun = self.first < number;
         match self.last {
@@ -59,8 +63,24 @@ impl Excerpt {
 struct Sheet<'a> {
     model: &'a Model,
     classes: &'a Classes,
-    excerpt: Excerpt,
-    layout: Layout,
+    excerpt: Excerpt<'a>,
+    layout: Layout<'a>,
+}
+
+impl Sheet<'_> {
+    /// Whether the grant with this number has a row.
+    fn has_row(&self, number: u64, grant: &GrantRef<'_>) -> bool
+        ensures { result ≡ has_row self.now.layout self.now.excerpt number grant.now }
+    {
+        self.excerpt.is_within(number) && has_marks(&self.layout, grant.wants())
+    }
+}
+
+/// Whether one of these wants is of a component with a lane.
+fn has_marks(layout: &Layout<'_>, wants: &[Want]) -> bool
+    ensures { result ≡ list_any (has_mark layout.now.only) wants.now }
+{
+    wants.iter().any(|want| layout.has_lane(want.comp.0))
 }
 
 /// Why a chart takes no grant.
@@ -104,7 +124,7 @@ impl<'a> marker::Model for Chart<'a> {
       text = c.text.items;
     } };
 
-    ghost invariant = { λ c. IsLaidOut c.sheet.model.now c.sheet.classes.now c.sheet.excerpt.values
+    ghost invariant = { λ c. IsLaidOut c.sheet.model.now c.sheet.classes.now c.sheet.excerpt
         c.sheet.layout
         × (c.rows ≤ c.count)
         × (c.sheet.excerpt.most < 2 ^ 32)
@@ -123,14 +143,14 @@ impl<'a> Chart<'a> {
         model: &'a Model,
         classes: &'a Classes,
         base: Number,
-        excerpt: Excerpt,
+        excerpt: Excerpt<'a>,
     ) -> Result<Chart<'a>, AllocError>
         requires base { base < last_number }
         requires classes { AreClassesOf model.now classes.now }
-        ensures on { IfOk result (IsChartOn model.now classes.now excerpt) }
+        ensures on { IfOk result (IsChartOn model.now classes.now excerpt.entry) }
         ensures drawn { IfOk result (HasDrawn base []) }
     {
-        let layout = Layout::of(model, excerpt.values, classes.len());
+        let layout = Layout::of(model, excerpt.values, excerpt.only, classes.len());
         Ok(Chart {
             sheet: Sheet {
                 model,
@@ -278,7 +298,7 @@ fn write_legend_entry(text: &mut Vec<u8>, classes: &Classes, class: u16) -> Resu
 /// The lanes of the components, which go down beside so many rows.
 fn write_lanes(
     text: &mut Vec<u8>,
-    layout: &Layout,
+    layout: &Layout<'_>,
     model: &Model,
     rows: u64,
 ) -> Result<(), AllocError>
@@ -289,14 +309,32 @@ fn write_lanes(
 {
     let names = model.component_names();
     for comp in 0..count_of(model) {
-        write_lane(text, layout, names, rows, comp)?;
+        write_lane_part(text, layout, names, rows, comp)?;
     }
     Ok(())
 }
 
+fn write_lane_part(
+    text: &mut Vec<u8>,
+    layout: &Layout<'_>,
+    names: &[Name],
+    rows: u64,
+    comp: u16,
+) -> Result<(), AllocError>
+    requires layout { IsLayout layout.now }
+    requires rows { rows < 2 ^ 54 }
+    ensures { OnOk result
+        (text.new.items ≡ text.old.items ++ lane_part layout.now names.now rows comp) }
+{
+    if !layout.has_lane(comp) {
+        return Ok(());
+    }
+    write_lane(text, layout, names, rows, comp)
+}
+
 fn write_lane(
     text: &mut Vec<u8>,
-    layout: &Layout,
+    layout: &Layout<'_>,
     names: &[Name],
     rows: u64,
     comp: u16,
@@ -326,9 +364,9 @@ fn add_row(
     requires layout { IsLayout sheet.now.layout }
     requires room { rows + 1 < 2 ^ 64 }
     ensures rows { IfOk result (λ now. now
-        ≡ (if is_row sheet.now.excerpt number then rows + 1 else rows)) }
+        ≡ (if has_row sheet.now.layout sheet.now.excerpt number grant.now then rows + 1 else rows)) }
     ensures text { OnOk result (text.new.items ≡ text.old.items
-        ++ (if is_row sheet.now.excerpt number && nat_lt rows sheet.now.excerpt.most
+        ++ (if has_row sheet.now.layout sheet.now.excerpt number grant.now && nat_lt rows sheet.now.excerpt.most
         then row_text sheet.now.model.now sheet.now.classes.now sheet.now.layout rows
         (record {
           number = number;
@@ -338,7 +376,7 @@ fn add_row(
         })
         else [])) }
 {
-    if !sheet.excerpt.has_row(number) {
+    if !sheet.has_row(number, grant) {
         return Ok(rows);
     }
     if rows < sheet.excerpt.most as u64 {
@@ -360,6 +398,7 @@ fn write_row(
 ) -> Result<(), AllocError>
     requires layout { IsLayout sheet.now.layout }
     requires row { row < 2 ^ 54 }
+    requires marked { list_any (has_mark sheet.now.layout.only) grant.now.wants ≡ true }
     ensures { OnOk result (text.new.items ≡ text.old.items
         ++ row_text sheet.now.model.now sheet.now.classes.now sheet.now.layout row
         (record {
@@ -400,18 +439,44 @@ fn write_row_head(
     )
 }
 
-/// The bar of wants, and their marks.
-#[tactic(auto, unfolding(crate::specs::Charts::wants_text))]
+/// The bar of the wants of components with lanes, and their marks.
 fn write_wants(
     text: &mut Vec<u8>,
-    layout: &Layout,
+    layout: &Layout<'_>,
     names: &[Name],
     wants: &[Want],
 ) -> Result<(), AllocError>
     requires layout { IsLayout layout.now }
-    requires wants { IsWants wants.now }
+    requires marked { list_any (has_mark layout.now.only) wants.now ≡ true }
     ensures { OnOk result
         (text.new.items ≡ text.old.items ++ wants_text layout.now names.now wants.now) }
+{
+    let marked = marked_wants(*text.allocator(), layout, wants)?;
+    write_marked(text, layout, names, marked.as_slice())
+}
+
+fn marked_wants(alloc: Global, layout: &Layout<'_>, wants: &[Want]) -> Result<Vec<Want>, AllocError>
+    ensures { IfOk result (λ marked.
+        marked.items ≡ filter (has_mark layout.now.only) wants.now) }
+{
+    wants
+        .iter()
+        .copied()
+        .filter(|want| layout.has_lane(want.comp.0))
+        .collect(alloc)
+}
+
+#[tactic(auto, unfolding(crate::specs::Charts::marked_text))]
+fn write_marked(
+    text: &mut Vec<u8>,
+    layout: &Layout<'_>,
+    names: &[Name],
+    wants: &[Want],
+) -> Result<(), AllocError>
+    requires layout { IsLayout layout.now }
+    requires some { 0 < length wants.now }
+    ensures { OnOk result
+        (text.new.items ≡ text.old.items ++ marked_text layout.now names.now wants.now) }
 {
     let last = wants.len() - 1;
     write_bar(
@@ -423,7 +488,7 @@ fn write_wants(
 }
 
 /// The x of the lane of a want.
-fn lane_at(layout: &Layout, wants: &[Want], index: usize) -> u64
+fn lane_at(layout: &Layout<'_>, wants: &[Want], index: usize) -> u64
     requires layout { IsLayout layout.now }
     requires index { index < length wants.now }
     ensures { result ≡ lane_x layout.now (slice_index (components_of wants.now) index) }
@@ -433,7 +498,7 @@ fn lane_at(layout: &Layout, wants: &[Want], index: usize) -> u64
 
 fn write_marks(
     text: &mut Vec<u8>,
-    layout: &Layout,
+    layout: &Layout<'_>,
     names: &[Name],
     wants: &[Want],
 ) -> Result<(), AllocError>
@@ -449,7 +514,7 @@ fn write_marks(
 
 fn write_mark(
     text: &mut Vec<u8>,
-    layout: &Layout,
+    layout: &Layout<'_>,
     names: &[Name],
     want: Want,
 ) -> Result<(), AllocError>

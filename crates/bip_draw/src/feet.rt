@@ -35,7 +35,7 @@ impl Foot<'_> {
         }
     }
 
-    pub(crate) fn height(&self, layout: &Layout) -> u64
+    pub(crate) fn height(&self, layout: &Layout<'_>) -> u64
         requires { IsLayout layout.now }
         ensures height { result ≡ foot_height layout.now self.now }
         ensures small { result ≤ 2_000 }
@@ -65,7 +65,7 @@ fn measure(text: &[u8]) -> (u64, usize)
 #[tactic(auto, unfolding(crate::specs::Feet::foot_text))]
 pub(crate) fn write_foot(
     text: &mut Vec<u8>,
-    layout: &Layout,
+    layout: &Layout<'_>,
     rows: u64,
     foot: &Foot<'_>,
 ) -> Result<(), AllocError>
@@ -82,7 +82,7 @@ pub(crate) fn write_foot(
 
 fn write_fault_row(
     text: &mut Vec<u8>,
-    layout: &Layout,
+    layout: &Layout<'_>,
     rows: u64,
     reason: &[u8],
 ) -> Result<(), AllocError>
@@ -100,7 +100,7 @@ fn write_fault_row(
 #[tactic(auto, unfolding(crate::specs::Feet::runnable_rows))]
 fn write_runnable_rows(
     text: &mut Vec<u8>,
-    layout: &Layout,
+    layout: &Layout<'_>,
     rows: u64,
     runnable: &[u8],
 ) -> Result<(), AllocError>

@@ -2,28 +2,37 @@
 ghost use Rattle.std.specs.Prelude.{◌≡◌, ◌≤◌, ◌<◌, ◌+◌, ◌^◌, All, length};
 ghost use Rattle.bip_model.specs.Parts.{IsComponent};
 ghost use Rattle.bip_model.specs.declared.parts.Component.{Component};
-ghost use Rattle.bip_draw.specs.Layout.{IsLayout, most_by, half_of, height_of, label_length};
-ghost use Rattle.bip_draw.specs.Layout.{lane_x, layout_of, legend_height, legend_width, longest};
+ghost use Rattle.bip_draw.specs.Layout.{IsLayout, half_of, has_lane, height_of, label_length};
+ghost use Rattle.bip_draw.specs.Layout.{lane_x, lanes_before, layout_of, legend_height};
+ghost use Rattle.bip_draw.specs.Layout.{legend_width, longest, most_by};
 ghost use Rattle.bip_draw.specs.Layout.{reason_width, row_y};
 
-use bip_model::{Component, Model, Name};
+use crate::lookups::is_among;
+use bip_model::{CompId, Component, Model, Name};
 
 /// Where things stand in a chart, in points, however many rows it has: where the first lane's room
-/// begins, half of the distance between lanes, the top of the lanes, the height of a row, and
-/// whether values of variables are shown.
+/// begins, half of the distance between lanes, the top of the lanes, the height of a row, whether
+/// values of variables are shown, and which components have a lane, where not all have one.
 #[derive(Clone, Copy)]
-pub(crate) struct Layout {
+pub(crate) struct Layout<'a> {
     pub left: u64,
     pub half: u64,
     pub top: u64,
     pub height: u64,
     pub values: bool,
+    pub only: Option<&'a [CompId]>,
 }
 
-impl Layout {
-    /// The layout of a chart of a model with so many classes, with values or without.
-    pub(crate) fn of(model: &Model, values: bool, classes: usize) -> Layout
-        ensures layout { result ≡ layout_of model.now values classes }
+impl<'a> Layout<'a> {
+    /// The layout of a chart of a model with so many classes, with values or without, of lanes for
+    /// these components or for all.
+    pub(crate) fn of(
+        model: &Model,
+        values: bool,
+        only: Option<&'a [CompId]>,
+        classes: usize,
+    ) -> Layout<'a>
+        ensures layout { result ≡ layout_of model.now values only.entry classes }
         ensures small { IsLayout result }
     {
         Layout {
@@ -32,6 +41,7 @@ impl Layout {
             top: legend_height(classes),
             height: height_of(values, model),
             values,
+            only,
         }
     }
 
@@ -41,7 +51,34 @@ impl Layout {
         ensures x { result ≡ lane_x self.now comp }
         ensures low { result < 2 ^ 26 }
     {
-        self.left + (2 * comp as u64 + 1) * self.half
+        self.left + (2 * self.lanes_before(comp) + 1) * self.half
+    }
+
+    /// Whether a component has a lane.
+    pub(crate) fn has_lane(&self, comp: u16) -> bool
+        ensures { result ≡ has_lane self.now.only comp }
+    {
+        match self.only {
+            Some(asked) => is_among(asked, comp),
+            None => true,
+        }
+    }
+
+    /// How many of the components with a lower number have one.
+    fn lanes_before(&self, comp: u16) -> u64
+        ensures before { result ≡ lanes_before self.now.only comp }
+        ensures few { result ≤ comp }
+    {
+        if self.only.is_none() {
+            return comp as u64;
+        }
+        let mut lanes = 0;
+        for other in 0..comp {
+            if self.has_lane(other) {
+                lanes += 1;
+            }
+        }
+        lanes
     }
 
     /// The y of the row with a number from 0.

@@ -5,7 +5,8 @@ ghost use Rattle.bip_model.specs.Parts.{IsComponent};
 ghost use Rattle.bip_model.specs.States.{state_of};
 ghost use Rattle.bip_reader.specs.Writing.{component_in};
 ghost use Rattle.bip_draw.specs.Layout.{IsLayout, lane_x};
-ghost use Rattle.bip_draw.specs.Locals.{changes_text, local_change, local_text, locals_text};
+ghost use Rattle.bip_draw.specs.Locals.{change_part, changes_text, local_change, local_part};
+ghost use Rattle.bip_draw.specs.Locals.{local_text, locals_text};
 ghost use Rattle.bip_draw.specs.Locals.{location_at, location_change, location_label, state_text};
 ghost use Rattle.bip_draw.specs.Locals.{value_at, value_change, value_changes, value_label};
 ghost use Rattle.bip_draw.specs.Locals.{values_text};
@@ -20,11 +21,11 @@ use crate::shapes::{
 use bip_model::{CompId, Component, Model, State};
 use std::alloc::AllocError;
 
-/// What each component is in, above the first row.
+/// What each component with a lane is in, above the first row.
 #[tactic(auto, unfolding(crate::specs::Locals::state_text))]
 pub(crate) fn write_state(
     text: &mut Vec<u8>,
-    layout: &Layout,
+    layout: &Layout<'_>,
     model: &Model,
     state: &State,
 ) -> Result<(), AllocError>
@@ -40,7 +41,7 @@ pub(crate) fn write_state(
 
 fn write_locals(
     text: &mut Vec<u8>,
-    layout: &Layout,
+    layout: &Layout<'_>,
     model: &Model,
     state: &State,
 ) -> Result<(), AllocError>
@@ -49,15 +50,33 @@ fn write_locals(
         ++ locals_text layout.now model.now (state_of state.now)) }
 {
     for comp in 0..count_of(model) {
-        write_local(text, layout, component_at(model, comp), comp, state)?;
+        write_local_part(text, layout, model, comp, state)?;
     }
     Ok(())
+}
+
+fn write_local_part(
+    text: &mut Vec<u8>,
+    layout: &Layout<'_>,
+    model: &Model,
+    comp: u16,
+    state: &State,
+) -> Result<(), AllocError>
+    requires layout { IsLayout layout.now }
+    requires component { comp < length model.now.components }
+    ensures { OnOk result (text.new.items ≡ text.old.items
+        ++ local_part layout.now model.now (state_of state.now) comp) }
+{
+    if !layout.has_lane(comp) {
+        return Ok(());
+    }
+    write_local(text, layout, component_at(model, comp), comp, state)
 }
 
 #[tactic(auto, unfolding(crate::specs::Locals::local_text))]
 fn write_local(
     text: &mut Vec<u8>,
-    layout: &Layout,
+    layout: &Layout<'_>,
     component: &Component,
     comp: u16,
     state: &State,
@@ -76,7 +95,7 @@ fn write_local(
 
 fn write_values(
     text: &mut Vec<u8>,
-    layout: &Layout,
+    layout: &Layout<'_>,
     component: &Component,
     comp: u16,
     state: &State,
@@ -93,11 +112,11 @@ fn write_values(
     Ok(())
 }
 
-/// What changes of each component from one state to another.
+/// What changes of each component with a lane from one state to another.
 #[tactic(auto, unfolding(crate::specs::Locals::changes_text))]
 pub(crate) fn write_changes(
     text: &mut Vec<u8>,
-    layout: &Layout,
+    layout: &Layout<'_>,
     model: &Model,
     before: &State,
     after: &State,
@@ -107,15 +126,35 @@ pub(crate) fn write_changes(
         ++ changes_text layout.now model.now (state_of before.now) (state_of after.now)) }
 {
     for comp in 0..count_of(model) {
-        write_local_change(text, layout, component_at(model, comp), comp, before, after)?;
+        write_change_part(text, layout, model, comp, before, after)?;
     }
     Ok(())
+}
+
+fn write_change_part(
+    text: &mut Vec<u8>,
+    layout: &Layout<'_>,
+    model: &Model,
+    comp: u16,
+    before: &State,
+    after: &State,
+) -> Result<(), AllocError>
+    requires layout { IsLayout layout.now }
+    requires component { comp < length model.now.components }
+    ensures { OnOk result (text.new.items ≡ text.old.items
+        ++ change_part layout.now model.now (state_of before.now) (state_of after.now) comp) }
+{
+    if !layout.has_lane(comp) {
+        return Ok(());
+    }
+    let component = component_at(model, comp);
+    write_local_change(text, layout, component, comp, before, after)
 }
 
 #[tactic(auto, unfolding(crate::specs::Locals::local_change))]
 fn write_local_change(
     text: &mut Vec<u8>,
-    layout: &Layout,
+    layout: &Layout<'_>,
     component: &Component,
     comp: u16,
     before: &State,
@@ -135,7 +174,7 @@ fn write_local_change(
 
 fn write_location_change(
     text: &mut Vec<u8>,
-    layout: &Layout,
+    layout: &Layout<'_>,
     component: &Component,
     comp: u16,
     before: &State,
@@ -154,7 +193,7 @@ fn write_location_change(
 
 fn write_value_changes(
     text: &mut Vec<u8>,
-    layout: &Layout,
+    layout: &Layout<'_>,
     component: &Component,
     comp: u16,
     before: &State,
@@ -173,7 +212,7 @@ fn write_value_changes(
 
 fn write_value_change(
     text: &mut Vec<u8>,
-    layout: &Layout,
+    layout: &Layout<'_>,
     component: &Component,
     comp: u16,
     number: usize,
@@ -195,7 +234,7 @@ fn write_value_change(
 /// A location of a component, beside its lane.
 fn write_location_label(
     text: &mut Vec<u8>,
-    layout: &Layout,
+    layout: &Layout<'_>,
     component: &Component,
     comp: u16,
     number: u8,
@@ -214,7 +253,7 @@ fn write_location_label(
 /// A variable of a component with a value, beside its lane.
 fn write_value_label(
     text: &mut Vec<u8>,
-    layout: &Layout,
+    layout: &Layout<'_>,
     component: &Component,
     comp: u16,
     number: usize,

@@ -1,10 +1,12 @@
 //! What a model has at a number.
-ghost use Rattle.std.specs.Prelude.{◌≡◌, ◌<◌, ◌≤◌, length};
+ghost use Rattle.std.specs.Prelude.{◌≡◌, ◌<◌, ◌≤◌, ◌==◌, length};
+ghost use Rattle.std.specs.List.{list_any};
 ghost use Rattle.bip_model.specs.Naming.{name_in};
+ghost use Rattle.bip_model.specs.declared.numbering.CompId.{CompId};
 ghost use Rattle.bip_model.specs.Parts.{IsComponent, IsInteraction};
 ghost use Rattle.bip_reader.specs.Writing.{component_in, interaction_in};
 
-use bip_model::{Component, InterId, Interaction, Model, Name};
+use bip_model::{CompId, Component, InterId, Interaction, Model, Name};
 
 /// How many components a model has.
 pub(crate) fn count_of(model: &Model) -> u16
@@ -12,6 +14,13 @@ pub(crate) fn count_of(model: &Model) -> u16
     ensures few { result ≤ 64 }
 {
     model.components().len() as u16
+}
+
+/// Whether a component is one of these.
+pub(crate) fn is_among(comps: &[CompId], comp: u16) -> bool
+    ensures { result ≡ list_any (λ (k : CompId). k.0 == comp) comps.now }
+{
+    comps.iter().any(|c| c.0 == comp)
 }
 
 /// A component of a model.

@@ -19,7 +19,7 @@ use crate::drawing::{
 };
 use crate::escaping::write_number;
 use crate::hues::class_of;
-use crate::lookups::{component_at, count_of, interaction_at, the_name};
+use crate::lookups::{component_at, count_of, interaction_at, is_among, the_name};
 use bip_model::{ClassId, Classes, CompId, InterId, Interaction, Model, Name, Pair, PortId};
 use std::alloc::{AllocError, Global};
 
@@ -35,7 +35,7 @@ impl Selection<'_> {
     fn has_component(&self, comp: CompId) -> bool
         ensures { result ≡ has_component self.now comp.0 }
     {
-        self.components.iter().any(|c| c.0 == comp.0)
+        is_among(self.components, comp.0)
     }
 
     fn has_class(&self, class: u16) -> bool

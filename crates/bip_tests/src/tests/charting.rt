@@ -76,6 +76,7 @@ fn draw<'m>(rt: &impl Abort, alloc: Global, model: &'m Model, classes: &'m Class
         last: None,
         most: 2000,
         values: true,
+        only: None,
     };
     let mut chart = Chart::start(alloc, model, classes, 0, excerpt).expect(rt, "memory");
     for grant in grants(rt, alloc, model, RUN) {

@@ -24,6 +24,7 @@ returns-in-Ok-clause-drawn c = λ base gs old.
     ∙ ap (λ (n : System). after n (standing_of s.position).state g.inter.0) is.3.model in
     let written =
     rw (is.3.here, c.state.ensures, is.0.laid) at c.in-Ok.ensures.text in
+    let counted = rw is.0.laid at c.in-Ok.ensures.rows in
     elim c.if-number-self.branch [
       | then-number-self w ↦
           rw w.self-inside-is
@@ -32,7 +33,7 @@ returns-in-Ok-clause-drawn c = λ base gs old.
           (record {
             next = c.in_default.ensures.next;
             on = c.in_default.ensures.on;
-            counted = c.in-Ok.ensures.rows;
+            counted = counted;
             early = λ early.
                 w.run.ensures.fired
                 ∙ rw (is.3.early (omega (arith, early)), w.inter.ensures) (sym on);
@@ -46,7 +47,7 @@ returns-in-Ok-clause-drawn c = λ base gs old.
           (record {
             next = c.in_default.ensures.next;
             on = c.in_default.ensures.on;
-            counted = c.in-Ok.ensures.rows;
+            counted = counted;
             early = λ early. absurd (omega (arith, early, w.if-number-self.false));
             late = λ late. refl;
             written = written;
