@@ -3,9 +3,11 @@ use Rattle.std.proofs.Common.{◌≡◌, ◌<◌, ◌≤◌, ◌∙◌, ℕ, Lis
 use Rattle.std.proofs.Common.{Result}
 use Rattle.std.proofs.Common.{Ok, Err, ap, arith, length, refl, subst, sym}
 use Rattle.std.specs.Prelude.{IfErr, IfOk}
+use Rattle.std.specs.Borrow.{Bor}
 use Rattle.bip_model.proofs.LineLemmas.{line_read}
 use Rattle.bip_model.specs.Texts.{numbered_lines}
 use Rattle.bip_model.specs.declared.grants.Grant.{Grant}
+use Rattle.bip_model.specs.declared.numbering.CompId.{CompId}
 use Rattle.bip_model.specs.declared.parts.System.{System}
 use Rattle.bip_reader.specs.Texts.{Means}
 use Rattle.bip_replay.proofs.ItemLemmas.{HasRead, has_read-below, has_read-end, has_read-more}
@@ -32,8 +34,9 @@ use Rattle.bip_replay.specs.declared.faults.LineFault.TheVariants as line_fault
 use Rattle.bip_replay.specs.declared.faults.LineFault.{LineFault}
 use Rattle.bip_answers.specs.Answers.{IsSaidOf, complaining}
 use Rattle.bip_answers.specs.Charted.{IsFollowed, IsFootOf, IsFrontRun, IsPictured, TakesLine}
-use Rattle.bip_answers.specs.Charted.{IsChartAnswer, charted, count_shown, excerpt_of, fitting}
-use Rattle.bip_answers.specs.Charted.{most_rows, stopped, too_long, whole}
+use Rattle.bip_answers.specs.Charted.{AreLanesOf, IsChartAnswer, IsExcerptAnswer, charted}
+use Rattle.bip_answers.specs.Charted.{count_shown, excerpt_of, fitting, most_rows, no_picture}
+use Rattle.bip_answers.specs.Charted.{picture, stopped, too_long, uncharted, whole}
 use Rattle.bip_answers.specs.Wording.{chart_refusal}
 use Rattle.bip_answers.specs.declared.answers.Status.TheVariants.{Refused}
 use Rattle.bip_answers.specs.declared.charted.Shown.{Shown}
@@ -211,18 +214,16 @@ module _ (base : ℕ) (gs : List Grant) (line : List ℕ) (c : Sketch)
       )
 
 -- the chart of a run, or too many rows
-module _ (base : ℕ) (gs : List Grant) (shown : Shown) (c : Sketch) (verdict : Answer)
-    (drawn : HasDrawn base gs c) (shows : c.excerpt ≡ excerpt_of shown) where
-  counts : c.rows ≡ count_shown c.model shown gs
-  counts =
-      drawn.rows
-      ∙ ap (λ (x : Excerpt). length (rows_of c.model x gs)) shows
+module _ (base : ℕ) (gs : List Grant) (x : Excerpt) (c : Sketch) (verdict : Answer)
+    (drawn : HasDrawn base gs c) (shows : c.excerpt ≡ x) where
+  counts : c.rows ≡ count_shown c.model x gs
+  counts = drawn.rows ∙ ap (λ (y : Excerpt). length (rows_of c.model y gs)) shows
 
   pub pictured : (foot : Foot) (runnable text : List ℕ) → c.rows ≤ most_rows
-      → IsFootOf shown c.count verdict runnable foot
+      → IsFootOf x c.count verdict runnable foot
       → AddsRunnable c.position.model (standing_of c.position).state [] runnable
       → text ≡ chart_of c.model c.classes c.excerpt gs foot
-      → IsPictured c.model c.classes shown gs verdict
+      → IsPictured c.model c.classes x gs verdict
       (record {
         status = verdict.status;
         output = text;
@@ -230,25 +231,24 @@ module _ (base : ℕ) (gs : List Grant) (shown : Shown) (c : Sketch) (verdict : 
         file = None;
       })
   pictured foot runnable text few behind runs is =
-      let fits : count_shown c.model shown gs ≤ most_rows = omega (arith, few, counts) in
+      let fits : count_shown c.model x gs ≤ most_rows = omega (arith, few, counts) in
       subst (λ (output : List ℕ).
-      IsPictured c.model c.classes shown gs verdict
+      IsPictured c.model c.classes x gs verdict
       (record {
         status = verdict.status;
         output = output;
         complaint = verdict.output;
         file = None;
       }))
-      (sym (is ∙ ap (λ (x : Excerpt). chart_of c.model c.classes x gs foot) shows))
+      (sym (is ∙ ap (λ (y : Excerpt). chart_of c.model c.classes y gs foot) shows))
       (fitting foot runnable fits
-      (subst (λ (n : ℕ). IsFootOf shown n verdict runnable foot) drawn.counted behind)
+      (subst (λ (n : ℕ). IsFootOf x n verdict runnable foot) drawn.counted behind)
       (subst (λ (p : Standing). AddsRunnable p.model p.state [] runnable) drawn.leads.there runs))
 
   pub overlong : most_rows < c.rows
-      → IsPictured c.model c.classes shown gs verdict
-      (complaining Refused (chart_refusal most_rows))
+      → IsPictured c.model c.classes x gs verdict (complaining Refused (chart_refusal most_rows))
   overlong many =
-      let more : most_rows < count_shown c.model shown gs = omega (arith, many, counts) in
+      let more : most_rows < count_shown c.model x gs = omega (arith, many, counts) in
       too_long more
 
 -- a chart that stays shows what it did
@@ -292,28 +292,40 @@ module _ (m : System) (classes : Partition) (x : Excerpt) (base : ℕ) (trace : 
   fault_followed = followed_fault m base trace replayed is.grants is.says
 
   -- what is answered of it
-  module _ (shown : Shown) (verdict answer : Answer) (text : List ℕ) (means : Means text m classes)
+  module _ (verdict answer : Answer) (text : List ℕ)
       (shows : (n : ℕ) (gs : List Grant) → HasDrawn n gs c
-      → IsPictured c.model c.classes shown gs verdict answer) where
-    the_picture : IsPictured m classes shown is.grants verdict answer
+      → IsPictured c.model c.classes x gs verdict answer) where
+    the_picture : IsPictured m classes x is.grants verdict answer
     the_picture =
-        subst (λ (n : System). IsPictured n classes shown is.grants verdict answer) is.on.model
-        (subst (λ (k : Partition). IsPictured c.model k shown is.grants verdict answer)
+        subst (λ (n : System). IsPictured n classes x is.grants verdict answer) is.on.model
+        (subst (λ (k : Partition). IsPictured c.model k x is.grants verdict answer)
         is.on.parted (shows base is.grants is.drawn))
 
     pub answered_whole : (count : ℕ) → replayed ≡ Ok count → IsSaidOf m trace replayed verdict
-        → IsChartAnswer base shown text trace answer
+        → IsExcerptAnswer base m classes x text trace answer
     answered_whole count same said =
-        charted m classes is.grants verdict answer means
+        picture is.grants verdict answer
         (begins_whole m base trace count is.grants verdict
         (subst (λ r. IsFollowed m base trace r is.grants) same is.says) a_run
         (subst (λ r. IsSaidOf m trace r verdict) same said)) the_picture
 
     pub answered_stopped : (number : ℕ) (fault : BookFault)
         → replayed ≡ Err (number, NotARun fault) → IsSaidOf m trace replayed verdict
-        → IsChartAnswer base shown text trace answer
+        → IsExcerptAnswer base m classes x text trace answer
     answered_stopped number fault same said =
-        charted m classes is.grants verdict answer means
+        picture is.grants verdict answer
         (begins_stopped m base trace number fault is.grants verdict
         (subst (λ r. IsFollowed m base trace r is.grants) same is.says)
         (subst (λ r. IsSaidOf m trace r verdict) same said)) the_picture
+
+-- what is answered where these lanes are shown
+pub with_lanes : (base : ℕ) (m : System) (classes : Partition) (shown : Shown)
+    (only : Option (Bor (List CompId))) (text trace : List ℕ) (answer : Answer)
+    → Means text m classes → AreLanesOf m shown.only only
+    → IsExcerptAnswer base m classes (excerpt_of shown only) text trace answer
+    → IsChartAnswer base shown text trace answer
+with_lanes base m classes shown only text trace _ means lanes
+    (picture grants verdict answer begins shows) =
+    charted m classes only grants verdict answer means lanes begins shows
+with_lanes base m classes shown only text trace _ means lanes (no_picture answer is refused) =
+    uncharted answer is refused

@@ -1,6 +1,7 @@
 -- The answer to a chart: the picture of the run with which a trace begins, beside its verdict.
 use Rattle.std.specs.Prelude.{◌≡◌, ◌<◌, ◌≤◌, ◌-◌, ◌&&◌, ℕ, Bool, true, List, length, nat_le, nat_lt}
-use Rattle.std.specs.Prelude.{Err, Ok, Option, None, Result, Some, [], false, take, ⊤}
+use Rattle.std.specs.Prelude.{Err, Ok, Option, None, Result, Some, [], codes, false, map, take, ⊤}
+use Rattle.std.specs.Borrow.{Bor}
 use Rattle.std.specs.Option.{option_map_or}
 use Rattle.bip_draw.specs.Charts.{HasDrawn, Sketch, chart_of, rows_of}
 use Rattle.bip_draw.specs.Ends.{AddsRunnable}
@@ -8,6 +9,7 @@ use Rattle.bip_draw.specs.declared.charts.Excerpt.{Excerpt}
 use Rattle.bip_draw.specs.declared.feet.Foot.TheVariants.{Fault, Nothing, Runnable}
 use Rattle.bip_draw.specs.declared.feet.Foot.{Foot}
 use Rattle.bip_model.specs.declared.grants.Grant.{Grant}
+use Rattle.bip_model.specs.declared.numbering.CompId.{CompId}
 use Rattle.bip_model.specs.declared.parts.System.{System}
 use Rattle.bip_model.specs.declared.partitions.Partition.{Partition}
 use Rattle.bip_reader.specs.Texts.{Means}
@@ -20,7 +22,8 @@ use Rattle.bip_replay.specs.declared.faults.BookFault.{BookFault}
 use Rattle.bip_replay.specs.declared.faults.ReplayFault.{ReplayFault}
 use Rattle.bip_replay.specs.declared.faults.ReplayFault.TheVariants as replay_fault
 use Rattle.bip_answers.specs.Answers.{IsAnswer, complaining, saying}
-use Rattle.bip_answers.specs.Wording.{chart_refusal, run_text, verdict_text}
+use Rattle.bip_answers.specs.Selected.{AreFoundNames, IsFirstUnknown}
+use Rattle.bip_answers.specs.Wording.{chart_refusal, run_text, unknown_text, verdict_text}
 use Rattle.bip_answers.specs.declared.answers.Answer.{Answer}
 use Rattle.bip_answers.specs.declared.answers.Status.{Status}
 use Rattle.bip_answers.specs.declared.answers.Status.TheVariants.{Done, NotARun, Refused}
@@ -45,24 +48,34 @@ AreRowsDisordered shown = out_of_order shown.to
 abbrev pub most_rows : ℕ
 most_rows = 2000
 
--- what a chart shows of a run, where these rows are asked for
-abbrev pub excerpt_of : Shown → Excerpt
-excerpt_of shown =
+-- what a chart shows of a run, where these rows are asked for, and lanes for these components alone
+-- or for all
+abbrev pub excerpt_of : Shown → Option (Bor (List CompId)) → Excerpt
+excerpt_of shown only =
     record {
       first = shown.from - 1;
       last = shown.to;
       most = most_rows;
       values = shown.values;
+      only = only;
     }
 
+-- these components have lanes: those that words name, or all where none are given
+abbrev pub AreLanesOf : System → Option (Bor (List (Bor (List ℕ)))) → Option (Bor (List CompId))
+    → Type 0
+AreLanesOf m None None = ⊤
+AreLanesOf m (Some words) (Some comps) =
+    AreFoundNames m.component_names words.now (map (λ (c : CompId). c.0) comps.now)
+AreLanesOf m words comps = ⊥
+
 -- how many rows are shown
-abbrev pub count_shown : System → Shown → List Grant → ℕ
-count_shown m shown grants = length (rows_of m (excerpt_of shown) grants)
+abbrev pub count_shown : System → Excerpt → List Grant → ℕ
+count_shown m x grants = length (rows_of m x grants)
 
 -- whether the row behind so many is shown
-abbrev pub shows_behind : Shown → ℕ → Bool
-shows_behind shown count =
-    nat_le (shown.from - 1) count && option_map_or (λ last. nat_lt count last) shown.to true
+abbrev pub shows_behind : Excerpt → ℕ → Bool
+shows_behind x count =
+    nat_le x.first count && option_map_or (λ last. nat_lt count last) x.last true
 
 -- why a run stops, where a trace has this verdict: the verdict without its line feed
 abbrev pub reason_of : Answer → Option (List ℕ)
@@ -83,43 +96,59 @@ pub data IsFrontRun (m : System) (base : ℕ) (trace : List ℕ) : List Grant �
 
 -- what stands behind the rows of a run of so many grants, which has this verdict and behind which
 -- this may run: nothing where the row behind all isn't shown; why the run stops there; or that
-abbrev pub IsFootOf : Shown → ℕ → Answer → List ℕ → Foot → Type 0
-IsFootOf shown count verdict runnable Nothing = shows_behind shown count ≡ false
-IsFootOf shown count verdict runnable (Fault why) =
-    (shows_behind shown count ≡ true) × (reason_of verdict ≡ Some why.now)
-IsFootOf shown count verdict runnable (Runnable text) =
-    (shows_behind shown count ≡ true) × (reason_of verdict ≡ None) × (text.now ≡ runnable)
+abbrev pub IsFootOf : Excerpt → ℕ → Answer → List ℕ → Foot → Type 0
+IsFootOf x count verdict runnable Nothing = shows_behind x count ≡ false
+IsFootOf x count verdict runnable (Fault why) =
+    (shows_behind x count ≡ true) × (reason_of verdict ≡ Some why.now)
+IsFootOf x count verdict runnable (Runnable text) =
+    (shows_behind x count ≡ true) × (reason_of verdict ≡ None) × (text.now ≡ runnable)
 
 -- what is answered of a run that has this verdict: its chart, of the rows that are shown and what
 -- stands behind them, with the verdict beside it; or that it has too many rows
-pub data IsPictured (m : System) (classes : Partition) (shown : Shown) (grants : List Grant)
+pub data IsPictured (m : System) (classes : Partition) (x : Excerpt) (grants : List Grant)
     (verdict : Answer) : Answer → Type 0 where
   -- what may run there may run in the state to which the grants lead
-  fitting : (foot : Foot) (runnable : List ℕ) → count_shown m shown grants ≤ most_rows
-      → IsFootOf shown (length grants) verdict runnable foot
+  fitting : (foot : Foot) (runnable : List ℕ) → count_shown m x grants ≤ most_rows
+      → IsFootOf x (length grants) verdict runnable foot
       → AddsRunnable m (state_after m grants) [] runnable
-      → IsPictured m classes shown grants verdict
+      → IsPictured m classes x grants verdict
       (record {
         status = verdict.status;
-        output = chart_of m classes (excerpt_of shown) grants foot;
+        output = chart_of m classes x grants foot;
         complaint = verdict.output;
         file = None;
       })
-  too_long : most_rows < count_shown m shown grants
-      → IsPictured m classes shown grants verdict (complaining Refused (chart_refusal most_rows))
+  too_long : most_rows < count_shown m x grants
+      → IsPictured m classes x grants verdict (complaining Refused (chart_refusal most_rows))
 
 -- the answer to the chart of the texts of a model and a trace, from a base
 pub data IsChartAnswer (base : ℕ) (shown : Shown) (model trace : List ℕ) : Answer → Type 0 where
   -- the run with which the trace begins is drawn
-  charted : (m : System) (classes : Partition) (grants : List Grant) (verdict answer : Answer)
-      → Means model m classes → IsFrontRun m base trace grants verdict
-      → IsPictured m classes shown grants verdict answer
+  charted : (m : System) (classes : Partition) (only : Option (Bor (List CompId)))
+      (grants : List Grant) (verdict answer : Answer) → Means model m classes
+      → AreLanesOf m shown.only only → IsFrontRun m base trace grants verdict
+      → IsPictured m classes (excerpt_of shown only) grants verdict answer
       → IsChartAnswer base shown model trace answer
+  -- this word, the first such of those that name lanes, names no component
+  no_lane : (m : System) (classes : Partition) (words : Bor (List (Bor (List ℕ))))
+      (word : List ℕ) → Means model m classes → shown.only ≡ Some words
+      → IsFirstUnknown m.component_names words.now word
+      → IsChartAnswer base shown model trace
+      (complaining Refused (unknown_text (codes "component") word))
   -- a text is refused, as a replay refuses it
   uncharted : (answer : Answer) → IsAnswer base model trace answer → answer.status ≡ Refused
       → IsChartAnswer base shown model trace answer
 
 -- What contracts of private functions say.
+
+-- the answer where the model's text is one, and this is to be shown
+pub data IsExcerptAnswer (base : ℕ) (m : System) (classes : Partition) (x : Excerpt)
+    (model trace : List ℕ) : Answer → Type 0 where
+  picture : (grants : List Grant) (verdict answer : Answer) → IsFrontRun m base trace grants verdict
+      → IsPictured m classes x grants verdict answer
+      → IsExcerptAnswer base m classes x model trace answer
+  no_picture : (answer : Answer) → IsAnswer base model trace answer → answer.status ≡ Refused
+      → IsExcerptAnswer base m classes x model trace answer
 
 -- what a replay says of a trace, which has these grants, or has them before its first line at fault
 abbrev pub IsFollowed : System → ℕ → List ℕ → Result ℕ (ℕ × ReplayFault) → List Grant → Type 0

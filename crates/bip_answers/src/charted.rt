@@ -1,32 +1,37 @@
 //! What is answered to a chart: the picture of the run with which a trace begins.
-ghost use Rattle.std.specs.Prelude.{◌≡◌, ◌≤◌, ◌<◌, ◌+◌, ◌^◌, [], ℕ, List, IfOk};
+ghost use Rattle.std.specs.Prelude.{◌≡◌, ◌≤◌, ◌<◌, ◌+◌, ◌^◌, [], ℕ, List, IfOk, codes};
 ghost use Rattle.std.specs.Option.{option_map};
 ghost use Rattle.bip_draw.specs.Charts.{HasDrawn, IsChartOn};
 ghost use Rattle.bip_model.specs.Partitions.{AreClassesOf};
 ghost use Rattle.bip_reader.specs.Texts.{Means};
 ghost use Rattle.bip_model.specs.declared.grants.Grant.{Grant};
-ghost use Rattle.bip_answers.specs.Charted.{IsChartAnswer, IsFollowed, IsFootOf, IsPictured};
+ghost use Rattle.bip_answers.specs.Charted.{IsChartAnswer, IsExcerptAnswer, IsFollowed};
+ghost use Rattle.bip_answers.specs.Charted.{IsFootOf, IsPictured};
 ghost use Rattle.bip_answers.specs.Charted.{TakesLine, excerpt_of, most_rows, reason_of};
 ghost use Rattle.bip_answers.specs.Charted.{shows_behind};
 ghost use Rattle.bip_answers.specs.Answers.{complaining, greatest_base};
-ghost use Rattle.bip_answers.specs.Wording.{chart_refusal};
+ghost use Rattle.bip_answers.specs.Selected.{IsFirstUnknown, IsUnknownAt};
+ghost use Rattle.bip_answers.specs.Wording.{chart_refusal, unknown_text};
 ghost use Rattle.bip_answers.specs.declared.answers.Status.TheVariants.{Refused};
+ghost use Rattle.bip_answers.specs.declared.selected.SelectFault.TheVariants.{Unknown};
 
 use crate::answers::{Answer, Status, answer_replayed, complained};
+use crate::selected::{SelectFault, number_components, refuse_word};
 use crate::wording::chart_refusal;
 use bip_draw::{Chart, ChartFault, Excerpt, Foot, write_runnable};
 use bip_explain::Explanation;
-use bip_model::{Classes, Model, Number, NumberedLines, Seq};
+use bip_model::{Classes, CompId, Model, Number, NumberedLines, Seq};
 use bip_replay::{ReplayFault, Room};
 use std::alloc::{AllocError, Global};
 
-/// Which rows of a run are shown, by their numbers from 1, the last one included; and whether the
-/// values of variables are.
+/// Which rows of a run are shown, by their numbers from 1, the last one included; whether the values
+/// of variables are; and the words that name the components with lanes, where not all have one.
 #[derive(Clone, Copy, Debug)]
-pub struct Shown {
+pub struct Shown<'m, 'p> {
     pub from: u64,
     pub to: Option<u64>,
     pub values: bool,
+    pub only: Option<&'m [&'p str]>,
 }
 
 /// How many rows a chart has at most.
@@ -34,9 +39,9 @@ pub const MOST_ROWS: u32 = 2_000;
 
 /// The answer to the chart of a trace, where the model's text is one: the shown rows of the run
 /// with which the trace begins, behind them why it stops or what may run there, and the verdict on
-/// the trace beside it; or that they are too many rows; or the first fault of the trace's text
-/// (docs/ANSWERS.md, "Answers"). The trace is read once, and none of its grants is kept. The only
-/// error is want of memory.
+/// the trace beside it; or that they are too many rows; or the first word for a lane that names no
+/// component; or the first fault of the trace's text (docs/ANSWERS.md, "Answers"). The trace is
+/// read once, and none of its grants is kept. The only error is want of memory.
 pub fn answer_chart(
     alloc: Global,
     explanation: &mut Explanation,
@@ -44,36 +49,81 @@ pub fn answer_chart(
     classes: &Classes,
     trace: &[u8],
     base: Number,
-    shown: &Shown,
+    shown: &Shown<'_, '_>,
 ) -> Result<Answer, AllocError>
     requires base { base ≤ greatest_base }
     requires classes { AreClassesOf model.now classes.now }
     ensures { IfOk result (λ answer. (text : List ℕ) → Means text model.now classes.now
         → IsChartAnswer base shown.now text trace.now answer) }
 {
-    let mut chart = Chart::start(alloc, model, classes, base, excerpt_of(shown))?;
-    let replayed = follow(&mut chart, trace)?;
-    let verdict = answer_replayed(alloc, explanation, model, trace, base, &replayed)?;
-    match &replayed {
-        Ok(_) => answer_begun(alloc, &chart, verdict, shown),
-        Err((_, fault)) => match fault {
-            ReplayFault::NotARun(_) => answer_begun(alloc, &chart, verdict, shown),
-            ReplayFault::Syntax => Ok(verdict),
-            ReplayFault::Unknown => Ok(verdict),
-            ReplayFault::Memory => Err(AllocError),
-        },
-    }
+    let Some(words) = shown.only else {
+        let excerpt = excerpt_of(shown, None);
+        return answer_excerpt(alloc, explanation, model, classes, trace, base, &excerpt);
+    };
+    let named = match number_components(alloc, model, words) {
+        Ok(named) => named,
+        Err(SelectFault::Unknown(at)) => return refuse_lane(alloc, model, words, at),
+        Err(SelectFault::Memory) => return Err(AllocError),
+    };
+    let excerpt = excerpt_of(shown, Some(named.as_slice()));
+    answer_excerpt(alloc, explanation, model, classes, trace, base, &excerpt)
 }
 
-// What a chart shows of a run, where these rows are asked for.
-fn excerpt_of(shown: &Shown) -> Excerpt
-    ensures { result ≡ excerpt_of shown.now }
+// That the word with this number names no component. The only error is want of memory.
+fn refuse_lane(
+    alloc: Global,
+    model: &Model,
+    words: &[&str],
+    at: usize,
+) -> Result<Answer, AllocError>
+    requires { IsUnknownAt model.now.component_names words.now (Unknown at) }
+    ensures { IfOk result (λ answer. (word : List ℕ)
+        × IsFirstUnknown model.now.component_names words.now word
+        × (answer ≡ complaining Refused (unknown_text (codes "component") word))) }
+{
+    refuse_word(alloc, b"component", words[at])
+}
+
+// What a chart shows of a run, where these rows are asked for, and these lanes.
+fn excerpt_of<'a>(shown: &Shown<'_, '_>, only: Option<&'a [CompId]>) -> Excerpt<'a>
+    ensures { result ≡ excerpt_of shown.now only.entry }
 {
     Excerpt {
         first: shown.from.saturating_sub(1),
         last: shown.to,
         most: MOST_ROWS,
         values: shown.values,
+        only,
+    }
+}
+
+// The same answer, where this is to be shown.
+fn answer_excerpt(
+    alloc: Global,
+    explanation: &mut Explanation,
+    model: &Model,
+    classes: &Classes,
+    trace: &[u8],
+    base: Number,
+    excerpt: &Excerpt<'_>,
+) -> Result<Answer, AllocError>
+    requires base { base ≤ greatest_base }
+    requires classes { AreClassesOf model.now classes.now }
+    requires rows { excerpt.now.most ≡ most_rows }
+    ensures { IfOk result (λ answer. (text : List ℕ) → Means text model.now classes.now
+        → IsExcerptAnswer base model.now classes.now excerpt.now text trace.now answer) }
+{
+    let mut chart = Chart::start(alloc, model, classes, base, *excerpt)?;
+    let replayed = follow(&mut chart, trace)?;
+    let verdict = answer_replayed(alloc, explanation, model, trace, base, &replayed)?;
+    match &replayed {
+        Ok(_) => answer_begun(alloc, &chart, verdict, excerpt),
+        Err((_, fault)) => match fault {
+            ReplayFault::NotARun(_) => answer_begun(alloc, &chart, verdict, excerpt),
+            ReplayFault::Syntax => Ok(verdict),
+            ReplayFault::Unknown => Ok(verdict),
+            ReplayFault::Memory => Err(AllocError),
+        },
     }
 }
 
@@ -133,11 +183,12 @@ fn answer_begun(
     alloc: Global,
     chart: &Chart<'_>,
     verdict: Answer,
-    shown: &Shown,
+    excerpt: &Excerpt<'_>,
 ) -> Result<Answer, AllocError>
-    requires { chart.now.excerpt ≡ excerpt_of shown.now }
+    requires shows { chart.now.excerpt ≡ excerpt.now }
+    requires rows { excerpt.now.most ≡ most_rows }
     ensures { IfOk result (λ answer. (base : ℕ) (gs : List Grant) → HasDrawn base gs chart.now
-        → IsPictured chart.now.model chart.now.classes shown.now gs verdict answer) }
+        → IsPictured chart.now.model chart.now.classes excerpt.now gs verdict answer) }
 {
     if chart.rows() > MOST_ROWS as u64 {
         drop(verdict);
@@ -145,7 +196,7 @@ fn answer_begun(
     }
     let mut runnable = Vec::new(alloc);
     write_runnable(&mut runnable, chart.position())?;
-    let foot = foot_of(&verdict, shown, chart.count(), runnable.as_slice());
+    let foot = foot_of(&verdict, excerpt, chart.count(), runnable.as_slice());
     let picture = chart.finish(alloc, &foot)?;
     Ok(Answer {
         status: verdict.status,
@@ -157,10 +208,15 @@ fn answer_begun(
 
 // What stands behind the rows that are shown of a run of so many grants, which has this verdict,
 // and behind which this may run.
-fn foot_of<'r>(verdict: &'r Answer, shown: &Shown, count: u64, runnable: &'r [u8]) -> Foot<'r>
-    ensures { IsFootOf shown.now count verdict.now runnable.now result }
+fn foot_of<'r>(
+    verdict: &'r Answer,
+    excerpt: &Excerpt<'_>,
+    count: u64,
+    runnable: &'r [u8],
+) -> Foot<'r>
+    ensures { IsFootOf excerpt.now count verdict.now runnable.now result }
 {
-    if !shows_behind(shown, count) {
+    if !shows_behind(excerpt, count) {
         return Foot::Nothing;
     }
     match reason_of(verdict) {
@@ -178,11 +234,11 @@ pub fn refuse_rows(alloc: Global) -> Result<Answer, AllocError>
 }
 
 // Whether the row behind so many is shown.
-fn shows_behind(shown: &Shown, count: u64) -> bool
-    ensures { result ≡ shows_behind shown.now count }
+fn shows_behind(excerpt: &Excerpt<'_>, count: u64) -> bool
+    ensures { result ≡ shows_behind excerpt.now count }
 {
-    let begins = shown.from.saturating_sub(1) <= count;
-    match shown.to {
+    let begins = excerpt.first <= count;
+    match excerpt.last {
         Some(last) => begins && count < last,
         None => begins,
     }

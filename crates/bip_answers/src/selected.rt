@@ -22,7 +22,7 @@ use std::alloc::{AllocError, Global};
 // Why words select nothing: the one with this number from 0 is no name, the first such; or want of
 // memory.
 #[derive(Debug, Drop)]
-enum SelectFault {
+pub(crate) enum SelectFault {
     Unknown(usize),
     Memory,
 }
@@ -91,7 +91,7 @@ fn answer_selected(
 }
 
 // That a word names no such thing. The only error is want of memory.
-fn refuse_word(alloc: Global, kind: &[u8], word: &str) -> Result<Answer, AllocError>
+pub(crate) fn refuse_word(alloc: Global, kind: &[u8], word: &str) -> Result<Answer, AllocError>
     ensures { IfOk result (λ answer.
         answer ≡ complaining Refused (unknown_text kind.now word.now)) }
 {
@@ -100,7 +100,7 @@ fn refuse_word(alloc: Global, kind: &[u8], word: &str) -> Result<Answer, AllocEr
 }
 
 // The components that words name.
-fn number_components(
+pub(crate) fn number_components(
     alloc: Global,
     model: &Model,
     words: &[&str],

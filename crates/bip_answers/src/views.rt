@@ -13,15 +13,15 @@ use bip_model::{Classes, Model, Number};
 use std::alloc::{AllocError, Global};
 
 /// What is asked of a trace: its verdict; that, and where its run leads; or the chart of its run,
-/// in which these rows are shown.
+/// in which these rows and lanes are shown.
 #[derive(Clone, Copy)]
-pub enum View<'a> {
+pub enum View<'a, 'm, 'p> {
     Verdict,
     End,
-    Chart(&'a Shown),
+    Chart(&'a Shown<'m, 'p>),
 }
 
-impl<'a> View<'a> {
+impl View<'_, '_, '_> {
     /// The answer to a trace from a base, where the model's text is one (docs/ANSWERS.md,
     /// "Answers"). The only error is want of memory.
     pub fn answer_trace(

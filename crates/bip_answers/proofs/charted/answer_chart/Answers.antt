@@ -1,78 +1,49 @@
-use Rattle.std.proofs.Common.{◌∙◌, ap}
+use Rattle.std.proofs.Common.{List, None, Option, Some, subst, sym, ℕ}
 use Rattle.std.proofs.lemmas.Result.{IfOk-weaker}
-use Rattle.bip_answers.specs.Charted.{uncharted}
-use Rattle.bip_answers.specs.declared.answers.Answer.{Answer}
-use Rattle.bip_answers.proofs.AnswerLemmas.{said_answers}
-use Rattle.bip_answers.proofs.ChartLemmas.{answered_stopped, answered_whole}
-use Rattle.bip_answers.proofs.ChartLemmas.{fault_followed, has_followed, run_followed}
+use Rattle.std.specs.Borrow.{Bor}
+use Rattle.bip_draw.specs.declared.charts.Excerpt.{Excerpt}
+use Rattle.bip_answers.specs.Charted.{AreLanesOf, IsChartAnswer, IsExcerptAnswer, no_lane}
+use Rattle.bip_answers.proofs.ChartLemmas.{with_lanes}
 use Rattle.bip_answers.proofs.charted.answer_chart.Goals as goal
 
-pub follow-requires : goal.follow-requires
-follow-requires c = (c.args.base, c.in_ok-chart.ensures.drawn)
+pub returns-in_default : goal.returns-in_default
+returns-in_default c =
+    let m = c.args.model.now in
+    let classes = c.args.classes.now in
+    let shown = c.args.shown.now in
+    let lanes : AreLanesOf m shown.only None =
+    subst (λ (o : Option (Bor (List (Bor (List ℕ))))). AreLanesOf m o None)
+    (sym c.in_default.is) tt in
+    IfOk-weaker c.answer_excerpt.result _ _
+    (λ answer is text means.
+    with_lanes c.args.base m classes shown None text c.args.trace.now answer means lanes
+    (subst (λ (x : Excerpt).
+    IsExcerptAnswer c.args.base m classes x text c.args.trace.now answer)
+    c.excerpt_of-excerpt.ensures (is text means))) c.answer_excerpt.ensures
 
-pub answer_replayed-requires-clause-run : goal.answer_replayed-requires-clause-run
-answer_replayed-requires-clause-run c =
-    let is =
-    has_followed _ _ _ c.args.base _ _ _ _ c.in_ok-chart.ensures.on c.in_ok-replayed.ensures.on
-    (c.in_ok-replayed.ensures.drawn c.args.base c.in_ok-chart.ensures.drawn) in
-    run_followed _ _ _ _ _ _ _ is
+pub refuse_lane-requires : goal.refuse_lane-requires
+refuse_lane-requires c = rw c.in-Err-Unknown.field-0-is at c.in-Err-Unknown.ensures.fault
 
-pub answer_replayed-requires-clause-fault : goal.answer_replayed-requires-clause-fault
-answer_replayed-requires-clause-fault c =
-    let is =
-    has_followed _ _ _ c.args.base _ _ _ _ c.in_ok-chart.ensures.on c.in_ok-replayed.ensures.on
-    (c.in_ok-replayed.ensures.drawn c.args.base c.in_ok-chart.ensures.drawn) in
-    fault_followed _ _ _ _ _ _ _ is
+pub returns-in-Err-Unknown : goal.returns-in-Err-Unknown
+returns-in-Err-Unknown c =
+    IfOk-weaker c.refuse_lane.result _ _
+    (λ answer is text means.
+    subst (IsChartAnswer c.args.base c.args.shown.now text c.args.trace.now) (sym is.2)
+    (no_lane c.args.model.now c.args.classes.now c.in-Some.words is.0 means c.in-Some.is is.1))
+    c.refuse_lane.ensures
 
-pub answer_begun-requires : goal.answer_begun-requires
-answer_begun-requires c =
-    c.in_ok-replayed.ensures.on.shows ∙ c.in_ok-chart.ensures.on.shows ∙ c.excerpt_of.ensures
-
-pub answer_begun-requires-in-NotARun : goal.answer_begun-requires-in-NotARun
-answer_begun-requires-in-NotARun c =
-    c.in_ok-replayed.ensures.on.shows ∙ c.in_ok-chart.ensures.on.shows ∙ c.excerpt_of.ensures
-
-pub returns-in-Ok : goal.returns-in-Ok
-returns-in-Ok c =
-    let is =
-    has_followed _ _ _ c.args.base _ _ _ _ c.in_ok-chart.ensures.on c.in_ok-replayed.ensures.on
-    (c.in_ok-replayed.ensures.drawn c.args.base c.in_ok-chart.ensures.drawn) in
-    IfOk-weaker c.answer_begun.result _ _
-    (λ answer shows text means.
-    answered_whole _ _ _ _ _ _ _ is c.args.shown.now c.in_ok-verdict.verdict answer text means
-    shows _ c.in-Ok.is c.in_ok-verdict.ensures.answered) c.answer_begun.ensures
-
-pub returns-in-NotARun : goal.returns-in-NotARun
-returns-in-NotARun c =
-    let is =
-    has_followed _ _ _ c.args.base _ _ _ _ c.in_ok-chart.ensures.on c.in_ok-replayed.ensures.on
-    (c.in_ok-replayed.ensures.drawn c.args.base c.in_ok-chart.ensures.drawn) in
-    IfOk-weaker c.answer_begun-in-NotARun.result _ _
-    (λ answer shows text means.
-    answered_stopped _ _ _ _ _ _ _ is c.args.shown.now c.in_ok-verdict.verdict answer text means
-    shows _ _ (rw c.in-NotARun.is at c.in-Err.is) c.in_ok-verdict.ensures.answered)
-    c.answer_begun-in-NotARun.ensures
-
-pub returns-in-Syntax : goal.returns-in-Syntax
-returns-in-Syntax c = λ text means.
-    let is =
-    has_followed _ _ _ c.args.base _ _ _ _ c.in_ok-chart.ensures.on c.in_ok-replayed.ensures.on
-    (c.in_ok-replayed.ensures.drawn c.args.base c.in_ok-chart.ensures.drawn) in
-    let said = rw (c.in-Err.is, c.in-Syntax.is) at c.in_ok-verdict.ensures.answered in
-    uncharted c.in_ok-verdict.verdict
-    (said_answers c.args.base c.args.model.now c.args.trace.now c.in_ok-replayed.replayed
-    c.in_ok-verdict.verdict (run_followed _ _ _ _ _ _ _ is) (fault_followed _ _ _ _ _ _ _ is)
-    c.in_ok-verdict.ensures.answered text c.args.classes.now means)
-    (ap (λ (a : Answer). a.status) said)
-
-pub returns-in-Unknown : goal.returns-in-Unknown
-returns-in-Unknown c = λ text means.
-    let is =
-    has_followed _ _ _ c.args.base _ _ _ _ c.in_ok-chart.ensures.on c.in_ok-replayed.ensures.on
-    (c.in_ok-replayed.ensures.drawn c.args.base c.in_ok-chart.ensures.drawn) in
-    let said = rw (c.in-Err.is, c.in-Unknown.is) at c.in_ok-verdict.ensures.answered in
-    uncharted c.in_ok-verdict.verdict
-    (said_answers c.args.base c.args.model.now c.args.trace.now c.in_ok-replayed.replayed
-    c.in_ok-verdict.verdict (run_followed _ _ _ _ _ _ _ is) (fault_followed _ _ _ _ _ _ _ is)
-    c.in_ok-verdict.ensures.answered text c.args.classes.now means)
-    (ap (λ (a : Answer). a.status) said)
+pub returns : goal.returns
+returns c =
+    let m = c.args.model.now in
+    let classes = c.args.classes.now in
+    let shown = c.args.shown.now in
+    let named = c.as_slice.result in
+    let lanes : AreLanesOf m shown.only (Some named) =
+    subst (λ (o : Option (Bor (List (Bor (List ℕ))))). AreLanesOf m o (Some named))
+    (sym c.in-Some.is) (rw c.as_slice.ensures.value c.in-Ok.ensures.named) in
+    IfOk-weaker c.answer_excerpt-2.result _ _
+    (λ answer is text means.
+    with_lanes c.args.base m classes shown (Some named) text c.args.trace.now answer means lanes
+    (subst (λ (x : Excerpt).
+    IsExcerptAnswer c.args.base m classes x text c.args.trace.now answer)
+    c.excerpt_of-excerpt-2.ensures (is text means))) c.answer_excerpt-2.ensures
