@@ -95,8 +95,8 @@ canon_command = with_arguments (codes "canon") (path (codes "model") ∷ flag (c
 
 abbrev pub chart_command : Shape
 chart_command = with_arguments (codes "chart")
-    (path (codes "model") ∷ path (codes "trace") ∷ base_option ∷ from_option
-    ∷ option (codes "to") rows ∷ flag (codes "values") ∷ flag (codes "explain") ∷ [])
+    (path (codes "model") ∷ path (codes "trace") ∷ texts_option (codes "only") ∷ base_option
+    ∷ from_option ∷ option (codes "to") rows ∷ flag (codes "values") ∷ flag (codes "explain") ∷ [])
 
 abbrev pub check_command : Shape
 check_command =

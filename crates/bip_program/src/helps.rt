@@ -94,7 +94,8 @@ a run the foot says what may run behind it, as `bipr replay --end` does.
 
     bipr chart MODEL TRACE > run.svg
 
-A chart has at most 2000 rows: of a longer trace, --from and --to show some.";
+A chart has at most 2000 rows: of a longer trace, --from and --to show some. With --only C .. the
+components C .. alone have lanes, and only grants that move one of them or look at it have rows.";
 
 pub(crate) const CHECK_ABOUT: &str = "Counts what a model's partition costs";
 

@@ -101,6 +101,7 @@ fn chart<'a>(alloc: Global) -> Result<Command<'a>, AllocError>
     let arguments = vec![in alloc;
         model(alloc),
         trace(alloc),
+        lanes(alloc),
         base(alloc).help(TRACE_BASE),
         from(alloc),
         to(alloc),
@@ -407,6 +408,15 @@ fn to<'a>(alloc: Global) -> Arg<'a>
     ensures { HasRule (option (codes "to") rows) result }
 {
     row(alloc, "to").help("the last row that is shown; else the last one of all")
+}
+
+// The option of which components have a lane in a chart.
+fn lanes<'a>(alloc: Global) -> Arg<'a>
+    ensures { HasRule (texts_option (codes "only")) result }
+{
+    texts(alloc, "only", "C").help(
+        "draw lanes for these components, and the grants that touch them",
+    )
 }
 
 // The options of which part of a model is drawn.

@@ -81,6 +81,7 @@ pub record IsChartAsked (values : List Row) (arguments : ChartArguments) : Type 
   pub from : IsNumberAsked values (codes "from") 64 arguments.shown.from
   pub to : MayAskNumber values (codes "to") 64 arguments.shown.to
   pub shows_values : IsFlagAsked values (codes "values") arguments.shown.values
+  pub only : option_map names_in arguments.shown.only ≡ all_of (codes "only") values
 
 -- the values behind `steps` ask
 pub record AreStepsAsked (values : List Row) (arguments : StepsArguments) : Type 0 where

@@ -15,19 +15,19 @@ use crate::invocations::Invocation;
 use crate::stops::Stop;
 use crate::streams::Stream;
 use bip_answers::{Answer, Shown, View};
-use bip_program::{is_set, wide_number_asked};
+use bip_program::{is_set, texts_asked, wide_number_asked};
 use clap::ArgMatches;
 
-/// The chart of the run of a replay, with the rows that it shows.
+/// The chart of the run of a replay, with the rows and lanes that it shows.
 #[derive(Drop)]
-pub struct ChartArguments<'p> {
+pub struct ChartArguments<'m, 'p> {
     pub replay: ReplayArguments<'p>,
-    pub shown: Shown,
+    pub shown: Shown<'m, 'p>,
 }
 
-impl<'p> ChartArguments<'p> {
+impl<'m, 'p> ChartArguments<'m, 'p> {
     /// What the words behind `chart` ask.
-    pub fn read(matches: &ArgMatches<'p>) -> Option<ChartArguments<'p>>
+    pub fn read(matches: &'m ArgMatches<'p>) -> Option<ChartArguments<'m, 'p>>
         ensures { IsReadAs (IsChartAsked (rows_of (found_of matches.now))) result }
     {
         let replay = ReplayArguments::read(matches)?;
@@ -35,6 +35,7 @@ impl<'p> ChartArguments<'p> {
             from: wide_number_asked(matches, "from")?,
             to: wide_number_asked(matches, "to"),
             values: is_set(matches, "values"),
+            only: texts_asked(matches, "only"),
         };
         Some(ChartArguments { replay, shown })
     }
@@ -44,7 +45,7 @@ impl<R, I: Inputs, H: Hosting, O, E: Stream> Invocation<'_, R, I, H, O, E> {
     /// Draws the run with which the trace begins that the second path names, of the model that the
     /// first path names: the picture, and beside it the verdict on the trace (docs/ANSWERS.md, "The
     /// chart that is asked for").
-    pub fn chart<'p>(&mut self, asked: &ChartArguments<'p>) -> Result<Answer, Stop<'p>>
+    pub fn chart<'p>(&mut self, asked: &ChartArguments<'_, 'p>) -> Result<Answer, Stop<'p>>
         requires { asked.now.replay.base ≤ greatest_base }
         ensures says { AllOutcomesTelling E.writes self.old.errors self.new.errors result
             (IsChart (I.gives self.old.inputs.now) asked.now) }
@@ -65,7 +66,7 @@ impl<R, I: Inputs, H: Hosting, O, E: Stream> Invocation<'_, R, I, H, O, E> {
 }
 
 // Whether the rows that are shown end where they begin, or later.
-fn is_in_order(shown: &Shown) -> bool
+fn is_in_order(shown: &Shown<'_, '_>) -> bool
     ensures yes { result ≡ true → AreRowsInOrder shown.now }
     ensures no { result ≡ false → AreRowsDisordered shown.now }
 {

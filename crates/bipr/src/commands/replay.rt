@@ -85,7 +85,7 @@ impl<R, I: Inputs, H: Hosting, O, E: Stream> Invocation<'_, R, I, H, O, E> {
 }
 
 // What is asked of a trace whose verdict is, with its end or without.
-fn verdict_view<'a>(with_end: bool) -> View<'a>
+fn verdict_view<'a, 'm, 'p>(with_end: bool) -> View<'a, 'm, 'p>
     ensures { result ≡ verdict_view with_end }
 {
     if with_end { View::End } else { View::Verdict }
@@ -97,7 +97,7 @@ pub fn answer_viewed<'p, I: Inputs>(
     explanation: &mut Explanation,
     inputs: &I,
     asked: &ReplayArguments<'p>,
-    view: &View<'_>,
+    view: &View<'_, '_, '_>,
 ) -> Result<Answer, Stop<'p>>
     requires { asked.now.base ≤ greatest_base }
     ensures { AllOutcomes result
